@@ -1,0 +1,33 @@
+-- What a call does to a device: to its count of faults, to the bytes that it still gives, and to those that it took. A rule of this project.
+use Rattle.std.specs.Prelude.{◌≡◌, ℕ, ◌+◌, ◌-◌, ◌^◌, ◌≤◌, min, List, ◌++◌, Option, Result, MatchResult, OnOk, OnErr}
+use Rattle.std.specs.Io.KnownBytes.{Appends}
+
+-- the last value of a count of faults or of calls, at which it stands still
+abbrev pub LAST_COUNT : ℕ
+LAST_COUNT = 2 ^ 64 - 1
+
+-- the value of a count after one more
+abbrev pub next_count : ℕ → ℕ
+next_count count = min (count + 1) LAST_COUNT
+
+-- a count rose in a call: it is greater than at the begin of the call, or stands at its last value
+abbrev pub Rose : ℕ → ℕ → Type 0
+Rose before now = next_count before ≤ now
+
+-- what a call does to its device's count of faults: it never falls, stays where the call succeeds, and rose where it fails
+pub record Counts {T E : Type 0} (before now : ℕ) (result : Result T E) : Type 0 where
+  pub never_falls : before ≤ now
+  pub ok : OnOk result (now ≡ before)
+  pub err : OnErr result (Rose before now)
+
+-- the whole begins with the front
+abbrev pub IsFront : List ℕ → List ℕ → Type 0
+IsFront front whole = (rest : List ℕ) × (whole ≡ front ++ rest)
+
+-- known bytes grow by a front of the whole
+abbrev pub AppendsFront : Option (List ℕ) → Option (List ℕ) → List ℕ → Type 0
+AppendsFront old new whole = (front : List ℕ) × IsFront front whole × Appends old new front
+
+-- a call that sends the whole to a sink: all of it at Ok, and a front of it at Err
+abbrev pub Sends : {T E : Type 0} → Option (List ℕ) → Option (List ℕ) → List ℕ → Result T E → Type 0
+Sends old new whole result = MatchResult result (λ _. Appends old new whole) (λ _. AppendsFront old new whole)

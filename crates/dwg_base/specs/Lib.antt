@@ -1,0 +1,4 @@
+pub mod Bytes
+pub mod Devices
+pub mod Memory
+pub mod Refusals

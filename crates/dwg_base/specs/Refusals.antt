@@ -1,0 +1,58 @@
+-- Why an input is refused: the first failing line of the table of refusals, with its place. A rule of this project.
+use Rattle.std.specs.Prelude.{◌≡◌, ⊤, ℕ, ◌-◌, ◌≤◌, Bool, List, [], ◌∷◌, Option, Some, None, codes, nat_le, if◌then◌else◌, slice_index_or}
+use Rattle.std.specs.Option.{option_or}
+use Rattle.dwg_base.specs.declared.refusal.Refusal.{Refusal}
+use Rattle.dwg_base.specs.declared.refusal.Fault.{Fault}
+use Rattle.dwg_base.specs.declared.refusal.Fault.TheVariants.{NoMemory, Refused}
+
+-- one line of the table, or one group of lines that is tried item by item: its refusal of the bytes, if it fails
+abbrev pub RefusalRow : Type 0
+RefusalRow = List ℕ → Option Refusal
+
+-- the refusal by a line, with its index and its place, where the line fails
+abbrev pub refuse_if : Bool → ℕ → ℕ → ℕ → Option Refusal
+refuse_if fails line index place = if fails then Some (record { line = line; index = index; place = place }) else None
+
+-- the first refusal; a row is tried only where all rows before it hold
+abbrev pub first_fault : List RefusalRow → List ℕ → Option Refusal
+first_fault [] bytes = None
+first_fault (row ∷ rows) bytes = option_or (row bytes) (first_fault rows bytes)
+
+-- what a fault tells: a refusal is the first one, and want of memory tells nothing
+abbrev pub Tells : Fault → Option Refusal → Type 0
+Tells NoMemory first = ⊤
+Tells (Refused refusal) first = first ≡ Some refusal
+
+-- the line of a refusal is one of the table's
+pub record IsOfTable (refusal : Refusal) : Type 0 where
+  pub least : 1 ≤ refusal.line
+  pub most : refusal.line ≤ 33
+
+-- a refusal that a fault carries is by a line of the table
+abbrev pub IsFaultOfTable : Fault → Type 0
+IsFaultOfTable NoMemory = ⊤
+IsFaultOfTable (Refused refusal) = IsOfTable refusal
+
+-- the part of the file that a line of the table speaks of
+unfoldable pub part_word_of : ℕ → List ℕ
+part_word_of line =
+    if nat_le line 8 then codes "header"
+    else (if nat_le line 13 then codes "variables"
+    else (if nat_le line 20 then codes "classes"
+    else (if nat_le line 26 then codes "map"
+    else (if nat_le line 32 then codes "objects"
+    else codes "sections"))))
+
+-- the reasons of the lines 1 to 33, in the order of the table
+abbrev pub REASONS : List (List ℕ)
+REASONS =
+    codes "short" ∷ codes "version" ∷ codes "count" ∷ codes "short" ∷ codes "check" ∷ codes "sentinel" ∷ codes "repeated" ∷ codes "missing"
+    ∷ codes "short" ∷ codes "begin" ∷ codes "length" ∷ codes "check" ∷ codes "end"
+    ∷ codes "short" ∷ codes "begin" ∷ codes "length" ∷ codes "check" ∷ codes "end" ∷ codes "spelling" ∷ codes "number"
+    ∷ codes "short" ∷ codes "size" ∷ codes "check" ∷ codes "pair" ∷ codes "null" ∷ codes "duplicate"
+    ∷ codes "place" ∷ codes "length" ∷ codes "overlap" ∷ codes "check" ∷ codes "head" ∷ codes "handle"
+    ∷ codes "short" ∷ []
+
+-- why a line of the table refuses
+unfoldable pub reason_word_of : ℕ → List ℕ
+reason_word_of line = slice_index_or REASONS (line - 1) []

@@ -1,0 +1,45 @@
+//! Runs of bytes.
+
+ghost use Rattle.std.specs.Prelude.{◌≡◌, ℕ, List, length, IfOk};
+
+use crate::device::NoMemory;
+use std::alloc::Global;
+use std::marker::Model;
+
+/// An owned list of bytes, which contracts see as that list.
+#[derive(Drop)]
+pub struct ByteRun {
+    bytes: Vec<u8>,
+}
+
+impl Model for ByteRun {
+    ghost Value = { List ℕ };
+
+    ghost view = { λ run. run.bytes.items };
+}
+
+impl ByteRun {
+    /// A copy of the bytes. The only refusal is want of memory.
+    pub fn from_slice(alloc: Global, bytes: &[u8]) -> Result<ByteRun, NoMemory>
+        ensures { IfOk result (λ run. run ≡ bytes.now) }
+    {
+        match Vec::from_slice(alloc, bytes) {
+            Ok(bytes) => Ok(ByteRun { bytes }),
+            Err(_) => Err(NoMemory),
+        }
+    }
+
+    /// The bytes of a `Vec`, without taking memory.
+    pub fn from_vec(bytes: Vec<u8>) -> ByteRun
+        ensures { result ≡ bytes.items }
+    {
+        ByteRun { bytes }
+    }
+
+    /// The bytes as a slice.
+    pub fn as_slice(&self) -> &[u8]
+        ensures { result.now ≡ self.now }
+    {
+        self.bytes.as_slice()
+    }
+}

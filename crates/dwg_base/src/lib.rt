@@ -1,0 +1,16 @@
+//! Devices, byte runs and refusals: what all crates of `dwg` stand on.
+#![tactic(auto)]
+
+mod bytes;
+mod device;
+mod intake;
+mod items;
+mod memory;
+mod refusal;
+
+pub use bytes::ByteRun;
+pub use device::{Failed, NoMemory, Sink, Source, WriteFault, put_all};
+pub use intake::{Intake, LIMIT, read_all};
+pub use items::Items;
+pub use memory::{MemSink, MemSource};
+pub use refusal::{Fault, Refusal, part_word, reason_word};

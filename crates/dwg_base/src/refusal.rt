@@ -1,0 +1,73 @@
+//! Refusals: which line of the table of refusals failed, and where.
+
+ghost use Rattle.std.specs.Prelude.{◌≡◌, ◌≤◌};
+ghost use Rattle.dwg_base.specs.Refusals.{part_word_of, reason_word_of};
+
+/// The first line of the table of refusals that fails.
+#[derive(Clone, Copy, Debug, PartialEq, Eq)]
+pub struct Refusal {
+    /// The line of the table, 1 to 33.
+    pub line: u8,
+    /// Which locator, class, page or pair of that part, counted from 0.
+    pub index: u64,
+    /// The place in the input, in bytes from its begin.
+    pub place: u64,
+}
+
+/// Why a part could not be read.
+#[derive(Clone, Copy, Debug, PartialEq, Eq)]
+pub enum Fault {
+    /// Want of memory.
+    NoMemory,
+    /// The input fails a line of the table.
+    Refused(Refusal),
+}
+
+/// The part of the file that a line of the table speaks of.
+#[tactic(auto, unfolding(crate::specs::Refusals::part_word_of))]
+pub fn part_word(line: u8) -> &'static str
+    requires least { 1 ≤ line }
+    requires most { line ≤ 33 }
+    ensures { result.now ≡ part_word_of line }
+{
+    match line {
+        ..=8 => "header",
+        9..=13 => "variables",
+        14..=20 => "classes",
+        21..=26 => "map",
+        27..=32 => "objects",
+        _ => "sections",
+    }
+}
+
+/// Why a line of the table refuses.
+#[tactic(auto, unfolding(crate::specs::Refusals::reason_word_of))]
+pub fn reason_word(line: u8) -> &'static str
+    requires least { 1 ≤ line }
+    requires most { line ≤ 33 }
+    ensures { result.now ≡ reason_word_of line }
+{
+    match line {
+        1 | 4 | 9 | 14 | 21 | 33 => "short",
+        2 => "version",
+        3 => "count",
+        5 | 12 | 17 | 23 | 30 => "check",
+        6 => "sentinel",
+        7 => "repeated",
+        8 => "missing",
+        10 | 15 => "begin",
+        11 | 16 | 28 => "length",
+        13 | 18 => "end",
+        19 => "spelling",
+        20 => "number",
+        22 => "size",
+        24 => "pair",
+        25 => "null",
+        26 => "duplicate",
+        27 => "place",
+        29 => "overlap",
+        31 => "head",
+        32 => "handle",
+        _ => unreachable!(),
+    }
+}

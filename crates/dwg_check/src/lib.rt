@@ -1,0 +1,41 @@
+//! Check words: what a section, a map page or an object frame carries of its own bytes.
+#![tactic(auto)]
+
+ghost use Rattle.std.specs.Prelude.{◌≡◌, ◌≤◌};
+ghost use Rattle.dwg_check.specs.CheckWord.{check_word, header_check_word};
+
+mod laws;
+mod table;
+
+pub use laws::check_word_laws;
+
+/// The check word of `bytes`, begun as `start` (Open Design Specification, "CRC").
+///
+/// Of no bytes it is `start`; of a run in pieces, each piece is begun as the check word of those before it.
+#[tactic(auto, using(crate::proofs::ByteStep::one_byte_less, crate::proofs::ByteStep::no_byte_left))]
+pub fn check(start: u16, bytes: &[u8]) -> u16
+    ensures { result ≡ check_word start bytes.now }
+{
+    let mut word = start;
+    'along: for byte in bytes {
+        let low = (word ^ u16::from(*byte)) & 0xFF;
+        word = (word >> 8) ^ table::entry(usize::from(low));
+    }
+    word
+}
+
+/// The check word that a file header of `count` locators carries: that of all bytes before it from 0, xored with the count's constant (Open Design Specification, "R13 to R2000 file layout, file header").
+#[tactic(auto, unfolding(crate::specs::CheckWord::header_check_word))]
+pub fn header_word(count: u32, bytes: &[u8]) -> u16
+    requires least { 3 ≤ count }
+    requires most { count ≤ 6 }
+    ensures { result ≡ header_check_word count bytes.now }
+{
+    let mask = match count {
+        3 => 0xA598,
+        4 => 0x8101,
+        5 => 0x3CC4,
+        _ => 0x8461,
+    };
+    check(0, bytes) ^ mask
+}

@@ -1,0 +1,64 @@
+-- What the defined outcomes are, by their causes.
+use Rattle.std.proofs.Common.{◌≡◌, ℕ, ◌+◌, ◌≤◌, ◌<◌, List, ◌++◌, length, Some, None, sym, ap, ◌∙◌, subst, arith, true, false, append-nil, length-append}
+use Rattle.std.proofs.lemmas.Bool.Decides.{nat_tests}
+use Rattle.std.specs.Prelude.{Option, nat_lt}
+use Rattle.std.specs.Io.KnownBytes.{Consumes, IsAtEnd}
+use Rattle.dwg_base.specs.declared.intake.TheConstants.{LIMIT}
+use Rattle.dwg_base.specs.declared.refusal.Refusal.{Refusal}
+use Rattle.dwg_base.specs.Refusals.{first_fault}
+use Rattle.dwg_sections.specs.HeaderLines.{HEADER_LINES}
+use Rattle.dwg_text.specs.Notes.{usage_note, too_long_note}
+use Rattle.dwg_cli.specs.declared.words.Command.{Command}
+use Rattle.dwg_cli.specs.declared.words.Command.TheVariants.{Sections}
+use Rattle.dwg_cli.specs.declared.status.Status.TheVariants.{Usage, TooLong}
+use Rattle.dwg_cli.specs.declared.answer.Answer.{Answer}
+use Rattle.dwg_cli.specs.Outcome.{noted, refused_or, outcome_within, outcome_of}
+use Rattle.dwg_cli.specs.Run.{IsDrained}
+
+refused_or_is_drained : (first : Option Refusal) (output : List ℕ) → IsDrained (refused_or first output).status
+refused_or_is_drained (Some refusal) output = tt
+refused_or_is_drained None output = tt
+
+-- an input within the limit was read to its end
+pub within_is_drained : (command : Command) (bytes : List ℕ) (answer : Answer) → answer ≡ outcome_within command bytes → IsDrained answer.status
+unfolding outcome_within
+within_is_drained Sections bytes answer is = subst (λ (told : Answer). IsDrained told.status) (sym is) (refused_or_is_drained (first_fault HEADER_LINES bytes) _)
+
+-- a source that told its bytes and is at its end gave them all
+told_whole : (old new : Option (List ℕ)) (run bytes : List ℕ) → Consumes old new run → IsAtEnd new → old ≡ Some bytes → bytes ≡ run
+told_whole None new run bytes gave end told = absurd cc
+told_whole (Some left) None run bytes gave end told = absurd gave
+told_whole (Some left) (Some rest) run bytes gave end told =
+    let same : bytes ≡ left = cc in
+    same ∙ gave ∙ ap (λ behind. run ++ behind) end ∙ append-nil run
+
+-- a source that gave more bytes than the limit told as many
+told_more : (old new : Option (List ℕ)) (gone bytes : List ℕ) → Consumes old new gone → length gone ≡ LIMIT + 1 → old ≡ Some bytes → LIMIT < length bytes
+told_more None new gone bytes gave long told = absurd cc
+told_more (Some left) None gone bytes gave long told = absurd gave
+told_more (Some left) (Some rest) gone bytes gave long told =
+    let same : bytes ≡ left = cc in
+    omega (arith, long, ap length (same ∙ gave), length-append gone rest)
+
+-- an input that was read to its end, within the limit, is answered by its command
+pub answered_within : (command : Command) (old new : Option (List ℕ)) (run bytes : List ℕ) (answer : Answer) → Consumes old new run → IsAtEnd new → length run ≤ LIMIT
+    → answer ≡ outcome_within command run → old ≡ Some bytes → answer ≡ outcome_of (Some command) bytes
+unfolding outcome_of
+answered_within command old new run bytes answer gave end within is told =
+    let same = told_whole old new run bytes gave end told in
+    let short : nat_lt LIMIT (length run) ≡ false = grind (arith, nat_tests) in
+    rw (same, short) is
+
+-- an input of more bytes than the limit is too long
+pub answered_too_long : (command : Command) (old new : Option (List ℕ)) (gone bytes : List ℕ) (answer : Answer) → Consumes old new gone → length gone ≡ LIMIT + 1
+    → answer ≡ noted too_long_note TooLong → old ≡ Some bytes → answer ≡ outcome_of (Some command) bytes
+unfolding outcome_of
+answered_too_long command old new gone bytes answer gave long is told =
+    let more = told_more old new gone bytes gave long told in
+    let over : nat_lt LIMIT (length bytes) ≡ true = grind (arith, nat_tests) in
+    rw over is
+
+-- words of no command get the usage note, whatever the input
+pub answered_usage : (named : Option Command) (bytes : List ℕ) (answer : Answer) → named ≡ None → answer ≡ noted usage_note Usage → answer ≡ outcome_of named bytes
+unfolding outcome_of
+answered_usage named bytes answer none is = rw none is

@@ -1,0 +1,40 @@
+-- What the program answers to its words and its input. A rule of this project.
+use Rattle.std.specs.Prelude.{ℕ, List, [], Option, Some, None, length, nat_lt, if◌then◌else◌}
+use Rattle.dwg_base.specs.declared.intake.TheConstants.{LIMIT}
+use Rattle.dwg_base.specs.Refusals.{first_fault}
+use Rattle.dwg_base.specs.declared.refusal.Refusal.{Refusal}
+use Rattle.dwg_sections.specs.HeaderLines.{HEADER_LINES, header_at}
+use Rattle.dwg_text.specs.Notes.{usage_note, refusal_note, too_long_note}
+use Rattle.dwg_text.specs.Sections.{sections_text}
+use Rattle.dwg_cli.specs.declared.words.Command.{Command}
+use Rattle.dwg_cli.specs.declared.words.Command.TheVariants.{Sections}
+use Rattle.dwg_cli.specs.declared.status.Status.{Status}
+use Rattle.dwg_cli.specs.declared.status.Status.TheVariants.{Done, Usage, Refused, TooLong}
+use Rattle.dwg_cli.specs.declared.answer.Answer.{Answer}
+use Rattle.dwg_cli.specs.Words.{command_of}
+
+-- nothing on the output, one note, and a status
+abbrev pub noted : List ℕ → Status → Answer
+noted note status = record { output = []; note = note; status = status }
+
+-- the output, no note
+abbrev pub printed : List ℕ → Answer
+printed output = record { output = output; note = []; status = Done }
+
+-- the first refusal of the command's lines, where there is one, and otherwise its output
+abbrev pub refused_or : Option Refusal → List ℕ → Answer
+refused_or (Some refusal) output = noted (refusal_note refusal) (Refused refusal)
+refused_or None output = printed output
+
+-- what a command that reads answers to an input within the limit
+unfoldable pub outcome_within : Command → List ℕ → Answer
+outcome_within Sections bytes = refused_or (first_fault HEADER_LINES bytes) (sections_text (header_at bytes))
+
+-- what a command answers
+unfoldable pub outcome_of : Option Command → List ℕ → Answer
+outcome_of None bytes = noted usage_note Usage
+outcome_of (Some command) bytes = if nat_lt LIMIT (length bytes) then noted too_long_note TooLong else outcome_within command bytes
+
+-- what the program answers: output bytes, note bytes and status
+abbrev pub outcome : List (List ℕ) → List ℕ → Answer
+outcome words bytes = outcome_of (command_of words) bytes

@@ -1,0 +1,46 @@
+//! The program `dwg`: it reads a drawing on standard input and says what the words of its command line ask for.
+#![tactic(auto)]
+
+mod adapters;
+mod answer;
+mod run;
+mod status;
+#[cfg(test)]
+mod tests;
+mod words;
+
+use adapters::{ReaderSource, WriterSink};
+use status::Status;
+use std::env;
+use std::io::ErrorKind;
+use std::process::ExitCode;
+
+/// The arguments behind the program's name, and no word where one of them isn't UTF-8, so that they get the usage note.
+/// The only refusal is want of memory.
+fn arguments(rt: &HostRuntime) -> Result<Vec<String>, Status> {
+    let mut arguments = match env::args(rt) {
+        Ok(arguments) => arguments,
+        Err(fault) if fault.kind() == ErrorKind::InvalidData => return Ok(Vec::new(rt.alloc())),
+        Err(_) => return Err(Status::NoMemory),
+    };
+    let _name = arguments.next();
+    arguments.collect(rt.alloc()).map_err(|_| Status::NoMemory)
+}
+
+/// Runs the program over its arguments and the standard streams.
+fn status_of_run(rt: &HostRuntime) -> Status {
+    match arguments(rt) {
+        Ok(words) => run::run(
+            rt.alloc(),
+            &words,
+            &mut ReaderSource::new(rt.stdin()),
+            &mut WriterSink::new(rt.stdout()),
+            &mut WriterSink::new(rt.stderr()),
+        ),
+        Err(status) => status,
+    }
+}
+
+fn main(rt: HostRuntime) -> ExitCode {
+    ExitCode::from(status_of_run(&rt).code())
+}

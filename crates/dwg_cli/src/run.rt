@@ -1,0 +1,93 @@
+//! The top call.
+
+ghost use Rattle.std.specs.Prelude.{◌≡◌, ◌<◌, ◌⊎◌, ℕ, List, [], Some, None, IfSome};
+ghost use Rattle.std.specs.Io.KnownBytes.{Appends};
+ghost use Rattle.dwg_base.specs.Devices.{Rose, AppendsFront};
+ghost use Rattle.dwg_text.specs.Notes as texts;
+ghost use Rattle.dwg_cli.specs.Words.{texts as words_of, command_of, IsReading};
+ghost use Rattle.dwg_cli.specs.Outcome.{outcome};
+ghost use Rattle.dwg_cli.specs.Run.{Feeds, IsSettled, IsStopped, IsFailed, IsDrained, Delivers, IsCut, StopsAtFault, Sent};
+
+use crate::answer::{Answer, Stop, answer_for};
+use crate::status::Status;
+use dwg_base::{Sink, Source, put_all};
+use dwg_text::read_fault_note;
+use std::alloc::Global;
+
+/// Sends an answer: first all of its output, and then its note.
+fn deliver<W: Sink, N: Sink>(answer: &Answer, output: &mut W, notes: &mut N) -> Status
+    ensures { Sent answer.now result (W.taken output.old) (W.taken output.new) (N.taken notes.old) (N.taken notes.new)
+        (W.faults output.old) (W.faults output.new) (N.faults notes.old) (N.faults notes.new) }
+{
+    match put_all(output, answer.output.as_slice()) {
+        Ok(()) => {}
+        Err(_) => return Status::WriteFault,
+    }
+    match put_all(notes, answer.note.as_slice()) {
+        Ok(()) => answer.status,
+        Err(_) => Status::WriteFault,
+    }
+}
+
+/// Notes that the input failed.
+fn tell_read_fault<N: Sink>(notes: &mut N) -> Status
+    ensures told { result ≡ Status.ReadFault → Appends (N.taken notes.old) (N.taken notes.new) texts.read_fault_note }
+    ensures cut { IsStopped result → AppendsFront (N.taken notes.old) (N.taken notes.new) texts.read_fault_note }
+    ensures ends { (result ≡ Status.ReadFault) × (N.faults notes.new ≡ N.faults notes.old) ⊎ (result ≡ Status.WriteFault) × Rose (N.faults notes.old) (N.faults notes.new) }
+{
+    match put_all(notes, read_fault_note()) {
+        Ok(()) => Status::ReadFault,
+        Err(_) => Status::WriteFault,
+    }
+}
+
+/// Runs the program: `words` are the arguments behind its name.
+pub fn run<R: Source, W: Sink, N: Sink>(
+    alloc: Global,
+    words: &[String],
+    input: &mut R,
+    output: &mut W,
+    notes: &mut N,
+) -> Status
+    // Where neither a device nor memory failed, status, output and notes are the defined ones.
+    ensures outcome { IsSettled result → (bytes : List ℕ) → Feeds (command_of (words_of words.now)) (R.left input.old) bytes →
+        (result ≡ (outcome (words_of words.now) bytes).status)
+        × Delivers (outcome (words_of words.now) bytes) (W.taken output.old) (W.taken output.new) (N.taken notes.old) (N.taken notes.new) }
+
+    // Usage comes exactly where the words stand in no line of the command table, whatever the devices tell.
+    ensures usage { result ≡ Status.Usage → command_of (words_of words.now) ≡ None }
+    ensures usage_told { command_of (words_of words.now) ≡ None → (result ≡ Status.Usage) ⊎ IsStopped result }
+
+    // A read fault comes only where the command reads and the input's faults rose: nothing went to the output.
+    ensures read_fault { result ≡ Status.ReadFault → IsReading (command_of (words_of words.now)) × Rose (R.faults input.old) (R.faults input.new) }
+    ensures read_fault_note { result ≡ Status.ReadFault →
+        Appends (W.taken output.old) (W.taken output.new) [] × Appends (N.taken notes.old) (N.taken notes.new) texts.read_fault_note }
+    ensures heeded_input { R.faults input.old < R.faults input.new → IsFailed result }
+
+    // A write fault comes only where the faults of output or notes rose.
+    ensures write_fault { result ≡ Status.WriteFault → Rose (W.faults output.old) (W.faults output.new) ⊎ Rose (N.faults notes.old) (N.faults notes.new) }
+
+    // A run that stopped wrote a front of what is defined, or stopped at a fault of its input.
+    ensures stopped { IsStopped result → (bytes : List ℕ) → Feeds (command_of (words_of words.now)) (R.left input.old) bytes →
+        IsCut (outcome (words_of words.now) bytes) (W.taken output.old) (W.taken output.new) (N.taken notes.old) (N.taken notes.new)
+        ⊎ StopsAtFault (R.faults input.old) (R.faults input.new) (W.taken output.old) (W.taken output.new) (N.taken notes.old) (N.taken notes.new) }
+    ensures stopped_at_fault { IsStopped result → R.faults input.old < R.faults input.new →
+        StopsAtFault (R.faults input.old) (R.faults input.new) (W.taken output.old) (W.taken output.new) (N.taken notes.old) (N.taken notes.new) }
+    ensures heeded_output { W.faults output.old < W.faults output.new → IsStopped result }
+    ensures heeded_notes { N.faults notes.old < N.faults notes.new → IsStopped result }
+
+    // What is left in the input.
+    ensures unread { (IsReading (command_of (words_of words.now)) → ⊥) → input.new ≡ input.old }
+    ensures drained { IsDrained result → IsReading (command_of (words_of words.now)) → IfSome (R.left input.old) (λ _. R.left input.new ≡ Some []) }
+
+    // Where no count of faults rose, the run ends as defined, or wants memory.
+    ensures complete { (Rose (R.faults input.old) (R.faults input.new) → ⊥) → (Rose (W.faults output.old) (W.faults output.new) → ⊥) → (Rose (N.faults notes.old) (N.faults notes.new) → ⊥) →
+        (bytes : List ℕ) → Feeds (command_of (words_of words.now)) (R.left input.old) bytes →
+        (result ≡ (outcome (words_of words.now) bytes).status) ⊎ (result ≡ Status.NoMemory) }
+{
+    match answer_for(alloc, words, input) {
+        Ok(answer) => deliver(&answer, output, notes),
+        Err(Stop::ReadFault) => tell_read_fault(notes),
+        Err(Stop::NoMemory) => Status::NoMemory,
+    }
+}

@@ -1,0 +1,250 @@
+//! The program over devices in memory.
+
+use crate::run::run;
+use crate::status::Status;
+use dwg_base::{ByteRun, Items, LIMIT, MemSink, MemSource, Refusal};
+use std::alloc::Global;
+use std::process::Abort;
+use std::test::Fail;
+
+/// The smallest canonical file: a header with three locators, empty header variables, no classes, a preview section
+/// without a picture, and a map without pairs.
+const SMALLEST: [u8; 187] = [
+    0x41, 0x43, 0x31, 0x30, 0x31, 0x35, 0x00, 0x00, 0x00, 0x00, 0x00, 0x00, 0x00, 0x92, 0x00, 0x00,
+    0x00, 0x00, 0x00, 0x00, 0x00, 0x03, 0x00, 0x00, 0x00, 0x00, 0x46, 0x00, 0x00, 0x00, 0x26, 0x00,
+    0x00, 0x00, 0x01, 0x6C, 0x00, 0x00, 0x00, 0x26, 0x00, 0x00, 0x00, 0x02, 0xB7, 0x00, 0x00, 0x00,
+    0x04, 0x00, 0x00, 0x00, 0xD1, 0xA1, 0x95, 0xA0, 0x4E, 0x28, 0x99, 0x82, 0x1A, 0xE5, 0x5E, 0x41,
+    0xE0, 0x5F, 0x9D, 0x3A, 0x4D, 0x00, 0xCF, 0x7B, 0x1F, 0x23, 0xFD, 0xDE, 0x38, 0xA9, 0x5F, 0x7C,
+    0x68, 0xB8, 0x4E, 0x6D, 0x33, 0x5F, 0x00, 0x00, 0x00, 0x00, 0x3D, 0xC0, 0x30, 0x84, 0xE0, 0xDC,
+    0x02, 0x21, 0xC7, 0x56, 0xA0, 0x83, 0x97, 0x47, 0xB1, 0x92, 0xCC, 0xA0, 0x8D, 0xA1, 0xC4, 0xB8,
+    0xC4, 0xA9, 0xF8, 0xC5, 0xC0, 0xDC, 0xF4, 0x5F, 0xE7, 0xCF, 0xB6, 0x8A, 0x00, 0x00, 0x00, 0x00,
+    0x3D, 0xC0, 0x72, 0x5E, 0x3B, 0x47, 0x3B, 0x56, 0x07, 0x3A, 0x3F, 0x23, 0x0B, 0xA0, 0x18, 0x30,
+    0x49, 0x75, 0x1F, 0x25, 0x6D, 0x07, 0xD4, 0x36, 0x28, 0x28, 0x9D, 0x57, 0xCA, 0x3F, 0x9D, 0x44,
+    0x10, 0x2B, 0x01, 0x00, 0x00, 0x00, 0x00, 0xE0, 0xDA, 0x92, 0xF8, 0x2B, 0xC9, 0xD7, 0xD7, 0x62,
+    0xA8, 0x35, 0xC0, 0x62, 0xBB, 0xEF, 0xD4, 0x00, 0x02, 0x01, 0xD0,
+];
+
+const SECTIONS: &str =
+    "version AC1015\ncodepage 0\npreview 146\nsection 0 at 70 size 38\nsection 1 at 108 size 38\nsection 2 at 183 size 4\n";
+
+const USAGE: &str =
+    "dwg: usage: sections | classes | show | rewrite | audit | recover | make N SEED | drill N\n";
+
+/// How much a call of a device gives or takes at the most, where it isn't held back.
+const PLENTY: usize = 1_000_000;
+
+/// The numbers of calls that fail.
+fn calls(alloc: Global, numbers: &[u64]) -> Result<Items<u64>, Fail> {
+    let mut fails = Items::new(alloc);
+    for number in numbers {
+        fails.push(*number).or(Err("no memory"))?;
+    }
+    Ok(fails)
+}
+
+/// A source of the bytes that gives at most `most` bytes a call.
+fn source(alloc: Global, bytes: &[u8], most: usize, fails: &[u64]) -> Result<MemSource, Fail> {
+    let bytes = ByteRun::from_slice(alloc, bytes).or(Err("no memory"))?;
+    Ok(MemSource::new(bytes, most.max(1), calls(alloc, fails)?))
+}
+
+/// A sink that takes at most `most` bytes a call.
+fn sink(alloc: Global, most: usize, fails: &[u64]) -> Result<MemSink, Fail> {
+    Ok(MemSink::new(alloc, PLENTY, most.max(1), calls(alloc, fails)?).or(Err("no memory"))?)
+}
+
+/// The words as the program gets them.
+fn words(alloc: Global, words: &[&str]) -> Result<Vec<String>, Fail> {
+    let mut list = Vec::new(alloc);
+    for word in words {
+        list.push(String::from_str(alloc, word)?)?;
+    }
+    Ok(list)
+}
+
+/// The bytes with one of them changed.
+fn changed(alloc: Global, bytes: &[u8], place: usize, byte: u8) -> Result<Vec<u8>, Fail> {
+    let mut list = Vec::from_slice(alloc, bytes)?;
+    if let Some(there) = list.get_mut(place) {
+        *there = byte;
+    }
+    Ok(list)
+}
+
+/// Runs the program on words and an input that comes in pieces of one byte, of ten, and whole: it must end with this
+/// status, having written this output and this note.
+fn answers(
+    rt: &impl Abort,
+    alloc: Global,
+    named: &[&str],
+    bytes: &[u8],
+    status: Status,
+    text: &[u8],
+    note: &[u8],
+) -> Result<(), Fail> {
+    for most in [1, 10, PLENTY] {
+        let words = words(alloc, named)?;
+        let mut input = source(alloc, bytes, most, &[])?;
+        let mut output = sink(alloc, most, &[])?;
+        let mut notes = sink(alloc, most, &[])?;
+        let ended = run(alloc, &words, &mut input, &mut output, &mut notes);
+        assert_eq!(rt; ended, status);
+        assert_eq!(rt; output.bytes(), text);
+        assert_eq!(rt; notes.bytes(), note);
+    }
+    Ok(())
+}
+
+/// A refusal of the file header.
+fn refused(line: u8, place: u64) -> Status {
+    Status::Refused(Refusal {
+        line,
+        index: 0,
+        place,
+    })
+}
+
+#[test]
+fn prints_the_sections(rt: HostRuntime) -> Result<(), Fail> {
+    let alloc = rt.alloc();
+    answers(
+        &rt,
+        alloc,
+        &["sections"],
+        &SMALLEST,
+        Status::Done,
+        SECTIONS.as_bytes(),
+        b"",
+    )
+}
+
+#[test]
+fn names_the_first_fault_of_the_header(rt: HostRuntime) -> Result<(), Fail> {
+    let alloc = rt.alloc();
+    let sections: &[&str] = &["sections"];
+    let version = changed(alloc, &SMALLEST, 5, b'8')?;
+    let locator = changed(alloc, &SMALLEST, 26, 0x47)?;
+    for (input, line, place, note) in [
+        (
+            version.as_slice(),
+            2,
+            0,
+            "dwg: refused: header 0 at 0: version\n",
+        ),
+        (
+            locator.as_slice(),
+            5,
+            52,
+            "dwg: refused: header 0 at 52: check\n",
+        ),
+        (&[], 1, 0, "dwg: refused: header 0 at 0: short\n"),
+        (
+            &SMALLEST[..69],
+            4,
+            69,
+            "dwg: refused: header 0 at 69: short\n",
+        ),
+    ] {
+        answers(
+            &rt,
+            alloc,
+            sections,
+            input,
+            refused(line, place),
+            b"",
+            note.as_bytes(),
+        )?;
+    }
+    Ok(())
+}
+
+#[test]
+fn tells_how_it_is_used(rt: HostRuntime) -> Result<(), Fail> {
+    let alloc = rt.alloc();
+    for named in [
+        ["audit", "extra"].as_slice(),
+        &["sections", "extra"],
+        &["--help"],
+        &[],
+    ] {
+        answers(
+            &rt,
+            alloc,
+            named,
+            &SMALLEST,
+            Status::Usage,
+            b"",
+            USAGE.as_bytes(),
+        )?;
+    }
+    Ok(())
+}
+
+#[test]
+fn ends_with_the_status_of_the_table(rt: HostRuntime) {
+    for (status, code) in [
+        (Status::Done, 0),
+        (Status::Usage, 2),
+        (refused(1, 0), 3),
+        (Status::ReadFault, 4),
+        (Status::WriteFault, 5),
+        (Status::NoMemory, 6),
+        (Status::TooLong, 7),
+    ] {
+        assert_eq!(rt; status.code(), code);
+    }
+}
+
+#[test]
+fn tells_a_failing_input(rt: HostRuntime) -> Result<(), Fail> {
+    let alloc = rt.alloc();
+    let words = words(alloc, &["sections"])?;
+    let mut input = source(alloc, &SMALLEST, 100, &[2])?;
+    let mut output = sink(alloc, PLENTY, &[])?;
+    let mut notes = sink(alloc, PLENTY, &[])?;
+    let status = run(alloc, &words, &mut input, &mut output, &mut notes);
+    assert_eq!(rt; status, Status::ReadFault);
+    assert_eq!(rt; output.bytes(), b"".as_slice());
+    assert_eq!(rt; notes.bytes(), b"dwg: read fault\n".as_slice());
+    Ok(())
+}
+
+#[test]
+fn stops_at_a_failing_output(rt: HostRuntime) -> Result<(), Fail> {
+    let alloc = rt.alloc();
+    let words = words(alloc, &["sections"])?;
+    let mut input = source(alloc, &SMALLEST, PLENTY, &[])?;
+    let mut output = sink(alloc, 10, &[3])?;
+    let mut notes = sink(alloc, PLENTY, &[])?;
+    let status = run(alloc, &words, &mut input, &mut output, &mut notes);
+    assert_eq!(rt; status, Status::WriteFault);
+    assert_eq!(rt; output.bytes(), b"version AC1015\ncodep".as_slice());
+    assert_eq!(rt; notes.bytes(), b"".as_slice());
+    Ok(())
+}
+
+#[test]
+fn refuses_more_than_the_limit(rt: HostRuntime) -> Result<(), Fail> {
+    let alloc = rt.alloc();
+    let words = words(alloc, &["sections"])?;
+    let long = vec![in alloc; 0u8; LIMIT as usize + 1]?;
+    for (bytes, status, note) in [
+        (long.as_slice(), Status::TooLong, "dwg: input too long\n"),
+        (
+            &long[1..],
+            refused(2, 0),
+            "dwg: refused: header 0 at 0: version\n",
+        ),
+    ] {
+        let mut input = source(alloc, bytes, PLENTY, &[])?;
+        let mut output = sink(alloc, PLENTY, &[])?;
+        let mut notes = sink(alloc, PLENTY, &[])?;
+        assert_eq!(rt;
+            run(alloc, &words, &mut input, &mut output, &mut notes),
+            status
+        );
+        assert_eq!(rt; output.bytes(), b"".as_slice());
+        assert_eq!(rt; notes.bytes(), note.as_bytes());
+    }
+    Ok(())
+}

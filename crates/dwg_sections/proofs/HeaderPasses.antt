@@ -1,0 +1,79 @@
+-- What it means that no line on the file header fails.
+use Rattle.std.proofs.Common.{◌≡◌, ℕ, ◌+◌, ◌≤◌, Bool, true, false, not, List, length, take, Option, Some, None, refl, ltb-false, le-ltb, eqb-true, eq-eqb, bytes_eq}
+use Rattle.std.specs.Option.{option_or}
+use Rattle.std.proofs.lemmas.Bool.{not-false, not_from_true, or_parts, or_from}
+use Rattle.std.proofs.lemmas.Slice.Eq.{bytes_eq-Decides}
+use Rattle.dwg_base.specs.Refusals.{refuse_if, first_fault}
+use Rattle.dwg_check.specs.CheckWord.{header_check_word}
+use Rattle.dwg_sections.specs.FileHeader.{VERSION, HEADER_SENTINEL}
+use Rattle.dwg_sections.specs.HeaderLines.{bytes_at, rs_at, count_at, locators_end, short_line, version_line, count_line, cut_line, check_line, sentinel_line, HEADER_LINES}
+
+-- what each line on the header asks of the bytes
+pub record Passes (bytes : List ℕ) : Type 0 where
+  pub long : 25 ≤ length bytes
+  pub version : take 6 bytes ≡ VERSION
+  pub least : 3 ≤ count_at bytes
+  pub most : count_at bytes ≤ 6
+  pub whole : 18 + locators_end bytes ≤ length bytes
+  pub check : rs_at bytes (locators_end bytes) ≡ header_check_word (count_at bytes) (take (locators_end bytes) bytes)
+  pub sentinel : bytes_at bytes (2 + locators_end bytes) 16 ≡ HEADER_SENTINEL
+
+-- a line that does not refuse has its test false
+no_refusal : (test : Bool) (line index place : ℕ) → refuse_if test line index place ≡ None → test ≡ false
+no_refusal false line index place none = refl
+no_refusal true line index place none = absurd cc
+
+-- a line whose test is false does not refuse
+keeps : (test : Bool) (line index place : ℕ) → test ≡ false → refuse_if test line index place ≡ None
+keeps false line index place holds = refl
+keeps true line index place holds = absurd cc
+
+-- no refusal of two is none of either
+both_none : {T : Type 0} (first second : Option T) → option_or first second ≡ None → (first ≡ None) × (second ≡ None)
+both_none None second none = (refl, none)
+both_none (Some refusal) second none = absurd cc
+
+-- none of either is no refusal of two
+none_of_both : {T : Type 0} (first second : Option T) → first ≡ None → second ≡ None → option_or first second ≡ None
+none_of_both None second here behind = behind
+none_of_both (Some refusal) second here behind = absurd cc
+
+-- two lists of bytes that compare as equal are equal
+same_bytes : (a b : List ℕ) → not (bytes_eq a b) ≡ false → a ≡ b
+same_bytes a b test = (bytes_eq-Decides a b).0 (not-false _ test)
+
+-- equal lists of bytes compare as equal
+bytes_same : (a b : List ℕ) → a ≡ b → not (bytes_eq a b) ≡ false
+bytes_same a b same = not_from_true _ ((bytes_eq-Decides a b).1 same)
+
+-- bytes in which no line fails are as each line asks
+pub passes_from_none : (bytes : List ℕ) → first_fault HEADER_LINES bytes ≡ None → Passes bytes
+unfolding short_line version_line count_line cut_line check_line sentinel_line
+passes_from_none bytes none =
+    let short = both_none (short_line bytes) _ none in
+    let version = both_none (version_line bytes) _ short.1 in
+    let count = both_none (count_line bytes) _ version.1 in
+    let cut = both_none (cut_line bytes) _ count.1 in
+    let check = both_none (check_line bytes) _ cut.1 in
+    let sentinel = both_none (sentinel_line bytes) _ check.1 in
+    let range = or_parts _ _ (no_refusal _ 3 0 21 count.0) in
+    record {
+      long = ltb-false _ _ (no_refusal _ 1 0 (length bytes) short.0);
+      version = same_bytes _ _ (no_refusal _ 2 0 0 version.0);
+      least = ltb-false _ _ range.0;
+      most = ltb-false _ _ range.1;
+      whole = ltb-false _ _ (no_refusal _ 4 0 (length bytes) cut.0);
+      check = eqb-true _ _ (not-false _ (no_refusal _ 5 0 (locators_end bytes) check.0));
+      sentinel = same_bytes _ _ (no_refusal _ 6 0 (2 + locators_end bytes) sentinel.0);
+    }
+
+-- in bytes that are as each line asks no line fails
+pub none_from_passes : (bytes : List ℕ) → Passes bytes → first_fault HEADER_LINES bytes ≡ None
+unfolding short_line version_line count_line cut_line check_line sentinel_line
+none_from_passes bytes passes =
+    none_of_both _ _ (keeps _ 1 0 (length bytes) (le-ltb _ _ passes.long))
+    (none_of_both _ _ (keeps _ 2 0 0 (bytes_same _ _ passes.version))
+    (none_of_both _ _ (keeps _ 3 0 21 (or_from _ _ (le-ltb _ _ passes.least) (le-ltb _ _ passes.most)))
+    (none_of_both _ _ (keeps _ 4 0 (length bytes) (le-ltb _ _ passes.whole))
+    (none_of_both _ _ (keeps _ 5 0 (locators_end bytes) (not_from_true _ (eq-eqb _ _ passes.check)))
+    (none_of_both _ None (keeps _ 6 0 (2 + locators_end bytes) (bytes_same _ _ passes.sentinel)) refl)))))

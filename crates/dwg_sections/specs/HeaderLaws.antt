@@ -1,0 +1,18 @@
+-- Laws of the file header: what the input begins with, and what the lines on the header say, are one.
+use Rattle.std.specs.Prelude.{◌≡◌, List, ℕ, None}
+use Rattle.dwg_base.specs.Bytes.{AreBytes}
+use Rattle.dwg_base.specs.Refusals.{first_fault}
+use Rattle.dwg_sections.specs.declared.header.FileHeader.{FileHeader}
+use Rattle.dwg_sections.specs.FileHeader.{BeginsWithHeader}
+use Rattle.dwg_sections.specs.HeaderLines.{HEADER_LINES, header_at}
+
+-- bytes in which no line on the header fails begin with the header that is read
+abbrev pub PassingBytesBeginWithHeader : Type 0
+PassingBytesBeginWithHeader =
+    (bytes : List ℕ) → AreBytes bytes → first_fault HEADER_LINES bytes ≡ None → BeginsWithHeader bytes (header_at bytes)
+
+-- where bytes begin with a header, no line on the header fails, and that header is the one that is read: so there is no other
+abbrev pub HeaderIsRead : Type 0
+HeaderIsRead =
+    (bytes : List ℕ) (header : FileHeader) → BeginsWithHeader bytes header
+    → (first_fault HEADER_LINES bytes ≡ None) × (header ≡ header_at bytes)

@@ -1,0 +1,78 @@
+-- The lines of the table of refusals on the file header, and the parts of a header by their places. A rule of this project, over the file header of the Open Design Specification, "R13 to R2000 file layout".
+use Rattle.std.specs.Prelude.{ℕ, zero, suc, ◌+◌, ◌*◌, not, ◌||◌, List, [], ◌∷◌, length, take, drop, bytes_eq, nat_lt, ◌==◌, slice_index}
+use Rattle.std.specs.Int.{w16, w32, from_le_bytes}
+use Rattle.dwg_base.specs.Refusals.{RefusalRow, refuse_if}
+use Rattle.dwg_check.specs.CheckWord.{header_check_word}
+use Rattle.dwg_sections.specs.declared.header.Locator.{Locator}
+use Rattle.dwg_sections.specs.declared.header.FileHeader.{FileHeader}
+use Rattle.dwg_sections.specs.FileHeader.{VERSION, HEADER_SENTINEL}
+
+-- so many bytes from the place
+abbrev pub bytes_at : List ℕ → ℕ → ℕ → List ℕ
+bytes_at bytes place count = take count (drop place bytes)
+
+-- the RS at the place
+abbrev pub rs_at : List ℕ → ℕ → ℕ
+rs_at bytes place = from_le_bytes w16 (bytes_at bytes place 2)
+
+-- the RL at the place
+abbrev pub rl_at : List ℕ → ℕ → ℕ
+rl_at bytes place = from_le_bytes w32 (bytes_at bytes place 4)
+
+-- the count of locators that the header says it has
+unfoldable pub count_at : List ℕ → ℕ
+count_at bytes = rl_at bytes 21
+
+-- where the locators end and the check word stands
+unfoldable pub locators_end : List ℕ → ℕ
+locators_end bytes = 25 + 9 * count_at bytes
+
+-- fewer bytes than a header without locators has up to its count
+unfoldable pub short_line : RefusalRow
+short_line bytes = refuse_if (nat_lt (length bytes) 25) 1 0 (length bytes)
+
+-- another version
+unfoldable pub version_line : RefusalRow
+version_line bytes = refuse_if (not (bytes_eq (take 6 bytes) VERSION)) 2 0 0
+
+-- not three to six locators
+unfoldable pub count_line : RefusalRow
+count_line bytes = refuse_if (nat_lt (count_at bytes) 3 || nat_lt 6 (count_at bytes)) 3 0 21
+
+-- fewer bytes than a header with so many locators has
+unfoldable pub cut_line : RefusalRow
+cut_line bytes = refuse_if (nat_lt (length bytes) (18 + locators_end bytes)) 4 0 (length bytes)
+
+-- a wrong check word
+unfoldable pub check_line : RefusalRow
+check_line bytes =
+    refuse_if (not (rs_at bytes (locators_end bytes) == header_check_word (count_at bytes) (take (locators_end bytes) bytes))) 5 0 (locators_end bytes)
+
+-- a wrong sentinel
+unfoldable pub sentinel_line : RefusalRow
+sentinel_line bytes =
+    refuse_if (not (bytes_eq (bytes_at bytes (2 + locators_end bytes) 16) HEADER_SENTINEL)) 6 0 (2 + locators_end bytes)
+
+-- the lines on the file header, in the order in which they are tried
+abbrev pub HEADER_LINES : List RefusalRow
+HEADER_LINES = short_line ∷ version_line ∷ count_line ∷ cut_line ∷ check_line ∷ sentinel_line ∷ []
+
+-- the locator at the place
+abbrev pub locator_at : List ℕ → ℕ → Locator
+locator_at bytes place =
+    record { number = slice_index bytes place; place = rl_at bytes (place + 1); size = rl_at bytes (place + 5) }
+
+-- so many locators, one behind the other from the place
+unfoldable pub locators_at : ℕ → List ℕ → ℕ → List Locator
+locators_at zero bytes place = []
+locators_at (suc count) bytes place = locator_at bytes place ∷ locators_at count bytes (place + 9)
+
+-- the header that the bytes begin with, where no line on the header fails
+unfoldable pub header_at : List ℕ → FileHeader
+header_at bytes = record {
+  lead = bytes_at bytes 6 7;
+  preview = rl_at bytes 13;
+  mark = bytes_at bytes 17 2;
+  code_page = rs_at bytes 19;
+  locators = locators_at (count_at bytes) bytes 25;
+}

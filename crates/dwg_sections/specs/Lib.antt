@@ -1,0 +1,3 @@
+pub mod FileHeader
+pub mod HeaderLines
+pub mod HeaderLaws

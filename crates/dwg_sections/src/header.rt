@@ -1,0 +1,155 @@
+//! The file header: its locators say where each section lies.
+
+ghost use Rattle.std.specs.Prelude.{◌≡◌, ◌+◌, ◌*◌, ◌≤◌, length, IfOk, IfErr, OnOk, None};
+ghost use Rattle.dwg_base.specs.Refusals.{first_fault, Tells, IsFaultOfTable};
+ghost use Rattle.dwg_sections.specs.FileHeader.{BeginsWithHeader};
+ghost use Rattle.dwg_sections.specs.HeaderLines.{HEADER_LINES, bytes_at, rs_at, rl_at, locator_at, locators_at, locators_end, header_at};
+
+use crate::fields::{rl, rs};
+use crate::header_lines::{LOCATOR_SIZE, LOCATORS_PLACE, count, refusal_of_header};
+use dwg_base::{Fault, Items, NoMemory};
+use std::alloc::Global;
+
+/// Where a section lies (Open Design Specification, "R13 to R2000 file layout").
+#[derive(Clone, Copy, Debug, PartialEq, Eq)]
+pub struct Locator {
+    /// 0 the header variables, 1 the classes, 2 the object map, any other an unknown section.
+    pub number: u8,
+    /// The section's place in the file, in bytes.
+    pub place: u32,
+    /// The section's size in bytes.
+    pub size: u32,
+}
+
+/// The file header (Open Design Specification, "R13 to R2000 file layout").
+#[derive(Drop)]
+pub struct FileHeader {
+    /// Seven bytes behind the version, kept without meaning.
+    pub lead: [u8; 7],
+    /// The place of the preview section.
+    pub preview: u32,
+    /// Two bytes before the code page, kept without meaning.
+    pub mark: [u8; 2],
+    /// The code page of the texts.
+    pub code_page: u16,
+    /// Three to six locators, in file order.
+    pub locators: Items<Locator>,
+}
+
+/// Where the seven bytes behind the version stand.
+const LEAD_PLACE: usize = 6;
+
+/// Where the place of the preview section stands.
+const PREVIEW_PLACE: usize = 13;
+
+/// Where the two bytes before the code page stand.
+const MARK_PLACE: usize = 17;
+
+/// Where the code page stands.
+const CODE_PAGE_PLACE: usize = 19;
+
+/// The seven bytes behind the version.
+fn lead(bytes: &[u8]) -> [u8; 7]
+    requires { 25 ≤ length bytes.now }
+    ensures { result ≡ bytes_at bytes.now 6 7 }
+{
+    [
+        bytes[LEAD_PLACE],
+        bytes[LEAD_PLACE + 1],
+        bytes[LEAD_PLACE + 2],
+        bytes[LEAD_PLACE + 3],
+        bytes[LEAD_PLACE + 4],
+        bytes[LEAD_PLACE + 5],
+        bytes[LEAD_PLACE + 6],
+    ]
+}
+
+/// The place of the preview section.
+fn preview(bytes: &[u8]) -> u32
+    requires { 25 ≤ length bytes.now }
+    ensures { result ≡ rl_at bytes.now 13 }
+{
+    rl(bytes, PREVIEW_PLACE)
+}
+
+/// The two bytes before the code page.
+fn mark(bytes: &[u8]) -> [u8; 2]
+    requires { 25 ≤ length bytes.now }
+    ensures { result ≡ bytes_at bytes.now 17 2 }
+{
+    [bytes[MARK_PLACE], bytes[MARK_PLACE + 1]]
+}
+
+/// The code page of the texts.
+fn code_page(bytes: &[u8]) -> u16
+    requires { 25 ≤ length bytes.now }
+    ensures { result ≡ rs_at bytes.now 19 }
+{
+    rs(bytes, CODE_PAGE_PLACE)
+}
+
+/// The locator at the place: RC number, RL place, RL size.
+fn read_locator(bytes: &[u8], place: usize) -> Locator
+    requires { place + 9 ≤ length bytes.now }
+    ensures { result ≡ locator_at bytes.now place }
+{
+    Locator {
+        number: bytes[place],
+        place: rl(bytes, place + 1),
+        size: rl(bytes, place + 5),
+    }
+}
+
+/// So many locators, one behind the other. The only refusal is want of memory.
+#[tactic(auto, using(crate::proofs::LocatorStep::one_locator_less, crate::proofs::LocatorStep::no_locator_left))]
+fn read_locators(alloc: Global, bytes: &[u8], count: u32) -> Result<Items<Locator>, NoMemory>
+    requires { 25 + 9 * count ≤ length bytes.now }
+    ensures { IfOk result (λ locators. locators ≡ locators_at count bytes.now 25) }
+{
+    let mut locators = Items::new(alloc);
+    'along: for i in 0..count {
+        let place = LOCATORS_PLACE + LOCATOR_SIZE * i as usize;
+        match locators.push(read_locator(bytes, place)) {
+            Ok(()) => {}
+            Err(_) => return Err(NoMemory),
+        }
+    }
+    Ok(locators)
+}
+
+/// The header by the places of its parts, where no line on it fails. The only refusal is want of memory.
+#[tactic(auto, unfolding(crate::specs::HeaderLines::header_at, crate::specs::HeaderLines::locators_end))]
+fn read_parts(alloc: Global, bytes: &[u8]) -> Result<FileHeader, NoMemory>
+    requires { 18 + locators_end bytes.now ≤ length bytes.now }
+    ensures { IfOk result (λ header. header ≡ header_at bytes.now) }
+{
+    let locators = read_locators(alloc, bytes, count(bytes))?;
+    Ok(FileHeader {
+        lead: lead(bytes),
+        preview: preview(bytes),
+        mark: mark(bytes),
+        code_page: code_page(bytes),
+        locators,
+    })
+}
+
+/// Reads the file header at the front of the input. It is refused by the first of its lines that fails: the input is
+/// short, the version or the count of locators is another, the check word or the sentinel is wrong.
+pub fn read_file_header(alloc: Global, bytes: &[u8]) -> Result<FileHeader, Fault>
+    // The header that the input begins with; there is one exactly where no line on the header fails.
+    ensures found { IfOk result (λ header. BeginsWithHeader bytes.now header) }
+    ensures value { IfOk result (λ header. header ≡ header_at bytes.now) }
+    ensures holds { OnOk result (first_fault HEADER_LINES bytes.now ≡ None) }
+
+    // The first line that fails, or want of memory.
+    ensures refused { IfErr result (λ fault. Tells fault (first_fault HEADER_LINES bytes.now)) }
+    ensures of_table { IfErr result IsFaultOfTable }
+{
+    if let Some(refusal) = refusal_of_header(bytes) {
+        return Err(Fault::Refused(refusal));
+    }
+    match read_parts(alloc, bytes) {
+        Ok(header) => Ok(header),
+        Err(NoMemory) => Err(Fault::NoMemory),
+    }
+}

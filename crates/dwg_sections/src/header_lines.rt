@@ -1,0 +1,129 @@
+//! The lines of the table of refusals on the file header.
+
+ghost use Rattle.std.specs.Prelude.{◌≡◌, ◌+◌, ◌≤◌, length, take, bytes_eq, ◌==◌, MatchOption};
+ghost use Rattle.dwg_base.specs.Refusals.{first_fault, IsOfTable};
+ghost use Rattle.dwg_check.specs.CheckWord.{header_check_word};
+ghost use Rattle.dwg_sections.specs.FileHeader.{VERSION, HEADER_SENTINEL};
+ghost use Rattle.dwg_sections.specs.HeaderLines.{HEADER_LINES, bytes_at, rs_at, count_at, locators_end};
+
+use crate::fields::{piece, rl, rs};
+use dwg_base::Refusal;
+use dwg_check::header_word;
+
+// The lines of the table, in the order in which they are tried.
+const SHORT_LINE: u8 = 1;
+
+const VERSION_LINE: u8 = 2;
+
+const COUNT_LINE: u8 = 3;
+
+const CUT_LINE: u8 = 4;
+
+const CHECK_LINE: u8 = 5;
+
+const SENTINEL_LINE: u8 = 6;
+
+/// The bytes of the version that is read.
+const VERSION_BYTES: [u8; 6] = *b"AC1015";
+
+/// The sixteen bytes behind the check word.
+const SENTINEL_BYTES: [u8; 16] = [
+    0x95, 0xA0, 0x4E, 0x28, 0x99, 0x82, 0x1A, 0xE5, 0x5E, 0x41, 0xE0, 0x5F, 0x9D, 0x3A, 0x4D, 0x00,
+];
+
+/// The place of the count of locators.
+const COUNT_PLACE: usize = 21;
+
+/// The place of the first locator.
+pub const LOCATORS_PLACE: usize = 25;
+
+/// The bytes of a locator.
+pub const LOCATOR_SIZE: usize = 9;
+
+/// The fewest locators of a header.
+const LEAST_COUNT: u32 = 3;
+
+/// The most locators of a header.
+const MOST_COUNT: u32 = 6;
+
+/// The bytes of the check word, which stands behind the locators.
+const CHECK_SIZE: usize = 2;
+
+/// The bytes of the check word and of the sentinel behind it.
+const TAIL_SIZE: usize = 18;
+
+/// Whether the input begins with the version that is read.
+fn is_version(bytes: &[u8]) -> bool
+    requires { 25 ≤ length bytes.now }
+    ensures { result ≡ bytes_eq (take 6 bytes.now) VERSION }
+{
+    bytes.starts_with(&VERSION_BYTES)
+}
+
+/// The count of locators that the header says it has.
+#[tactic(auto, unfolding(crate::specs::HeaderLines::count_at))]
+pub fn count(bytes: &[u8]) -> u32
+    requires { 25 ≤ length bytes.now }
+    ensures { result ≡ count_at bytes.now }
+{
+    rl(bytes, COUNT_PLACE)
+}
+
+/// Whether the check word at the end of so many locators is that of all bytes before it.
+fn has_check_word(bytes: &[u8], count: u32, end: usize) -> bool
+    requires least { 3 ≤ count }
+    requires most { count ≤ 6 }
+    requires within { end + 2 ≤ length bytes.now }
+    ensures { result ≡ (rs_at bytes.now end == header_check_word count (take end bytes.now)) }
+{
+    rs(bytes, end) == header_word(count, &bytes[..end])
+}
+
+/// Whether the sentinel stands at the place.
+fn has_sentinel(bytes: &[u8], place: usize) -> bool
+    requires { place + 16 ≤ length bytes.now }
+    ensures { result ≡ bytes_eq (bytes_at bytes.now place 16) HEADER_SENTINEL }
+{
+    piece(bytes, place, SENTINEL_BYTES.len()) == SENTINEL_BYTES.as_slice()
+}
+
+/// The refusal of the whole header by a line, at a place.
+fn refusal(line: u8, place: usize) -> Refusal
+    ensures { result ≡ record { line = line; index = 0; place = place } }
+{
+    Refusal {
+        line,
+        index: 0,
+        place: place as u64,
+    }
+}
+
+/// The first line on the file header that fails. Where none fails, the input has all bytes of the header.
+#[tactic(auto, unfolding(crate::specs::HeaderLines::short_line, crate::specs::HeaderLines::version_line, crate::specs::HeaderLines::count_line, crate::specs::HeaderLines::cut_line, crate::specs::HeaderLines::check_line, crate::specs::HeaderLines::sentinel_line, crate::specs::HeaderLines::locators_end))]
+pub fn refusal_of_header(bytes: &[u8]) -> Option<Refusal>
+    ensures first { result ≡ first_fault HEADER_LINES bytes.now }
+    ensures outcome { MatchOption result (18 + locators_end bytes.now ≤ length bytes.now) IsOfTable }
+{
+    let length = bytes.len();
+    if length < LOCATORS_PLACE {
+        return Some(refusal(SHORT_LINE, length));
+    }
+    if !is_version(bytes) {
+        return Some(refusal(VERSION_LINE, 0));
+    }
+    let count = count(bytes);
+    if count < LEAST_COUNT || MOST_COUNT < count {
+        return Some(refusal(COUNT_LINE, COUNT_PLACE));
+    }
+    let end = LOCATORS_PLACE + LOCATOR_SIZE * count as usize;
+    if length < TAIL_SIZE + end {
+        return Some(refusal(CUT_LINE, length));
+    }
+    if !has_check_word(bytes, count, end) {
+        return Some(refusal(CHECK_LINE, end));
+    }
+    if !has_sentinel(bytes, CHECK_SIZE + end) {
+        return Some(refusal(SENTINEL_LINE, CHECK_SIZE + end));
+    }
+    None
+}

@@ -1,0 +1,10 @@
+//! The sections of a file: its header, which says where each of them lies.
+#![tactic(auto)]
+
+mod fields;
+mod header;
+mod header_lines;
+mod laws;
+
+pub use header::{FileHeader, Locator, read_file_header};
+pub use laws::file_header_laws;

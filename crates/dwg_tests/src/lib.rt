@@ -1,0 +1,11 @@
+//! Tests of the libraries through their public calls: values from outside, each call once, and what no clause says.
+#![tactic(auto)]
+
+#[cfg(test)]
+mod base;
+#[cfg(test)]
+mod check;
+#[cfg(test)]
+mod sections;
+#[cfg(test)]
+mod text;

@@ -1,0 +1,49 @@
+//! Texts and notes.
+
+use dwg_base::{Items, Refusal};
+use dwg_sections::{FileHeader, Locator};
+use dwg_text::{read_fault_note, refusal_note, sections_text, too_long_note, usage_note};
+use std::test::Fail;
+
+#[test]
+fn prints_sections_and_notes(rt: HostRuntime) -> Result<(), Fail> {
+    let alloc = rt.alloc();
+    let mut locators = Items::new(alloc);
+    locators
+        .push(Locator {
+            number: 255,
+            place: 4_294_967_295,
+            size: 1_000,
+        })
+        .or(Err("no memory"))?;
+    let header = FileHeader {
+        lead: [1; 7],
+        preview: 7,
+        mark: [2; 2],
+        code_page: 30,
+        locators,
+    };
+    let text = sections_text(alloc, &header).or(Err("no memory"))?;
+    assert_eq!(rt;
+        text.as_slice(),
+        b"version AC1015\ncodepage 30\npreview 7\nsection 255 at 4294967295 size 1000\n".as_slice()
+    );
+
+    let refusal = Refusal {
+        line: 26,
+        index: 3,
+        place: 204,
+    };
+    let note = refusal_note(alloc, refusal).or(Err("no memory"))?;
+    assert_eq!(rt;
+        note.as_slice(),
+        b"dwg: refused: map 3 at 204: duplicate\n".as_slice()
+    );
+    assert_eq!(rt; read_fault_note(), b"dwg: read fault\n".as_slice());
+    assert_eq!(rt; too_long_note(), b"dwg: input too long\n".as_slice());
+    assert_eq!(rt;
+        usage_note(),
+        b"dwg: usage: sections | classes | show | rewrite | audit | recover | make N SEED | drill N\n".as_slice()
+    );
+    Ok(())
+}

@@ -1,0 +1,23 @@
+-- The notes that the program writes on standard error. A rule of this project.
+use Rattle.std.specs.Prelude.{ℕ, List, ◌++◌, codes, decimal}
+use Rattle.dwg_base.specs.Refusals.{part_word_of, reason_word_of}
+use Rattle.dwg_base.specs.declared.refusal.Refusal.{Refusal}
+use Rattle.dwg_text.specs.Lines.{line}
+
+-- which words the program takes
+unfoldable pub usage_note : List ℕ
+usage_note = line (codes "dwg: usage: sections | classes | show | rewrite | audit | recover | make N SEED | drill N")
+
+-- which part of the input is faulty, where, and why
+unfoldable pub refusal_note : Refusal → List ℕ
+refusal_note refusal =
+    line (codes "dwg: refused: " ++ part_word_of refusal.line ++ codes " " ++ decimal refusal.index
+    ++ codes " at " ++ decimal refusal.place ++ codes ": " ++ reason_word_of refusal.line)
+
+-- the input could not be read
+unfoldable pub read_fault_note : List ℕ
+read_fault_note = line (codes "dwg: read fault")
+
+-- the input is longer than the limit
+unfoldable pub too_long_note : List ℕ
+too_long_note = line (codes "dwg: input too long")

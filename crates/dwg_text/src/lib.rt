@@ -1,0 +1,8 @@
+//! The texts that `dwg` prints, as functions of what they tell.
+#![tactic(auto)]
+
+mod notes;
+mod sections;
+
+pub use notes::{read_fault_note, refusal_note, too_long_note, usage_note};
+pub use sections::sections_text;

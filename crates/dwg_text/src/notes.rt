@@ -1,0 +1,58 @@
+//! The notes that the program writes on standard error, one line each.
+
+ghost use Rattle.std.specs.Prelude.{◌≡◌, IfOk, string_bytes};
+ghost use Rattle.dwg_base.specs.Refusals.{IsOfTable};
+ghost use Rattle.dwg_text.specs.Notes as texts;
+
+use dwg_base::{ByteRun, NoMemory, Refusal, part_word, reason_word};
+use std::alloc::{AllocError, Global};
+
+/// Which words the program takes.
+#[tactic(auto, unfolding(crate::specs::Notes::usage_note))]
+pub fn usage_note() -> &'static [u8]
+    ensures { result.now ≡ texts.usage_note }
+{
+    b"dwg: usage: sections | classes | show | rewrite | audit | recover | make N SEED | drill N\n"
+}
+
+/// The input could not be read.
+#[tactic(auto, unfolding(crate::specs::Notes::read_fault_note))]
+pub fn read_fault_note() -> &'static [u8]
+    ensures { result.now ≡ texts.read_fault_note }
+{
+    b"dwg: read fault\n"
+}
+
+/// The input is longer than the limit.
+#[tactic(auto, unfolding(crate::specs::Notes::too_long_note))]
+pub fn too_long_note() -> &'static [u8]
+    ensures { result.now ≡ texts.too_long_note }
+{
+    b"dwg: input too long\n"
+}
+
+#[tactic(auto, unfolding(crate::specs::Notes::refusal_note))]
+fn refusal_text(alloc: Global, refusal: Refusal) -> Result<String, AllocError>
+    requires { IsOfTable refusal }
+    ensures { IfOk result (λ note. string_bytes note ≡ texts.refusal_note refusal) }
+{
+    let index = refusal.index;
+    let place = refusal.place;
+    let mut note = String::from_str(alloc, "dwg: refused: ")?;
+    note.push_str(part_word(refusal.line))?;
+    write!(note, " {index} at {place}: ")?;
+    note.push_str(reason_word(refusal.line))?;
+    note.push_str("\n")?;
+    Ok(note)
+}
+
+/// Which part of the input is faulty, where, and why. The only refusal is want of memory.
+pub fn refusal_note(alloc: Global, refusal: Refusal) -> Result<ByteRun, NoMemory>
+    requires { IsOfTable refusal }
+    ensures { IfOk result (λ note. note ≡ texts.refusal_note refusal) }
+{
+    match refusal_text(alloc, refusal) {
+        Ok(note) => Ok(ByteRun::from_vec(note.into_bytes())),
+        Err(_) => Err(NoMemory),
+    }
+}

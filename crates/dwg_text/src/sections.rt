@@ -1,0 +1,45 @@
+//! The text of a file's sections.
+
+ghost use Rattle.std.specs.Prelude.{◌≡◌, ◌++◌, IfOk, OnOk, string_bytes};
+ghost use Rattle.dwg_text.specs.Sections as texts;
+
+use dwg_base::{ByteRun, NoMemory};
+use dwg_sections::{FileHeader, Locator};
+use std::alloc::{AllocError, Global};
+
+#[tactic(auto, unfolding(crate::specs::Sections::section_line))]
+fn push_section_line(text: &mut String, locator: &Locator) -> Result<(), AllocError>
+    ensures { OnOk result (string_bytes text.new ≡ string_bytes text.old ++ texts.section_line locator.now) }
+{
+    let number = locator.number;
+    let place = locator.place;
+    let size = locator.size;
+    match writeln!(text, "section {number} at {place} size {size}") {
+        Ok(()) => Ok(()),
+        Err(fault) => Err(fault),
+    }
+}
+
+#[tactic(auto, unfolding(crate::specs::Sections::sections_text))]
+fn text_of(alloc: Global, header: &FileHeader) -> Result<String, AllocError>
+    ensures { IfOk result (λ text. string_bytes text ≡ texts.sections_text header.now) }
+{
+    let code_page = header.code_page;
+    let preview = header.preview;
+    let mut text = format!(in alloc; "version AC1015\ncodepage {code_page}\npreview {preview}\n")?;
+    for locator in header.locators.as_slice() {
+        push_section_line(&mut text, locator)?;
+    }
+    Ok(text)
+}
+
+/// The version, the code page, the place of the preview, and the locators in file order, a line each. The only refusal
+/// is want of memory.
+pub fn sections_text(alloc: Global, header: &FileHeader) -> Result<ByteRun, NoMemory>
+    ensures { IfOk result (λ text. text ≡ texts.sections_text header.now) }
+{
+    match text_of(alloc, header) {
+        Ok(text) => Ok(ByteRun::from_vec(text.into_bytes())),
+        Err(_) => Err(NoMemory),
+    }
+}
