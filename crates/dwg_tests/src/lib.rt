@@ -4,6 +4,8 @@
 #[cfg(test)]
 mod base;
 #[cfg(test)]
+mod bits;
+#[cfg(test)]
 mod check;
 #[cfg(test)]
 mod sections;

@@ -1,0 +1,4 @@
+pub mod BitPlaces
+pub mod Filling
+pub mod Pushing
+pub mod Taking
