@@ -1,5 +1,6 @@
 -- What a call does to a device: to its count of faults, to the bytes that it still gives, and to those that it took. A rule of this project.
-use Rattle.std.specs.Prelude.{◌≡◌, ℕ, ◌+◌, ◌-◌, ◌^◌, ◌≤◌, min, List, ◌++◌, Option, Result, MatchResult, OnOk, OnErr}
+use Rattle.std.specs.Prelude.{◌≡◌, ℕ, ◌+◌, ◌-◌, ◌^◌, ◌<◌, ◌≤◌, ◌⊎◌, min, List, ◌++◌, Option, Result, MatchResult, OnOk, OnErr}
+use Rattle.std.proofs.Common.{arith}
 use Rattle.std.specs.Io.KnownBytes.{Appends}
 
 -- the last value of a count of faults or of calls, at which it stands still
@@ -12,11 +13,16 @@ next_count count = min (count + 1) LAST_COUNT
 
 -- a count rose in a call: it is greater than at the begin of the call, or stands at its last value
 abbrev pub Rose : ℕ → ℕ → Type 0
-Rose before now = next_count before ≤ now
+Rose before now = (before < now) ⊎ (now ≡ LAST_COUNT)
 
--- what a call does to its device's count of faults: it never falls, stays where the call succeeds, and rose where it fails
+-- one more is a rise
+pub rose_by_one : (before now : ℕ) → before ≤ LAST_COUNT → now ≡ next_count before → Rose before now
+rose_by_one before now small more = grind arith
+
+-- what a call does to its device's count of faults: it never falls, stays where the call succeeds, rose where it fails, and stands still at its last value
 pub record Counts {T E : Type 0} (before now : ℕ) (result : Result T E) : Type 0 where
   pub never_falls : before ≤ now
+  pub stands : before ≡ LAST_COUNT → now ≡ LAST_COUNT
   pub ok : OnOk result (now ≡ before)
   pub err : OnErr result (Rose before now)
 
@@ -31,3 +37,7 @@ AppendsFront old new whole = (front : List ℕ) × IsFront front whole × Append
 -- a call that sends the whole to a sink: all of it at Ok, and a front of it at Err
 abbrev pub Sends : {T E : Type 0} → Option (List ℕ) → Option (List ℕ) → List ℕ → Result T E → Type 0
 Sends old new whole result = MatchResult result (λ _. Appends old new whole) (λ _. AppendsFront old new whole)
+
+-- the most bytes that an input may have, and the most that a written file may have
+abbrev pub MOST_BYTES : ℕ
+MOST_BYTES = 33554432

@@ -2,7 +2,7 @@
 
 ghost use Rattle.std.specs.Prelude.{◌≡◌, ℕ, ◌+◌, ◌≤◌, ◌<◌, ◌^◌, ◌⊎◌, List, length, IfOk, OnOk, OnErr, IsErrOf};
 ghost use Rattle.std.specs.Io.KnownBytes.{Consumes, IsAtEnd};
-ghost use Rattle.dwg_base.specs.Devices.{Rose};
+ghost use Rattle.dwg_base.specs.Devices.{LAST_COUNT, Rose};
 
 use crate::bytes::ByteRun;
 use crate::device::{Failed, Source};
@@ -37,13 +37,17 @@ pub fn read_all<R: Source>(alloc: Global, source: &mut R, limit: u64) -> Result<
     ensures whole { IfOk result (λ run. Consumes (R.left source.old) (R.left source.new) run) }
     ensures end { OnOk result (IsAtEnd (R.left source.new)) }
     ensures within { IfOk result (λ run. length run ≤ limit) }
-    // One byte more than the limit came, and no fault.
+
+    // One byte more than the limit came, and no fault; fewer came before a fault. What came before a refusal is gone.
     ensures too_long { IsErrOf result Intake.TooLong → (gone : List ℕ) × (length gone ≡ limit + 1) × Consumes (R.left source.old) (R.left source.new) gone }
-    ensures read_fault { IsErrOf result Intake.ReadFault → Rose (R.faults source.old) (R.faults source.new) }
+    ensures read_fault { IsErrOf result Intake.ReadFault → (gone : List ℕ) × (length gone ≤ limit) × Consumes (R.left source.old) (R.left source.new) gone }
+    ensures gone { OnErr result ((gone : List ℕ) × (length gone ≤ limit + 1) × Consumes (R.left source.old) (R.left source.new) gone) }
+
+    // A read fault comes only where the count of faults rose, which else stays as it was.
+    ensures rose { IsErrOf result Intake.ReadFault → Rose (R.faults source.old) (R.faults source.new) }
     ensures quiet { IsErrOf result Intake.ReadFault ⊎ (R.faults source.new ≡ R.faults source.old) }
     ensures never_falls { R.faults source.old ≤ R.faults source.new }
-    // What came before a refusal is gone.
-    ensures gone { OnErr result ((gone : List ℕ) × (length gone ≤ limit + 1) × Consumes (R.left source.old) (R.left source.new) gone) }
+    ensures stands { R.faults source.old ≡ LAST_COUNT → R.faults source.new ≡ LAST_COUNT }
 {
     let limit = limit as usize;
     let mut bytes = Vec::new(alloc);

@@ -3,7 +3,7 @@ use Rattle.std.proofs.Common.{◌≡◌, ℕ, ◌+◌, ◌≤◌, ◌<◌, List,
 use Rattle.std.proofs.lemmas.Bool.Decides.{nat_tests}
 use Rattle.std.specs.Prelude.{Option, nat_lt}
 use Rattle.std.specs.Io.KnownBytes.{Consumes, IsAtEnd}
-use Rattle.dwg_base.specs.declared.intake.TheConstants.{LIMIT}
+use Rattle.dwg_base.specs.Devices.{MOST_BYTES}
 use Rattle.dwg_base.specs.declared.refusal.Refusal.{Refusal}
 use Rattle.dwg_base.specs.Refusals.{first_fault}
 use Rattle.dwg_sections.specs.HeaderLines.{HEADER_LINES}
@@ -33,30 +33,37 @@ told_whole (Some left) (Some rest) run bytes gave end told =
     same ∙ gave ∙ ap (λ behind. run ++ behind) end ∙ append-nil run
 
 -- a source that gave more bytes than the limit told as many
-told_more : (old new : Option (List ℕ)) (gone bytes : List ℕ) → Consumes old new gone → length gone ≡ LIMIT + 1 → old ≡ Some bytes → LIMIT < length bytes
+told_more : (old new : Option (List ℕ)) (gone bytes : List ℕ) → Consumes old new gone → length gone ≡ MOST_BYTES + 1 → old ≡ Some bytes → MOST_BYTES < length bytes
 told_more None new gone bytes gave long told = absurd cc
 told_more (Some left) None gone bytes gave long told = absurd gave
 told_more (Some left) (Some rest) gone bytes gave long told =
     let same : bytes ≡ left = cc in
     omega (arith, long, ap length (same ∙ gave), length-append gone rest)
 
--- an input that was read to its end, within the limit, is answered by its command
-pub answered_within : (command : Command) (old new : Option (List ℕ)) (run bytes : List ℕ) (answer : Answer) → Consumes old new run → IsAtEnd new → length run ≤ LIMIT
-    → answer ≡ outcome_within command run → old ≡ Some bytes → answer ≡ outcome_of (Some command) bytes
+-- bytes within the limit are answered by the command
+pub outcome_of_few : (command : Command) (run : List ℕ) (answer : Answer) → length run ≤ MOST_BYTES → answer ≡ outcome_within command run → answer ≡ outcome_of (Some command) run
 unfolding outcome_of
-answered_within command old new run bytes answer gave end within is told =
-    let same = told_whole old new run bytes gave end told in
-    let short : nat_lt LIMIT (length run) ≡ false = grind (arith, nat_tests) in
-    rw (same, short) is
+outcome_of_few command run answer within is =
+    let short : nat_lt MOST_BYTES (length run) ≡ false = grind (arith, nat_tests) in
+    rw short is
 
--- an input of more bytes than the limit is too long
-pub answered_too_long : (command : Command) (old new : Option (List ℕ)) (gone bytes : List ℕ) (answer : Answer) → Consumes old new gone → length gone ≡ LIMIT + 1
-    → answer ≡ noted too_long_note TooLong → old ≡ Some bytes → answer ≡ outcome_of (Some command) bytes
+-- more bytes than the limit are too long
+pub outcome_of_many : (command : Command) (bytes : List ℕ) (answer : Answer) → MOST_BYTES < length bytes → answer ≡ noted too_long_note TooLong → answer ≡ outcome_of (Some command) bytes
 unfolding outcome_of
-answered_too_long command old new gone bytes answer gave long is told =
-    let more = told_more old new gone bytes gave long told in
-    let over : nat_lt LIMIT (length bytes) ≡ true = grind (arith, nat_tests) in
+outcome_of_many command bytes answer more is =
+    let over : nat_lt MOST_BYTES (length bytes) ≡ true = grind (arith, nat_tests) in
     rw over is
+
+-- what a source told is answered by its command, where it was read to its end, within the limit
+pub answered_within : (command : Command) (old new : Option (List ℕ)) (run bytes : List ℕ) (answer : Answer) → Consumes old new run → IsAtEnd new → length run ≤ MOST_BYTES
+    → answer ≡ outcome_within command run → old ≡ Some bytes → answer ≡ outcome_of (Some command) bytes
+answered_within command old new run bytes answer gave end within is told =
+    outcome_of_few command run answer within is ∙ ap (outcome_of (Some command)) (sym (told_whole old new run bytes gave end told))
+
+-- what a source told is too long, where it gave more than the limit
+pub answered_too_long : (command : Command) (old new : Option (List ℕ)) (gone bytes : List ℕ) (answer : Answer) → Consumes old new gone → length gone ≡ MOST_BYTES + 1
+    → answer ≡ noted too_long_note TooLong → old ≡ Some bytes → answer ≡ outcome_of (Some command) bytes
+answered_too_long command old new gone bytes answer gave long is told = outcome_of_many command bytes answer (told_more old new gone bytes gave long told) is
 
 -- words of no command get the usage note, whatever the input
 pub answered_usage : (named : Option Command) (bytes : List ℕ) (answer : Answer) → named ≡ None → answer ≡ noted usage_note Usage → answer ≡ outcome_of named bytes

@@ -1,6 +1,6 @@
 -- What the program answers to its words and its input. A rule of this project.
 use Rattle.std.specs.Prelude.{ℕ, List, [], Option, Some, None, length, nat_lt, if◌then◌else◌}
-use Rattle.dwg_base.specs.declared.intake.TheConstants.{LIMIT}
+use Rattle.dwg_base.specs.Devices.{MOST_BYTES}
 use Rattle.dwg_base.specs.Refusals.{first_fault}
 use Rattle.dwg_base.specs.declared.refusal.Refusal.{Refusal}
 use Rattle.dwg_sections.specs.HeaderLines.{HEADER_LINES, header_at}
@@ -33,7 +33,7 @@ outcome_within Sections bytes = refused_or (first_fault HEADER_LINES bytes) (sec
 -- what a command answers
 unfoldable pub outcome_of : Option Command → List ℕ → Answer
 outcome_of None bytes = noted usage_note Usage
-outcome_of (Some command) bytes = if nat_lt LIMIT (length bytes) then noted too_long_note TooLong else outcome_within command bytes
+outcome_of (Some command) bytes = if nat_lt MOST_BYTES (length bytes) then noted too_long_note TooLong else outcome_within command bytes
 
 -- what the program answers: output bytes, note bytes and status
 abbrev pub outcome : List (List ℕ) → List ℕ → Answer

@@ -1,17 +1,22 @@
 -- What a run of the program does to its three devices. A rule of this project.
-use Rattle.std.specs.Prelude.{◌≡◌, ⊤, ℕ, List, [], Option, Some, ◌⊎◌, IfSome}
-use Rattle.std.specs.Io.KnownBytes.{Appends}
-use Rattle.dwg_base.specs.Devices.{Rose, AppendsFront}
+use Rattle.std.specs.Prelude.{◌≡◌, ⊤, ℕ, List, [], Option, Some, ◌⊎◌, ◌+◌, ◌≤◌, length, IfSome}
+use Rattle.std.specs.Io.KnownBytes.{Appends, Consumes}
+use Rattle.dwg_base.specs.Devices.{Rose, AppendsFront, MOST_BYTES}
 use Rattle.dwg_text.specs.Notes.{read_fault_note}
 use Rattle.dwg_cli.specs.declared.words.Command.{Command}
 use Rattle.dwg_cli.specs.declared.status.Status.{Status}
 use Rattle.dwg_cli.specs.declared.status.Status.TheVariants.{Done, Usage, Refused, ReadFault, WriteFault, NoMemory, TooLong}
 use Rattle.dwg_cli.specs.declared.answer.Answer.{Answer}
 use Rattle.dwg_cli.specs.Words.{IsReading}
+use Rattle.dwg_cli.specs.Outcome.{outcome}
 
 -- the bytes are those that the input tells, where the command reads; a command that doesn't read needs no telling
 abbrev pub Feeds : Option Command → Option (List ℕ) → List ℕ → Type 0
 Feeds command told bytes = IsReading command → told ≡ Some bytes
+
+-- some bytes came from the input, and this holds of them
+abbrev pub Came : Option (List ℕ) → Option (List ℕ) → (List ℕ → Type 0) → Type 0
+Came left left' Holds = (came : List ℕ) × Consumes left left' came × Holds came
 
 -- neither a device nor memory failed
 abbrev pub IsSettled : Status → Type 0
@@ -62,16 +67,23 @@ IsCut answer output output' notes notes' =
     (AppendsFront output output' answer.output × Appends notes notes' [])
     ⊎ (Appends output output' answer.output × AppendsFront notes notes' answer.note)
 
--- the input failed: nothing went to the output, and a front of the note on that to the notes
-pub record StopsAtFault (before now : ℕ) (output output' notes notes' : Option (List ℕ)) : Type 0 where
+-- the input of a command that reads failed: nothing went to the output, and a front of the note on that to the notes
+pub record StopsAtFault (command : Option Command) (before now : ℕ) (output output' notes notes' : Option (List ℕ)) : Type 0 where
+  pub reading : IsReading command
   pub fault : Rose before now
   pub printed : Appends output output' []
   pub noted : AppendsFront notes notes' read_fault_note
 
+-- the run answered to the bytes that came, which are at most one more than the limit, as is defined for them
+pub record AnswersTo (words : List (List ℕ)) (came : List ℕ) (status : Status) (output output' notes notes' : Option (List ℕ)) : Type 0 where
+  pub within : length came ≤ MOST_BYTES + 1
+  pub ends : status ≡ (outcome words came).status
+  pub sends : Delivers (outcome words came) output output' notes notes'
+
 -- how an answer that was sent ends: its status, where both sinks took it; else a write fault, where one of them failed
 abbrev pub Sent : Answer → Status → Option (List ℕ) → Option (List ℕ) → Option (List ℕ) → Option (List ℕ) → ℕ → ℕ → ℕ → ℕ → Type 0
 Sent answer status output output' notes notes' faults faults' note_faults note_faults' =
-    (IsWhole ⊎ IsBroken)
+    IsWhole ⊎ IsBroken
   where
     IsWhole : Type 0
     IsWhole = (status ≡ answer.status) × Delivers answer output output' notes notes' × (faults' ≡ faults) × (note_faults' ≡ note_faults)

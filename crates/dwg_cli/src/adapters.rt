@@ -1,6 +1,6 @@
 //! The program's devices: std's readers and writers as sources and sinks that tell no bytes.
 
-ghost use Rattle.std.specs.Prelude.{ℕ, List, Option, None};
+ghost use Rattle.std.specs.Prelude.{◌≡◌, ℕ, List, Option, None};
 
 use dwg_base::{Failed, Sink, Source};
 use std::io::{Read, Write};
@@ -14,7 +14,9 @@ pub struct ReaderSource<T: Read + Drop> {
 
 impl<T: Read + Drop> ReaderSource<T> {
     /// The source that reads from `reader`.
-    pub fn new(reader: T) -> ReaderSource<T> {
+    pub fn new(reader: T) -> ReaderSource<T>
+        ensures { result.faults ≡ 0 }
+    {
         ReaderSource { reader, faults: 0 }
     }
 }
@@ -45,7 +47,9 @@ pub struct WriterSink<T: Write + Drop> {
 
 impl<T: Write + Drop> WriterSink<T> {
     /// The sink that writes to `writer`.
-    pub fn new(writer: T) -> WriterSink<T> {
+    pub fn new(writer: T) -> WriterSink<T>
+        ensures { result.faults ≡ 0 }
+    {
         WriterSink { writer, faults: 0 }
     }
 }

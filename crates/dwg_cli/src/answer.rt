@@ -1,13 +1,13 @@
 //! What the program answers to its words and its input.
 
-ghost use Rattle.std.specs.Prelude.{◌≡◌, ◌≤◌, ◌^◌, ◌<◌, ◌⊎◌, IfOk, IfSome, IsSome, IsNone, OnOk, OnErr, IfErr, length, List, [], Some, IsErrOf, Err, None, ℕ};
+ghost use Rattle.std.specs.Prelude.{◌≡◌, ◌+◌, ◌≤◌, ◌^◌, ◌<◌, ◌⊎◌, IfOk, IfSome, IsSome, IsNone, OnOk, OnErr, IfErr, length, List, [], Some, IsErrOf, Err, None, ℕ};
 ghost use Rattle.std.specs.Io.KnownBytes.{Consumes};
-ghost use Rattle.dwg_base.specs.Devices.{Rose};
+ghost use Rattle.dwg_base.specs.Devices.{Rose, MOST_BYTES};
 ghost use Rattle.dwg_base.specs.Refusals.{IsOfTable};
 ghost use Rattle.dwg_text.specs.Notes as texts;
 ghost use Rattle.dwg_cli.specs.Words.{texts as words_of, command_of, IsReading};
 ghost use Rattle.dwg_cli.specs.Outcome.{noted, printed, outcome_within, outcome_of, outcome};
-ghost use Rattle.dwg_cli.specs.Run.{Feeds, IsSettled, IsDrained, IsDrainedSource};
+ghost use Rattle.dwg_cli.specs.Run.{Feeds, Came, IsSettled, IsDrained, IsDrainedSource};
 ghost use Rattle.dwg_base.specs.declared.intake.TheConstants.{LIMIT};
 
 use crate::status::Status;
@@ -105,9 +105,13 @@ fn answer_within(alloc: Global, command: Command, bytes: &[u8]) -> Result<Answer
 /// What a command that reads answers to its input.
 fn answer_from<R: Source>(alloc: Global, command: Command, input: &mut R) -> Result<Answer, Stop>
     ensures answered { IfOk result (λ answer. (bytes : List ℕ) → R.left input.old ≡ Some bytes → answer ≡ outcome_of (Some command) bytes) }
+    ensures came { IfOk result (λ answer. Came (R.left input.old) (R.left input.new) (λ came. (length came ≤ MOST_BYTES + 1) × (answer ≡ outcome_of (Some command) came))) }
+    ensures gone { OnErr result (Came (R.left input.old) (R.left input.new) (λ came. length came ≤ MOST_BYTES + 1)) }
     ensures status { IfOk result (λ answer. (answer.status ≡ Status.TooLong) ⊎ IsDrained answer.status) }
-    ensures read_fault { IsErrOf result Stop.ReadFault → Rose (R.faults input.old) (R.faults input.new) }
+    ensures read_fault { IsErrOf result Stop.ReadFault → Came (R.left input.old) (R.left input.new) (λ came. length came ≤ MOST_BYTES) }
+    ensures rose { IsErrOf result Stop.ReadFault → Rose (R.faults input.old) (R.faults input.new) }
     ensures quiet { IsErrOf result Stop.ReadFault ⊎ (R.faults input.new ≡ R.faults input.old) }
+    ensures never_falls { R.faults input.old ≤ R.faults input.new }
     ensures drained { IfOk result (λ answer. IsDrained answer.status → IsDrainedSource (R.left input.old) (R.left input.new)) }
 {
     match read_all(alloc, input, LIMIT) {
@@ -122,11 +126,17 @@ fn answer_from<R: Source>(alloc: Global, command: Command, input: &mut R) -> Res
 pub fn answer_for<R: Source>(alloc: Global, words: &[String], input: &mut R) -> Result<Answer, Stop>
     ensures answered { IfOk result (λ answer. (bytes : List ℕ) → Feeds (command_of (words_of words.now)) (R.left input.old) bytes →
         answer ≡ outcome (words_of words.now) bytes) }
+    ensures came { IfOk result (λ answer. Came (R.left input.old) (R.left input.new) (λ came.
+        (length came ≤ MOST_BYTES + 1) × (answer ≡ outcome (words_of words.now) came))) }
+    ensures gone { OnErr result (Came (R.left input.old) (R.left input.new) (λ came. length came ≤ MOST_BYTES + 1)) }
     ensures settled { IfOk result (λ answer. IsSettled answer.status) }
     ensures usage { IfOk result (λ answer. answer.status ≡ Status.Usage → command_of (words_of words.now) ≡ None) }
     ensures usage_told { command_of (words_of words.now) ≡ None → IfOk result (λ answer. answer.status ≡ Status.Usage) }
-    ensures read_fault { IsErrOf result Stop.ReadFault → IsReading (command_of (words_of words.now)) × Rose (R.faults input.old) (R.faults input.new) }
+    ensures reading { IsErrOf result Stop.ReadFault → IsReading (command_of (words_of words.now)) }
+    ensures read_fault { IsErrOf result Stop.ReadFault → Came (R.left input.old) (R.left input.new) (λ came. length came ≤ MOST_BYTES) }
+    ensures rose { IsErrOf result Stop.ReadFault → Rose (R.faults input.old) (R.faults input.new) }
     ensures quiet { IsErrOf result Stop.ReadFault ⊎ (R.faults input.new ≡ R.faults input.old) }
+    ensures never_falls { R.faults input.old ≤ R.faults input.new }
     ensures unread { (IsReading (command_of (words_of words.now)) → ⊥) → input.new ≡ input.old }
     ensures drained { IfOk result (λ answer. IsDrained answer.status → IsDrainedSource (R.left input.old) (R.left input.new)) }
 {

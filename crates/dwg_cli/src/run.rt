@@ -1,12 +1,12 @@
 //! The top call.
 
-ghost use Rattle.std.specs.Prelude.{◌≡◌, ◌<◌, ◌⊎◌, ℕ, List, [], Some, None, IfSome};
+ghost use Rattle.std.specs.Prelude.{◌≡◌, ◌<◌, ◌⊎◌, ℕ, ◌≤◌, length, List, [], Some, None, IfSome};
 ghost use Rattle.std.specs.Io.KnownBytes.{Appends};
-ghost use Rattle.dwg_base.specs.Devices.{Rose, AppendsFront};
+ghost use Rattle.dwg_base.specs.Devices.{Rose, AppendsFront, MOST_BYTES};
 ghost use Rattle.dwg_text.specs.Notes as texts;
 ghost use Rattle.dwg_cli.specs.Words.{texts as words_of, command_of, IsReading};
 ghost use Rattle.dwg_cli.specs.Outcome.{outcome};
-ghost use Rattle.dwg_cli.specs.Run.{Feeds, IsSettled, IsStopped, IsFailed, IsDrained, Delivers, IsCut, StopsAtFault, Sent};
+ghost use Rattle.dwg_cli.specs.Run.{Feeds, Came, AnswersTo, IsSettled, IsStopped, IsFailed, IsDrained, Delivers, IsCut, StopsAtFault, Sent};
 
 use crate::answer::{Answer, Stop, answer_for};
 use crate::status::Status;
@@ -16,7 +16,8 @@ use std::alloc::Global;
 
 /// Sends an answer: first all of its output, and then its note.
 fn deliver<W: Sink, N: Sink>(answer: &Answer, output: &mut W, notes: &mut N) -> Status
-    ensures { Sent answer.now result (W.taken output.old) (W.taken output.new) (N.taken notes.old) (N.taken notes.new)
+    ensures never_fall { (W.faults output.old ≤ W.faults output.new) × (N.faults notes.old ≤ N.faults notes.new) }
+    ensures sent { Sent answer.now result (W.taken output.old) (W.taken output.new) (N.taken notes.old) (N.taken notes.new)
         (W.faults output.old) (W.faults output.new) (N.faults notes.old) (N.faults notes.new) }
 {
     match put_all(output, answer.output.as_slice()) {
@@ -31,6 +32,7 @@ fn deliver<W: Sink, N: Sink>(answer: &Answer, output: &mut W, notes: &mut N) -> 
 
 /// Notes that the input failed.
 fn tell_read_fault<N: Sink>(notes: &mut N) -> Status
+    ensures never_falls { N.faults notes.old ≤ N.faults notes.new }
     ensures told { result ≡ Status.ReadFault → Appends (N.taken notes.old) (N.taken notes.new) texts.read_fault_note }
     ensures cut { IsStopped result → AppendsFront (N.taken notes.old) (N.taken notes.new) texts.read_fault_note }
     ensures ends { (result ≡ Status.ReadFault) × (N.faults notes.new ≡ N.faults notes.old) ⊎ (result ≡ Status.WriteFault) × Rose (N.faults notes.old) (N.faults notes.new) }
@@ -49,17 +51,22 @@ pub fn run<R: Source, W: Sink, N: Sink>(
     output: &mut W,
     notes: &mut N,
 ) -> Status
-    // Where neither a device nor memory failed, status, output and notes are the defined ones.
+    // Where neither a device nor memory failed, status, output and notes are the defined ones: for the bytes that the
+    // input tells, and, whatever it tells, for those that came.
     ensures outcome { IsSettled result → (bytes : List ℕ) → Feeds (command_of (words_of words.now)) (R.left input.old) bytes →
         (result ≡ (outcome (words_of words.now) bytes).status)
         × Delivers (outcome (words_of words.now) bytes) (W.taken output.old) (W.taken output.new) (N.taken notes.old) (N.taken notes.new) }
+    ensures came { IsSettled result → Came (R.left input.old) (R.left input.new) (λ came.
+        AnswersTo (words_of words.now) came result (W.taken output.old) (W.taken output.new) (N.taken notes.old) (N.taken notes.new)) }
 
     // Usage comes exactly where the words stand in no line of the command table, whatever the devices tell.
     ensures usage { result ≡ Status.Usage → command_of (words_of words.now) ≡ None }
     ensures usage_told { command_of (words_of words.now) ≡ None → (result ≡ Status.Usage) ⊎ IsStopped result }
 
-    // A read fault comes only where the command reads and the input's faults rose: nothing went to the output.
+    // A read fault comes only where the command reads and the input's faults rose, and no more than the limit came before
+    // it: nothing went to the output.
     ensures read_fault { result ≡ Status.ReadFault → IsReading (command_of (words_of words.now)) × Rose (R.faults input.old) (R.faults input.new) }
+    ensures read_fault_came { result ≡ Status.ReadFault → Came (R.left input.old) (R.left input.new) (λ came. length came ≤ MOST_BYTES) }
     ensures read_fault_note { result ≡ Status.ReadFault →
         Appends (W.taken output.old) (W.taken output.new) [] × Appends (N.taken notes.old) (N.taken notes.new) texts.read_fault_note }
     ensures heeded_input { R.faults input.old < R.faults input.new → IsFailed result }
@@ -70,11 +77,19 @@ pub fn run<R: Source, W: Sink, N: Sink>(
     // A run that stopped wrote a front of what is defined, or stopped at a fault of its input.
     ensures stopped { IsStopped result → (bytes : List ℕ) → Feeds (command_of (words_of words.now)) (R.left input.old) bytes →
         IsCut (outcome (words_of words.now) bytes) (W.taken output.old) (W.taken output.new) (N.taken notes.old) (N.taken notes.new)
-        ⊎ StopsAtFault (R.faults input.old) (R.faults input.new) (W.taken output.old) (W.taken output.new) (N.taken notes.old) (N.taken notes.new) }
+        ⊎ StopsAtFault (command_of (words_of words.now)) (R.faults input.old) (R.faults input.new) (W.taken output.old) (W.taken output.new) (N.taken notes.old) (N.taken notes.new) }
+    ensures stopped_came { IsStopped result → Came (R.left input.old) (R.left input.new) (λ came.
+        IsCut (outcome (words_of words.now) came) (W.taken output.old) (W.taken output.new) (N.taken notes.old) (N.taken notes.new)
+        ⊎ StopsAtFault (command_of (words_of words.now)) (R.faults input.old) (R.faults input.new) (W.taken output.old) (W.taken output.new) (N.taken notes.old) (N.taken notes.new)) }
     ensures stopped_at_fault { IsStopped result → R.faults input.old < R.faults input.new →
-        StopsAtFault (R.faults input.old) (R.faults input.new) (W.taken output.old) (W.taken output.new) (N.taken notes.old) (N.taken notes.new) }
+        StopsAtFault (command_of (words_of words.now)) (R.faults input.old) (R.faults input.new) (W.taken output.old) (W.taken output.new) (N.taken notes.old) (N.taken notes.new) }
     ensures heeded_output { W.faults output.old < W.faults output.new → IsStopped result }
     ensures heeded_notes { N.faults notes.old < N.faults notes.new → IsStopped result }
+
+    // Counts of faults never fall, and stay where no device failed.
+    ensures quiet { IsSettled result → (R.faults input.new ≡ R.faults input.old) × (W.faults output.new ≡ W.faults output.old) × (N.faults notes.new ≡ N.faults notes.old) }
+    ensures quiet_sinks { result ≡ Status.ReadFault → (W.faults output.new ≡ W.faults output.old) × (N.faults notes.new ≡ N.faults notes.old) }
+    ensures never_fall { (R.faults input.old ≤ R.faults input.new) × (W.faults output.old ≤ W.faults output.new) × (N.faults notes.old ≤ N.faults notes.new) }
 
     // What is left in the input.
     ensures unread { (IsReading (command_of (words_of words.now)) → ⊥) → input.new ≡ input.old }
