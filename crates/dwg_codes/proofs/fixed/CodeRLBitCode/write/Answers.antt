@@ -1,0 +1,12 @@
+use Rattle.std.specs.Int.{w32, from_be_bytes, to_le_bytes}
+use Rattle.std.proofs.Common.{◌∙◌, ap, refl}
+use Rattle.std.proofs.lemmas.Nat.{be_bytes_4}
+use Rattle.dwg_codes.specs.NumberLaws.{byte_in, bytes_of_number}
+use Rattle.dwg_codes.proofs.WordReading.{word_written}
+use Rattle.dwg_codes.proofs.fixed.CodeRLBitCode.write.Goals as goal
+
+pub returns : goal.returns
+returns c =
+    let value = c.args.value.now in
+    let bytes_of_bits = c.from.ensures ∙ c.from_be_bytes-bits.ensures ∙ ap (from_be_bytes w32) c.to_le_bytes.ensures in
+    word_written 4 _ _ _ _ (be_bytes_4 (to_le_bytes w32 value) _ refl (byte_in (to_le_bytes w32 value) (bytes_of_number 0 4 value)) bytes_of_bits) c.push.ensures

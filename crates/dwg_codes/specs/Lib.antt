@@ -1,0 +1,13 @@
+pub mod Grammar
+pub mod Combinators
+pub mod Codes
+pub mod ModularCodes
+pub mod CodeLaws
+pub mod CombinatorLaws
+pub mod ListLaws
+pub mod NumberLaws
+pub mod TableLaws
+pub mod DefaultLaws
+pub mod ModularLaws
+pub mod SignedLaws
+pub mod TruthCode
