@@ -5,3 +5,4 @@ pub mod Filled
 pub mod Parts
 pub mod Sink
 pub mod SinkLaws
+pub mod PaddingLaw

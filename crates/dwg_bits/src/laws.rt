@@ -1,6 +1,7 @@
 //! Laws of bits, each the contract of a function without code.
 
 ghost use Rattle.dwg_bits.specs.BitLaws.{LowBitsSpell, NumberIsSpelled, NumberFits, LowBitsAreCounted, BytesHaveEightBits, BitsAreJoined, BitsTellBytes, LowBitsSplit, NumbersAreJoined, BetweenIsCounted, BetweenIsJoined};
+ghost use Rattle.dwg_bits.specs.PaddingLaw.{PaddingFills};
 
 /// What holds of the bits of numbers and of bytes: numbers and lists of bits tell each other, and so do bytes and their
 /// bits; joined lists spell joined numbers; and the bits between two places are those up to a third and those from there.
@@ -16,4 +17,5 @@ pub fn bit_laws()
     ensures numbers_joined { NumbersAreJoined }
     ensures between_counted { BetweenIsCounted }
     ensures between_joined { BetweenIsJoined }
+    ensures padded { PaddingFills }
 {}

@@ -1,4 +1,4 @@
--- The table of bit codes (Open Design Specification, "Bit codes"). A code's spellings can be read off its lines; the last argument of tagged says which tag is written.
+-- The table of bit codes (Open Design Specification, "Bit codes"). A code's spellings can be read off its lines; the last argument of tagged says which tag is written. Which spelling is written, and that 11 of BL and BD is none, are rules of this project.
 use Rattle.std.specs.Prelude.{ℕ, zero, suc, ◌+◌, ◌*◌, ◌/◌, ◌%◌, ◌<◌, ◌^◌, Bool, List, nat_lt, ◌==◌, if◌then◌else◌, ◌≡◌}
 use Rattle.std.specs.Int.{w16, w32, w64, from_le_bytes, to_le_bytes}
 use Rattle.dwg_codes.specs.Grammar.{Grammar}

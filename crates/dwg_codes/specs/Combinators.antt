@@ -1,4 +1,4 @@
--- Codes made of codes: each says what it spells of what its parts spell.
+-- Codes made of codes: each says what it spells of what its parts spell. A rule of this project.
 use Rattle.std.specs.Prelude.{◌≡◌, ⊤, ℕ, zero, suc, ◌^◌, ◌<◌, ◌≢◌, Bool, true, false, List, [], ◌∷◌, ◌++◌, length, take, drop, Option, Some, None, nat_lt, option_map, option_and_then, if◌then◌else◌}
 use Rattle.dwg_bits.specs.Bits.{low_bits, num}
 use Rattle.dwg_codes.specs.Grammar.{Grammar}

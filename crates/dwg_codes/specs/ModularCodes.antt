@@ -1,4 +1,4 @@
--- Modular chars and modular shorts over bytes (Open Design Specification, "Bit codes"): groups of value bits, the low group first, where the highest bit of a group says that another follows.
+-- Modular chars and modular shorts over bytes (Open Design Specification, "Bit codes"): groups of value bits, the low group first, where the highest bit of a group says that another follows. The bounds of ten bytes and four units, and which spelling is written, are rules of this project.
 use Rattle.std.specs.Prelude.{ℕ, zero, suc, ℤ, pos, negsuc, ◌+◌, ◌-◌, ◌*◌, ◌/◌, ◌%◌, ◌<◌, ◌^◌, ◌≡◌, Bool, true, false, nat_lt, if◌then◌else◌}
 use Rattle.std.specs.Int.{w16, from_le_bytes, to_le_bytes}
 use Rattle.dwg_codes.specs.Grammar.{Grammar}

@@ -55,6 +55,7 @@ pub trait BitCode {
 pub fn code_laws<C: BitCode>(context: &C::Context)
     requires { C.IsContext context.now }
     ensures unique { IsUnique (C.grammar context.now) }
+    ensures value { (value : C.Value) (front : List Bool) → (C.grammar context.now).Spells value front → (C.grammar context.now).IsValue value }
     ensures canonical { (value : C.Value) → (C.grammar context.now).IsValue value → (C.grammar context.now).Spells value ((C.grammar context.now).short value) }
     ensures shortest { (value : C.Value) (front : List Bool) → (C.grammar context.now).Spells value front → length ((C.grammar context.now).short value) ≤ length front }
 {}

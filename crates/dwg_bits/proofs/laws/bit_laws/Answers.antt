@@ -1,4 +1,5 @@
 use Rattle.dwg_bits.specs.BitLaws.{num_of_low_bits, low_bits_of_num, num_fits, length_of_low_bits, length_of_bits, bits_joined, bits_same, low_bits_split, num_joined, length_of_bits_between, bits_between_joined}
+use Rattle.dwg_bits.specs.PaddingLaw.{padding_fills}
 use Rattle.dwg_bits.proofs.laws.bit_laws.Goals as goal
 
 pub returns : goal.returns
@@ -15,4 +16,5 @@ returns c =
       numbers_joined = num_joined;
       between_counted = length_of_bits_between;
       between_joined = bits_between_joined;
+      padded = padding_fills;
     }
