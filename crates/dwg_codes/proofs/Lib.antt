@@ -4,3 +4,9 @@ pub mod TagReading
 pub mod SeqReading
 pub mod DefaultReading
 pub mod PointReading
+pub mod GroupReading
+pub mod FrontReading
+pub mod GroupWriting
+pub mod ShortReading
+pub mod SignedReading
+pub mod TextReading

@@ -48,20 +48,20 @@ bits_of_bytes (suc count) value =
     ∙ ap₂ (λ front rest. front ++ rest) (byte_bits count value) (bits_of_bytes count value)
 
 -- bytes are spelled by their bits
-bytes_spelled : (state : ℕ) (bytes : List ℕ) → AreBytes bytes → SpellsChain (λ (state : ℕ). rc) (λ value. 0) state bytes (bits bytes)
+pub bytes_spelled : (state : ℕ) (bytes : List ℕ) → AreBytes bytes → SpellsChain (λ (state : ℕ). rc) (λ value. 0) state bytes (bits bytes)
 unfolding bits
 bytes_spelled state [] fit = refl
 bytes_spelled state (byte ∷ bytes) fit =
     (low_bits 8 byte, bits bytes, (length_of_low_bits 8 byte, sym (num_of_low_bits 8 byte fit.0)), bytes_spelled 0 bytes fit.1, refl)
 
 -- what spells bytes has eight bits for each
-spelling_counted : (state : ℕ) (bytes : List ℕ) (letters : List Bool) → SpellsChain (λ (state : ℕ). rc) (λ value. 0) state bytes letters → length letters ≡ 8 * length bytes
+pub spelling_counted : (state : ℕ) (bytes : List ℕ) (letters : List Bool) → SpellsChain (λ (state : ℕ). rc) (λ value. 0) state bytes letters → length letters ≡ 8 * length bytes
 spelling_counted state [] letters spelled = ap length spelled
 spelling_counted state (byte ∷ bytes) letters (front, back, first, others, same) =
     omega (arith, first.0, spelling_counted 0 bytes back others, ap length same, length-append front back)
 
 -- bytes are written by their bits
-bytes_written : (state : ℕ) (bytes : List ℕ) → short_chain (λ (state : ℕ). rc) (λ value. 0) state bytes ≡ bits bytes
+pub bytes_written : (state : ℕ) (bytes : List ℕ) → short_chain (λ (state : ℕ). rc) (λ value. 0) state bytes ≡ bits bytes
 unfolding bits
 bytes_written state [] = refl
 bytes_written state (byte ∷ bytes) = ap (λ rest. low_bits 8 byte ++ rest) (bytes_written 0 bytes)

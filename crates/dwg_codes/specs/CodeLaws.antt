@@ -1,5 +1,5 @@
 -- What holds of every code: its spellings are told apart, and what is parsed is what is spelled.
-use Rattle.std.proofs.Common.{◌≡◌, refl, sym, ◌∙◌, ap, List, ◌++◌, Option, Some, None}
+use Rattle.std.proofs.Common.{◌≡◌, refl, sym, ◌∙◌, ap, ◌≤◌, List, ◌++◌, length, Option, Some, None}
 use Rattle.std.specs.Option.{option_map, option_map_or}
 use Rattle.std.proofs.lemmas.List.{append_cancel_right}
 use Rattle.std.proofs.lemmas.Option.{some_pair_parts, none-some}
@@ -37,3 +37,19 @@ pub reads : {A V : Type 0} (IsText : List A → Type 0) (code : Grammar A V) (le
     → Reads code (option_map (λ (one : V × List A). one.0) found) letters (option_map_or (λ (one : V × List A). one.1) found letters)
 reads IsText code letters (Some one) is text same = reads_some IsText code letters one.1 one.0 is text same
 reads IsText code letters None is text same = reads_none IsText code letters is same
+
+-- a code whose letters tell its values, of which just the values are spelled, each by what is written of it, and none by fewer letters
+pub record IsLawful {A V : Type 0} (code : Grammar A V) : Type 0 where
+  pub unique : IsUnique code
+  pub value : (value : V) (front : List A) → code.Spells value front → code.IsValue value
+  pub canonical : (value : V) → code.IsValue value → code.Spells value (code.short value)
+  pub shortest : (value : V) (front : List A) → code.Spells value front → length (code.short value) ≤ length front
+
+-- every code is lawful
+pub lawful_of_code : {A V : Type 0} (IsText : List A → Type 0) (code : Grammar A V) → IsCode IsText code → IsLawful code
+lawful_of_code IsText code is = record {
+  unique = unique_of_code IsText code is;
+  value = λ value front spelled. is.value front value spelled;
+  canonical = is.canonical;
+  shortest = λ value front spelled. is.least front value spelled;
+}

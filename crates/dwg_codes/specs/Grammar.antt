@@ -1,5 +1,5 @@
 -- What a code is: which letters spell a value, and which of those spellings is written (Open Design Specification, "Bit codes"). The letters are bits, or bytes.
-use Rattle.std.specs.Prelude.{◌≡◌, ⊤, ◌≤◌, List, ◌++◌, length, Option, Some, None}
+use Rattle.std.specs.Prelude.{◌≡◌, ⊤, ◌≤◌, ℕ, List, ◌++◌, length, take, Option, Some, None}
 
 -- a code whose values are of V, over letters of A
 pub record Grammar (A V : Type 0) : Type 1 where
@@ -38,6 +38,11 @@ BeginsWith {A} {V} code letters = (value : V) × (front : List A) × (rest : Lis
 abbrev pub Reads : {A V : Type 0} → Grammar A V → Option V → List A → List A → Type 0
 Reads {A} {V} code (Some value) letters left = (front : List A) × code.Spells value front × (letters ≡ front ++ left)
 Reads {A} {V} code None letters left = (BeginsWith code letters → ⊥) × (left ≡ letters)
+
+-- what a call read at the front of the letters by a code: a value, and how many letters at the front spell it; None where no front of the letters spells one
+abbrev pub ReadsFront : {A V : Type 0} → Grammar A V → Option (V × ℕ) → List A → Type 0
+ReadsFront {A} {V} code (Some found) letters = (found.1 ≤ length letters) × code.Spells found.0 (take found.1 letters)
+ReadsFront {A} {V} code None letters = BeginsWith code letters → ⊥
 
 -- letters spell at most one value by a code, and no spelling is a proper front of another
 abbrev pub IsUnique : {A V : Type 0} → Grammar A V → Type 0

@@ -11,3 +11,4 @@ pub mod DefaultLaws
 pub mod ModularLaws
 pub mod SignedLaws
 pub mod TruthCode
+pub mod Parts

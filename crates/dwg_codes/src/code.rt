@@ -5,7 +5,8 @@ ghost use Rattle.dwg_bits.specs.Bits.{low_bits};
 ghost use Rattle.dwg_bits.specs.Cursor.{rest};
 ghost use Rattle.dwg_bits.specs.Sink.{Extends};
 ghost use Rattle.dwg_codes.specs.Combinators.{fixed};
-ghost use Rattle.dwg_codes.specs.Grammar.{Grammar, IsCode, IsUnique, AnyLetters, Reads};
+ghost use Rattle.dwg_codes.specs.Grammar.{Grammar, IsCode, AnyLetters, Reads};
+ghost use Rattle.dwg_codes.specs.CodeLaws.{IsLawful};
 
 use dwg_bits::{BitCursor, BitSink};
 
@@ -54,10 +55,7 @@ pub trait BitCode {
 /// spelling that is written of a value spells it, and no other is shorter.
 pub fn code_laws<C: BitCode>(context: &C::Context)
     requires { C.IsContext context.now }
-    ensures unique { IsUnique (C.grammar context.now) }
-    ensures value { (value : C.Value) (front : List Bool) → (C.grammar context.now).Spells value front → (C.grammar context.now).IsValue value }
-    ensures canonical { (value : C.Value) → (C.grammar context.now).IsValue value → (C.grammar context.now).Spells value ((C.grammar context.now).short value) }
-    ensures shortest { (value : C.Value) (front : List Bool) → (C.grammar context.now).Spells value front → length ((C.grammar context.now).short value) ≤ length front }
+    ensures { IsLawful (C.grammar context.now) }
 {}
 
 /// Reads so many bits as a number, the first of them highest. None, with nothing moved, where fewer are left.

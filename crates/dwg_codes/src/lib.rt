@@ -2,16 +2,27 @@
 //! Specification, "Bit codes").
 #![tactic(auto)]
 
+mod byte_part;
 mod code;
 mod default;
 mod extrusion;
 mod fixed;
+mod laws;
+mod modular;
 mod points;
 mod tagged;
+mod text;
 
+pub use byte_part::BytePart;
 pub use code::{BitCode, code_laws};
 pub use default::CodeDD;
 pub use extrusion::CodeBE;
 pub use fixed::{CodeB, CodeBB, CodeRC, CodeRD, CodeRL, CodeRS};
+pub use laws::byte_code_laws;
+pub use modular::{
+    mc_bytes, ms_bytes, read_mc, read_ms, read_signed_mc, signed_mc_bytes, write_mc, write_ms,
+    write_signed_mc,
+};
 pub use points::{Point2, Point3};
 pub use tagged::{CodeBD, CodeBL, CodeBS, CodeBT};
+pub use text::{read_text, text_length, write_text};

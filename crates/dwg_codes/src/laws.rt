@@ -1,0 +1,20 @@
+//! Laws of the codes over bytes and of texts, as the contract of a function without code.
+
+ghost use Rattle.std.specs.Prelude.{◌^◌, ◌<◌, ◌≤◌, ◌↔◌, ℕ, ℤ, List, length};
+ghost use Rattle.dwg_base.specs.Bytes.{AreBytes};
+ghost use Rattle.dwg_codes.specs.Codes.{tv};
+ghost use Rattle.dwg_codes.specs.CodeLaws.{IsLawful};
+ghost use Rattle.dwg_codes.specs.ModularCodes.{mc, ms, signed_mc, sign_and_magnitude};
+
+/// What holds of MC, signed MC, MS and TV: letters spell at most one value, and no spelling is a proper front of another; the
+/// spelling that is written of a value spells it, and no other is shorter; and which values have spellings.
+pub fn byte_code_laws()
+    ensures mc { IsLawful mc }
+    ensures mc_values { (value : ℕ) → mc.IsValue value ↔ (value < 2 ^ 63) }
+    ensures signed_mc { IsLawful signed_mc }
+    ensures signed_mc_values { (value : ℤ) → signed_mc.IsValue value ↔ ((sign_and_magnitude value).1 < 2 ^ 63) }
+    ensures ms { IsLawful ms }
+    ensures ms_values { (value : ℕ) → ms.IsValue value ↔ (value < 2 ^ 60) }
+    ensures tv { IsLawful tv }
+    ensures tv_values { (text : List ℕ) → AreBytes text → tv.IsValue text ↔ (length text ≤ 65535) }
+{}
