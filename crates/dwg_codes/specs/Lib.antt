@@ -12,3 +12,5 @@ pub mod ModularLaws
 pub mod SignedLaws
 pub mod TruthCode
 pub mod Parts
+pub mod PlainSpellings
+pub mod PlainLaws

@@ -1,6 +1,6 @@
 -- Codes of options and of lists are codes.
 use Rattle.std.proofs.Common.{◌≡◌, refl, sym, ◌∙◌, ap, subst, ℕ, zero, suc, ◌<◌, ◌≤◌, Bool, true, false, List, [], ◌∷◌, ◌++◌, length, Option, Some, None, arith}
-use Rattle.std.specs.Prelude.{◌≢◌, option_map, option_and_then, if◌then◌else◌}
+use Rattle.std.specs.Prelude.{⊤, ◌≢◌, option_map, option_and_then, if◌then◌else◌}
 use Rattle.std.proofs.lemmas.List.{append_assoc, length-append}
 use Rattle.std.proofs.lemmas.Option.{none-some, same_Some, option_and_then_some}
 use Rattle.dwg_codes.specs.Grammar.{Grammar, IsCode}
@@ -35,6 +35,11 @@ when_is_code {A} {V} IsText false code is_code = always_is_code IsText None
 abbrev pub SpellsCounted : {A S V : Type 0} → (S → Grammar A V) → (V → S) → S → ℕ → List V → List A → Type 0
 SpellsCounted {A} {S} {V} code next state count values letters = (length values ≡ count) × SpellsChain code next state values letters
 
+-- what makes a chain a code: the code of each state that can come is one, and a value leads from such a state to such a state
+pub record AreChained {A S V : Type 0} (IsText : List A → Type 0) (code : S → Grammar A V) (next : V → S) (IsState : S → Type 0) : Type 0 where
+  pub state_is_code : (state : S) → IsState state → IsCode IsText (code state)
+  pub next_is_state : (state : S) (value : V) → IsState state → (code state).IsValue value → IsState (next value)
+
 -- a value and the chain behind it are found one behind the other
 found_chain : {A S V : Type 0} (code : S → Grammar A V) (next : V → S) (count : ℕ) (state : S) (letters : List A) (one : V × List A) (others : List V × List A)
     → IsFound (code state).Spells letters one → IsFound (SpellsCounted code next (next one.0) count) one.1 others
@@ -43,72 +48,82 @@ found_chain code next count state letters one others (front, first, same) (back,
     (front ++ back, (ap suc long, (front, back, first, rest, refl)), same ∙ ap (λ last. front ++ last) behind ∙ sym (append_assoc front back others.1))
 
 -- a chain that is parsed is spelled by a front
-sound_chain : {A S V : Type 0} (IsText : List A → Type 0) (code : S → Grammar A V) (next : V → S) → IsClosed IsText → ((state : S) → IsCode IsText (code state))
-    → (count : ℕ) (state : S) (letters : List A) (found : List V × List A) → IsText letters → parse_chain code next state count letters ≡ Some found
+sound_chain : {A S V : Type 0} (IsText : List A → Type 0) (code : S → Grammar A V) (next : V → S) (IsState : S → Type 0) → IsClosed IsText → AreChained IsText code next IsState
+    → (count : ℕ) (state : S) (letters : List A) (found : List V × List A) → IsState state → IsText letters → parse_chain code next state count letters ≡ Some found
     → IsFound (SpellsCounted code next state count) letters found
-sound_chain {A} {S} {V} IsText code next closed is zero state letters found text same =
+sound_chain {A} {S} {V} IsText code next IsState closed is zero state letters found in_chain text same =
     subst (IsFound (SpellsCounted code next state 0) letters) (same_Some ([], letters) found same) ([], (refl, refl), refl)
-sound_chain {A} {S} {V} IsText code next closed is (suc count) state letters found text same =
+sound_chain {A} {S} {V} IsText code next IsState closed is (suc count) state letters found in_chain text same =
     option_and_then_some
     (λ (one : V × List A). option_map (λ (others : List V × List A). (one.0 ∷ others.0, others.1)) (parse_chain code next (next one.0) count one.1))
     ((code state).parse letters) found same
     (λ one was behind. option_map_some (λ (others : List V × List A). (one.0 ∷ others.0, others.1)) (parse_chain code next (next one.0) count one.1) found behind
     (λ others was_others made. subst (IsFound (SpellsCounted code next state (suc count)) letters) made
-    (let first : IsFound (code state).Spells letters one = (is state).sound letters one.1 one.0 text was in
+    (let first : IsFound (code state).Spells letters one = (is.state_is_code state in_chain).sound letters one.1 one.0 text was in
     let more : IsText one.1 = closed first.0 one.1 (subst IsText first.2 text) in
-    found_chain code next count state letters one others first (sound_chain IsText code next closed is count (next one.0) one.1 others more was_others))))
+    found_chain code next count state letters one others first (sound_chain IsText code next IsState closed is count (next one.0) one.1 others
+    (is.next_is_state state one.0 in_chain ((is.state_is_code state in_chain).value first.0 one.0 first.1)) more was_others))))
 
 -- a chain that is spelled by a front is parsed
-complete_chain : {A S V : Type 0} (IsText : List A → Type 0) (code : S → Grammar A V) (next : V → S) → ((state : S) → IsCode IsText (code state))
-    → (values : List V) (state : S) (letters rest : List A) → SpellsChain code next state values letters
+complete_chain : {A S V : Type 0} (IsText : List A → Type 0) (code : S → Grammar A V) (next : V → S) (IsState : S → Type 0) → AreChained IsText code next IsState
+    → (values : List V) (state : S) (letters rest : List A) → IsState state → SpellsChain code next state values letters
     → parse_chain code next state (length values) (letters ++ rest) ≡ Some (values, rest)
-complete_chain {A} {S} {V} IsText code next is [] state letters rest spelled = ap (λ (front : List A). Some ([], front ++ rest)) spelled
-complete_chain {A} {S} {V} IsText code next is (value ∷ values) state letters rest (front, back, first, others, same) =
+complete_chain {A} {S} {V} IsText code next IsState is [] state letters rest in_chain spelled = ap (λ (front : List A). Some ([], front ++ rest)) spelled
+complete_chain {A} {S} {V} IsText code next IsState is (value ∷ values) state letters rest in_chain (front, back, first, others, same) =
     let after : V × List A → Option (List V × List A) =
     λ one. option_map (λ (others : List V × List A). (one.0 ∷ others.0, others.1)) (parse_chain code next (next one.0) (length values) one.1) in
     ap (λ all. option_and_then after ((code state).parse all)) (ap (λ all. all ++ rest) same ∙ append_assoc front back rest)
-    ∙ ap (option_and_then after) ((is state).complete front (back ++ rest) value first)
-    ∙ ap (option_map (λ (others : List V × List A). (value ∷ others.0, others.1))) (complete_chain IsText code next is values (next value) back rest others)
+    ∙ ap (option_and_then after) ((is.state_is_code state in_chain).complete front (back ++ rest) value first)
+    ∙ ap (option_map (λ (others : List V × List A). (value ∷ others.0, others.1))) (complete_chain IsText code next IsState is values (next value) back rest
+    (is.next_is_state state value in_chain ((is.state_is_code state in_chain).value front value first)) others)
 
 -- what a chain spells are values
-value_chain : {A S V : Type 0} (IsText : List A → Type 0) (code : S → Grammar A V) (next : V → S) → ((state : S) → IsCode IsText (code state))
-    → (values : List V) (state : S) (letters : List A) → SpellsChain code next state values letters → IsChain code next state values
-value_chain IsText code next is [] state letters spelled = tt
-value_chain IsText code next is (value ∷ values) state letters (front, back, first, others, same) =
-    ((is state).value front value first, value_chain IsText code next is values (next value) back others)
+value_chain : {A S V : Type 0} (IsText : List A → Type 0) (code : S → Grammar A V) (next : V → S) (IsState : S → Type 0) → AreChained IsText code next IsState
+    → (values : List V) (state : S) (letters : List A) → IsState state → SpellsChain code next state values letters → IsChain code next state values
+value_chain IsText code next IsState is [] state letters in_chain spelled = tt
+value_chain IsText code next IsState is (value ∷ values) state letters in_chain (front, back, first, others, same) =
+    let one = (is.state_is_code state in_chain).value front value first in
+    (one, value_chain IsText code next IsState is values (next value) back (is.next_is_state state value in_chain one) others)
 
 -- a chain of values is spelled by what is written of them
-canonical_chain : {A S V : Type 0} (IsText : List A → Type 0) (code : S → Grammar A V) (next : V → S) → ((state : S) → IsCode IsText (code state))
-    → (values : List V) (state : S) → IsChain code next state values → SpellsChain code next state values (short_chain code next state values)
-canonical_chain IsText code next is [] state fits = refl
-canonical_chain IsText code next is (value ∷ values) state fits =
-    ((code state).short value, short_chain code next (next value) values, (is state).canonical value fits.0, canonical_chain IsText code next is values (next value) fits.1, refl)
+canonical_chain : {A S V : Type 0} (IsText : List A → Type 0) (code : S → Grammar A V) (next : V → S) (IsState : S → Type 0) → AreChained IsText code next IsState
+    → (values : List V) (state : S) → IsState state → IsChain code next state values → SpellsChain code next state values (short_chain code next state values)
+canonical_chain IsText code next IsState is [] state in_chain fits = refl
+canonical_chain IsText code next IsState is (value ∷ values) state in_chain fits = (
+  (code state).short value,
+  short_chain code next (next value) values,
+  (is.state_is_code state in_chain).canonical value fits.0,
+  canonical_chain IsText code next IsState is values (next value) (is.next_is_state state value in_chain fits.0) fits.1,
+  refl,
+)
 
 -- no spelling of a chain is shorter than the one that is written
-least_chain : {A S V : Type 0} (IsText : List A → Type 0) (code : S → Grammar A V) (next : V → S) → ((state : S) → IsCode IsText (code state))
-    → (values : List V) (state : S) (letters : List A) → SpellsChain code next state values letters → length (short_chain code next state values) ≤ length letters
-least_chain IsText code next is [] state letters spelled = omega arith
-least_chain IsText code next is (value ∷ values) state letters (front, back, first, others, same) =
-    let one = (is state).least front value first in
-    let two = least_chain IsText code next is values (next value) back others in
+least_chain : {A S V : Type 0} (IsText : List A → Type 0) (code : S → Grammar A V) (next : V → S) (IsState : S → Type 0) → AreChained IsText code next IsState
+    → (values : List V) (state : S) (letters : List A) → IsState state → SpellsChain code next state values letters → length (short_chain code next state values) ≤ length letters
+least_chain IsText code next IsState is [] state letters in_chain spelled = omega arith
+least_chain IsText code next IsState is (value ∷ values) state letters in_chain (front, back, first, others, same) =
+    let is_one = is.state_is_code state in_chain in
+    let one = is_one.least front value first in
+    let two = least_chain IsText code next IsState is values (next value) back (is.next_is_state state value in_chain (is_one.value front value first)) others in
     omega (arith, one, two, ap length same, length-append front back, length-append ((code state).short value) (short_chain code next (next value) values))
 
 -- a chain of codes is a code
-pub chain_is_code : {A S V : Type 0} (IsText : List A → Type 0) (code : S → Grammar A V) (next : V → S) (state : S) (count : ℕ)
-    → IsClosed IsText → ((state : S) → IsCode IsText (code state)) → IsCode IsText (chain code next state count)
+pub chain_is_code : {A S V : Type 0} (IsText : List A → Type 0) (code : S → Grammar A V) (next : V → S) (IsState : S → Type 0) (state : S) (count : ℕ)
+    → IsClosed IsText → AreChained IsText code next IsState → IsState state → IsCode IsText (chain code next state count)
 unfolding chain
-chain_is_code {A} {S} {V} IsText code next state count closed is = record {
-  sound = λ letters rest value text found. sound_chain IsText code next closed is count state letters (value, rest) text found;
+chain_is_code {A} {S} {V} IsText code next IsState state count closed is in_chain = record {
+  sound = λ letters rest value text found. sound_chain IsText code next IsState closed is count state letters (value, rest) in_chain text found;
   complete = λ front rest value spelled.
-      ap (λ n. parse_chain code next state n (front ++ rest)) (sym spelled.0) ∙ complete_chain IsText code next is value state front rest spelled.1;
-  value = λ front value spelled. (spelled.0, value_chain IsText code next is value state front spelled.1);
-  canonical = λ value fits. (fits.0, canonical_chain IsText code next is value state fits.1);
-  least = λ front value spelled. least_chain IsText code next is value state front spelled.1;
+      ap (λ n. parse_chain code next state n (front ++ rest)) (sym spelled.0) ∙ complete_chain IsText code next IsState is value state front rest in_chain spelled.1;
+  value = λ front value spelled. (spelled.0, value_chain IsText code next IsState is value state front in_chain spelled.1);
+  canonical = λ value fits. (fits.0, canonical_chain IsText code next IsState is value state in_chain fits.1);
+  least = λ front value spelled. least_chain IsText code next IsState is value state front in_chain spelled.1;
 }
 
 -- a list of so many values is a code
 pub items_is_code : {A V : Type 0} (IsText : List A → Type 0) (code : Grammar A V) (count : ℕ) → IsClosed IsText → IsCode IsText code → IsCode IsText (items code count)
-items_is_code IsText code count closed is = chain_is_code IsText (λ (state : ℕ). code) (λ value. 0) 0 count closed (λ state. is)
+items_is_code IsText code count closed is =
+    chain_is_code IsText (λ (state : ℕ). code) (λ value. 0) (λ state. ⊤) 0 count closed (record { state_is_code = λ state any. is; next_is_state = λ state value any fits. tt }) tt
 
 -- a count and so many values are a code
 pub counted_is_code : {A V : Type 0} (IsText : List A → Type 0) (counts : Grammar A ℕ) (code : Grammar A V)

@@ -18,7 +18,7 @@ pub use code::{BitCode, code_laws};
 pub use default::CodeDD;
 pub use extrusion::CodeBE;
 pub use fixed::{CodeB, CodeBB, CodeRC, CodeRD, CodeRL, CodeRS};
-pub use laws::byte_code_laws;
+pub use laws::{byte_code_laws, plain_spellings};
 pub use modular::{
     mc_bytes, ms_bytes, read_mc, read_ms, read_signed_mc, signed_mc_bytes, write_mc, write_ms,
     write_signed_mc,

@@ -2,8 +2,9 @@
 
 use dwg_bits::{BitCursor, BitSink};
 use dwg_codes::{
-    BytePart, byte_code_laws, mc_bytes, ms_bytes, read_mc, read_ms, read_signed_mc, read_text,
-    signed_mc_bytes, text_length, write_mc, write_ms, write_signed_mc, write_text,
+    BytePart, byte_code_laws, mc_bytes, ms_bytes, plain_spellings, read_mc, read_ms,
+    read_signed_mc, read_text, signed_mc_bytes, text_length, write_mc, write_ms, write_signed_mc,
+    write_text,
 };
 use std::alloc::Global;
 use std::process::Abort;
@@ -12,6 +13,7 @@ use std::test::Fail;
 #[test]
 fn modular_codes_are_read(rt: HostRuntime) {
     byte_code_laws();
+    plain_spellings();
     assert_eq!(rt; read_mc(&[0x82, 0x24]), Some((4_610, 2)));
     assert_eq!(rt;
         read_mc(&[0xE9, 0x97, 0xE6, 0x35, 0x00]),
