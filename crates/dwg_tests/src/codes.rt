@@ -100,6 +100,7 @@ fn words_with_a_default_replace_their_low_bytes(rt: HostRuntime) {
 fn numbers_travel_at_each_bit_position(rt: HostRuntime) {
     let alloc = rt.alloc();
     travels::<CodeB>(&rt, alloc, &(), &true);
+    travels::<CodeBB>(&rt, alloc, &(), &2);
     travels::<CodeRC>(&rt, alloc, &(), &0xA5);
     travels::<CodeRS>(&rt, alloc, &(), &0xA53C);
     travels::<CodeRL>(&rt, alloc, &(), &0xA53C_0F71);

@@ -1,5 +1,6 @@
 //! Modular chars and shorts, and texts.
 
+use dwg_base::ByteRun;
 use dwg_bits::{BitCursor, BitSink};
 use dwg_codes::{
     BytePart, byte_code_laws, mc_bytes, ms_bytes, plain_spellings, read_mc, read_ms,
@@ -87,37 +88,53 @@ fn signed_numbers_are_written(rt: HostRuntime) {
     assert_eq!(rt; sink.as_bytes(), [0x85, 0x4B].as_slice());
 }
 
-#[test]
-fn texts_travel_at_a_bit_position(rt: HostRuntime) -> Result<(), Fail> {
-    let alloc = rt.alloc();
-    let text = b"ACAD";
-    let mut sink = room(&rt, alloc);
-    assert!(rt; sink.length() == 0);
-    assert!(rt; sink.reserve(3));
-    sink.push(0b101, 3);
+/// Writes a text at a bit position, and reads it again, but not where its last bit is missing.
+fn travels(rt: &impl Abort, alloc: Global, place: u32, text: &[u8]) -> Result<(), Fail> {
+    let mut sink = BitSink::new(alloc);
+    assert!(rt; sink.length() == 0 && place < 16 && text.len() < 1_000);
+    assert!(rt; sink.reserve(16));
+    sink.push(0, place);
     let count = text_length(text);
-    assert_eq!(rt; count, 42);
-    assert!(rt; sink.length() == 3);
+    assert!(rt; sink.length() < 1_000 && count < 10_000);
     assert!(rt; sink.reserve(count));
     write_text(text, &mut sink);
-    assert!(rt; sink.length() == 45);
+    let end = sink.length();
+    assert!(rt; end == u64::from(place) + count);
     assert!(rt; sink.reserve(8));
     sink.pad();
     assert!(rt; sink.length() % 8 == 0);
     let bytes = sink.as_bytes();
-    assert!(rt; bytes.len() == 6);
-    let mut cursor = BitCursor::new(bytes, 3, 48);
+    assert!(rt; bytes.len() < 2_000 && end <= bytes.len() as u64 * 8);
+    assert!(rt; u64::from(place) < end);
+    let mut cursor = BitCursor::new(bytes, u64::from(place), end);
     let read = read_text(alloc, &mut cursor)
         .or(Err("no memory"))?
         .ok_or("no text")?;
-    assert_eq!(rt; read.as_slice(), text.as_slice());
-    assert_eq!(rt; cursor.at(), 45);
-    let mut cut = BitCursor::new(bytes, 3, 44);
+    assert_eq!(rt; read.as_slice(), text);
+    assert_eq!(rt; cursor.at(), end);
+    let mut cut = BitCursor::new(bytes, u64::from(place), end - 1);
     assert!(rt; read_text(alloc, &mut cut).or(Err("no memory"))?.is_none());
-    assert_eq!(rt; cut.at(), 3);
+    assert_eq!(rt; cut.at(), u64::from(place));
+    Ok(())
+}
+
+#[test]
+fn texts_travel_at_each_bit_position(rt: HostRuntime) -> Result<(), Fail> {
+    for place in 0..16 {
+        for text in [b"".as_slice(), b"A", b"AutoCAD R2000"] {
+            travels(&rt, rt.alloc(), place, text)?;
+        }
+    }
+    Ok(())
+}
+
+#[test]
+fn a_part_tells_its_bytes_owned_or_lent(rt: HostRuntime) -> Result<(), Fail> {
+    let text = b"ACAD";
+    let owned = ByteRun::from_slice(rt.alloc(), text).or(Err("no memory"))?;
     assert_eq!(rt;
         BytePart::Lent(text).as_slice(),
-        BytePart::Owned(read).as_slice()
+        BytePart::Owned(owned).as_slice()
     );
     Ok(())
 }
