@@ -1,14 +1,12 @@
 //! What the program answers to its words and its input.
 
-ghost use Rattle.std.specs.Prelude.{◌≡◌, ◌+◌, ◌≤◌, ◌^◌, ◌<◌, ◌⊎◌, IfOk, IfSome, IsSome, IsNone, OnOk, OnErr, IfErr, length, List, [], Some, IsErrOf, Err, None, ℕ};
-ghost use Rattle.std.specs.Io.KnownBytes.{Consumes};
+ghost use Rattle.std.specs.Prelude.{◌≡◌, ◌+◌, ◌≤◌, ◌⊎◌, IfOk, OnErr, length, List, Some, IsErrOf, None, ℕ};
 ghost use Rattle.dwg_base.specs.Devices.{Rose, MOST_BYTES};
 ghost use Rattle.dwg_base.specs.Refusals.{IsOfTable};
 ghost use Rattle.dwg_text.specs.Notes as texts;
 ghost use Rattle.dwg_cli.specs.Words.{texts as words_of, command_of, IsReading};
 ghost use Rattle.dwg_cli.specs.Outcome.{noted, printed, outcome_within, outcome_of, outcome};
 ghost use Rattle.dwg_cli.specs.Run.{Feeds, Came, IsSettled, IsDrained, IsDrainedSource};
-ghost use Rattle.dwg_base.specs.declared.intake.TheConstants.{LIMIT};
 
 use crate::status::Status;
 use crate::words::{Command, read_words};

@@ -17,7 +17,7 @@ pub fn byte_code_laws()
     ensures ms { IsLawful ms }
     ensures ms_values { (value : ℕ) → ms.IsValue value ↔ (value < 2 ^ 60) }
     ensures tv { IsLawful tv }
-    ensures tv_values { (text : List ℕ) → AreBytes text → tv.IsValue text ↔ (length text ≤ 65535) }
+    ensures tv_values { (text : List ℕ) → tv.IsValue text ↔ ((length text ≤ 65535) × AreBytes text) }
 {}
 
 /// What the codes of groups and of whole bytes spell: MC, signed MC and MS said of all groups of value bits at once, and

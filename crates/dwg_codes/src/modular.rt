@@ -61,7 +61,8 @@ fn mc_within_bytes(value: u64, more: u32) -> usize
 /// How many bytes an MC is written by: the fewest that spell the value.
 pub fn mc_bytes(value: u64) -> usize
     requires { value < 2 ^ 63 }
-    ensures { result ≡ length (mc.short value) }
+    ensures length { result ≡ length (mc.short value) }
+    ensures few { result ≤ 10 }
 {
     mc_within_bytes(value, 10)
 }
@@ -170,7 +171,8 @@ fn signed_within_bytes(negative: bool, magnitude: u64, more: u32) -> usize
 /// How many bytes a signed MC is written by: the fewest that spell the value.
 pub fn signed_mc_bytes(value: i64) -> usize
     requires { (sign_and_magnitude value).1 < 2 ^ 63 }
-    ensures { result ≡ length (signed_mc.short value) }
+    ensures length { result ≡ length (signed_mc.short value) }
+    ensures few { result ≤ 10 }
 {
     let (negative, magnitude) = sign_and_magnitude(value);
     signed_within_bytes(negative, magnitude, 10)
@@ -262,7 +264,8 @@ fn ms_within_bytes(value: u64, more: u32) -> usize
 /// How many bytes an MS is written by: the fewest that spell the value.
 pub fn ms_bytes(value: u64) -> usize
     requires { value < 2 ^ 60 }
-    ensures { result ≡ length (ms.short value) }
+    ensures length { result ≡ length (ms.short value) }
+    ensures few { result ≤ 8 }
 {
     ms_within_bytes(value, 4)
 }

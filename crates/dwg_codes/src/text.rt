@@ -1,6 +1,6 @@
 //! Texts: a count of bytes, and the bytes (Open Design Specification, "Bit codes").
 
-ghost use Rattle.std.specs.Prelude.{◌≡◌, ◌+◌, ◌-◌, ◌*◌, ◌^◌, ◌<◌, ◌≤◌, ◌++◌, Ok, None, length, IfOk, IfSome};
+ghost use Rattle.std.specs.Prelude.{◌≡◌, ◌+◌, ◌-◌, ◌*◌, ◌^◌, ◌<◌, ◌≤◌, ◌++◌, Ok, None, length, IfOk, IfErr, IfSome};
 ghost use Rattle.dwg_base.specs.Bytes.{AreBytes};
 ghost use Rattle.dwg_bits.specs.Bits.{bits};
 ghost use Rattle.dwg_bits.specs.Cursor.{rest};
@@ -41,12 +41,13 @@ fn take_bytes(alloc: Global, count: u16, cursor: &mut BitCursor<'_>) -> Result<V
 }
 
 /// Reads a text: at most 65,535 bytes. None, with nothing moved, exactly where no front of the rest spells one; the only
-/// refusal is want of memory, which is taken only for bytes that are there.
+/// refusal is want of memory, which moves nothing either and is taken only for bytes that are there.
 #[tactic(auto, using(crate::proofs::TextReading::tv_read, crate::proofs::TextReading::tv_unread, crate::proofs::TextReading::tv_cut))]
 pub fn read_text(alloc: Global, cursor: &mut BitCursor<'_>) -> Result<Option<ByteRun>, NoMemory>
     ensures reads { IfOk result (λ found. Reads tv found (rest cursor.old) (rest cursor.new)) }
     ensures value { IfOk result (λ found. IfSome found (λ run. length run ≤ 65535)) }
     ensures unmoved { result ≡ Ok None → cursor.new.place ≡ cursor.old.place }
+    ensures refused { IfErr result (λ _. cursor.new.place ≡ cursor.old.place) }
     ensures same_bytes { cursor.new.bytes.now ≡ cursor.old.bytes.now }
     ensures same_end { cursor.new.end ≡ cursor.old.end }
 {
@@ -66,7 +67,8 @@ pub fn read_text(alloc: Global, cursor: &mut BitCursor<'_>) -> Result<Option<Byt
 #[tactic(auto, using(crate::proofs::TextReading::length_of_tv, crate::proofs::TextReading::length_of_bs))]
 pub fn text_length(text: &[u8]) -> u64
     requires { length text.now ≤ 65535 }
-    ensures { result ≡ length (tv.short text.now) }
+    ensures length { result ≡ length (tv.short text.now) }
+    ensures few { result ≤ 18 + 8 * length text.now }
 {
     CodeBS::length(&(), &(text.len() as u16)) + 8 * text.len() as u64
 }

@@ -31,4 +31,5 @@ pub returns-clause-tv : goal.returns-clause-tv
 returns-clause-tv c = lawful_of_code AnyLetters tv tv_is_code
 
 pub returns-clause-tv_values : goal.returns-clause-tv_values
-returns-clause-tv_values c text are = ((λ fits. omega (arith, (tv_bytes text fits).0)), (λ short. tv_has text (omega (arith, short)) are))
+returns-clause-tv_values c text =
+    ((λ fits. (omega (arith, (tv_bytes text fits).0), (tv_bytes text fits).1)), (λ both. tv_has text (omega (arith, both.0)) both.1))
