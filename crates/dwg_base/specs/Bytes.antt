@@ -1,5 +1,5 @@
 -- Lists of bytes.
-use Rattle.std.specs.Prelude.{ℕ, zero, suc, ◌^◌, ◌<◌, List, [], ◌∷◌, get_or}
+use Rattle.std.specs.Prelude.{◌≡◌, ℕ, zero, suc, ◌^◌, ◌<◌, List, [], ◌∷◌, ◌++◌, length, get_or}
 use Rattle.std.specs.List.{AllByRecursion}
 use Rattle.std.proofs.Common.{arith}
 
@@ -17,3 +17,10 @@ pub byte_below : (bytes : List ℕ) → AreBytes bytes → (i : ℕ) → get_or 
 byte_below [] all i = omega arith
 byte_below (byte ∷ bytes) all zero = all.0
 byte_below (byte ∷ bytes) all (suc i) = byte_below bytes all.1 i
+
+-- these letters stand among the others at a place
+pub record StandsAt {A : Type 0} (letters : List A) (place : ℕ) (piece : List A) : Type 0 where
+  pub before : List A
+  pub behind : List A
+  pub whole : letters ≡ before ++ (piece ++ behind)
+  pub far : length before ≡ place

@@ -1,5 +1,5 @@
 -- Why an input is refused: the first failing line of the table of refusals, with its place. A rule of this project.
-use Rattle.std.specs.Prelude.{◌≡◌, ⊤, ℕ, ◌-◌, ◌≤◌, Bool, List, [], ◌∷◌, Option, Some, None, codes, nat_le, if◌then◌else◌, slice_index_or}
+use Rattle.std.specs.Prelude.{◌≡◌, ⊤, ℕ, ◌-◌, ◌≤◌, Bool, List, [], ◌∷◌, Option, Some, None, Result, Ok, Err, codes, nat_le, if◌then◌else◌, slice_index_or}
 use Rattle.std.specs.Option.{option_or}
 use Rattle.dwg_base.specs.declared.refusal.Refusal.{Refusal}
 use Rattle.dwg_base.specs.declared.refusal.Fault.{Fault}
@@ -22,6 +22,26 @@ first_fault (row ∷ rows) bytes = option_or (row bytes) (first_fault rows bytes
 abbrev pub Tells : Fault → Option Refusal → Type 0
 Tells NoMemory first = ⊤
 Tells (Refused refusal) first = first ≡ Some refusal
+
+-- what a group of lines that is tried item by item gives: the value that was read, or the first refusal
+abbrev pub Tried : Type 0 → Type 0
+Tried V = Result V Refusal
+
+-- the refusal of what was tried
+abbrev pub fault_of : {V : Type 0} → Tried V → Option Refusal
+fault_of (Ok value) = None
+fault_of (Err refusal) = Some refusal
+
+-- a call answers what was tried: its value or its refusal; want of memory tells nothing
+abbrev pub Answers : {V : Type 0} → Result V Fault → Tried V → Type 0
+Answers (Ok value) tried = tried ≡ Ok value
+Answers (Err NoMemory) tried = ⊤
+Answers (Err (Refused refusal)) tried = tried ≡ Err refusal
+
+-- a refusal that a fault carries is one of which this holds
+abbrev pub IfRefused : Fault → (Refusal → Type 0) → Type 0
+IfRefused NoMemory Holds = ⊤
+IfRefused (Refused refusal) Holds = Holds refusal
 
 -- the line of a refusal is one of the table's
 pub record IsOfTable (refusal : Refusal) : Type 0 where

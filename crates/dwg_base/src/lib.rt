@@ -3,6 +3,7 @@
 
 mod bytes;
 mod device;
+mod handle;
 mod intake;
 mod items;
 mod memory;
@@ -10,6 +11,7 @@ mod refusal;
 
 pub use bytes::ByteRun;
 pub use device::{Failed, NoMemory, Sink, Source, WriteFault, put_all};
+pub use handle::Handle;
 pub use intake::{Intake, LIMIT, read_all};
 pub use items::Items;
 pub use memory::{MemSink, MemSource};

@@ -1,5 +1,6 @@
 pub mod Grammar
 pub mod Combinators
+pub mod ToEnd
 pub mod Codes
 pub mod ModularCodes
 pub mod CodeLaws
