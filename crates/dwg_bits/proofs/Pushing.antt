@@ -1,11 +1,13 @@
--- The low bits of a number pushed bit by bit, from the highest down.
-use Rattle.std.proofs.Common.{◌≡◌, sym, ◌∙◌, ap, ap₂, ℕ, zero, suc, ◌+◌, ◌-◌, ◌*◌, ◌/◌, ◌^◌, ◌<◌, ◌≤◌, Bool, List, [], ◌∷◌, ◌++◌, length, get_or, false, eqb, arith}
+-- Bits pushed one by one: the low bits of a number from the highest down, a part, and bytes.
+use Rattle.std.proofs.Common.{◌≡◌, sym, ◌∙◌, ap, ap₂, subst, ℕ, zero, suc, ◌+◌, ◌-◌, ◌*◌, ◌/◌, ◌^◌, ◌<◌, ◌≤◌, Bool, List, [], ◌∷◌, ◌++◌, length, take, get_or, false, eqb, arith}
 use Rattle.std.specs.Prelude.{bit_and}
 use Rattle.std.proofs.lemmas.Nat.Bits.{shr_and_one}
-use Rattle.std.proofs.lemmas.List.{append_assoc, append-nil}
+use Rattle.std.proofs.lemmas.List.{append_assoc, append-nil, take_more, take_all}
 use Rattle.dwg_bits.specs.Bits.{is_set, low_bits, bits}
-use Rattle.dwg_bits.specs.BitLaws.{bits_between_none, bits_between_more}
+use Rattle.dwg_bits.specs.BitLaws.{bits_more, bits_between_none, bits_between_more}
 use Rattle.dwg_bits.specs.Cursor.{bits_between}
+use Rattle.dwg_bits.specs.Sink.{Written, Extends}
+use Rattle.dwg_bits.specs.SinkLaws.{extends_by_none, extends_by_both}
 
 -- the low bits are their highest and those below it
 highest_first : (count value : ℕ) → 0 < count → is_set value (count - 1) ∷ low_bits (count - 1) value ≡ low_bits count value
@@ -47,3 +49,19 @@ bit_placed old before after bytes from place bit ordered within here pushed so_f
 pub all_placed : (old before more : List Bool) (bytes : List ℕ) (from place to : ℕ) → place ≡ to → bits_between bytes from to ≡ more → before ≡ old ++ bits_between bytes from place → before ≡ old ++ more
 all_placed old before more bytes from place to last whole so_far =
     so_far ∙ ap (λ n. old ++ bits_between bytes from n) last ∙ ap (λ front. old ++ front) whole
+
+-- nothing is written before the first byte
+pub none_written : (sink : Written) (bytes : List ℕ) → Extends sink sink (bits (take 0 bytes))
+unfolding bits
+none_written sink bytes = extends_by_none sink
+
+-- a byte more is written
+pub one_written : (old mid new : Written) (bytes : List ℕ) (i byte : ℕ) → i < length bytes → byte ≡ get_or bytes i 0 → Extends old mid (bits (take i bytes))
+    → Extends mid new (low_bits 8 byte) → Extends old new (bits (take (i + 1) bytes))
+one_written old mid new bytes i byte within here so_far next =
+    let more : take (i + 1) bytes ≡ take i bytes ++ byte ∷ [] = take_more bytes i 0 within ∙ ap (λ b. take i bytes ++ b ∷ []) (sym here) in
+    subst (Extends old new) (sym (ap bits more ∙ bits_more (take i bytes) byte)) (extends_by_both old mid new (bits (take i bytes)) (low_bits 8 byte) so_far next)
+
+-- at the end all are written
+pub all_written : (old new : Written) (bytes : List ℕ) (i : ℕ) → length bytes ≤ i → Extends old new (bits (take i bytes)) → Extends old new (bits bytes)
+all_written old new bytes i past so_far = subst (λ all. Extends old new (bits all)) (take_all i bytes past) so_far

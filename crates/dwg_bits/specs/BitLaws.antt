@@ -5,7 +5,7 @@ use Rattle.std.specs.Int.{bit_at}
 use Rattle.std.proofs.Math.Nat.{suc-add, pow-suc}
 use Rattle.std.proofs.lemmas.Nat.{pow-add, shr-shr, mod-pow-add}
 use Rattle.std.proofs.lemmas.Nat.Bits.{bit_at-lt, bit_at_cat_low, bit_at_cat_high, bit_at_above}
-use Rattle.std.proofs.lemmas.List.{length-append, length-take-le, length-drop, take_at, drop_at, take_all, take-take, drop-take, take_more, get_or-drop}
+use Rattle.std.proofs.lemmas.List.{append-nil, length-append, length-take-le, length-drop, take_at, drop_at, take_all, take-take, drop-take, take_more, get_or-drop}
 use Rattle.std.proofs.lemmas.List.Concat.{flat_map-append, get_or-flat_map}
 use Rattle.dwg_base.specs.Bytes.{AreBytes}
 use Rattle.dwg_bits.specs.Bits.{is_set, low_bits, bits, num}
@@ -109,6 +109,11 @@ num_push s false = num_joined s (false ∷ [])
 pub bits_joined : (a b : List ℕ) → bits (a ++ b) ≡ bits a ++ bits b
 unfolding bits
 bits_joined a b = flat_map-append (low_bits 8) a b
+
+-- a byte behind others has its bits behind theirs
+pub bits_more : (bytes : List ℕ) (byte : ℕ) → bits (bytes ++ byte ∷ []) ≡ bits bytes ++ low_bits 8 byte
+unfolding bits
+bits_more bytes byte = flat_map-append (low_bits 8) bytes (byte ∷ []) ∙ ap (λ last. bits bytes ++ last) (append-nil (low_bits 8 byte))
 
 -- each byte has eight bits
 pub length_of_bits : (bytes : List ℕ) → length (bits bytes) ≡ 8 * length bytes

@@ -102,6 +102,17 @@ impl BitSink {
         }
     }
 
+    /// Appends the bits of bytes.
+    #[tactic(auto, using(crate::proofs::Pushing::none_written, crate::proofs::Pushing::one_written, crate::proofs::Pushing::all_written))]
+    pub fn push_bytes(&mut self, bytes: &[u8])
+        requires { 8 * length bytes.now ≤ self.old.spare }
+        ensures { Extends self.old self.new (bits bytes.now) }
+    {
+        'along: for byte in bytes {
+            self.push(u64::from(*byte), 8);
+        }
+    }
+
     /// Appends the bits of a list in hand.
     pub fn push_part(&mut self, part: &BitPart<'_>)
         requires { length (part_bits part.now) ≤ self.old.spare }

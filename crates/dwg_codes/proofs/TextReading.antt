@@ -1,12 +1,12 @@
 -- Texts, read and written byte by byte.
-use Rattle.std.proofs.Common.{◌≡◌, refl, sym, ◌∙◌, ap, subst, ℕ, ◌+◌, ◌*◌, ◌^◌, ◌<◌, ◌≤◌, Bool, true, false, List, [], ◌∷◌, ◌++◌, length, take, get_or, Option, Some, None, arith}
+use Rattle.std.proofs.Common.{◌≡◌, refl, sym, ◌∙◌, ap, subst, ℕ, ◌+◌, ◌*◌, ◌^◌, ◌<◌, ◌≤◌, Bool, true, false, List, [], ◌∷◌, ◌++◌, length, Option, Some, None, arith}
 use Rattle.std.specs.Prelude.{◌==◌, nat_lt, if◌then◌else◌}
-use Rattle.std.proofs.lemmas.List.{append-nil, append_assoc, length-append, take_more, take_all}
+use Rattle.std.proofs.lemmas.List.{append_assoc, length-append}
 use Rattle.dwg_base.specs.Bytes.{AreBytes}
 use Rattle.dwg_bits.specs.Bits.{low_bits, bits}
-use Rattle.dwg_bits.specs.BitLaws.{bits_joined, length_of_bits, length_of_low_bits}
+use Rattle.dwg_bits.specs.BitLaws.{bits_more, length_of_bits, length_of_low_bits}
 use Rattle.dwg_bits.specs.Sink.{Written, Extends}
-use Rattle.dwg_bits.specs.SinkLaws.{extends_by_none, extends_by_both}
+use Rattle.dwg_bits.specs.SinkLaws.{extends_by_both}
 use Rattle.dwg_codes.specs.Grammar.{BeginsWith, Reads}
 use Rattle.dwg_codes.specs.Combinators.{seq, items, chain}
 use Rattle.dwg_codes.specs.Codes.{rc, bs, bs_by, tv}
@@ -14,15 +14,6 @@ use Rattle.dwg_codes.specs.NumberLaws.{length_of_rs}
 use Rattle.dwg_codes.specs.TableLaws.{bs_is_code}
 use Rattle.dwg_codes.proofs.WordReading.{bytes_spelled, spelling_counted, bytes_written}
 use Rattle.dwg_codes.proofs.SeqReading.{unread_through, seq_read, first_unread, second_unread}
-
--- a byte's bits
-bits_of_one : (byte : ℕ) → bits (byte ∷ []) ≡ low_bits 8 byte
-unfolding bits
-bits_of_one byte = append-nil (low_bits 8 byte)
-
--- a byte behind others is written behind them
-bits_more : (bytes : List ℕ) (byte : ℕ) → bits (bytes ++ byte ∷ []) ≡ bits bytes ++ low_bits 8 byte
-bits_more bytes byte = bits_joined bytes (byte ∷ []) ∙ ap (λ last. bits bytes ++ last) (bits_of_one byte)
 
 -- a byte behind bytes
 pub bytes_more : (bytes : List ℕ) (byte : ℕ) → AreBytes bytes → byte < 2 ^ 8 → AreBytes (bytes ++ byte ∷ [])
@@ -38,22 +29,6 @@ none_read_yet old = refl
 pub one_read_more : (old mid new : List Bool) (bytes : List ℕ) (byte : ℕ) → old ≡ bits bytes ++ mid → mid ≡ low_bits 8 byte ++ new → old ≡ bits (bytes ++ byte ∷ []) ++ new
 one_read_more old mid new bytes byte so_far next =
     so_far ∙ ap (λ rest. bits bytes ++ rest) next ∙ sym (append_assoc (bits bytes) (low_bits 8 byte) new) ∙ ap (λ front. front ++ new) (sym (bits_more bytes byte))
-
--- nothing is written before the first byte
-pub none_written : (sink : Written) (bytes : List ℕ) → Extends sink sink (bits (take 0 bytes))
-unfolding bits
-none_written sink bytes = extends_by_none sink
-
--- a byte more is written
-pub one_written : (old mid new : Written) (bytes : List ℕ) (i byte : ℕ) → i < length bytes → byte ≡ get_or bytes i 0 → Extends old mid (bits (take i bytes))
-    → Extends mid new (low_bits 8 byte) → Extends old new (bits (take (i + 1) bytes))
-one_written old mid new bytes i byte within here so_far next =
-    let more : take (i + 1) bytes ≡ take i bytes ++ byte ∷ [] = take_more bytes i 0 within ∙ ap (λ b. take i bytes ++ b ∷ []) (sym here) in
-    subst (Extends old new) (sym (ap bits more ∙ bits_more (take i bytes) byte)) (extends_by_both old mid new (bits (take i bytes)) (low_bits 8 byte) so_far next)
-
--- at the end all are written
-pub all_written : (old new : Written) (bytes : List ℕ) (i : ℕ) → length bytes ≤ i → Extends old new (bits (take i bytes)) → Extends old new (bits bytes)
-all_written old new bytes i past so_far = subst (λ all. Extends old new (bits all)) (take_all i bytes past) so_far
 
 -- a text is written by its length and its bytes
 pub tv_short : (bytes : List ℕ) → tv.short bytes ≡ bs.short (length bytes) ++ bits bytes

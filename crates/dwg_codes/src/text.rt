@@ -73,17 +73,6 @@ pub fn text_length(text: &[u8]) -> u64
     CodeBS::length(&(), &(text.len() as u16)) + 8 * text.len() as u64
 }
 
-/// Appends bytes.
-#[tactic(auto, using(crate::proofs::TextReading::none_written, crate::proofs::TextReading::one_written, crate::proofs::TextReading::all_written))]
-fn push_bytes(bytes: &[u8], sink: &mut BitSink)
-    requires { 8 * length bytes.now ≤ sink.old.spare }
-    ensures { Extends sink.old sink.new (bits bytes.now) }
-{
-    'along: for byte in bytes {
-        sink.push(u64::from(*byte), 8);
-    }
-}
-
 /// Writes a text of at most 65,535 bytes.
 #[tactic(auto, using(crate::proofs::TextReading::tv_written, crate::proofs::TextReading::length_of_tv, crate::proofs::TextReading::length_of_bs))]
 pub fn write_text(text: &[u8], sink: &mut BitSink)
@@ -92,5 +81,5 @@ pub fn write_text(text: &[u8], sink: &mut BitSink)
     ensures { Extends sink.old sink.new (tv.short text.now) }
 {
     CodeBS::write(&(), &(text.len() as u16), sink);
-    push_bytes(text, sink);
+    sink.push_bytes(text);
 }

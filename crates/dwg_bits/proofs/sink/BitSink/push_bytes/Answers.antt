@@ -1,7 +1,7 @@
 use Rattle.std.proofs.Common.{arith}
 use Rattle.dwg_bits.specs.BitLaws.{length_of_low_bits}
-use Rattle.dwg_codes.proofs.TextReading.{none_written, one_written}
-use Rattle.dwg_codes.proofs.text.push_bytes.Goals as goal
+use Rattle.dwg_bits.proofs.Pushing.{none_written, one_written}
+use Rattle.dwg_bits.proofs.sink.BitSink.push_bytes.Goals as goal
 
 pub along-init : goal.along-init
 along-init c =
