@@ -34,11 +34,12 @@ pub trait BitCode {
         ensures same_bytes { cursor.new.bytes.now ≡ cursor.old.bytes.now }
         ensures same_end { cursor.new.end ≡ cursor.old.end };
 
-    /// How many bits the spelling has that is written of a value.
+    /// How many bits the spelling has that is written of a value: fewer than 2^32.
     fn length(context: &Self::Context, value: &Self::Value) -> u64
         requires context { IsContext context.now }
         requires value { (grammar context.now).IsValue value.now }
-        ensures { result ≡ length ((grammar context.now).short value.now) };
+        ensures length { result ≡ length ((grammar context.now).short value.now) }
+        ensures few { result < 2 ^ 32 };
 
     /// Writes a value by the shortest of its spellings.
     fn write(context: &Self::Context, value: &Self::Value, sink: &mut BitSink)

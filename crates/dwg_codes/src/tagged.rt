@@ -61,7 +61,7 @@ pub(crate) trait Tagged {
         requires tag { tag < 2 ^ WIDTH }
         requires value { (by context.now tag).IsValue value.now }
         ensures length { result ≡ length ((by context.now tag).short value.now) }
-        ensures few { result < 2 ^ 32 };
+        ensures few { result < 2 ^ 16 };
 
     /// Writes a value behind a tag.
     fn write_behind(context: &Self::Context, tag: u64, value: &Self::Value, sink: &mut BitSink)
@@ -95,7 +95,8 @@ pub(crate) fn read_tagged<C: Tagged>(
 /// How many bits a value is written by with its tag.
 pub(crate) fn length_tagged<C: Tagged>(context: &C::Context, value: &C::Value) -> u64
     requires { C.IsTagged context.now value.now }
-    ensures { result ≡ length ((tagged (fixed C.WIDTH) (C.by context.now) (C.IsTagged context.now) (C.pick context.now)).short value.now) }
+    ensures length { result ≡ length ((tagged (fixed C.WIDTH) (C.by context.now) (C.IsTagged context.now) (C.pick context.now)).short value.now) }
+    ensures few { result < 2 ^ 32 }
 {
     let tag = C::tag(context, value);
     u64::from(C::WIDTH) + C::length_behind(context, tag, value)
