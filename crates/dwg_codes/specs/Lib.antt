@@ -6,6 +6,7 @@ pub mod ModularCodes
 pub mod CodeLaws
 pub mod CombinatorLaws
 pub mod ListLaws
+pub mod ToEndLaws
 pub mod NumberLaws
 pub mod TableLaws
 pub mod DefaultLaws

@@ -78,7 +78,7 @@ complete_chain {A} {S} {V} IsText code next IsState is (value ∷ values) state 
     (is.next_is_state state value in_chain ((is.state_is_code state in_chain).value front value first)) others)
 
 -- what a chain spells are values
-value_chain : {A S V : Type 0} (IsText : List A → Type 0) (code : S → Grammar A V) (next : V → S) (IsState : S → Type 0) → AreChained IsText code next IsState
+pub value_chain : {A S V : Type 0} (IsText : List A → Type 0) (code : S → Grammar A V) (next : V → S) (IsState : S → Type 0) → AreChained IsText code next IsState
     → (values : List V) (state : S) (letters : List A) → IsState state → SpellsChain code next state values letters → IsChain code next state values
 value_chain IsText code next IsState is [] state letters in_chain spelled = tt
 value_chain IsText code next IsState is (value ∷ values) state letters in_chain (front, back, first, others, same) =
@@ -86,7 +86,7 @@ value_chain IsText code next IsState is (value ∷ values) state letters in_chai
     (one, value_chain IsText code next IsState is values (next value) back (is.next_is_state state value in_chain one) others)
 
 -- a chain of values is spelled by what is written of them
-canonical_chain : {A S V : Type 0} (IsText : List A → Type 0) (code : S → Grammar A V) (next : V → S) (IsState : S → Type 0) → AreChained IsText code next IsState
+pub canonical_chain : {A S V : Type 0} (IsText : List A → Type 0) (code : S → Grammar A V) (next : V → S) (IsState : S → Type 0) → AreChained IsText code next IsState
     → (values : List V) (state : S) → IsState state → IsChain code next state values → SpellsChain code next state values (short_chain code next state values)
 canonical_chain IsText code next IsState is [] state in_chain fits = refl
 canonical_chain IsText code next IsState is (value ∷ values) state in_chain fits = (
@@ -98,7 +98,7 @@ canonical_chain IsText code next IsState is (value ∷ values) state in_chain fi
 )
 
 -- no spelling of a chain is shorter than the one that is written
-least_chain : {A S V : Type 0} (IsText : List A → Type 0) (code : S → Grammar A V) (next : V → S) (IsState : S → Type 0) → AreChained IsText code next IsState
+pub least_chain : {A S V : Type 0} (IsText : List A → Type 0) (code : S → Grammar A V) (next : V → S) (IsState : S → Type 0) → AreChained IsText code next IsState
     → (values : List V) (state : S) (letters : List A) → IsState state → SpellsChain code next state values letters → length (short_chain code next state values) ≤ length letters
 least_chain IsText code next IsState is [] state letters in_chain spelled = omega arith
 least_chain IsText code next IsState is (value ∷ values) state letters in_chain (front, back, first, others, same) =
@@ -120,10 +120,14 @@ chain_is_code {A} {S} {V} IsText code next IsState state count closed is in_chai
   least = λ front value spelled. least_chain IsText code next IsState is value state front in_chain spelled.1;
 }
 
+-- one code is chained to itself
+pub self_chained : {A V : Type 0} (IsText : List A → Type 0) (code : Grammar A V) → IsCode IsText code → AreChained IsText (λ (state : ℕ). code) (λ value. 0) (λ state. ⊤)
+self_chained IsText code is = record { state_is_code = λ state any. is; next_is_state = λ state value any fits. tt }
+
 -- a list of so many values is a code
 pub items_is_code : {A V : Type 0} (IsText : List A → Type 0) (code : Grammar A V) (count : ℕ) → IsClosed IsText → IsCode IsText code → IsCode IsText (items code count)
 items_is_code IsText code count closed is =
-    chain_is_code IsText (λ (state : ℕ). code) (λ value. 0) (λ state. ⊤) 0 count closed (record { state_is_code = λ state any. is; next_is_state = λ state value any fits. tt }) tt
+    chain_is_code IsText (λ (state : ℕ). code) (λ value. 0) (λ state. ⊤) 0 count closed (self_chained IsText code is) tt
 
 -- a count and so many values are a code
 pub counted_is_code : {A V : Type 0} (IsText : List A → Type 0) (counts : Grammar A ℕ) (code : Grammar A V)
