@@ -10,3 +10,4 @@ pub mod GroupWriting
 pub mod ShortReading
 pub mod SignedReading
 pub mod TextReading
+pub mod ListReading

@@ -1,8 +1,10 @@
 -- What holds of values one behind the other, and of those that go to the end of the letters.
-use Rattle.std.proofs.Common.{◌≡◌, refl, sym, ◌∙◌, ap, ap₂, subst, ℕ, ◌*◌, ◌<◌, ◌≤◌, List, [], ◌∷◌, ◌++◌, length, arith}
+use Rattle.std.proofs.Common.{◌≡◌, refl, sym, ◌∙◌, ap, ap₂, subst, ℕ, ◌*◌, ◌^◌, ◌<◌, ◌≤◌, Bool, List, [], ◌∷◌, ◌++◌, length, arith}
 use Rattle.std.specs.Prelude.{⊤}
 use Rattle.std.proofs.lemmas.List.{append_assoc, append-nil, append_cancel_left, length-append}
 use Rattle.dwg_codes.specs.Grammar.{Grammar, IsCode, BeginsWith}
+use Rattle.dwg_codes.specs.Combinators.{fixed, tagged}
+use Rattle.dwg_codes.specs.Codes.{bs, bs_by}
 use Rattle.dwg_codes.specs.CodeLaws.{unique_of_code}
 use Rattle.dwg_codes.specs.ListLaws.{self_chained, value_chain, canonical_chain, least_chain}
 use Rattle.dwg_codes.specs.ToEnd.{SpellsAll, AreValues, short_all, SpellsToEnd, HaveLeast, IsCutUniquely}
@@ -54,6 +56,14 @@ pub short_all_append : {A V : Type 0} (code : Grammar A V) (values others : List
 short_all_append code [] others = refl
 short_all_append code (value ∷ values) others =
     ap (λ rest. code.short value ++ rest) (short_all_append code values others) ∙ sym (append_assoc (code.short value) (short_all code values) (short_all code others))
+
+-- no value behind a tag has fewer bits than the tag
+pub tag_is_least : {V : Type 0} (count : ℕ) (by : ℕ → Grammar Bool V) (IsTagged : V → Type 0) (pick : V → ℕ) → HaveLeast count (tagged (fixed count) by IsTagged pick)
+tag_is_least count by IsTagged pick value front (tag, first, back, tag_spelled, spelled, same) = omega (arith, tag_spelled.0, ap length same, length-append first back)
+
+-- no BS has fewer than two bits
+pub bs_least : HaveLeast 2 bs
+bs_least value front spelled = tag_is_least 2 bs_by (λ value. value < 2 ^ 16) (λ value. 0) value front spelled
 
 -- values have at least as many letters as the shortest of each
 pub length_of_all : {A V : Type 0} (least : ℕ) (code : Grammar A V) (values : List V) (letters : List A) → HaveLeast least code → SpellsAll code values letters

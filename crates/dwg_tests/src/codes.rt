@@ -2,10 +2,11 @@
 
 ghost use Rattle.std.specs.Prelude.{◌<◌, ◌^◌};
 
+use dwg_base::Items;
 use dwg_bits::{BitCursor, BitSink};
 use dwg_codes::{
     BitCode, CodeB, CodeBB, CodeBD, CodeBE, CodeBL, CodeBS, CodeBT, CodeDD, CodeRC, CodeRD, CodeRL,
-    CodeRS, Point3,
+    CodeRS, Point3, read_list, read_to_end,
 };
 use std::alloc::Global;
 use std::fmt::Debug;
@@ -110,6 +111,47 @@ fn numbers_travel_at_each_bit_position(rt: HostRuntime) {
     }
     for value in [0, 15, 256] {
         travels::<CodeBL>(&rt, alloc, &(), &value);
+    }
+}
+
+/// Three BSs, 15 and 0 and 256, in 14 bits, and then two zero bits.
+const SHORTS: [u8; 2] = [0x43, 0xEC];
+
+/// What a list of so many BSs, or without a count one to the end, is read as, and where the cursor then stands.
+#[tactic(auto, using(dwg_codes::specs::ToEndLaws::bs_least))]
+fn shorts(
+    rt: &impl Abort,
+    alloc: Global,
+    count: Option<u32>,
+    end: u64,
+) -> (Option<Items<u16>>, u64) {
+    assert!(rt; end <= 16);
+    let mut cursor = BitCursor::new(&SHORTS, 0, end);
+    let read = match count {
+        Some(count) => read_list::<CodeBS>(alloc, &(), count, &mut cursor),
+        None => read_to_end::<CodeBS>(alloc, &(), 2, &mut cursor),
+    };
+    assert!(rt; read.is_ok());
+    (read.ok().flatten(), cursor.at())
+}
+
+#[test]
+fn lists_are_read_whole_or_not_at_all(rt: HostRuntime) {
+    let alloc = rt.alloc();
+    for (count, end, values, place) in [
+        (Some(3u32), 14u64, Some(&[15u16, 0, 256][..]), 14u64),
+        (Some(2), 14, Some(&[15, 0]), 12),
+        (Some(0), 14, Some(&[]), 0),
+        (Some(4), 14, None, 0),
+        (Some(3), 13, None, 0),
+        (Some(u32::MAX), 16, None, 0),
+        (None, 14, Some(&[15, 0, 256]), 14),
+        (None, 13, Some(&[15, 0]), 12),
+        (None, 16, None, 0),
+    ] {
+        let (found, at) = shorts(&rt, alloc, count, end);
+        assert_eq!(rt; found.as_ref().map(Items::as_slice), values);
+        assert_eq!(rt; at, place);
     }
 }
 

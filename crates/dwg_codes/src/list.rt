@@ -1,0 +1,83 @@
+//! Lists of values of one code: so many, or as many as the bits hold (Open Design Specification, "Bit codes").
+
+ghost use Rattle.std.specs.Prelude.{◌≡◌, ◌<◌, Ok, None, IfOk, IfErr, IfSome};
+ghost use Rattle.dwg_bits.specs.Cursor.{rest};
+ghost use Rattle.dwg_codes.specs.Combinators.{items};
+ghost use Rattle.dwg_codes.specs.Grammar.{Reads};
+ghost use Rattle.dwg_codes.specs.ToEnd.{AreValues, HaveLeast, ReadsToEnd};
+
+use crate::code::BitCode;
+use dwg_base::{Items, NoMemory};
+use dwg_bits::BitCursor;
+use std::alloc::Global;
+
+/// Reads so many values, one behind the other. None, with nothing moved, exactly where one of them isn't spelled; the only
+/// refusal is want of memory, which moves nothing either and is taken only for values that are there.
+#[tactic(auto, using(crate::proofs::ListReading::none_yet, crate::proofs::ListReading::list_read))]
+pub fn read_list<C: BitCode>(
+    alloc: Global,
+    context: &C::Context,
+    count: u32,
+    cursor: &mut BitCursor<'_>,
+) -> Result<Option<Items<C::Value>>, NoMemory>
+where
+    C::Value: Drop,
+    requires { C.IsContext context.now }
+    ensures reads { IfOk result (λ found. Reads (items (C.grammar context.now) count) found (rest cursor.old) (rest cursor.new)) }
+    ensures value { IfOk result (λ found. IfSome found (items (C.grammar context.now) count).IsValue) }
+    ensures unmoved { result ≡ Ok None → cursor.new.place ≡ cursor.old.place }
+    ensures refused { IfErr result (λ _. cursor.new.place ≡ cursor.old.place) }
+    ensures same_bytes { cursor.new.bytes.now ≡ cursor.old.bytes.now }
+    ensures same_end { cursor.new.end ≡ cursor.old.end }
+{
+    let mut ahead = *cursor;
+    let mut found = Items::new(alloc);
+    'along: for _ in 0..count {
+        let Some(item) = C::read(context, &mut ahead) else {
+            return Ok(None);
+        };
+        match found.push(item) {
+            Ok(()) => {}
+            Err(_) => return Err(NoMemory),
+        }
+    }
+    *cursor = ahead;
+    Ok(Some(found))
+}
+
+/// Reads values to the end: another follows while at least `least` bits are left, and no value has fewer. None, with
+/// nothing moved, exactly where one of them isn't spelled; the only refusal is want of memory, which moves nothing either
+/// and is taken only for values that are there.
+#[tactic(auto, using(crate::proofs::ListReading::none_yet))]
+pub fn read_to_end<C: BitCode>(
+    alloc: Global,
+    context: &C::Context,
+    least: u64,
+    cursor: &mut BitCursor<'_>,
+) -> Result<Option<Items<C::Value>>, NoMemory>
+where
+    C::Value: Drop,
+    requires context { C.IsContext context.now }
+    requires some { 0 < least }
+    requires least { HaveLeast least (C.grammar context.now) }
+    ensures reads { IfOk result (λ found. ReadsToEnd least (C.grammar context.now) found (rest cursor.old) (rest cursor.new)) }
+    ensures value { IfOk result (λ found. IfSome found (AreValues (C.grammar context.now))) }
+    ensures unmoved { result ≡ Ok None → cursor.new.place ≡ cursor.old.place }
+    ensures refused { IfErr result (λ _. cursor.new.place ≡ cursor.old.place) }
+    ensures same_bytes { cursor.new.bytes.now ≡ cursor.old.bytes.now }
+    ensures same_end { cursor.new.end ≡ cursor.old.end }
+{
+    let mut ahead = *cursor;
+    let mut found = Items::new(alloc);
+    'along: while least <= ahead.left() {
+        let Some(value) = C::read(context, &mut ahead) else {
+            return Ok(None);
+        };
+        match found.push(value) {
+            Ok(()) => {}
+            Err(_) => return Err(NoMemory),
+        }
+    }
+    *cursor = ahead;
+    Ok(Some(found))
+}
