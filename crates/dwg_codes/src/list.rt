@@ -1,4 +1,5 @@
-//! Lists of values of one code: so many, or as many as the bits hold (Open Design Specification, "Bit codes").
+//! Lists of values of one code: so many, or as many as there are bits for (Open Design Specification, "Bit codes"; that
+//! values go to the end while bits enough for one are left is a rule of this project).
 
 ghost use Rattle.std.specs.Prelude.{◌≡◌, ◌<◌, Ok, None, IfOk, IfErr, IfSome};
 ghost use Rattle.dwg_bits.specs.Cursor.{rest};
