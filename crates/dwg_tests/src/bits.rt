@@ -113,3 +113,19 @@ fn pads_to_a_whole_byte_and_clears(rt: HostRuntime) {
         sink.clear();
     }
 }
+
+#[test]
+fn pushes_bytes_behind_single_bits(rt: HostRuntime) {
+    let mut sink = BitSink::new(rt.alloc());
+    assert!(rt; sink.length() == 0);
+    assert!(rt; sink.reserve(24));
+    sink.push(0b101, 3);
+    assert!(rt; sink.length() == 3);
+    assert!(rt; sink.reserve(21));
+    sink.push_bytes(&[0x12, 0x34]);
+    assert!(rt; sink.length() == 19);
+    assert!(rt; sink.reserve(5));
+    sink.pad();
+    assert!(rt; sink.length() % 8 == 0);
+    assert_eq!(rt; sink.as_bytes(), [0xA2u8, 0x46, 0x80].as_slice());
+}
