@@ -1,3 +1,4 @@
 pub mod Lines
 pub mod Notes
 pub mod Sections
+pub mod Classes

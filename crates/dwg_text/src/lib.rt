@@ -1,8 +1,11 @@
 //! The texts that `dwg` prints, as functions of what they tell.
 #![tactic(auto)]
 
+mod classes;
 mod notes;
+mod quoted;
 mod sections;
 
+pub use classes::classes_text;
 pub use notes::{read_fault_note, refusal_note, too_long_note, usage_note};
 pub use sections::sections_text;
