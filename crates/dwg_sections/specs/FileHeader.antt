@@ -1,5 +1,5 @@
 -- The file header (Open Design Specification, "R13 to R2000 file layout"): what it spells.
-use Rattle.std.specs.Prelude.{◌≡◌, ℕ, ◌^◌, ◌<◌, ◌≤◌, List, [], ◌∷◌, ◌++◌, length, codes, flat_map}
+use Rattle.std.specs.Prelude.{◌≡◌, ◌≢◌, ℕ, ◌^◌, ◌<◌, ◌≤◌, List, [], ◌∷◌, ◌++◌, length, map, slice_index, Contains, codes, flat_map}
 use Rattle.std.specs.List.{AllByRecursion}
 use Rattle.std.specs.Int.{w16, w32, to_le_bytes}
 use Rattle.dwg_base.specs.Bytes.{AreBytes}
@@ -36,14 +36,24 @@ pub record IsLocator (locator : Locator) : Type 0 where
   pub place : locator.place < 2 ^ 32
   pub size : locator.size < 2 ^ 32
 
--- the parts of a header lie in the ranges of their types, and it has three to six locators
+-- the numbers of locators, in file order
+abbrev pub locator_numbers : List Locator → List ℕ
+locator_numbers locators = map (λ locator. locator.number) locators
+
+-- there are three to six locators, their numbers are distinct, and 0, 1 and 2 are among them
+pub record LocateSections (locators : List Locator) : Type 0 where
+  pub count : (3 ≤ length locators) × (length locators ≤ 6)
+  pub distinct : (i j : ℕ) → i < j → j < length locators → slice_index (locator_numbers locators) i ≢ slice_index (locator_numbers locators) j
+  pub located : (number : ℕ) → number < 3 → Contains (locator_numbers locators) number
+
+-- the parts of a header lie in the ranges of their types, and its locators locate the sections
 pub record IsFileHeader (header : FileHeader) : Type 0 where
   pub lead : (length header.lead ≡ 7) × AreBytes header.lead
   pub preview : header.preview < 2 ^ 32
   pub mark : (length header.mark ≡ 2) × AreBytes header.mark
   pub code_page : header.code_page < 2 ^ 16
-  pub count : (3 ≤ length header.locators) × (length header.locators ≤ 6)
   pub locators : AllByRecursion IsLocator header.locators
+  pub sections : LocateSections header.locators
 
 -- the input begins with this file header
 pub record BeginsWithHeader (bytes : List ℕ) (header : FileHeader) : Type 0 where

@@ -1,3 +1,6 @@
 pub mod FileHeader
 pub mod HeaderLines
 pub mod HeaderLaws
+pub mod Framed
+pub mod FramedLines
+pub mod FramedLaws

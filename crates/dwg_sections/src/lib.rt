@@ -2,9 +2,11 @@
 #![tactic(auto)]
 
 mod fields;
+mod framed;
 mod header;
 mod header_lines;
 mod laws;
 
+pub use framed::Framed;
 pub use header::{FileHeader, Locator, read_file_header};
 pub use laws::file_header_laws;
