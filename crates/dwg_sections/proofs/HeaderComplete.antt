@@ -2,16 +2,17 @@
 use Rattle.std.proofs.Common.{◌≡◌, ℕ, ◌+◌, ◌*◌, ◌≤◌, List, [], ◌∷◌, ◌++◌, length, take, drop, get_or, sym, ap, ap₂, subst, ◌∙◌, refl, w16, w32, arith, drop-drop, drop_at, take_at, append_assoc, length-append}
 use Rattle.std.specs.List.{AllByRecursion, flat_map}
 use Rattle.std.specs.Int.{from_le_bytes, to_le_bytes}
-use Rattle.std.proofs.lemmas.List.{get_or_at}
+use Rattle.std.proofs.lemmas.List.{get_or_at, length-map}
 use Rattle.std.proofs.lemmas.Nat.{from_le_bytes-to_le_bytes_2, from_le_bytes-to_le_bytes_4}
 use Rattle.dwg_check.specs.CheckWord.{header_check_word}
 use Rattle.dwg_check.specs.CheckWordLaws.{header_check_word_fits}
 use Rattle.dwg_sections.specs.declared.header.Locator.{Locator}
 use Rattle.dwg_sections.specs.declared.header.FileHeader.{FileHeader}
-use Rattle.dwg_sections.specs.FileHeader.{VERSION, HEADER_SENTINEL, IsLocator, IsFileHeader, locator_bytes, header_front}
-use Rattle.dwg_sections.specs.HeaderLines.{bytes_at, rs_at, rl_at, count_at, locators_end, locator_at, locators_at, header_at}
+use Rattle.dwg_sections.specs.FileHeader.{VERSION, HEADER_SENTINEL, IsLocator, LocateSections, IsFileHeader, locator_bytes, locator_numbers, header_front}
+use Rattle.dwg_sections.specs.HeaderLines.{bytes_at, rs_at, rl_at, count_at, locators_end, locator_at, locators_at, numbers_at, header_at}
 use Rattle.dwg_sections.specs.HeaderLaws.{HeaderIsRead}
 use Rattle.dwg_sections.proofs.BytePieces.{piece_at}
+use Rattle.dwg_sections.proofs.LocatorNumbers.{AreDistinct, AreLocated}
 use Rattle.dwg_sections.proofs.HeaderPasses.{Passes, none_from_passes}
 
 -- so many locators have nine times so many bytes
@@ -150,7 +151,7 @@ front_stands bytes header rest in_range whole =
 count_read : (bytes : List ℕ) (header : FileHeader) → IsFileHeader header → FrontStands bytes header → count_at bytes ≡ length header.locators
 unfolding count_at
 count_read bytes header in_range fields =
-    let most : length header.locators ≤ 6 = in_range.count.1 in
+    let most : length header.locators ≤ 6 = in_range.sections.count.1 in
     ap (from_le_bytes w32) fields.count_stands ∙ from_le_bytes-to_le_bytes_4 (length header.locators) (omega arith)
 
 -- the locators end where the front of the header ends
@@ -172,23 +173,37 @@ parts_read bytes header rest in_range whole fields counted =
     (sym (ap (from_le_bytes w16) fields.code_page_at ∙ from_le_bytes-to_le_bytes_2 header.code_page in_range.code_page))
     (locators_read header.locators bytes (before_locators header) rest 25 behind fields.long in_range.locators ∙ ap (λ count. locators_at count bytes 25) (sym counted))
 
+-- the numbers of locators that are read are those of the header
+numbers_read : (bytes : List ℕ) (header : FileHeader) → header ≡ header_at bytes → numbers_at bytes ≡ locator_numbers header.locators
+unfolding header_at numbers_at
+numbers_read bytes header same = ap (λ (read : FileHeader). locator_numbers read.locators) (sym same)
+
+-- locators that locate the sections have distinct numbers
+distinct_numbers : (locators : List Locator) → LocateSections locators → AreDistinct (locator_numbers locators)
+distinct_numbers locators sections i j before inside =
+    let counted : length (locator_numbers locators) ≡ length locators = length-map locators _ in
+    sections.distinct i j before (omega arith)
+
 -- bytes that begin with a header are as each line asks
 passes_from_header : (bytes : List ℕ) (header : FileHeader) → IsFileHeader header → FrontStands bytes header → count_at bytes ≡ length header.locators
     → EndStands bytes (header_front header) (to_le_bytes w16 (header_check_word (length header.locators) (header_front header))) HEADER_SENTINEL (locators_end bytes)
+    → numbers_at bytes ≡ locator_numbers header.locators
     → Passes bytes
 unfolding locators_end
-passes_from_header bytes header in_range fields counted end =
+passes_from_header bytes header in_range fields counted end numbered =
     let word : rs_at bytes (locators_end bytes) ≡ header_check_word (length header.locators) (header_front header) =
     ap (from_le_bytes w16) end.check_at ∙ from_le_bytes-to_le_bytes_2 _ (header_check_word_fits (length header.locators) (header_front header)) in
     let within : 18 + locators_end bytes ≤ length bytes = end.within in
     record {
       long = omega arith;
       version = fields.version_at;
-      least = subst (λ count. 3 ≤ count) (sym counted) in_range.count.0;
-      most = subst (λ count. count ≤ 6) (sym counted) in_range.count.1;
+      least = subst (λ count. 3 ≤ count) (sym counted) in_range.sections.count.0;
+      most = subst (λ count. count ≤ 6) (sym counted) in_range.sections.count.1;
       whole = end.within;
       check = word ∙ ap₂ header_check_word (sym counted) (sym end.front_at);
       sentinel = end.sentinel_at;
+      distinct = subst AreDistinct (sym numbered) (distinct_numbers header.locators in_range.sections);
+      located = subst AreLocated (sym numbered) in_range.sections.located;
     }
 
 -- where bytes begin with a header, no line on the header fails, and that header is the one that is read
@@ -200,7 +215,6 @@ header_is_read bytes header begins =
     begins.stands.1 ∙ append_assoc (header_front header ++ check) HEADER_SENTINEL rest ∙ append_assoc (header_front header) check (HEADER_SENTINEL ++ rest) in
     let fields = front_stands bytes header _ begins.in_range behind in
     let counted = count_read bytes header begins.in_range fields in
-    let end = end_stands bytes (header_front header) check HEADER_SENTINEL rest (locators_end bytes) begins.stands.1 (end_read bytes header fields counted) refl refl in (
-      none_from_passes bytes (passes_from_header bytes header begins.in_range fields counted end),
-      parts_read bytes header _ begins.in_range behind fields counted,
-    )
+    let end = end_stands bytes (header_front header) check HEADER_SENTINEL rest (locators_end bytes) begins.stands.1 (end_read bytes header fields counted) refl refl in
+    let same : header ≡ header_at bytes = parts_read bytes header _ begins.in_range behind fields counted in
+    (none_from_passes bytes (passes_from_header bytes header begins.in_range fields counted end (numbers_read bytes header same)), same)

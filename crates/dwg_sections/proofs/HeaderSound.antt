@@ -7,10 +7,11 @@ use Rattle.dwg_check.specs.CheckWord.{header_check_word}
 use Rattle.dwg_sections.specs.declared.header.FileHeader.{FileHeader}
 use Rattle.dwg_base.specs.Bytes.{AreBytes, are_bytes}
 use Rattle.dwg_base.specs.Refusals.{first_fault}
-use Rattle.dwg_sections.specs.FileHeader.{BeginsWithHeader, VERSION, HEADER_SENTINEL, IsLocator, IsFileHeader, locator_bytes, header_front, header_bytes}
-use Rattle.dwg_sections.specs.HeaderLines.{HEADER_LINES, bytes_at, rs_at, rl_at, count_at, locators_end, locator_at, locators_at, header_at}
+use Rattle.dwg_sections.specs.FileHeader.{BeginsWithHeader, VERSION, HEADER_SENTINEL, IsLocator, LocateSections, IsFileHeader, locator_bytes, header_front, header_bytes}
+use Rattle.dwg_sections.specs.HeaderLines.{HEADER_LINES, bytes_at, rs_at, rl_at, count_at, locators_end, locator_at, locators_at, numbers_at, header_at}
 use Rattle.dwg_sections.specs.HeaderLaws.{PassingBytesBeginWithHeader}
 use Rattle.dwg_sections.proofs.BytePieces.{front_more, length_at, are_bytes_at, byte_at_below, rs_back, rl_back, rs_below, rl_below}
+use Rattle.dwg_sections.proofs.LocatorStep.{length_of_locators_at, numbers_counted}
 use Rattle.dwg_sections.proofs.HeaderPasses.{Passes, passes_from_none}
 
 -- eight bytes are two RLs
@@ -36,12 +37,6 @@ locators_back (suc count) bytes place all within =
     ∙ front_more (drop place bytes) (locator_bytes (locator_at bytes place)) (flat_map locator_bytes (locators_at count bytes (place + 9))) 9 (9 * count)
     (locator_back bytes place all (omega arith))
     (ap (take (9 * count)) (drop-drop 9 place bytes) ∙ locators_back count bytes (place + 9) all (omega arith))
-
--- the locators that are read are so many
-length_locators : (count : ℕ) (bytes : List ℕ) (place : ℕ) → length (locators_at count bytes place) ≡ count
-unfolding locators_at
-length_locators zero bytes place = refl
-length_locators (suc count) bytes place = ap suc (length_locators count bytes (place + 9))
 
 -- the locators that are read from bytes lie in their ranges
 locators_in_range : (count : ℕ) (bytes : List ℕ) (place : ℕ) → AreBytes bytes → AllByRecursion IsLocator (locators_at count bytes place)
@@ -74,26 +69,36 @@ unfolding count_at locators_end header_at
 front_back bytes all begins within =
     let count = rl_at bytes 21 in
     let locators = locators_at count bytes 25 in
-    fields_back bytes VERSION count (length locators) (flat_map locator_bytes locators) all begins (sym (length_locators count bytes 25)) (locators_back count bytes 25 all within) within
+    fields_back bytes VERSION count (length locators) (flat_map locator_bytes locators) all begins (sym (length_of_locators_at count bytes 25)) (locators_back count bytes 25 all within) within
 
 -- the header that is read has as many locators as it says
 counted_back : (bytes : List ℕ) → count_at bytes ≡ length (header_at bytes).locators
 unfolding header_at
-counted_back bytes = sym (length_locators (count_at bytes) bytes 25)
+counted_back bytes = sym (length_of_locators_at (count_at bytes) bytes 25)
+
+-- where each line on the locators holds, they locate the sections
+locate_back : (bytes : List ℕ) → Passes bytes → LocateSections (locators_at (count_at bytes) bytes 25)
+unfolding numbers_at
+locate_back bytes passes =
+    let counted : length (locators_at (count_at bytes) bytes 25) ≡ count_at bytes = length_of_locators_at (count_at bytes) bytes 25 in
+    record {
+      count = (subst (λ n. 3 ≤ n) (sym counted) passes.least, subst (λ n. n ≤ 6) (sym counted) passes.most);
+      distinct = λ i j before inside. passes.distinct i j before (omega (arith, numbers_counted bytes));
+      located = passes.located;
+    }
 
 -- the parts of the header that is read lie in their ranges
 in_range_back : (bytes : List ℕ) → AreBytes bytes → Passes bytes → IsFileHeader (header_at bytes)
 unfolding header_at
 in_range_back bytes all passes =
-    let counted : length (locators_at (count_at bytes) bytes 25) ≡ count_at bytes = length_locators (count_at bytes) bytes 25 in
     let long = passes.long in
     record {
       lead = (length_at bytes 6 7 (omega arith), are_bytes_at bytes 6 7 all);
       preview = rl_below bytes 13 all;
       mark = (length_at bytes 17 2 (omega arith), are_bytes_at bytes 17 2 all);
       code_page = rs_below bytes 19 all;
-      count = (subst (λ n. 3 ≤ n) (sym counted) passes.least, subst (λ n. n ≤ 6) (sym counted) passes.most);
       locators = locators_in_range (count_at bytes) bytes 25 all;
+      sections = locate_back bytes passes;
     }
 
 -- a front, the two bytes behind it, the sixteen behind these, and the rest are the whole

@@ -1,4 +1,5 @@
 pub mod LocatorStep
+pub mod LocatorNumbers
 pub mod BytePieces
 pub mod HeaderPasses
 pub mod HeaderSound

@@ -1,5 +1,5 @@
 -- Framed sections: the header variables and the classes (Open Design Specification, "R13 to R2000 file layout").
-use Rattle.std.specs.Prelude.{◌≡◌, ℕ, ◌-◌, ◌^◌, ◌<◌, List, [], ◌∷◌, ◌++◌, length, map}
+use Rattle.std.specs.Prelude.{ℕ, ◌-◌, ◌^◌, ◌<◌, List, [], ◌∷◌, ◌++◌, length, map}
 use Rattle.std.specs.Int.{w16, w32, to_le_bytes}
 use Rattle.dwg_base.specs.Bytes.{StandsAt}
 use Rattle.dwg_check.specs.CheckWord.{check_word}

@@ -1,5 +1,5 @@
 -- The lines of the table of refusals on the file header, and the parts of a header by their places. A rule of this project, over the file header of the Open Design Specification, "R13 to R2000 file layout".
-use Rattle.std.specs.Prelude.{ℕ, zero, suc, ◌+◌, ◌*◌, Bool, not, ◌||◌, List, [], ◌∷◌, length, take, drop, bytes_eq, nat_lt, ◌==◌, slice_index, Option, option_map, unwrap_or, find}
+use Rattle.std.specs.Prelude.{ℕ, zero, suc, ◌+◌, ◌*◌, Bool, not, ◌||◌, List, [], ◌∷◌, length, take, drop, bytes_eq, nat_lt, ◌==◌, slice_index, Option, option_map, find}
 use Rattle.std.specs.List.{list_any, range_with_len}
 use Rattle.std.specs.Int.{w16, w32, from_le_bytes}
 use Rattle.dwg_base.specs.Refusals.{RefusalRow, refuse_if}

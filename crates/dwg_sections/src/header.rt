@@ -3,10 +3,11 @@
 ghost use Rattle.std.specs.Prelude.{◌≡◌, ◌+◌, ◌*◌, ◌≤◌, length, IfOk, IfErr, OnOk, None};
 ghost use Rattle.dwg_base.specs.Refusals.{first_fault, Tells, IsFaultOfTable};
 ghost use Rattle.dwg_sections.specs.FileHeader.{BeginsWithHeader};
-ghost use Rattle.dwg_sections.specs.HeaderLines.{HEADER_LINES, bytes_at, rs_at, rl_at, locator_at, locators_at, locators_end, header_at};
+ghost use Rattle.dwg_sections.specs.HeaderLines.{HEADER_LINES, bytes_at, rs_at, rl_at, locator_at, locators_at, locators_end, header_at, place_of};
 
 use crate::fields::{rl, rs};
-use crate::header_lines::{LOCATOR_SIZE, LOCATORS_PLACE, count, refusal_of_header};
+use crate::header_lines::{count, refusal_of_header};
+use crate::locator_lines::{LOCATOR_SIZE, LOCATORS_PLACE};
 use dwg_base::{Fault, Items, NoMemory};
 use std::alloc::Global;
 
@@ -34,6 +35,19 @@ pub struct FileHeader {
     pub code_page: u16,
     /// Three to six locators, in file order.
     pub locators: Items<Locator>,
+}
+
+impl FileHeader {
+    /// The place of the section with this number, if a locator has it: the first locator's.
+    pub fn place_of(&self, number: u8) -> Option<u32>
+        ensures { result ≡ place_of number self.now.locators }
+    {
+        self.locators
+            .as_slice()
+            .iter()
+            .find(|locator| locator.number == number)
+            .map(|locator| locator.place)
+    }
 }
 
 /// Where the seven bytes behind the version stand.
@@ -134,7 +148,8 @@ fn read_parts(alloc: Global, bytes: &[u8]) -> Result<FileHeader, NoMemory>
 }
 
 /// Reads the file header at the front of the input. It is refused by the first of its lines that fails: the input is
-/// short, the version or the count of locators is another, the check word or the sentinel is wrong.
+/// short, the version or the count of locators is another, the check word or the sentinel is wrong, a locator has the
+/// number of an earlier one, or 0, 1 or 2 is no locator's number.
 pub fn read_file_header(alloc: Global, bytes: &[u8]) -> Result<FileHeader, Fault>
     // The header that the input begins with; there is one exactly where no line on the header fails.
     ensures found { IfOk result (λ header. BeginsWithHeader bytes.now header) }

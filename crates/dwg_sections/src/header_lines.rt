@@ -7,6 +7,9 @@ ghost use Rattle.dwg_sections.specs.FileHeader.{VERSION, HEADER_SENTINEL};
 ghost use Rattle.dwg_sections.specs.HeaderLines.{HEADER_LINES, bytes_at, rs_at, count_at, locators_end};
 
 use crate::fields::{piece, rl, rs};
+use crate::locator_lines::{
+    COUNT_PLACE, LOCATOR_SIZE, LOCATORS_PLACE, refusal, refusal_of_locators,
+};
 use dwg_base::Refusal;
 use dwg_check::header_word;
 
@@ -30,15 +33,6 @@ const VERSION_BYTES: [u8; 6] = *b"AC1015";
 const SENTINEL_BYTES: [u8; 16] = [
     0x95, 0xA0, 0x4E, 0x28, 0x99, 0x82, 0x1A, 0xE5, 0x5E, 0x41, 0xE0, 0x5F, 0x9D, 0x3A, 0x4D, 0x00,
 ];
-
-/// The place of the count of locators.
-const COUNT_PLACE: usize = 21;
-
-/// The place of the first locator.
-pub const LOCATORS_PLACE: usize = 25;
-
-/// The bytes of a locator.
-pub const LOCATOR_SIZE: usize = 9;
 
 /// The fewest locators of a header.
 const LEAST_COUNT: u32 = 3;
@@ -87,17 +81,6 @@ fn has_sentinel(bytes: &[u8], place: usize) -> bool
     piece(bytes, place, SENTINEL_BYTES.len()) == SENTINEL_BYTES.as_slice()
 }
 
-/// The refusal of the whole header by a line, at a place.
-fn refusal(line: u8, place: usize) -> Refusal
-    ensures { result ≡ record { line = line; index = 0; place = place } }
-{
-    Refusal {
-        line,
-        index: 0,
-        place: place as u64,
-    }
-}
-
 /// The first line on the file header that fails. Where none fails, the input has all bytes of the header.
 #[tactic(auto, unfolding(crate::specs::HeaderLines::short_line, crate::specs::HeaderLines::version_line, crate::specs::HeaderLines::count_line, crate::specs::HeaderLines::cut_line, crate::specs::HeaderLines::check_line, crate::specs::HeaderLines::sentinel_line, crate::specs::HeaderLines::locators_end))]
 pub fn refusal_of_header(bytes: &[u8]) -> Option<Refusal>
@@ -106,24 +89,24 @@ pub fn refusal_of_header(bytes: &[u8]) -> Option<Refusal>
 {
     let length = bytes.len();
     if length < LOCATORS_PLACE {
-        return Some(refusal(SHORT_LINE, length));
+        return Some(refusal(SHORT_LINE, 0, length));
     }
     if !is_version(bytes) {
-        return Some(refusal(VERSION_LINE, 0));
+        return Some(refusal(VERSION_LINE, 0, 0));
     }
     let count = count(bytes);
     if count < LEAST_COUNT || MOST_COUNT < count {
-        return Some(refusal(COUNT_LINE, COUNT_PLACE));
+        return Some(refusal(COUNT_LINE, 0, COUNT_PLACE));
     }
     let end = LOCATORS_PLACE + LOCATOR_SIZE * count as usize;
     if length < TAIL_SIZE + end {
-        return Some(refusal(CUT_LINE, length));
+        return Some(refusal(CUT_LINE, 0, length));
     }
     if !has_check_word(bytes, count, end) {
-        return Some(refusal(CHECK_LINE, end));
+        return Some(refusal(CHECK_LINE, 0, end));
     }
     if !has_sentinel(bytes, CHECK_SIZE + end) {
-        return Some(refusal(SENTINEL_LINE, CHECK_SIZE + end));
+        return Some(refusal(SENTINEL_LINE, 0, CHECK_SIZE + end));
     }
-    None
+    refusal_of_locators(bytes, count)
 }

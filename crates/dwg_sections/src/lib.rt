@@ -6,7 +6,9 @@ mod framed;
 mod header;
 mod header_lines;
 mod laws;
+mod locator_lines;
 
 pub use framed::Framed;
 pub use header::{FileHeader, Locator, read_file_header};
 pub use laws::file_header_laws;
+pub use locator_lines::{CLASSES_NUMBER, OBJECT_MAP_NUMBER, VARIABLES_NUMBER};

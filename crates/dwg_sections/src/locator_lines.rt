@@ -1,0 +1,130 @@
+//! The lines of the table of refusals on the numbers of locators.
+
+ghost use Rattle.std.specs.Prelude.{◌≡◌, ◌+◌, ◌<◌, ◌≤◌, ◌==◌, [], ◌∷◌, length, slice_index, find, IfSome, MatchOption};
+ghost use Rattle.std.specs.List.{list_any, range_with_len};
+ghost use Rattle.dwg_base.specs.Refusals.{first_fault, IsOfTable};
+ghost use Rattle.dwg_sections.specs.HeaderLines.{count_at, locators_end, numbers_at, stands_earlier, is_missing, repeated_line, missing_line};
+
+use dwg_base::Refusal;
+
+/// The number of the locator of the header variables.
+pub const VARIABLES_NUMBER: u8 = 0;
+
+/// The number of the locator of the classes.
+pub const CLASSES_NUMBER: u8 = 1;
+
+/// The number of the locator of the object map.
+pub const OBJECT_MAP_NUMBER: u8 = 2;
+
+/// The place of the count of locators.
+pub const COUNT_PLACE: usize = 21;
+
+/// The place of the first locator.
+pub const LOCATORS_PLACE: usize = 25;
+
+/// The bytes of a locator.
+pub const LOCATOR_SIZE: usize = 9;
+
+const REPEATED_LINE: u8 = 7;
+
+const MISSING_LINE: u8 = 8;
+
+/// The refusal by a line, with an index, at a place.
+pub fn refusal(line: u8, index: u32, place: usize) -> Refusal
+    ensures { result ≡ record { line = line; index = index; place = place } }
+{
+    Refusal {
+        line,
+        index: u64::from(index),
+        place: place as u64,
+    }
+}
+
+/// The number of the locator at an index.
+#[tactic(auto, using(crate::proofs::LocatorStep::number_is_read), unfolding(crate::specs::HeaderLines::locators_end))]
+fn number_at(bytes: &[u8], index: u32) -> u8
+    requires inside { index < count_at bytes.now }
+    requires whole { locators_end bytes.now ≤ length bytes.now }
+    ensures { result ≡ slice_index (numbers_at bytes.now) index }
+{
+    bytes[LOCATORS_PLACE + LOCATOR_SIZE * index as usize]
+}
+
+/// Whether the locator at an index has the number of an earlier one.
+fn is_repeated(bytes: &[u8], index: u32) -> bool
+    requires inside { index < count_at bytes.now }
+    requires whole { locators_end bytes.now ≤ length bytes.now }
+    ensures { result ≡ stands_earlier (numbers_at bytes.now) index }
+{
+    let number = number_at(bytes, index);
+    'along: for earlier in 0..index {
+        if number_at(bytes, earlier) == number {
+            return true;
+        }
+    }
+    false
+}
+
+/// The first locator with the number of an earlier one.
+#[tactic(auto, using(crate::proofs::LocatorNumbers::found_here, crate::proofs::LocatorNumbers::found_behind, crate::proofs::LocatorNumbers::found_nowhere))]
+fn first_repeated(bytes: &[u8], count: u32) -> Option<u32>
+    requires counted { count ≡ count_at bytes.now }
+    requires whole { locators_end bytes.now ≤ length bytes.now }
+    ensures { result ≡ find (stands_earlier (numbers_at bytes.now)) (range_with_len 0 (count_at bytes.now)) }
+{
+    'along: for index in 0..count {
+        if is_repeated(bytes, index) {
+            return Some(index);
+        }
+    }
+    None
+}
+
+/// Whether no locator has the number.
+fn lacks(bytes: &[u8], count: u32, number: u32) -> bool
+    requires counted { count ≡ count_at bytes.now }
+    requires whole { locators_end bytes.now ≤ length bytes.now }
+    ensures { result ≡ is_missing (numbers_at bytes.now) number }
+{
+    'along: for index in 0..count {
+        if u32::from(number_at(bytes, index)) == number {
+            return false;
+        }
+    }
+    true
+}
+
+/// The least of 0, 1 and 2 that is no locator's number.
+#[tactic(auto, using(crate::proofs::LocatorNumbers::found_here, crate::proofs::LocatorNumbers::found_behind, crate::proofs::LocatorNumbers::found_nowhere))]
+fn first_missing(bytes: &[u8], count: u32) -> Option<u32>
+    requires counted { count ≡ count_at bytes.now }
+    requires whole { locators_end bytes.now ≤ length bytes.now }
+    ensures { result ≡ find (is_missing (numbers_at bytes.now)) (0 ∷ 1 ∷ 2 ∷ []) }
+{
+    let end = u32::from(OBJECT_MAP_NUMBER) + 1;
+    'along: for number in 0..end {
+        if lacks(bytes, count, number) {
+            return Some(number);
+        }
+    }
+    None
+}
+
+/// The first line on the numbers of locators that fails, where the input has all of them.
+#[tactic(auto, unfolding(crate::specs::HeaderLines::repeated_line, crate::specs::HeaderLines::missing_line))]
+pub fn refusal_of_locators(bytes: &[u8], count: u32) -> Option<Refusal>
+    requires counted { count ≡ count_at bytes.now }
+    requires few { count ≤ 6 }
+    requires whole { locators_end bytes.now ≤ length bytes.now }
+    ensures first { result ≡ first_fault (repeated_line ∷ missing_line ∷ []) bytes.now }
+    ensures of_table { IfSome result IsOfTable }
+{
+    if let Some(index) = first_repeated(bytes, count) {
+        let place = LOCATORS_PLACE + LOCATOR_SIZE * index as usize;
+        return Some(refusal(REPEATED_LINE, index, place));
+    }
+    match first_missing(bytes, count) {
+        Some(number) => Some(refusal(MISSING_LINE, number, COUNT_PLACE)),
+        None => None,
+    }
+}
