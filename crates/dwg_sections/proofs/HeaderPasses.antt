@@ -1,14 +1,13 @@
 -- What it means that no line on the file header fails.
-use Rattle.std.proofs.Common.{◌≡◌, ℕ, ◌+◌, ◌≤◌, Bool, true, false, not, List, [], ◌∷◌, length, take, Option, Some, None, refl, ap, ltb-false, le-ltb, eqb-true, eq-eqb, bytes_eq}
+use Rattle.std.proofs.Common.{◌≡◌, ℕ, ◌+◌, ◌≤◌, List, [], ◌∷◌, length, take, Option, Some, None, refl, ap, ltb-false, le-ltb, eqb-true, eq-eqb}
 use Rattle.std.specs.Prelude.{find, option_map}
 use Rattle.std.specs.List.{range_with_len}
-use Rattle.std.specs.Option.{option_or}
 use Rattle.std.proofs.lemmas.Bool.{not-false, not_from_true, or_parts, or_from}
-use Rattle.std.proofs.lemmas.Slice.Eq.{bytes_eq-Decides}
-use Rattle.dwg_base.specs.Refusals.{refuse_if, first_fault}
+use Rattle.dwg_base.specs.Refusals.{first_fault}
 use Rattle.dwg_check.specs.CheckWord.{header_check_word}
 use Rattle.dwg_sections.specs.FileHeader.{VERSION, HEADER_SENTINEL}
 use Rattle.dwg_sections.specs.HeaderLines.{bytes_at, rs_at, count_at, locators_end, numbers_at, stands_earlier, is_missing, repeated_refusal, missing_refusal, short_line, version_line, count_line, cut_line, check_line, sentinel_line, repeated_line, missing_line, HEADER_LINES}
+use Rattle.dwg_sections.proofs.TableLines.{no_refusal, keeps, both_none, none_of_both, same_bytes, bytes_same}
 use Rattle.dwg_sections.proofs.LocatorNumbers.{AreDistinct, AreLocated, distinct_from_none, none_from_distinct, located_from_none, none_from_located}
 use Rattle.dwg_sections.proofs.LocatorStep.{numbers_counted}
 
@@ -23,26 +22,6 @@ pub record Passes (bytes : List ℕ) : Type 0 where
   pub sentinel : bytes_at bytes (2 + locators_end bytes) 16 ≡ HEADER_SENTINEL
   pub distinct : AreDistinct (numbers_at bytes)
   pub located : AreLocated (numbers_at bytes)
-
--- a line that does not refuse has its test false
-no_refusal : (test : Bool) (line index place : ℕ) → refuse_if test line index place ≡ None → test ≡ false
-no_refusal false line index place none = refl
-no_refusal true line index place none = absurd cc
-
--- a line whose test is false does not refuse
-keeps : (test : Bool) (line index place : ℕ) → test ≡ false → refuse_if test line index place ≡ None
-keeps false line index place holds = refl
-keeps true line index place holds = absurd cc
-
--- no refusal of two is none of either
-both_none : {T : Type 0} (first second : Option T) → option_or first second ≡ None → (first ≡ None) × (second ≡ None)
-both_none None second none = (refl, none)
-both_none (Some refusal) second none = absurd cc
-
--- none of either is no refusal of two
-none_of_both : {T : Type 0} (first second : Option T) → first ≡ None → second ≡ None → option_or first second ≡ None
-none_of_both None second here behind = behind
-none_of_both (Some refusal) second here behind = absurd cc
 
 -- where what was found is no refusal, nothing was found
 found_none : {A B : Type 0} (f : A → B) (found : Option A) → option_map f found ≡ None → found ≡ None
@@ -72,14 +51,6 @@ located_from_line bytes none =
 line_from_located : (bytes : List ℕ) → AreLocated (numbers_at bytes) → missing_line bytes ≡ None
 unfolding missing_line
 line_from_located bytes located = ap (option_map missing_refusal) (none_from_located (numbers_at bytes) located)
-
--- two lists of bytes that compare as equal are equal
-same_bytes : (a b : List ℕ) → not (bytes_eq a b) ≡ false → a ≡ b
-same_bytes a b test = (bytes_eq-Decides a b).0 (not-false _ test)
-
--- equal lists of bytes compare as equal
-bytes_same : (a b : List ℕ) → a ≡ b → not (bytes_eq a b) ≡ false
-bytes_same a b same = not_from_true _ ((bytes_eq-Decides a b).1 same)
 
 -- bytes in which no line fails are as each line asks
 pub passes_from_none : (bytes : List ℕ) → first_fault HEADER_LINES bytes ≡ None → Passes bytes

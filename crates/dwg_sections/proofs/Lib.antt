@@ -1,6 +1,10 @@
 pub mod LocatorStep
 pub mod LocatorNumbers
 pub mod BytePieces
+pub mod TableLines
 pub mod HeaderPasses
 pub mod HeaderSound
 pub mod HeaderComplete
+pub mod FramedPasses
+pub mod FramedSound
+pub mod FramedComplete

@@ -1,9 +1,16 @@
-//! Laws of the file header, each the contract of a function without code.
+//! Laws of the file header and of framed sections, each the contract of a function without code.
 
+ghost use Rattle.dwg_sections.specs.FramedLaws.{PassingBytesHaveSection, SectionIsRead};
 ghost use Rattle.dwg_sections.specs.HeaderLaws.{PassingBytesBeginWithHeader, HeaderIsRead};
 
 /// The input begins with a file header exactly where no line on the header fails, and with one alone.
 pub fn file_header_laws()
     ensures sound { PassingBytesBeginWithHeader }
     ensures complete { HeaderIsRead }
+{}
+
+/// A framed section stands at a place of the input exactly where no line on it there fails, and with one content alone.
+pub fn framed_laws()
+    ensures sound { PassingBytesHaveSection }
+    ensures complete { SectionIsRead }
 {}

@@ -1,4 +1,4 @@
-//! The sections of a file: its header, which says where each of them lies.
+//! The sections of a file: its header, which says where each of them lies, and those that stand between sentinels.
 #![tactic(auto)]
 
 mod fields;
@@ -8,7 +8,7 @@ mod header_lines;
 mod laws;
 mod locator_lines;
 
-pub use framed::Framed;
+pub use framed::{Framed, read_framed};
 pub use header::{FileHeader, Locator, read_file_header};
-pub use laws::file_header_laws;
+pub use laws::{file_header_laws, framed_laws};
 pub use locator_lines::{CLASSES_NUMBER, OBJECT_MAP_NUMBER, VARIABLES_NUMBER};

@@ -1,0 +1,9 @@
+use Rattle.dwg_sections.proofs.FramedSound.{section_stands}
+use Rattle.dwg_sections.proofs.FramedComplete.{section_is_read}
+use Rattle.dwg_sections.proofs.laws.framed_laws.Goals as goal
+
+pub returns-clause-sound : goal.returns-clause-sound
+returns-clause-sound c = section_stands
+
+pub returns-clause-complete : goal.returns-clause-complete
+returns-clause-complete c = section_is_read
