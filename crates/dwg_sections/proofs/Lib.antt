@@ -8,3 +8,6 @@ pub mod HeaderComplete
 pub mod FramedPasses
 pub mod FramedSound
 pub mod FramedComplete
+pub mod BytePuts
+pub mod FramedWriting
+pub mod HeaderWriting

@@ -4,3 +4,4 @@ pub mod HeaderLaws
 pub mod Framed
 pub mod FramedLines
 pub mod FramedLaws
+pub mod Writing

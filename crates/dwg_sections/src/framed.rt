@@ -22,7 +22,7 @@ pub enum Framed {
 }
 
 /// What the check word of a section begins as.
-const CHECK_START: u16 = 0xC0C1;
+pub const CHECK_START: u16 = 0xC0C1;
 
 /// The bytes of a sentinel.
 const SENTINEL_SIZE: usize = 16;
@@ -40,7 +40,7 @@ const END_PLACE: usize = 22;
 const FRAME_SIZE: usize = 38;
 
 /// What a section begins with.
-fn begin_sentinel(which: Framed) -> [u8; 16]
+pub fn begin_sentinel(which: Framed) -> [u8; 16]
     ensures { result ≡ begin_sentinel which }
 {
     match which {
@@ -56,7 +56,7 @@ fn begin_sentinel(which: Framed) -> [u8; 16]
 }
 
 /// What a section ends with: the complement of what it begins with.
-fn end_sentinel(which: Framed) -> [u8; 16]
+pub fn end_sentinel(which: Framed) -> [u8; 16]
     ensures { result ≡ end_sentinel which }
 {
     match which {

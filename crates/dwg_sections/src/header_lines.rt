@@ -27,10 +27,10 @@ const CHECK_LINE: u8 = 5;
 const SENTINEL_LINE: u8 = 6;
 
 /// The bytes of the version that is read.
-const VERSION_BYTES: [u8; 6] = *b"AC1015";
+pub const VERSION_BYTES: [u8; 6] = *b"AC1015";
 
 /// The sixteen bytes behind the check word.
-const SENTINEL_BYTES: [u8; 16] = [
+pub const SENTINEL_BYTES: [u8; 16] = [
     0x95, 0xA0, 0x4E, 0x28, 0x99, 0x82, 0x1A, 0xE5, 0x5E, 0x41, 0xE0, 0x5F, 0x9D, 0x3A, 0x4D, 0x00,
 ];
 

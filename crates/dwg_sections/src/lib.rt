@@ -1,14 +1,19 @@
 //! The sections of a file: its header, which says where each of them lies, and those that stand between sentinels.
 #![tactic(auto)]
 
+mod appending;
 mod fields;
 mod framed;
+mod framed_writer;
 mod header;
 mod header_lines;
+mod header_writer;
 mod laws;
 mod locator_lines;
 
 pub use framed::{Framed, read_framed};
+pub use framed_writer::write_framed;
 pub use header::{FileHeader, Locator, read_file_header};
+pub use header_writer::write_file_header;
 pub use laws::{file_header_laws, framed_laws};
 pub use locator_lines::{CLASSES_NUMBER, OBJECT_MAP_NUMBER, VARIABLES_NUMBER};
