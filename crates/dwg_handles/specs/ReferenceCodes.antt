@@ -1,5 +1,5 @@
 -- References and own handles as bit codes (Open Design Specification, "Handle references"). Which spelling is written is a rule of this project: the one of the fewest bytes.
-use Rattle.std.specs.Prelude.{◌≡◌, ℕ, ◌+◌, ◌-◌, ◌*◌, ◌^◌, ◌<◌, Bool, List, [], ◌∷◌, ◌==◌, nat_lt, nat_le, ◌&&◌, find, unwrap_or, true}
+use Rattle.std.specs.Prelude.{◌≡◌, ℕ, ◌+◌, ◌-◌, ◌*◌, ◌^◌, ◌<◌, Bool, [], ◌∷◌, ◌==◌, nat_lt, nat_le, ◌&&◌, find, unwrap_or, true}
 use Rattle.dwg_codes.specs.Grammar.{Grammar}
 use Rattle.dwg_codes.specs.Combinators.{fixed, never, seq, choose, image, restrict, tagged}
 use Rattle.dwg_handles.specs.Reference.{Reference, reaches}
@@ -31,15 +31,31 @@ told base code test target_of number_of numbers =
 abbrev pub no_bytes : Grammar Bool ℕ
 no_bytes = restrict (λ count. count == 0) (fixed 4)
 
--- what stands behind each code: 0 to 5 the target; 6 and 8 nothing, for the next handle and the one before; A and C the offset ahead and back
+-- codes 0 to 5 tell the target itself
+abbrev pub absolute : ℕ → ℕ → Grammar Bool Reference
+absolute base code = told base code (λ number. true) (λ number. number) (λ target. target) counted_number
+
+-- 6 tells the next handle, by no bytes
+abbrev pub next_handle : ℕ → Grammar Bool Reference
+next_handle base = told base 6 (λ number. true) (λ number. base + 1) (λ target. 0) no_bytes
+
+-- 8 tells the one before, by no bytes
+abbrev pub handle_before : ℕ → Grammar Bool Reference
+handle_before base = told base 8 (λ number. nat_le 1 base) (λ number. base - 1) (λ target. 0) no_bytes
+
+-- A tells how far ahead the target is
+abbrev pub ahead : ℕ → Grammar Bool Reference
+ahead base = told base 10 (λ number. true) (λ number. base + number) (λ target. target - base) counted_number
+
+-- C tells how far back it is
+abbrev pub back : ℕ → Grammar Bool Reference
+back base = told base 12 (λ number. nat_le number base) (λ number. base - number) (λ target. base - target) counted_number
+
+-- what stands behind each code; the others are no references
 abbrev pub by_reference_code : ℕ → ℕ → Grammar Bool Reference
 by_reference_code base code =
-    choose (nat_lt code 6) (told base code (λ number. true) (λ number. number) (λ target. target) counted_number)
-    (choose (code == 6) (told base code (λ number. true) (λ number. base + 1) (λ target. 0) no_bytes)
-    (choose (code == 8) (told base code (λ number. nat_le 1 base) (λ number. base - 1) (λ target. 0) no_bytes)
-    (choose (code == 10) (told base code (λ number. true) (λ number. base + number) (λ target. target - base) counted_number)
-    (choose (code == 12) (told base code (λ number. nat_le number base) (λ number. base - number) (λ target. base - target) counted_number)
-    never))))
+    choose (nat_lt code 6) (absolute base code)
+    (choose (code == 6) (next_handle base) (choose (code == 8) (handle_before base) (choose (code == 10) (ahead base) (choose (code == 12) (back base) never))))
 
 -- H: a reference of the object of a handle
 unfoldable pub reference : ℕ → Grammar Bool Reference

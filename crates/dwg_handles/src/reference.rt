@@ -42,4 +42,21 @@ impl Ref {
             _ => None,
         }
     }
+
+    /// Whether the code can tell the target from the object of the handle `base`: 6 tells only the next handle, 8 only the one
+    /// before, A none before `base`, C none behind it, the others any.
+    pub fn fits(&self, base: Handle) -> bool
+        ensures { result ≡ reaches base self.now }
+    {
+        let base = base.value();
+        let target = self.target.value();
+        match self.code {
+            0..=5 => true,
+            6 => target == base + 1,
+            8 => target + 1 == base,
+            10 => base <= target,
+            12 => target <= base,
+            _ => false,
+        }
+    }
 }

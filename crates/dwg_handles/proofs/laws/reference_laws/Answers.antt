@@ -1,0 +1,20 @@
+use Rattle.dwg_codes.specs.Grammar.{AnyLetters}
+use Rattle.dwg_codes.specs.CodeLaws.{lawful_of_code}
+use Rattle.dwg_handles.specs.ReferenceCodes.{reference, own_handle}
+use Rattle.dwg_handles.specs.ReferenceLaws.{reference_is_code, reference_spelled, reached_where_spelled, reference_least}
+use Rattle.dwg_handles.specs.OwnLaws.{own_is_code, own_spelled}
+use Rattle.dwg_handles.proofs.laws.reference_laws.Goals as goal
+
+pub returns : goal.returns
+unfolding reference own_handle
+returns c =
+    record {
+      lawful = λ base small. lawful_of_code AnyLetters (reference base) (reference_is_code base small);
+      values = λ base value. ((λ is. is), (λ reached. reached));
+      spelled = reference_spelled;
+      reached = reached_where_spelled;
+      least = reference_least;
+      own_lawful = lawful_of_code AnyLetters own_handle own_is_code;
+      own_values = λ own. ((λ is. is), (λ fits. fits));
+      own_spelled = own_spelled;
+    }
