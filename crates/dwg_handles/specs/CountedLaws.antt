@@ -35,12 +35,14 @@ first_least p from (suc left) last at same behind within passed =
 
 -- so many bytes hold the number
 pub byte_count_fits : (number : ℕ) → number < 2 ^ 64 → number < 2 ^ (8 * byte_count number)
+unfolding byte_count
 byte_count_fits number small =
     let passed = first_passes (λ count. nat_lt number (2 ^ (8 * count))) 0 8 8 (grind (arith, nat_tests)) in
     grind (arith, nat_tests)
 
 -- and no fewer do
 pub byte_count_least : (number count : ℕ) → count ≤ 8 → number < 2 ^ (8 * count) → byte_count number ≤ count
+unfolding byte_count
 byte_count_least number count few small =
     first_least (λ count. nat_lt number (2 ^ (8 * count))) 0 8 8 count (omega arith) (omega arith) few (grind (arith, nat_tests))
 

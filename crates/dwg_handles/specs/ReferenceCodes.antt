@@ -1,11 +1,11 @@
 -- References and own handles as bit codes (Open Design Specification, "Handle references"). Which spelling is written is a rule of this project: the one of the fewest bytes.
-use Rattle.std.specs.Prelude.{◌≡◌, ℕ, ◌+◌, ◌-◌, ◌*◌, ◌^◌, ◌<◌, Bool, [], ◌∷◌, ◌==◌, nat_lt, nat_le, ◌&&◌, find, unwrap_or, true}
+use Rattle.std.specs.Prelude.{◌≡◌, ℕ, ◌+◌, ◌-◌, ◌*◌, ◌^◌, ◌<◌, Bool, [], ◌∷◌, ◌==◌, nat_lt, nat_le, ◌&&◌, find, unwrap_or, true, if◌then◌else◌}
 use Rattle.dwg_codes.specs.Grammar.{Grammar}
 use Rattle.dwg_codes.specs.Combinators.{fixed, never, seq, choose, image, restrict, tagged}
 use Rattle.dwg_handles.specs.Reference.{Reference, reaches}
 
 -- how many bytes a number is written by: the fewest that hold it, none for 0
-abbrev pub byte_count : ℕ → ℕ
+unfoldable pub byte_count : ℕ → ℕ
 byte_count number = unwrap_or (find (λ count. nat_lt number (2 ^ (8 * count))) (0 ∷ 1 ∷ 2 ∷ 3 ∷ 4 ∷ 5 ∷ 6 ∷ 7 ∷ [])) 8
 
 -- a count of bytes, at most eight
@@ -60,6 +60,11 @@ by_reference_code base code =
 -- H: a reference of the object of a handle
 unfoldable pub reference : ℕ → Grammar Bool Reference
 reference base = tagged (fixed 4) (by_reference_code base) (λ value. reaches base value ≡ true) (λ value. value.code)
+
+-- the number that is written of a reference: the target, how far ahead or back it is, or none
+abbrev pub number_behind : ℕ → Reference → ℕ
+number_behind base value =
+    if nat_lt value.code 6 then value.target else (if value.code == 10 then value.target - base else (if value.code == 12 then base - value.target else 0))
 
 -- an object's own handle: a number behind code 0, positive and below 2^63
 unfoldable pub own_handle : Grammar Bool ℕ

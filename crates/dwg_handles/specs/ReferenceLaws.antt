@@ -1,6 +1,6 @@
 -- References are a code, and spell what the plain relation says.
 use Rattle.std.proofs.Common.{◌≡◌, refl, sym, ◌∙◌, ap, ap₂, subst, inl, inr, ℕ, ◌+◌, ◌-◌, ◌*◌, ◌^◌, ◌<◌, ◌≤◌, Bool, true, false, List, ◌++◌, length, arith}
-use Rattle.std.specs.Prelude.{◌↔◌, ◌==◌, ◌&&◌, nat_lt, nat_le, if◌then◌else◌}
+use Rattle.std.specs.Prelude.{◌↔◌, ◌==◌, ◌&&◌, nat_lt, nat_le}
 use Rattle.std.proofs.lemmas.List.{length-append, append-nil}
 use Rattle.std.proofs.lemmas.Bool.Decides.{nat_tests}
 use Rattle.dwg_bits.specs.Bits.{low_bits}
@@ -11,7 +11,7 @@ use Rattle.dwg_codes.specs.CombinatorLaws.{fixed_is_code, never_is_code, restric
 use Rattle.dwg_codes.specs.ToEnd.{HaveLeast}
 use Rattle.dwg_codes.specs.TableLaws.{bit_tagged_is_code}
 use Rattle.dwg_handles.specs.Reference.{Reference, Tells, RefSpells, is_reference_code, reaches}
-use Rattle.dwg_handles.specs.ReferenceCodes.{counted_number, reference_of, told, no_bytes, absolute, next_handle, handle_before, ahead, back, by_reference_code, reference}
+use Rattle.dwg_handles.specs.ReferenceCodes.{byte_count, counted_number, reference_of, told, no_bytes, absolute, next_handle, handle_before, ahead, back, by_reference_code, reference, number_behind}
 use Rattle.dwg_handles.specs.CountedLaws.{fixed_spelled, fixed_spells, IsCounted, counted_spelled, counted_spells, none_spelled, none_spells, none_counted, counted_is_code}
 
 -- what holds of the line of each code holds of what stands behind any code
@@ -249,14 +249,9 @@ reference_most base value small reached =
     let is = (reference_spelled base value letters).0 ((reference_is_code base small).canonical value reached) in
     omega (arith, spelling_length value.code is.count is.number letters is.spelled, is.few)
 
--- the number that is written of a reference: the target, how far ahead or back it is, or none
-abbrev pub number_behind : ℕ → Reference → ℕ
-number_behind base value =
-    if nat_lt value.code 6 then value.target else (if value.code == 10 then value.target - base else (if value.code == 12 then base - value.target else 0))
-
 -- no bytes are written as the number 0 is
 none_short : low_bits 4 0 ≡ counted_number.short 0
-unfolding low_bits
+unfolding low_bits byte_count
 none_short = sym (append-nil (low_bits 4 0))
 
 -- equal numbers are written alike

@@ -2,7 +2,12 @@
 #![tactic(auto)]
 
 mod laws;
+mod own;
+mod parts;
 mod reference;
+mod reference_code;
 
 pub use laws::reference_laws;
+pub use own::{own_bits, read_own, write_own};
 pub use reference::Ref;
+pub use reference_code::{CodeH, read_ref, ref_bits, write_ref};

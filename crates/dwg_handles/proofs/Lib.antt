@@ -1,0 +1,4 @@
+pub mod PartsReading
+pub mod ReferenceReading
+pub mod OwnReading
+pub mod PartsWriting

@@ -1,0 +1,119 @@
+//! What references and own handles are spelled by: a code, a count of bytes, and so many bytes of a number.
+
+ghost use Rattle.std.specs.Prelude.{◌≡◌, ◌+◌, ◌*◌, ◌^◌, ◌<◌, ◌≤◌, ◌++◌, ℕ, length, IfSome, IfNone};
+ghost use Rattle.dwg_bits.specs.Bits.{low_bits};
+ghost use Rattle.dwg_bits.specs.Cursor.{rest};
+ghost use Rattle.dwg_bits.specs.Sink.{Extends};
+ghost use Rattle.dwg_codes.specs.Grammar.{Reads};
+ghost use Rattle.dwg_handles.specs.PartsCode.{IsOwn, parts};
+ghost use Rattle.dwg_handles.specs.Reference.{Tells};
+ghost use Rattle.dwg_handles.specs.ReferenceCodes.{byte_count, counted_number};
+
+use dwg_base::Handle;
+use dwg_bits::{BitCursor, BitSink};
+
+/// A code, a count of bytes, and the number in them.
+#[derive(Clone, Copy)]
+pub(crate) struct Parts {
+    /// What the number is for, below 16.
+    pub(crate) code: u8,
+    /// How many bytes tell the number, at most eight.
+    count: u32,
+    /// The number.
+    number: u64,
+}
+
+impl Parts {
+    /// Reads four bits of code, four bits of a count of at most eight, and so many bytes, the most significant first. None,
+    /// with nothing moved, exactly where these aren't there.
+    pub(crate) fn read(cursor: &mut BitCursor<'_>) -> Option<Parts>
+        ensures reads { Reads parts result (rest cursor.old) (rest cursor.new) }
+        ensures unmoved { IfNone result (cursor.new.place ≡ cursor.old.place) }
+        ensures same_bytes { cursor.new.bytes.now ≡ cursor.old.bytes.now }
+        ensures same_end { cursor.new.end ≡ cursor.old.end }
+    {
+        let mut ahead = *cursor;
+        let code = ahead.take(4)?;
+        let count = ahead.take(4)?;
+        if count > 8 {
+            return None;
+        }
+        let count = count as u32;
+        let number = ahead.take(8 * count)?;
+        *cursor = ahead;
+        Some(Parts {
+            code: code as u8,
+            count,
+            number,
+        })
+    }
+
+    /// The target that the parts tell, seen from the object of the handle `base`. None exactly where they tell none.
+    pub(crate) fn target(&self, base: Handle) -> Option<Handle>
+        ensures told { IfSome result (λ target. Tells base self.now.code self.now.count self.now.number target) }
+        ensures untold { IfNone result ((target : ℕ) → Tells base self.now.code self.now.count self.now.number target → ⊥) }
+    {
+        let base = base.value();
+        match self.code {
+            0..=5 => Handle::new(self.number),
+            6 if self.count == 0 => Handle::new(base + 1),
+            8 if self.count == 0 => Handle::new(base.checked_sub(1)?),
+            10 => Handle::new(base.checked_add(self.number)?),
+            12 => Handle::new(base.checked_sub(self.number)?),
+            _ => None,
+        }
+    }
+
+    /// The own handle that the parts tell. None exactly where the code isn't 0, or the number 0 or not below 2^63.
+    pub(crate) fn own(&self) -> Option<Handle>
+        ensures told { IfSome result (λ own. IsOwn self.now × (own ≡ self.now.number)) }
+        ensures untold { IfNone result (IsOwn self.now → ⊥) }
+    {
+        if self.code != 0 || self.number == 0 {
+            return None;
+        }
+        Handle::new(self.number)
+    }
+}
+
+/// How many bytes a number is written by: the fewest that hold it, none for 0.
+#[tactic(auto, unfolding(crate::specs::ReferenceCodes::byte_count), using(crate::specs::CountedLaws::byte_count_fits))]
+fn byte_count(number: u64) -> u32
+    ensures count { result ≡ byte_count number }
+    ensures few { result ≤ 8 }
+    ensures fits { number < 2 ^ (8 * result) }
+{
+    match number {
+        0 => 0,
+        1..=0xFF => 1,
+        0x100..=0xFFFF => 2,
+        0x1_0000..=0xFF_FFFF => 3,
+        0x100_0000..=0xFFFF_FFFF => 4,
+        0x1_0000_0000..=0xFF_FFFF_FFFF => 5,
+        0x100_0000_0000..=0xFFFF_FFFF_FFFF => 6,
+        0x1_0000_0000_0000..=0xFF_FFFF_FFFF_FFFF => 7,
+        _ => 8,
+    }
+}
+
+/// How many bits a code and a number behind it are written by.
+#[tactic(auto, using(crate::proofs::PartsWriting::written_length))]
+pub(crate) fn parts_bits(code: u8, number: u64) -> u64
+    ensures length { result ≡ length (low_bits 4 code ++ counted_number.short number) }
+    ensures few { result ≤ 72 }
+{
+    8 + 8 * u64::from(byte_count(number))
+}
+
+/// Writes a code, the count of a number's bytes, and these bytes, the most significant first.
+#[tactic(auto, using(crate::proofs::PartsWriting::written_length, dwg_bits::specs::BitLaws::length_of_low_bits))]
+pub(crate) fn write_parts(code: u8, number: u64, sink: &mut BitSink)
+    requires code { code < 16 }
+    requires room { length (low_bits 4 code ++ counted_number.short number) ≤ sink.old.spare }
+    ensures { Extends sink.old sink.new (low_bits 4 code ++ counted_number.short number) }
+{
+    let count = byte_count(number);
+    sink.push(u64::from(code), 4);
+    sink.push(u64::from(count), 4);
+    sink.push(number, 8 * count);
+}
