@@ -2,12 +2,14 @@
 #![tactic(auto)]
 
 mod laws;
+mod list;
 mod own;
 mod parts;
 mod reference;
 mod reference_code;
 
 pub use laws::reference_laws;
+pub use list::{read_refs, read_refs_to_end};
 pub use own::{own_bits, read_own, write_own};
 pub use reference::Ref;
 pub use reference_code::{CodeH, read_ref, ref_bits, write_ref};

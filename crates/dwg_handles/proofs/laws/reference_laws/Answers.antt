@@ -1,5 +1,9 @@
 use Rattle.dwg_codes.specs.Grammar.{AnyLetters}
 use Rattle.dwg_codes.specs.CodeLaws.{lawful_of_code}
+use Rattle.dwg_codes.specs.Combinators.{items}
+use Rattle.dwg_codes.specs.CombinatorLaws.{any_letters_closed}
+use Rattle.dwg_codes.specs.ListLaws.{items_is_code}
+use Rattle.dwg_codes.specs.ToEndLaws.{cut_uniquely}
 use Rattle.dwg_handles.specs.ReferenceCodes.{reference, own_handle}
 use Rattle.dwg_handles.specs.ReferenceLaws.{reference_is_code, reference_spelled, reached_where_spelled, reference_least}
 use Rattle.dwg_handles.specs.OwnLaws.{own_is_code, own_spelled}
@@ -14,6 +18,8 @@ returns c =
       spelled = reference_spelled;
       reached = reached_where_spelled;
       least = reference_least;
+      cut = λ base small. cut_uniquely AnyLetters 8 (reference base) (reference_is_code base small) (reference_least base);
+      lists = λ base count small. lawful_of_code AnyLetters (items (reference base) count) (items_is_code AnyLetters (reference base) count any_letters_closed (reference_is_code base small));
       own_lawful = lawful_of_code AnyLetters own_handle own_is_code;
       own_values = λ own. ((λ is. is), (λ fits. fits));
       own_spelled = own_spelled;

@@ -6,7 +6,7 @@ use Rattle.dwg_handles.proofs.reference_code.CodeHBitCode.length.Goals as goal
 pub number_behind-requires : goal.number_behind-requires
 number_behind-requires c = value_reached _ _ c.requires.value
 
-pub returns : goal.returns
-returns c =
+pub returns-clause-length : goal.returns-clause-length
+returns-clause-length c =
     c.parts_bits.ensures.length
     ∙ ap length (ref_written _ _ _ c.args.value.now c.requires.value (ap (λ (one : Reference). one.code) c.value.view_is) c.number_behind.ensures)

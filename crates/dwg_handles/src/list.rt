@@ -1,0 +1,59 @@
+//! Lists of references: so many, or as many as there are bits for (Open Design Specification, "Handle references"; that
+//! references go to the end while a byte is left is a rule of this project).
+
+ghost use Rattle.std.specs.Prelude.{◌≡◌, Ok, None, IfOk, IfErr, IfSome};
+ghost use Rattle.dwg_bits.specs.Cursor.{rest};
+ghost use Rattle.dwg_codes.specs.Combinators.{items};
+ghost use Rattle.dwg_codes.specs.Grammar.{Reads};
+ghost use Rattle.dwg_codes.specs.ToEnd.{AreValues, ReadsToEnd};
+ghost use Rattle.dwg_handles.specs.ReferenceCodes.{reference};
+
+use crate::reference::Ref;
+use crate::reference_code::CodeH;
+use dwg_base::{Handle, Items, NoMemory};
+use dwg_bits::BitCursor;
+use dwg_codes::{read_list, read_to_end};
+use std::alloc::Global;
+
+/// The least count of bits that a reference has: its code and its count of bytes.
+const LEAST: u64 = 8;
+
+/// Reads so many references of the object of the handle `base`, one behind the other. None, with nothing moved, exactly where
+/// one of them isn't spelled; the only refusal is want of memory, which moves nothing either and is taken only for references
+/// that are there.
+pub fn read_refs(
+    alloc: Global,
+    cursor: &mut BitCursor<'_>,
+    base: Handle,
+    count: u32,
+) -> Result<Option<Items<Ref>>, NoMemory>
+    ensures reads { IfOk result (λ found. Reads (items (reference base) count) found (rest cursor.old) (rest cursor.new)) }
+    ensures value { IfOk result (λ found. IfSome found (items (reference base) count).IsValue) }
+    ensures unmoved { result ≡ Ok None → cursor.new.place ≡ cursor.old.place }
+    ensures refused { IfErr result (λ _. cursor.new.place ≡ cursor.old.place) }
+    ensures same_bytes { cursor.new.bytes.now ≡ cursor.old.bytes.now }
+    ensures same_end { cursor.new.end ≡ cursor.old.end }
+{
+    let _base = base.value();
+    read_list::<CodeH>(alloc, &base, count, cursor)
+}
+
+/// Reads references of the object of the handle `base` until fewer than eight bits are left. None, with nothing moved, exactly
+/// where one of them isn't spelled; the only refusal is want of memory, which moves nothing either and is taken only for
+/// references that are there.
+#[tactic(auto, using(crate::specs::ReferenceLaws::reference_least))]
+pub fn read_refs_to_end(
+    alloc: Global,
+    cursor: &mut BitCursor<'_>,
+    base: Handle,
+) -> Result<Option<Items<Ref>>, NoMemory>
+    ensures reads { IfOk result (λ found. ReadsToEnd 8 (reference base) found (rest cursor.old) (rest cursor.new)) }
+    ensures value { IfOk result (λ found. IfSome found (AreValues (reference base))) }
+    ensures unmoved { result ≡ Ok None → cursor.new.place ≡ cursor.old.place }
+    ensures refused { IfErr result (λ _. cursor.new.place ≡ cursor.old.place) }
+    ensures same_bytes { cursor.new.bytes.now ≡ cursor.old.bytes.now }
+    ensures same_end { cursor.new.end ≡ cursor.old.end }
+{
+    let _base = base.value();
+    read_to_end::<CodeH>(alloc, &base, LEAST, cursor)
+}
