@@ -16,7 +16,14 @@ spelling_refusal place index first = record { line = 19; index = index; place = 
 abbrev pub number_refusal : ℕ → ℕ → ℕ → Refusal
 number_refusal place index first = record { line = 20; index = index; place = place + first / 8 }
 
--- the refusal is that of the first class of a content at a place that fails a line: behind classes that are spelled, more bits are left than slack has, and either no front of them spells a class, or a front spells one whose number is too small
+-- at the bits that are left behind so many classes, which are spelled by so many bits, this is the refusal of the next class: either no front spells a class, or a front spells one whose number is too small
+abbrev pub ClassFails : ℕ → ℕ → ℕ → List Bool → Refusal → Type 0
+ClassFails place index first rest refusal =
+    ((refusal ≡ spelling_refusal place index first) × (BeginsWith any_class rest → ⊥))
+    ⊎ ((refusal ≡ number_refusal place index first)
+    × (class : Class) × (spelling : List Bool) × (behind : List Bool) × any_class.Spells class spelling × (rest ≡ spelling ++ behind) × (class.number < LEAST_NUMBER))
+
+-- the refusal is that of the first class of a content at a place that fails a line: behind classes that are spelled, more bits are left than slack has, and the next class fails
 pub record RefusesClass (place : ℕ) (content : List ℕ) (refusal : Refusal) : Type 0 where
   pub before : List Class
   pub front : List Bool
@@ -24,10 +31,7 @@ pub record RefusesClass (place : ℕ) (content : List ℕ) (refusal : Refusal) :
   pub spelled : SpellsAll numbered_class before front
   pub whole : bits content ≡ front ++ rest
   pub more : LEAST_BITS ≤ length rest
-  pub fails :
-      ((refusal ≡ spelling_refusal place (length before) (length front)) × (BeginsWith any_class rest → ⊥))
-      ⊎ ((refusal ≡ number_refusal place (length before) (length front))
-      × (class : Class) × (spelling : List Bool) × (behind : List Bool) × any_class.Spells class spelling × (rest ≡ spelling ++ behind) × (class.number < LEAST_NUMBER))
+  pub fails : ClassFails place (length before) (length front) rest refusal
 
 -- what a class that was parsed gives, or the refusal of one that isn't there or whose number is too small; others is what the bits behind it give
 abbrev pub with_class : ℕ → List Class → ℕ → (Class → List Bool → Tried (List Class)) → Option (Class × List Bool) → Tried (List Class)

@@ -1,2 +1,5 @@
 pub mod Class
 pub mod ClassLines
+pub mod ClassCode
+pub mod ClassLineLaws
+pub mod WrittenClasses

@@ -2,5 +2,9 @@
 #![tactic(auto)]
 
 mod class;
+mod finding;
+mod laws;
 
 pub use class::Class;
+pub use finding::find;
+pub use laws::classes_laws;
