@@ -4,7 +4,10 @@
 mod class;
 mod finding;
 mod laws;
+mod parts;
+mod reading;
 
 pub use class::Class;
 pub use finding::find;
 pub use laws::classes_laws;
+pub use reading::read_classes;

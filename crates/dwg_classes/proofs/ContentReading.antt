@@ -1,0 +1,93 @@
+-- Reading a content class by class: what is read so far, and what is left.
+use Rattle.std.proofs.Common.{◌≡◌, refl, sym, ◌∙◌, ap, ap₂, subst, inl, inr, ℕ, ◌+◌, ◌-◌, ◌*◌, ◌<◌, ◌≤◌, Bool, List, [], ◌∷◌, ◌++◌, length, arith}
+use Rattle.std.specs.Prelude.{⊤, Result, Ok, Err}
+use Rattle.std.proofs.lemmas.List.{append_assoc, length-append}
+use Rattle.dwg_base.specs.Refusals.{Tried, Answers, IfRefused, IsFaultOfTable, IsOfTable}
+use Rattle.dwg_base.specs.declared.refusal.Refusal.{Refusal}
+use Rattle.dwg_base.specs.declared.refusal.Fault.{Fault}
+use Rattle.dwg_base.specs.declared.refusal.Fault.TheVariants.{NoMemory, Refused}
+use Rattle.dwg_bits.specs.Bits.{bits}
+use Rattle.dwg_bits.specs.BitLaws.{bits_between_all}
+use Rattle.dwg_bits.specs.Cursor.{bits_between}
+use Rattle.dwg_codes.specs.ToEnd.{SpellsAll}
+use Rattle.dwg_codes.specs.ToEndLaws.{all_to_end, spells_one_more}
+use Rattle.dwg_classes.specs.declared.class.Class.{Class}
+use Rattle.dwg_classes.specs.Class.{numbered_class, IsTaken, LEAST_BITS, AreClasses}
+use Rattle.dwg_classes.specs.ClassCode.{class_least}
+use Rattle.dwg_classes.specs.ClassLines.{ClassFails, RefusesClass, tried_classes}
+use Rattle.dwg_classes.specs.ClassLineLaws.{tried_ok, tried_err}
+
+-- the classes so far are spelled by so many bits of the content, and these are left
+pub record AreReadSoFar (content : List ℕ) (classes : List Class) (first : ℕ) (left : List Bool) : Type 0 where
+  pub front : List Bool
+  pub spelled : SpellsAll numbered_class classes front
+  pub whole : bits content ≡ front ++ left
+  pub far : length front ≡ first
+
+-- at the begin no class is read, and all bits are left
+pub none_so_far : (content : List ℕ) (classes : List Class) (bytes : List ℕ) (first end : ℕ) → classes ≡ [] → bytes ≡ content → first ≡ 0 → end ≡ 8 * length content
+    → AreReadSoFar content classes first (bits_between bytes first end)
+none_so_far content classes bytes first end none same begin last = record {
+  front = [];
+  spelled = subst (λ read. SpellsAll numbered_class read []) (sym none) refl;
+  whole = sym (bits_between_all content end last) ∙ ap₂ (λ held at. bits_between held at end) (sym same) (sym begin);
+  far = sym begin;
+}
+
+-- a class more is read, and the bits behind it are left
+pub one_so_far : (content : List ℕ) (classes : List Class) (class : Class) (first next : ℕ) (left behind : List Bool) → AreReadSoFar content classes first left → IsTaken class left behind
+    → next + length behind ≡ first + length left → AreReadSoFar content (classes ++ class ∷ []) next behind
+one_so_far content classes class first next left behind so_far taken moved = record {
+  front = so_far.front ++ taken.spelling;
+  spelled = spells_one_more numbered_class classes class so_far.front taken.spelling so_far.spelled taken.spelled;
+  whole = so_far.whole ∙ ap (λ rest. so_far.front ++ rest) taken.whole ∙ sym (append_assoc so_far.front taken.spelling behind);
+  far = omega (arith, so_far.far, length-append so_far.front taken.spelling, ap length taken.whole, length-append taken.spelling behind);
+}
+
+-- a class that was taken leaves fewer bits
+pub fewer_left : (class : Class) (left behind : List Bool) → IsTaken class left behind → length behind < length left
+fewer_left class left behind taken =
+    omega (arith, class_least class taken.spelling taken.spelled, ap length taken.whole, length-append taken.spelling behind)
+
+-- where fewer bits than a class has are left, the content is cut into the classes so far
+pub all_read : (content : List ℕ) (classes : List Class) (first : ℕ) (left : List Bool) → AreReadSoFar content classes first left → length left < LEAST_BITS → AreClasses content classes
+all_read content classes first left so_far few =
+    (left, all_to_end LEAST_BITS numbered_class classes (bits content) so_far.front left so_far.spelled so_far.whole few)
+
+-- where as many are left and the next class fails, the content is refused
+class_refused : (place : ℕ) (content : List ℕ) (classes : List Class) (first : ℕ) (left : List Bool) (refusal : Refusal) → AreReadSoFar content classes first left → LEAST_BITS ≤ length left
+    → ClassFails place (length classes) first left refusal → RefusesClass place content refusal
+class_refused place content classes first left refusal so_far enough fails = record {
+  before = classes;
+  front = so_far.front;
+  rest = left;
+  spelled = so_far.spelled;
+  whole = so_far.whole;
+  more = enough;
+  fails = subst (λ bit. ClassFails place (length classes) bit left refusal) (sym so_far.far) fails;
+}
+
+-- the same of a fault, whose index is the count of the classes in hand
+pub fault_refused : (place : ℕ) (content : List ℕ) (classes held : List Class) (first : ℕ) (left : List Bool) (fault : Fault) → AreReadSoFar content classes first left → LEAST_BITS ≤ length left
+    → held ≡ classes → IfRefused fault (ClassFails place (length held) first left) → IfRefused fault (RefusesClass place content)
+fault_refused place content classes held first left NoMemory so_far enough same fails = tt
+fault_refused place content classes held first left (Refused refusal) so_far enough same fails =
+    class_refused place content classes first left refusal so_far enough (subst (λ (list : List Class). ClassFails place (length list) first left refusal) same fails)
+
+-- classes that were read are what was tried
+pub answers_ok : (place : ℕ) (content : List ℕ) (classes : List Class) → AreClasses content classes → tried_classes place content ≡ Ok classes
+answers_ok place content classes are = (tried_ok place content classes).1 are
+
+-- and so is a refusal
+pub answers_err : (place : ℕ) (content : List ℕ) (fault : Fault) → IfRefused fault (RefusesClass place content) → Answers (Err fault) (tried_classes place content)
+answers_err place content NoMemory refuses = tt
+answers_err place content (Refused refusal) refuses = (tried_err place content refusal).1 refuses
+
+-- which is by a line of the table
+failed_of_table : (place index first : ℕ) (rest : List Bool) (refusal : Refusal) → ClassFails place index first rest refusal → IsOfTable refusal
+failed_of_table place index first rest refusal (inl (same, none)) = subst IsOfTable (sym same) (record { least = omega arith; most = omega arith })
+failed_of_table place index first rest refusal (inr number) = subst IsOfTable (sym number.0) (record { least = omega arith; most = omega arith })
+
+pub refused_of_table : (place : ℕ) (content : List ℕ) (fault : Fault) → IfRefused fault (RefusesClass place content) → IsFaultOfTable fault
+refused_of_table place content NoMemory refuses = tt
+refused_of_table place content (Refused refusal) refuses = failed_of_table place (length refuses.before) (length refuses.front) refuses.rest refusal refuses.fails

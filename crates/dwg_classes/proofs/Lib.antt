@@ -1,0 +1,2 @@
+pub mod ClassReading
+pub mod ContentReading
