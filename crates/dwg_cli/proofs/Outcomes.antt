@@ -9,9 +9,10 @@ use Rattle.dwg_base.specs.Refusals.{first_fault}
 use Rattle.dwg_sections.specs.HeaderLines.{HEADER_LINES}
 use Rattle.dwg_text.specs.Notes.{usage_note, too_long_note}
 use Rattle.dwg_cli.specs.declared.words.Command.{Command}
-use Rattle.dwg_cli.specs.declared.words.Command.TheVariants.{Sections}
+use Rattle.dwg_cli.specs.declared.words.Command.TheVariants.{Sections, Classes}
 use Rattle.dwg_cli.specs.declared.status.Status.TheVariants.{Usage, TooLong}
 use Rattle.dwg_cli.specs.declared.answer.Answer.{Answer}
+use Rattle.dwg_cli.specs.Lines.{CLASSES_LINES}
 use Rattle.dwg_cli.specs.Outcome.{noted, refused_or, outcome_within, outcome_of}
 use Rattle.dwg_cli.specs.Run.{IsDrained}
 
@@ -23,6 +24,7 @@ refused_or_is_drained None output = tt
 pub within_is_drained : (command : Command) (bytes : List ℕ) (answer : Answer) → answer ≡ outcome_within command bytes → IsDrained answer.status
 unfolding outcome_within
 within_is_drained Sections bytes answer is = subst (λ (told : Answer). IsDrained told.status) (sym is) (refused_or_is_drained (first_fault HEADER_LINES bytes) _)
+within_is_drained Classes bytes answer is = subst (λ (told : Answer). IsDrained told.status) (sym is) (refused_or_is_drained (first_fault CLASSES_LINES bytes) _)
 
 -- a source that told its bytes and is at its end gave them all
 told_whole : (old new : Option (List ℕ)) (run bytes : List ℕ) → Consumes old new run → IsAtEnd new → old ≡ Some bytes → bytes ≡ run

@@ -1,4 +1,5 @@
 pub mod Status
 pub mod Words
+pub mod Lines
 pub mod Outcome
 pub mod Run

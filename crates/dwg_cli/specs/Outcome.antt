@@ -6,12 +6,14 @@ use Rattle.dwg_base.specs.declared.refusal.Refusal.{Refusal}
 use Rattle.dwg_sections.specs.HeaderLines.{HEADER_LINES, header_at}
 use Rattle.dwg_text.specs.Notes.{usage_note, refusal_note, too_long_note}
 use Rattle.dwg_text.specs.Sections.{sections_text}
+use Rattle.dwg_text.specs.Classes.{classes_text}
 use Rattle.dwg_cli.specs.declared.words.Command.{Command}
-use Rattle.dwg_cli.specs.declared.words.Command.TheVariants.{Sections}
+use Rattle.dwg_cli.specs.declared.words.Command.TheVariants.{Sections, Classes}
 use Rattle.dwg_cli.specs.declared.status.Status.{Status}
 use Rattle.dwg_cli.specs.declared.status.Status.TheVariants.{Done, Usage, Refused, TooLong}
 use Rattle.dwg_cli.specs.declared.answer.Answer.{Answer}
 use Rattle.dwg_cli.specs.Words.{command_of}
+use Rattle.dwg_cli.specs.Lines.{CLASSES_LINES, classes_of}
 
 -- nothing on the output, one note, and a status
 abbrev pub noted : List ℕ → Status → Answer
@@ -29,6 +31,7 @@ refused_or None output = printed output
 -- what a command that reads answers to an input within the limit
 unfoldable pub outcome_within : Command → List ℕ → Answer
 outcome_within Sections bytes = refused_or (first_fault HEADER_LINES bytes) (sections_text (header_at bytes))
+outcome_within Classes bytes = refused_or (first_fault CLASSES_LINES bytes) (classes_text (classes_of bytes))
 
 -- what a command answers
 unfoldable pub outcome_of : Option Command → List ℕ → Answer

@@ -1,19 +1,25 @@
 //! What the program answers to its words and its input.
 
-ghost use Rattle.std.specs.Prelude.{◌≡◌, ◌+◌, ◌≤◌, ◌⊎◌, IfOk, OnErr, length, List, Some, IsErrOf, None, ℕ};
+ghost use Rattle.std.specs.Prelude.{◌≡◌, ◌+◌, ◌≤◌, ◌⊎◌, IfOk, IfErr, OnOk, OnErr, length, List, Some, IsErrOf, None, ℕ};
 ghost use Rattle.dwg_base.specs.Devices.{Rose, MOST_BYTES};
-ghost use Rattle.dwg_base.specs.Refusals.{IsOfTable};
+ghost use Rattle.dwg_base.specs.Refusals.{IsOfTable, IsFaultOfTable, Tells, first_fault};
+ghost use Rattle.dwg_sections.specs.HeaderLines.{HEADER_LINES, header_at};
 ghost use Rattle.dwg_text.specs.Notes as texts;
+ghost use Rattle.dwg_cli.specs.Lines.{CLASSES_LINES, classes_of};
 ghost use Rattle.dwg_cli.specs.Words.{texts as words_of, command_of, IsReading};
 ghost use Rattle.dwg_cli.specs.Outcome.{noted, printed, outcome_within, outcome_of, outcome};
 ghost use Rattle.dwg_cli.specs.Run.{Feeds, Came, IsSettled, IsDrained, IsDrainedSource};
 
 use crate::status::Status;
 use crate::words::{Command, read_words};
-use dwg_base::{ByteRun, Fault, Intake, LIMIT, NoMemory, Refusal, Source, read_all};
-use dwg_sections::read_file_header;
-use dwg_text::{refusal_note, sections_text, too_long_note, usage_note};
+use dwg_base::{ByteRun, Fault, Intake, Items, LIMIT, NoMemory, Refusal, Source, read_all};
+use dwg_classes::{Class, read_classes};
+use dwg_sections::{CLASSES_NUMBER, FileHeader, Framed, read_file_header, read_framed};
+use dwg_text::{classes_text, refusal_note, sections_text, too_long_note, usage_note};
 use std::alloc::Global;
+
+/// How many bytes of a section stand before its content.
+const BEFORE_CONTENT: u64 = 20;
 
 /// What goes to the output and then to the notes, and how the run ends where both take it.
 #[derive(Drop)]
@@ -89,14 +95,52 @@ fn sections_answer(alloc: Global, bytes: &[u8]) -> Result<Answer, NoMemory>
     }
 }
 
+/// The classes of the file, by the header that it begins with.
+#[tactic(auto, unfolding(crate::specs::Lines::classes_section_row, crate::specs::Lines::classes_tried, crate::specs::Lines::classes_row))]
+fn classes_of_file(alloc: Global, bytes: &[u8], header: &FileHeader) -> Result<Items<Class>, Fault>
+    requires length { length bytes.now ≤ MOST_BYTES }
+    requires header { header.now ≡ header_at bytes.now }
+    requires holds { first_fault HEADER_LINES bytes.now ≡ None }
+    ensures classes { IfOk result (λ classes. classes ≡ classes_of bytes.now) }
+    ensures holds { OnOk result (first_fault CLASSES_LINES bytes.now ≡ None) }
+    ensures refused { IfErr result (λ fault. Tells fault (first_fault CLASSES_LINES bytes.now)) }
+    ensures of_table { IfErr result IsFaultOfTable }
+{
+    let place = header.place_of(CLASSES_NUMBER).unwrap_or(0);
+    match read_framed(bytes, place, Framed::Classes) {
+        Ok(content) => read_classes(alloc, content, u64::from(place) + BEFORE_CONTENT),
+        Err(refusal) => Err(Fault::Refused(refusal)),
+    }
+}
+
+/// What `classes` answers to an input within the limit.
+#[tactic(auto, unfolding(crate::specs::Outcome::outcome_within))]
+fn classes_answer(alloc: Global, bytes: &[u8]) -> Result<Answer, NoMemory>
+    requires { length bytes.now ≤ MOST_BYTES }
+    ensures { IfOk result (λ answer. answer ≡ outcome_within Command.Classes bytes.now) }
+{
+    let header = match read_file_header(alloc, bytes) {
+        Ok(header) => header,
+        Err(Fault::Refused(refusal)) => return refused_answer(alloc, refusal),
+        Err(Fault::NoMemory) => return Err(NoMemory),
+    };
+    match classes_of_file(alloc, bytes, &header) {
+        Ok(classes) => printed_answer(alloc, classes_text(alloc, classes.as_slice())?),
+        Err(Fault::Refused(refusal)) => refused_answer(alloc, refusal),
+        Err(Fault::NoMemory) => Err(NoMemory),
+    }
+}
+
 /// What a command that reads answers to an input within the limit.
 #[tactic(auto, using(crate::proofs::Outcomes::within_is_drained))]
 fn answer_within(alloc: Global, command: Command, bytes: &[u8]) -> Result<Answer, NoMemory>
+    requires { length bytes.now ≤ MOST_BYTES }
     ensures answered { IfOk result (λ answer. answer ≡ outcome_within command bytes.now) }
     ensures drained { IfOk result (λ answer. IsDrained answer.status) }
 {
     match command {
         Command::Sections => sections_answer(alloc, bytes),
+        Command::Classes => classes_answer(alloc, bytes),
     }
 }
 

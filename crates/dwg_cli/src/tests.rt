@@ -24,6 +24,23 @@ const SMALLEST: [u8; 187] = [
     0xA8, 0x35, 0xC0, 0x62, 0xBB, 0xEF, 0xD4, 0x00, 0x02, 0x01, 0xD0,
 ];
 
+/// The same with one class.
+const ONE_CLASS: [u8; 199] = [
+    0x41, 0x43, 0x31, 0x30, 0x31, 0x35, 0x00, 0x00, 0x00, 0x00, 0x00, 0x00, 0x00, 0x9E, 0x00, 0x00,
+    0x00, 0x00, 0x00, 0x00, 0x00, 0x03, 0x00, 0x00, 0x00, 0x00, 0x46, 0x00, 0x00, 0x00, 0x26, 0x00,
+    0x00, 0x00, 0x01, 0x6C, 0x00, 0x00, 0x00, 0x32, 0x00, 0x00, 0x00, 0x02, 0xC3, 0x00, 0x00, 0x00,
+    0x04, 0x00, 0x00, 0x00, 0x8D, 0x32, 0x95, 0xA0, 0x4E, 0x28, 0x99, 0x82, 0x1A, 0xE5, 0x5E, 0x41,
+    0xE0, 0x5F, 0x9D, 0x3A, 0x4D, 0x00, 0xCF, 0x7B, 0x1F, 0x23, 0xFD, 0xDE, 0x38, 0xA9, 0x5F, 0x7C,
+    0x68, 0xB8, 0x4E, 0x6D, 0x33, 0x5F, 0x00, 0x00, 0x00, 0x00, 0x3D, 0xC0, 0x30, 0x84, 0xE0, 0xDC,
+    0x02, 0x21, 0xC7, 0x56, 0xA0, 0x83, 0x97, 0x47, 0xB1, 0x92, 0xCC, 0xA0, 0x8D, 0xA1, 0xC4, 0xB8,
+    0xC4, 0xA9, 0xF8, 0xC5, 0xC0, 0xDC, 0xF4, 0x5F, 0xE7, 0xCF, 0xB6, 0x8A, 0x0C, 0x00, 0x00, 0x00,
+    0x3D, 0x00, 0x64, 0x05, 0x05, 0x01, 0x42, 0x40, 0x50, 0xC7, 0x90, 0x08, 0x97, 0x14, 0x72, 0x5E,
+    0x3B, 0x47, 0x3B, 0x56, 0x07, 0x3A, 0x3F, 0x23, 0x0B, 0xA0, 0x18, 0x30, 0x49, 0x75, 0x1F, 0x25,
+    0x6D, 0x07, 0xD4, 0x36, 0x28, 0x28, 0x9D, 0x57, 0xCA, 0x3F, 0x9D, 0x44, 0x10, 0x2B, 0x01, 0x00,
+    0x00, 0x00, 0x00, 0xE0, 0xDA, 0x92, 0xF8, 0x2B, 0xC9, 0xD7, 0xD7, 0x62, 0xA8, 0x35, 0xC0, 0x62,
+    0xBB, 0xEF, 0xD4, 0x00, 0x02, 0x01, 0xD0,
+];
+
 const SECTIONS: &str =
     "version AC1015\ncodepage 0\npreview 146\nsection 0 at 70 size 38\nsection 1 at 108 size 38\nsection 2 at 183 size 4\n";
 
@@ -62,11 +79,13 @@ fn words(alloc: Global, words: &[&str]) -> Result<Vec<String>, Fail> {
     Ok(list)
 }
 
-/// The bytes with one of them changed.
-fn changed(alloc: Global, bytes: &[u8], place: usize, byte: u8) -> Result<Vec<u8>, Fail> {
+/// The bytes with some of them changed, each at its place.
+fn changed(alloc: Global, bytes: &[u8], changes: &[(usize, u8)]) -> Result<Vec<u8>, Fail> {
     let mut list = Vec::from_slice(alloc, bytes)?;
-    if let Some(there) = list.get_mut(place) {
-        *there = byte;
+    for (place, byte) in changes {
+        if let Some(there) = list.get_mut(*place) {
+            *there = *byte;
+        }
     }
     Ok(list)
 }
@@ -95,13 +114,9 @@ fn answers(
     Ok(())
 }
 
-/// A refusal of the file header.
-fn refused(line: u8, place: u64) -> Status {
-    Status::Refused(Refusal {
-        line,
-        index: 0,
-        place,
-    })
+/// A refusal by a line.
+fn refused(line: u8, index: u64, place: u64) -> Status {
+    Status::Refused(Refusal { line, index, place })
 }
 
 #[test]
@@ -121,37 +136,84 @@ fn prints_the_sections(rt: HostRuntime) -> Result<(), Fail> {
 #[test]
 fn names_the_first_fault_of_the_header(rt: HostRuntime) -> Result<(), Fail> {
     let alloc = rt.alloc();
-    let sections: &[&str] = &["sections"];
-    let version = changed(alloc, &SMALLEST, 5, b'8')?;
-    let locator = changed(alloc, &SMALLEST, 26, 0x47)?;
-    for (input, line, place, note) in [
+    let version = changed(alloc, &SMALLEST, &[(5, b'8')])?;
+    let locator = changed(alloc, &SMALLEST, &[(26, 0x47)])?;
+    let repeated = changed(alloc, &SMALLEST, &[(34, 0), (52, 0x80), (53, 0x5D)])?;
+    let missing = changed(alloc, &SMALLEST, &[(43, 9), (52, 0xA2), (53, 0x91)])?;
+    for (input, line, index, place, note) in [
         (
             version.as_slice(),
             2,
             0,
+            0,
             "dwg: refused: header 0 at 0: version\n",
         ),
+        (&locator, 5, 0, 52, "dwg: refused: header 0 at 52: check\n"),
         (
-            locator.as_slice(),
-            5,
-            52,
-            "dwg: refused: header 0 at 52: check\n",
+            &repeated,
+            7,
+            1,
+            34,
+            "dwg: refused: header 1 at 34: repeated\n",
         ),
-        (&[], 1, 0, "dwg: refused: header 0 at 0: short\n"),
+        (
+            &missing,
+            8,
+            2,
+            21,
+            "dwg: refused: header 2 at 21: missing\n",
+        ),
+        (&[], 1, 0, 0, "dwg: refused: header 0 at 0: short\n"),
         (
             &SMALLEST[..69],
             4,
+            0,
             69,
             "dwg: refused: header 0 at 69: short\n",
+        ),
+    ] {
+        for command in [&["sections"], &["classes"]] {
+            answers(
+                &rt,
+                alloc,
+                command,
+                input,
+                refused(line, index, place),
+                b"",
+                note.as_bytes(),
+            )?;
+        }
+    }
+    Ok(())
+}
+
+#[test]
+fn prints_the_classes(rt: HostRuntime) -> Result<(), Fail> {
+    let alloc = rt.alloc();
+    for (input, status, text, note) in [
+        (SMALLEST.as_slice(), Status::Done, "classes 0\n", ""),
+        (
+            &ONE_CLASS,
+            Status::Done,
+            "classes 1\nclass 500 version 0 proxy 0 item 498 app \"A\" cpp \"B\" dxf \"C\"\n",
+            "",
+        ),
+        // The map is out of reach.
+        (&SMALLEST[..146], Status::Done, "classes 0\n", ""),
+        (
+            &SMALLEST[..140],
+            refused(16, 0, 124),
+            "",
+            "dwg: refused: classes 0 at 124: length\n",
         ),
     ] {
         answers(
             &rt,
             alloc,
-            sections,
+            &["classes"],
             input,
-            refused(line, place),
-            b"",
+            status,
+            text.as_bytes(),
             note.as_bytes(),
         )?;
     }
@@ -164,6 +226,7 @@ fn tells_how_it_is_used(rt: HostRuntime) -> Result<(), Fail> {
     for named in [
         ["audit", "extra"].as_slice(),
         &["sections", "extra"],
+        &["classes", "classes"],
         &["--help"],
         &[],
     ] {
@@ -185,7 +248,7 @@ fn ends_with_the_status_of_the_table(rt: HostRuntime) {
     for (status, code) in [
         (Status::Done, 0),
         (Status::Usage, 2),
-        (refused(1, 0), 3),
+        (refused(1, 0, 0), 3),
         (Status::ReadFault, 4),
         (Status::WriteFault, 5),
         (Status::NoMemory, 6),
@@ -232,7 +295,7 @@ fn refuses_more_than_the_limit(rt: HostRuntime) -> Result<(), Fail> {
         (long.as_slice(), Status::TooLong, "dwg: input too long\n"),
         (
             &long[1..],
-            refused(2, 0),
+            refused(2, 0, 0),
             "dwg: refused: header 0 at 0: version\n",
         ),
     ] {

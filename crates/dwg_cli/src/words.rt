@@ -8,6 +8,8 @@ ghost use Rattle.dwg_cli.specs.Words.{texts, command_of};
 pub enum Command {
     /// The text of the file's locators.
     Sections,
+    /// The text of the file's classes.
+    Classes,
 }
 
 /// The command that the words name. None exactly where they stand in no line of the command table. It takes no memory.
@@ -19,6 +21,8 @@ pub fn read_words(words: &[String]) -> Option<Command>
         [word] => {
             if word.as_str() == "sections" {
                 Some(Command::Sections)
+            } else if word.as_str() == "classes" {
+                Some(Command::Classes)
             } else {
                 None
             }
