@@ -1,8 +1,12 @@
 //! Texts and notes.
 
-use dwg_base::{Items, Refusal};
+use dwg_base::{ByteRun, Items, Refusal};
+use dwg_classes::Class;
 use dwg_sections::{FileHeader, Locator};
-use dwg_text::{read_fault_note, refusal_note, sections_text, too_long_note, usage_note};
+use dwg_text::{
+    classes_text, read_fault_note, refusal_note, sections_text, too_long_note, usage_note,
+};
+use std::alloc::Global;
 use std::test::Fail;
 
 #[test]
@@ -45,5 +49,40 @@ fn prints_sections_and_notes(rt: HostRuntime) -> Result<(), Fail> {
         usage_note(),
         b"dwg: usage: sections | classes | show | rewrite | audit | recover | make N SEED | drill N\n".as_slice()
     );
+    Ok(())
+}
+
+/// A run of bytes.
+fn run(alloc: Global, bytes: &[u8]) -> Result<ByteRun, Fail> {
+    Ok(ByteRun::from_slice(alloc, bytes).or(Err("no memory"))?)
+}
+
+#[test]
+fn prints_classes_with_their_texts_between_quotation_marks(rt: HostRuntime) -> Result<(), Fail> {
+    let alloc = rt.alloc();
+    let first = Class {
+        number: 501,
+        version: 300,
+        application: run(alloc, b"a \"b\\~")?,
+        cpp_name: run(alloc, &[0x00, 0x1F, 0x7F, 0xAB, 0xFF])?,
+        dxf_name: run(alloc, b"")?,
+        proxy: true,
+        item: 499,
+    };
+    let second = Class {
+        number: 65_535,
+        version: 0,
+        application: run(alloc, b"")?,
+        cpp_name: run(alloc, b"")?,
+        dxf_name: run(alloc, b"LWPOLYLINE")?,
+        proxy: false,
+        item: 7,
+    };
+    let mut classes = Vec::new(alloc);
+    classes.push(first)?;
+    classes.push(second)?;
+    let text = classes_text(alloc, &classes).or(Err("no memory"))?;
+    let expected: &[u8] = b"classes 2\nclass 501 version 300 proxy 1 item 499 app \"a \\22b\\5c~\" cpp \"\\00\\1f\\7f\\ab\\ff\" dxf \"\"\nclass 65535 version 0 proxy 0 item 7 app \"\" cpp \"\" dxf \"LWPOLYLINE\"\n";
+    assert_eq!(rt; text.as_slice(), expected);
     Ok(())
 }
