@@ -12,6 +12,9 @@ ghost use Rattle.dwg_handles.specs.ReferenceCodes.{byte_count, counted_number};
 use dwg_base::Handle;
 use dwg_bits::{BitCursor, BitSink};
 
+/// The most bytes that tell a number.
+const MOST_BYTES: u64 = 8;
+
 /// A code, a count of bytes, and the number in them.
 #[derive(Clone, Copy)]
 pub(crate) struct Parts {
@@ -35,7 +38,7 @@ impl Parts {
         let mut ahead = *cursor;
         let code = ahead.take(4)?;
         let count = ahead.take(4)?;
-        if count > 8 {
+        if count > MOST_BYTES {
             return None;
         }
         let count = count as u32;

@@ -10,6 +10,8 @@ mod check;
 #[cfg(test)]
 mod codes;
 #[cfg(test)]
+mod handles;
+#[cfg(test)]
 mod modular;
 #[cfg(test)]
 mod sections;

@@ -15,10 +15,10 @@ returns-in_err-count-clause-reads c =
     count_short _ _ (rest behind) _ c.from_residual-in_err-count.ensures c.in_ok-code.ensures.front
     (not_there behind.bytes.now behind.place 4 behind.end behind.within c.in_err-count.ensures.there.1)
 
-pub returns-then-count-gt8-clause-reads : goal.returns-then-count-gt8-clause-reads
-returns-then-count-gt8-clause-reads c =
+pub returns-then-count-gt-MOST_BYTES-clause-reads : goal.returns-then-count-gt-MOST_BYTES-clause-reads
+returns-then-count-gt-MOST_BYTES-clause-reads c =
     parts_long None _ (rest c.take.new.self) (rest c.take-2.new.self) _ _ refl c.in_ok-code.ensures.front c.in_ok-count.ensures.front c.in_ok-code.ensures.bound c.in_ok-count.ensures.bound
-    c.if-count-gt8.true
+    c.if-count-gt-MOST_BYTES.true
 
 pub returns-in_err-number-clause-reads : goal.returns-in_err-number-clause-reads
 returns-in_err-number-clause-reads c =
@@ -29,4 +29,4 @@ returns-in_err-number-clause-reads c =
 pub returns-clause-reads : goal.returns-clause-reads
 returns-clause-reads c =
     parts_read _ (rest c.take.new.self) (rest c.take-2.new.self) _ _ _ _ c.in_ok-code.ensures.front c.in_ok-count.ensures.front c.in_ok-number.ensures.front c.in_ok-code.ensures.bound
-    c.if-count-gt8.false c.in_ok-number.ensures.bound
+    c.if-count-gt-MOST_BYTES.false c.in_ok-number.ensures.bound
