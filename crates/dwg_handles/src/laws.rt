@@ -10,8 +10,8 @@ ghost use Rattle.dwg_handles.specs.ReferenceCodes.{reference, own_handle};
 /// What holds of references, seen from any handle, and of own handles: bits spell at most one, and no spelling is a proper
 /// front of another; the spelling that is written of one spells it, and no other is shorter. The codes spell just what the
 /// relations say, and a code reaches a target exactly where some bits spell the reference. A reference has eight bits at
-/// the least, and bits are cut into references to their end in one way at the most. Lists of so
-/// many references are such a code too.
+/// the least, and bits are cut into references to their end in one way at the most. Lists of so many references are such a
+/// code too.
 pub fn reference_laws()
     ensures lawful { (base : ℕ) → base < 2 ^ 63 → IsLawful (reference base) }
     ensures values { (base : ℕ) (value : Reference) → (reference base).IsValue value ↔ (reaches base value ≡ true) }

@@ -10,7 +10,8 @@ use std::marker::Model;
 /// A reference of one object to another (Open Design Specification, "Handle references").
 ///
 /// Codes 2 to 5 are soft owner, hard owner, soft pointer and hard pointer. 6 and 8 reach the handle next to the object's
-/// own and the one before it, A and C one further ahead and one further back. Contracts see a reference as its code and the number of its target.
+/// own and the one before it, A and C one further ahead and one further back. Contracts see a reference as its code and
+/// the number of its target.
 #[derive(Clone, Copy, Debug, PartialEq, Eq)]
 pub struct Ref {
     /// What the reference is for, and how its target is told: 0 to 6, 8, 10 or 12.
@@ -43,8 +44,8 @@ impl Ref {
         }
     }
 
-    /// Whether the code can tell the target from the object of the handle `base`: 6 tells only the next handle, 8 only the one
-    /// before, A none before `base`, C none behind it, the others any.
+    /// Whether the code can tell the target from the object of the handle `base`: 6 tells only the next handle, 8 only the
+    /// one before, A none before `base`, C none behind it, the others any.
     pub fn fits(&self, base: Handle) -> bool
         ensures { result ≡ reaches base self.now }
     {
