@@ -1,2 +1,3 @@
 pub mod ClassReading
 pub mod ContentReading
+pub mod ClassWriting

@@ -6,8 +6,10 @@ mod finding;
 mod laws;
 mod parts;
 mod reading;
+mod writing;
 
 pub use class::Class;
 pub use finding::find;
 pub use laws::classes_laws;
 pub use reading::read_classes;
+pub use writing::{classes_bits, write_classes};

@@ -1,0 +1,7 @@
+use Rattle.std.proofs.Common.{drop}
+use Rattle.dwg_classes.proofs.ClassWriting.{AreCounted}
+use Rattle.dwg_classes.proofs.writing.classes_bits.Given as goal
+
+-- what is counted so far and the classes that are left give the whole
+abbrev pub invariant-along : goal.invariant-along
+invariant-along l = AreCounted l.classes (drop l.class-index l.classes) l.bits
