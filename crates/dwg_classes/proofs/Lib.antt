@@ -1,3 +1,4 @@
 pub mod ClassReading
 pub mod ContentReading
 pub mod ClassWriting
+pub mod ClassFinding

@@ -3,3 +3,4 @@ pub mod ClassLines
 pub mod ClassCode
 pub mod ClassLineLaws
 pub mod WrittenClasses
+pub mod FirstClass
