@@ -1,11 +1,13 @@
 //! Reading the classes of a content.
 
-ghost use Rattle.std.specs.Prelude.{◌≡◌, ◌+◌, ◌/◌, ◌^◌, ◌<◌, ◌≤◌, length, IfOk, IfErr};
+ghost use Rattle.std.specs.Prelude.{◌≡◌, ◌+◌, ◌*◌, ◌/◌, ◌^◌, ◌<◌, ◌≤◌, length, IfOk, IfErr};
 ghost use Rattle.std.specs.Option.{option_map};
 ghost use Rattle.dwg_base.specs.Refusals.{Answers, IfRefused, IsFaultOfTable};
 ghost use Rattle.dwg_bits.specs.Cursor.{rest};
-ghost use Rattle.dwg_classes.specs.Class.{any_class, IsTaken, AreClasses};
+ghost use Rattle.dwg_codes.specs.ToEnd.{short_all};
+ghost use Rattle.dwg_classes.specs.Class.{any_class, numbered_class, IsTaken, AreClasses};
 ghost use Rattle.dwg_classes.specs.ClassLines.{ClassFails, RefusesClass, tried_classes};
+ghost use Rattle.dwg_classes.specs.WrittenClasses.{AreWritable};
 
 use crate::class::Class;
 use crate::parts::{read_name, read_number, read_proxy};
@@ -104,7 +106,11 @@ fn next_class(
 }
 
 /// Reads the classes of a content: each further one while at least 29 bits are left. `place` is the content's place in the
-/// input.
+/// input, in bytes. What is read can be written, and by no more bits.
+///
+/// A refusal has the index of a class, from 0, and the place of the byte in which it begins: at least 29 bits are left, but no
+/// front of them spells a class, whatever its number; or one does whose number is below 500. Each class is tried whole before
+/// the next. Memory is taken only for what is there, and want of it tells nothing of the content.
 pub fn read_classes(alloc: Global, content: &[u8], place: u64) -> Result<Items<Class>, Fault>
     requires content { length content.now < 2 ^ 32 }
     requires place { place < 2 ^ 62 }
@@ -112,6 +118,8 @@ pub fn read_classes(alloc: Global, content: &[u8], place: u64) -> Result<Items<C
     ensures refused { IfErr result (λ fault. IfRefused fault (RefusesClass place content.now)) }
     ensures tried { Answers result (tried_classes place content.now) }
     ensures of_table { IfErr result IsFaultOfTable }
+    ensures writable { IfOk result AreWritable }
+    ensures no_longer { IfOk result (λ classes. length (short_all numbered_class classes) ≤ 8 * length content.now) }
 {
     let mut cursor = BitCursor::new(content, 0, 8 * content.len() as u64);
     let mut classes = Items::new(alloc);

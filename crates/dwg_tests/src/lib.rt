@@ -8,6 +8,8 @@ mod bits;
 #[cfg(test)]
 mod check;
 #[cfg(test)]
+mod classes;
+#[cfg(test)]
 mod codes;
 #[cfg(test)]
 mod handles;

@@ -1,6 +1,6 @@
 use Rattle.dwg_classes.specs.ClassCode.{any_class_is_lawful, numbered_class_is_lawful, class_least}
 use Rattle.dwg_classes.specs.ClassLineLaws.{classes_alike, tried_ok, tried_err}
-use Rattle.dwg_classes.specs.WrittenClasses.{are_values, written_are_classes}
+use Rattle.dwg_classes.specs.WrittenClasses.{are_values, written_are_classes, read_are_values}
 use Rattle.dwg_classes.proofs.laws.classes_laws.Goals as goal
 
 pub returns-clause-any : goal.returns-clause-any
@@ -26,3 +26,6 @@ returns-clause-values c = are_values
 
 pub returns-clause-written : goal.returns-clause-written
 returns-clause-written c = written_are_classes
+
+pub returns-clause-again : goal.returns-clause-again
+returns-clause-again c = read_are_values

@@ -3,6 +3,7 @@ use Rattle.dwg_bits.specs.BitLaws.{length_of_bits_between}
 use Rattle.dwg_bits.specs.Cursor.{rest}
 use Rattle.dwg_classes.specs.declared.class.Class.{Class}
 use Rattle.dwg_classes.proofs.ContentReading.{AreReadSoFar, none_so_far, one_so_far, fewer_left, all_read, fault_refused, answers_ok, answers_err, refused_of_table}
+use Rattle.dwg_classes.specs.WrittenClasses.{read_are_values, read_are_writable}
 use Rattle.dwg_classes.proofs.reading.read_classes.Goals as goal
 
 pub along-init : goal.along-init
@@ -58,3 +59,9 @@ returns-in-Err-clause-tried c = answers_err c.args.place c.args.content.now c.in
 
 pub returns-in-Err-clause-of_table : goal.returns-in-Err-clause-of_table
 returns-in-Err-clause-of_table c = refused_of_table c.args.place c.args.content.now c.in-Err.fault (returns-in-Err-clause-refused c)
+
+pub returns-clause-writable : goal.returns-clause-writable
+returns-clause-writable c = read_are_writable c.args.content.now c.along.classes (returns-clause-found c)
+
+pub returns-clause-no_longer : goal.returns-clause-no_longer
+returns-clause-no_longer c = (read_are_values c.args.content.now c.along.classes (returns-clause-found c)).1
