@@ -1,6 +1,6 @@
 -- Writing a class: the bits of its parts, one behind the other.
 use Rattle.std.proofs.Common.{◌≡◌, refl, sym, ◌∙◌, ap, subst, ℕ, ◌+◌, ◌%◌, ◌<◌, ◌≤◌, Bool, List, [], ◌∷◌, ◌++◌, length, drop, get_or, arith}
-use Rattle.std.specs.Prelude.{nat_le, false, replicate}
+use Rattle.std.specs.Prelude.{false, replicate}
 use Rattle.std.proofs.lemmas.Bool.Decides.{nat_tests}
 use Rattle.std.proofs.lemmas.List.{append_assoc, append-nil, length-append, drop_more, drop_all}
 use Rattle.dwg_bits.specs.Sink.{Written, Extends, padding, missing_bits}

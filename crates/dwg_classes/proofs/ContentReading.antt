@@ -1,8 +1,8 @@
 -- Reading a content class by class: what is read so far, and what is left.
-use Rattle.std.proofs.Common.{◌≡◌, refl, sym, ◌∙◌, ap, ap₂, subst, inl, inr, ℕ, ◌+◌, ◌-◌, ◌*◌, ◌<◌, ◌≤◌, Bool, List, [], ◌∷◌, ◌++◌, length, arith}
-use Rattle.std.specs.Prelude.{⊤, Result, Ok, Err}
+use Rattle.std.proofs.Common.{◌≡◌, refl, sym, ◌∙◌, ap, ap₂, subst, inl, inr, ℕ, ◌+◌, ◌*◌, ◌<◌, ◌≤◌, Bool, List, [], ◌∷◌, ◌++◌, length, arith}
+use Rattle.std.specs.Prelude.{Ok, Err}
 use Rattle.std.proofs.lemmas.List.{append_assoc, length-append}
-use Rattle.dwg_base.specs.Refusals.{Tried, Answers, IfRefused, IsFaultOfTable, IsOfTable}
+use Rattle.dwg_base.specs.Refusals.{Answers, IfRefused, IsFaultOfTable, IsOfTable}
 use Rattle.dwg_base.specs.declared.refusal.Refusal.{Refusal}
 use Rattle.dwg_base.specs.declared.refusal.Fault.{Fault}
 use Rattle.dwg_base.specs.declared.refusal.Fault.TheVariants.{NoMemory, Refused}

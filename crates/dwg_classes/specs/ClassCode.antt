@@ -1,12 +1,12 @@
 -- A class is a code, and has at least 29 bits where its number is one that classes have.
-use Rattle.std.proofs.Common.{◌≡◌, refl, sym, ◌∙◌, ap, subst, ℕ, zero, suc, ◌≤◌, Bool, true, List, ◌++◌, length, arith}
+use Rattle.std.proofs.Common.{◌≡◌, refl, ◌∙◌, ap, subst, ℕ, zero, suc, ◌≤◌, Bool, List, length, arith}
 use Rattle.std.specs.Prelude.{nat_le}
 use Rattle.std.proofs.lemmas.Bool.Decides.{nat_tests}
 use Rattle.std.proofs.lemmas.List.{length-append}
 use Rattle.dwg_codes.specs.Grammar.{IsCode, AnyLetters}
 use Rattle.dwg_codes.specs.CodeLaws.{IsLawful, lawful_of_code}
 use Rattle.dwg_codes.specs.CombinatorLaws.{any_letters_closed, seq_is_code, struct_is_code, restrict_is_code}
-use Rattle.dwg_codes.specs.Codes.{rs, rc, bs, bs_by, tv}
+use Rattle.dwg_codes.specs.Codes.{bs, bs_by, tv}
 use Rattle.dwg_codes.specs.NumberLaws.{rs_is_code, rc_is_code, length_of_rs}
 use Rattle.dwg_codes.specs.TableLaws.{bs_is_code, tv_is_code, tv_bytes, tv_has}
 use Rattle.dwg_codes.specs.TruthCode.{b, b_is_code}

@@ -1,6 +1,6 @@
 -- Classes that are written: which lists of classes have spellings, and that what is written of them, padded, is cut into them. A rule of this project.
 use Rattle.std.proofs.Common.{◌≡◌, ap, ◌*◌, ◌≤◌, ℕ, Bool, List, [], ◌∷◌, ◌++◌, length, arith}
-use Rattle.std.specs.Prelude.{◌↔◌, nat_le}
+use Rattle.std.specs.Prelude.{◌↔◌}
 use Rattle.std.specs.List.{AllByRecursion}
 use Rattle.std.proofs.lemmas.Bool.Decides.{nat_tests}
 use Rattle.std.proofs.lemmas.List.{length-append}

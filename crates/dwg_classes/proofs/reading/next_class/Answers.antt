@@ -1,4 +1,4 @@
-use Rattle.std.proofs.Common.{◌≡◌, ◌∙◌, ap, Option, Some, None, List, Bool}
+use Rattle.std.proofs.Common.{◌∙◌, ap}
 use Rattle.std.specs.Option.{option_map}
 use Rattle.dwg_bits.specs.Cursor.{rest}
 use Rattle.dwg_classes.specs.declared.class.Class.{Class}

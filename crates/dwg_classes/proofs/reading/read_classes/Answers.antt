@@ -1,4 +1,4 @@
-use Rattle.std.proofs.Common.{◌∙◌, ap, sym, subst, arith, [], ◌∷◌, ◌++◌, length, List, refl}
+use Rattle.std.proofs.Common.{◌∙◌, sym, subst, arith, List}
 use Rattle.dwg_bits.specs.BitLaws.{length_of_bits_between}
 use Rattle.dwg_bits.specs.Cursor.{rest}
 use Rattle.dwg_classes.specs.declared.class.Class.{Class}
