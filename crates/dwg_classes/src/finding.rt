@@ -5,7 +5,7 @@ ghost use Rattle.dwg_classes.specs.FirstClass.{HaveOther, IsFirst};
 
 use crate::class::Class;
 
-/// The first place at which the number stands.
+/// The first place in the list at which the number stands.
 fn first_place(classes: &[Class], number: u16) -> Option<usize>
     ensures { result ≡ position (λ class. class.number == number) classes.now }
 {
