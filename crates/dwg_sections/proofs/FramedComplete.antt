@@ -1,5 +1,5 @@
 -- Where a section stands at a place, no line on it fails, and its content is the one that is read.
-use Rattle.std.proofs.Common.{◌≡◌, ℕ, ◌+◌, ◌≤◌, List, ◌++◌, length, sym, ap, subst, ◌∙◌, refl, w16, w32, arith, append_assoc, length-append}
+use Rattle.std.proofs.Common.{◌≡◌, ℕ, ◌+◌, ◌≤◌, List, ◌++◌, length, sym, ap, ap₂, subst, ◌∙◌, refl, w16, w32, arith, append_assoc, length-append}
 use Rattle.std.specs.Int.{from_le_bytes, to_le_bytes}
 use Rattle.std.proofs.lemmas.Nat.{from_le_bytes-to_le_bytes_2, from_le_bytes-to_le_bytes_4}
 use Rattle.dwg_check.specs.CheckWord.{check_word}
@@ -9,7 +9,7 @@ use Rattle.dwg_sections.specs.declared.framed.Framed.TheVariants.{Variables, Cla
 use Rattle.dwg_sections.specs.Framed.{FRAME_START, begin_sentinel, end_sentinel, sized_content, FramedAt}
 use Rattle.dwg_sections.specs.HeaderLines.{bytes_at, rs_at}
 use Rattle.dwg_sections.specs.FramedLines.{size_at}
-use Rattle.dwg_sections.specs.FramedLaws.{SectionIsRead}
+use Rattle.dwg_sections.specs.FramedLaws.{SectionIsRead, SectionIsCounted}
 use Rattle.dwg_sections.proofs.BytePieces.{piece_at}
 use Rattle.dwg_sections.proofs.FramedPasses.{FramedPasses, none_from_framed_passes}
 
@@ -115,3 +115,13 @@ section_is_read which place bytes content there =
       none_from_framed_passes which place bytes (passes_from_section bytes place which content sized parts),
       sym (ap (bytes_at bytes (place + 20)) sized ∙ parts.inner_at),
     )
+
+-- a section has 38 bytes, and those of its content
+pub section_is_counted : SectionIsCounted
+section_is_counted which content =
+    let begin = begin_sentinel which in
+    let sized = sized_content content in
+    let check = to_le_bytes w16 (check_word FRAME_START sized) in
+    length-append (begin ++ sized ++ check) (end_sentinel which)
+    ∙ ap₂ ◌+◌ (length-append (begin ++ sized) check ∙ ap (λ n. n + 2) (length-append begin sized ∙ ap₂ ◌+◌ (length_of_begin which) (length-append (to_le_bytes w32 (length content)) content))) (length_of_end which)
+    ∙ omega arith

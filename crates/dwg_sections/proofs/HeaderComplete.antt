@@ -10,7 +10,7 @@ use Rattle.dwg_sections.specs.declared.header.Locator.{Locator}
 use Rattle.dwg_sections.specs.declared.header.FileHeader.{FileHeader}
 use Rattle.dwg_sections.specs.FileHeader.{VERSION, HEADER_SENTINEL, IsLocator, LocateSections, IsFileHeader, locator_bytes, locator_numbers, header_front}
 use Rattle.dwg_sections.specs.HeaderLines.{bytes_at, rs_at, rl_at, count_at, locators_end, locator_at, locators_at, numbers_at, header_at}
-use Rattle.dwg_sections.specs.HeaderLaws.{HeaderIsRead}
+use Rattle.dwg_sections.specs.HeaderLaws.{HeaderIsRead, HeaderIsCounted}
 use Rattle.dwg_sections.proofs.BytePieces.{piece_at}
 use Rattle.dwg_sections.proofs.LocatorNumbers.{AreDistinct, AreLocated}
 use Rattle.dwg_sections.proofs.HeaderPasses.{Passes, none_from_passes}
@@ -218,3 +218,17 @@ header_is_read bytes header begins =
     let end = end_stands bytes (header_front header) check HEADER_SENTINEL rest (locators_end bytes) begins.stands.1 (end_read bytes header fields counted) refl refl in
     let same : header ≡ header_at bytes = parts_read bytes header _ begins.in_range behind fields counted in
     (none_from_passes bytes (passes_from_header bytes header begins.in_range fields counted end (numbers_read bytes header same)), same)
+
+-- what stands before the check word has 25 bytes, and nine for each locator
+front_is_counted : (header : FileHeader) → IsFileHeader header → length (header_front header) ≡ 25 + 9 * length header.locators
+front_is_counted header in_range =
+    let fields = front_stands (header_front header ++ []) header [] in_range refl in
+    length-append (before_locators header) (flat_map locator_bytes header.locators) ∙ ap₂ ◌+◌ fields.long (length_of_locators header.locators)
+
+-- a header has 43 bytes, and nine for each locator
+pub header_is_counted : HeaderIsCounted
+header_is_counted header in_range =
+    let check = to_le_bytes w16 (header_check_word (length header.locators) (header_front header)) in
+    length-append (header_front header ++ check) HEADER_SENTINEL
+    ∙ ap (λ n. n + 16) (length-append (header_front header) check ∙ ap (λ n. n + 2) (front_is_counted header in_range))
+    ∙ omega arith

@@ -1,9 +1,9 @@
 -- Laws of the file header: what the input begins with, and what the lines on the header say, are one.
-use Rattle.std.specs.Prelude.{◌≡◌, List, ℕ, None}
+use Rattle.std.specs.Prelude.{◌≡◌, ℕ, ◌+◌, ◌*◌, List, length, None}
 use Rattle.dwg_base.specs.Bytes.{AreBytes}
 use Rattle.dwg_base.specs.Refusals.{first_fault}
 use Rattle.dwg_sections.specs.declared.header.FileHeader.{FileHeader}
-use Rattle.dwg_sections.specs.FileHeader.{BeginsWithHeader}
+use Rattle.dwg_sections.specs.FileHeader.{IsFileHeader, BeginsWithHeader, header_bytes}
 use Rattle.dwg_sections.specs.HeaderLines.{HEADER_LINES, header_at}
 
 -- bytes in which no line on the header fails begin with the header that is read
@@ -16,3 +16,7 @@ abbrev pub HeaderIsRead : Type 0
 HeaderIsRead =
     (bytes : List ℕ) (header : FileHeader) → BeginsWithHeader bytes header
     → (first_fault HEADER_LINES bytes ≡ None) × (header ≡ header_at bytes)
+
+-- a header has 43 bytes, and nine for each locator
+abbrev pub HeaderIsCounted : Type 0
+HeaderIsCounted = (header : FileHeader) → IsFileHeader header → length (header_bytes header) ≡ 43 + 9 * length header.locators

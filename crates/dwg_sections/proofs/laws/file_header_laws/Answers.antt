@@ -1,5 +1,5 @@
 use Rattle.dwg_sections.proofs.HeaderSound.{begins_with_header}
-use Rattle.dwg_sections.proofs.HeaderComplete.{header_is_read}
+use Rattle.dwg_sections.proofs.HeaderComplete.{header_is_read, header_is_counted}
 use Rattle.dwg_sections.proofs.laws.file_header_laws.Goals as goal
 
 pub returns-clause-sound : goal.returns-clause-sound
@@ -7,3 +7,6 @@ returns-clause-sound c = begins_with_header
 
 pub returns-clause-complete : goal.returns-clause-complete
 returns-clause-complete c = header_is_read
+
+pub returns-clause-counted : goal.returns-clause-counted
+returns-clause-counted c = header_is_counted
