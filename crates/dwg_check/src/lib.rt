@@ -9,6 +9,9 @@ mod table;
 
 pub use laws::check_word_laws;
 
+/// What the check words of framed sections, map pages and object frames begin as (Open Design Specification, "CRC").
+pub const FRAME_START: u16 = 0xC0C1;
+
 /// The check word of `bytes`, begun as `start` (Open Design Specification, "CRC").
 ///
 /// Of no bytes it is `start`; of a run in pieces, each piece is begun as the check word of those before it.

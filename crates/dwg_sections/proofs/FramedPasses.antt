@@ -2,9 +2,9 @@
 use Rattle.std.proofs.Common.{◌≡◌, ℕ, ◌+◌, ◌≤◌, List, length, None, refl, ltb-false, le-ltb, eqb-true, eq-eqb}
 use Rattle.std.proofs.lemmas.Bool.{not-false, not_from_true}
 use Rattle.dwg_base.specs.Refusals.{first_fault}
-use Rattle.dwg_check.specs.CheckWord.{check_word}
+use Rattle.dwg_check.specs.CheckWord.{FRAME_START, check_word}
 use Rattle.dwg_sections.specs.declared.framed.Framed.{Framed}
-use Rattle.dwg_sections.specs.Framed.{FRAME_START, begin_sentinel, end_sentinel}
+use Rattle.dwg_sections.specs.Framed.{begin_sentinel, end_sentinel}
 use Rattle.dwg_sections.specs.HeaderLines.{bytes_at, rs_at}
 use Rattle.dwg_sections.specs.FramedLines.{first_line, size_at, framed_short_line, begin_line, length_line, framed_check_line, end_line, framed_lines}
 use Rattle.dwg_sections.proofs.TableLines.{no_refusal, keeps, both_none, none_of_both, same_bytes, bytes_same}

@@ -3,9 +3,9 @@ use Rattle.std.proofs.Common.{◌≡◌, ℕ, ◌+◌, ◌^◌, ◌<◌, ◌≤�
 use Rattle.std.specs.Int.{to_le_bytes}
 use Rattle.dwg_base.specs.Bytes.{AreBytes, StandsAt, are_bytes}
 use Rattle.dwg_base.specs.Refusals.{first_fault}
-use Rattle.dwg_check.specs.CheckWord.{check_word}
+use Rattle.dwg_check.specs.CheckWord.{FRAME_START, check_word}
 use Rattle.dwg_sections.specs.declared.framed.Framed.{Framed}
-use Rattle.dwg_sections.specs.Framed.{FRAME_START, begin_sentinel, end_sentinel, sized_content, framed_bytes, FramedAt}
+use Rattle.dwg_sections.specs.Framed.{begin_sentinel, end_sentinel, sized_content, framed_bytes, FramedAt}
 use Rattle.dwg_sections.specs.HeaderLines.{bytes_at}
 use Rattle.dwg_sections.specs.FramedLines.{size_at, content_at, framed_lines}
 use Rattle.dwg_sections.specs.FramedLaws.{PassingBytesHaveSection}

@@ -3,10 +3,10 @@ use Rattle.std.proofs.Common.{◌≡◌, ℕ, List, ◌++◌, length, sym, ap, a
 use Rattle.std.specs.Int.{to_le_bytes}
 use Rattle.dwg_bits.specs.Bits.{bits}
 use Rattle.dwg_bits.specs.Sink.{Written, Extends}
-use Rattle.dwg_check.specs.CheckWord.{check_word}
+use Rattle.dwg_check.specs.CheckWord.{FRAME_START, check_word}
 use Rattle.dwg_check.specs.CheckWordLaws.{check_word_append}
 use Rattle.dwg_sections.specs.declared.framed.Framed.{Framed}
-use Rattle.dwg_sections.specs.Framed.{FRAME_START, begin_sentinel, end_sentinel, sized_content, framed_bytes}
+use Rattle.dwg_sections.specs.Framed.{begin_sentinel, end_sentinel, sized_content, framed_bytes}
 use Rattle.dwg_sections.specs.Writing.{Puts}
 use Rattle.dwg_sections.proofs.BytePuts.{puts_both}
 

@@ -2,7 +2,7 @@
 use Rattle.std.specs.Prelude.{ℕ, ◌-◌, ◌^◌, ◌<◌, List, [], ◌∷◌, ◌++◌, length, map}
 use Rattle.std.specs.Int.{w16, w32, to_le_bytes}
 use Rattle.dwg_base.specs.Bytes.{StandsAt}
-use Rattle.dwg_check.specs.CheckWord.{check_word}
+use Rattle.dwg_check.specs.CheckWord.{FRAME_START, check_word}
 use Rattle.dwg_sections.specs.declared.framed.Framed.{Framed}
 use Rattle.dwg_sections.specs.declared.framed.Framed.TheVariants.{Variables, Classes}
 
@@ -26,10 +26,6 @@ begin_sentinel Classes = CLASSES_SENTINEL
 -- what a section ends with: the complement of what it begins with
 abbrev pub end_sentinel : Framed → List ℕ
 end_sentinel which = complemented (begin_sentinel which)
-
--- what the check word of a section begins as
-abbrev pub FRAME_START : ℕ
-FRAME_START = 0xC0C1
 
 -- what the check word of a section is over: the RL size of the content in bytes, and the content
 abbrev pub sized_content : List ℕ → List ℕ

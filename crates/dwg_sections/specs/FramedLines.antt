@@ -1,10 +1,10 @@
 -- The lines of the table of refusals on a framed section at a place. A rule of this project, over the sections of the Open Design Specification, "R13 to R2000 file layout".
 use Rattle.std.specs.Prelude.{ℕ, ◌+◌, not, List, [], ◌∷◌, length, bytes_eq, nat_lt, ◌==◌}
 use Rattle.dwg_base.specs.Refusals.{RefusalRow, refuse_if}
-use Rattle.dwg_check.specs.CheckWord.{check_word}
+use Rattle.dwg_check.specs.CheckWord.{FRAME_START, check_word}
 use Rattle.dwg_sections.specs.declared.framed.Framed.{Framed}
 use Rattle.dwg_sections.specs.declared.framed.Framed.TheVariants.{Variables, Classes}
-use Rattle.dwg_sections.specs.Framed.{FRAME_START, begin_sentinel, end_sentinel}
+use Rattle.dwg_sections.specs.Framed.{begin_sentinel, end_sentinel}
 use Rattle.dwg_sections.specs.HeaderLines.{bytes_at, rs_at, rl_at}
 
 -- the first of a section's five lines

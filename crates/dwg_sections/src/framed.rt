@@ -2,15 +2,15 @@
 
 ghost use Rattle.std.specs.Prelude.{◌≡◌, ◌+◌, ◌≤◌, length, bytes_eq, ◌==◌, None, Some, IfOk, IfErr, OnOk, MatchOption};
 ghost use Rattle.dwg_base.specs.Refusals.{first_fault, IsOfTable};
-ghost use Rattle.dwg_check.specs.CheckWord.{check_word};
+ghost use Rattle.dwg_check.specs.CheckWord.{FRAME_START, check_word};
 ghost use Rattle.dwg_sections.specs.HeaderLines.{bytes_at, rs_at};
-ghost use Rattle.dwg_sections.specs.Framed.{FRAME_START, begin_sentinel, end_sentinel, FramedAt};
+ghost use Rattle.dwg_sections.specs.Framed.{begin_sentinel, end_sentinel, FramedAt};
 ghost use Rattle.dwg_sections.specs.FramedLines.{first_line, size_at, content_at, framed_lines};
 
 use crate::fields::{piece, rl, rs};
 use crate::locator_lines::refusal;
 use dwg_base::Refusal;
-use dwg_check::check;
+use dwg_check::{FRAME_START, check};
 
 /// A section that stands between sentinels (Open Design Specification, "R13 to R2000 file layout").
 #[derive(Clone, Copy, Debug, PartialEq, Eq)]
@@ -20,9 +20,6 @@ pub enum Framed {
     /// The classes.
     Classes,
 }
-
-/// What the check word of a section begins as.
-pub const CHECK_START: u16 = 0xC0C1;
 
 /// The bytes of a sentinel.
 const SENTINEL_SIZE: usize = 16;
@@ -105,7 +102,7 @@ fn has_check_word(bytes: &[u8], place: usize, size: usize) -> bool
     ensures { result ≡ (rs_at bytes.now (place + 20 + size) == check_word FRAME_START (bytes_at bytes.now (place + 16) (4 + size))) }
 {
     let sized = piece(bytes, place + SENTINEL_SIZE, SIZE_SIZE + size);
-    rs(bytes, place + CONTENT_PLACE + size) == check(CHECK_START, sized)
+    rs(bytes, place + CONTENT_PLACE + size) == check(FRAME_START, sized)
 }
 
 /// The first line on the section at a place that fails. Where none fails, the input has all bytes of the section.

@@ -6,9 +6,9 @@ ghost use Rattle.dwg_bits.specs.Sink.{Extends};
 ghost use Rattle.dwg_sections.specs.Framed.{framed_bytes};
 
 use crate::appending::put;
-use crate::framed::{CHECK_START, Framed, begin_sentinel, end_sentinel};
+use crate::framed::{Framed, begin_sentinel, end_sentinel};
 use dwg_bits::BitSink;
-use dwg_check::check;
+use dwg_check::{FRAME_START, check};
 
 /// Writes a framed section: begin sentinel, size of the content, content, check word, end sentinel (Open Design
 /// Specification, "R13 to R2000 file layout"). The caller sees to it that the content has fewer than 2^32 bytes, that the
@@ -20,7 +20,7 @@ pub fn write_framed(which: Framed, content: &[u8], sink: &mut BitSink)
     ensures { Extends sink.old sink.new (bits (framed_bytes which content.now)) }
 {
     let size = (content.len() as u32).to_le_bytes();
-    let word = check(check(CHECK_START, &size), content);
+    let word = check(check(FRAME_START, &size), content);
     put(&begin_sentinel(which), sink);
     put(&size, sink);
     put(content, sink);
