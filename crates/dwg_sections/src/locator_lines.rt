@@ -1,7 +1,7 @@
 //! The lines of the table of refusals on the numbers of locators.
 
-ghost use Rattle.std.specs.Prelude.{◌≡◌, ◌+◌, ◌<◌, ◌≤◌, ◌==◌, [], ◌∷◌, length, slice_index, find, IfSome, MatchOption};
-ghost use Rattle.std.specs.List.{list_any, range_with_len};
+ghost use Rattle.std.specs.Prelude.{◌≡◌, ◌<◌, ◌≤◌, [], ◌∷◌, length, slice_index, find, IfSome};
+ghost use Rattle.std.specs.List.{range_with_len};
 ghost use Rattle.dwg_base.specs.Refusals.{first_fault, IsOfTable};
 ghost use Rattle.dwg_sections.specs.HeaderLines.{count_at, locators_end, numbers_at, stands_earlier, is_missing, repeated_line, missing_line};
 
@@ -25,6 +25,7 @@ pub const LOCATORS_PLACE: usize = 25;
 /// The bytes of a locator.
 pub const LOCATOR_SIZE: usize = 9;
 
+// The lines of the table, in the order in which they are tried.
 const REPEATED_LINE: u8 = 7;
 
 const MISSING_LINE: u8 = 8;
