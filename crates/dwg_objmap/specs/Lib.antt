@@ -1,0 +1,4 @@
+pub mod Pairs
+pub mod Pages
+pub mod MapLines
+pub mod Writing

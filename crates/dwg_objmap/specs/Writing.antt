@@ -1,0 +1,67 @@
+-- How the object map is written: which pairs go into which page. A rule of this project, over the map of the Open Design Specification, "Object map".
+use Rattle.std.specs.Prelude.{◌≡◌, ⊤, ℕ, ◌+◌, ◌^◌, ◌<◌, ◌≤◌, Bool, false, true, List, [], ◌∷◌, ◌++◌, length, nat_le, if◌then◌else◌}
+use Rattle.dwg_objmap.specs.declared.pair.Pair.{Pair}
+use Rattle.dwg_objmap.specs.Pairs.{ORIGIN, pair_behind}
+use Rattle.dwg_objmap.specs.Pages.{page_bytes}
+
+-- the largest size of a page that is written, its own two bytes counted
+abbrev pub MOST_PAGE : ℕ
+MOST_PAGE = 2032
+
+-- the page that is being filled: the bytes of its pairs, the last pair that was put into the map, and whether the map has ended
+pub record OpenPage : Type 0 where
+  pub body : List ℕ
+  pub last : Pair
+  pub ended : Bool
+
+-- a page without pairs, behind none
+abbrev pub FRESH : OpenPage
+FRESH = record { body = []; last = ORIGIN; ended = false }
+
+-- from which pair the next one of a page is told: the last put, or the origin where the page has none
+abbrev pub told_from : OpenPage → Pair
+told_from page = before page.body
+  where
+    before : List ℕ → Pair
+    before [] = ORIGIN
+    before (byte ∷ bytes) = page.last
+
+-- the bytes of a pair in the open page
+abbrev pub added : OpenPage → Pair → List ℕ
+added page pair = (pair_behind (told_from page)).short pair
+
+-- the page's size with a pair is no more than a page may have
+abbrev pub has_room : OpenPage → Pair → Bool
+has_room page pair = nat_le (2 + length page.body + length (added page pair)) MOST_PAGE
+
+-- the bytes that a pair makes go out: the open page, where the pair doesn't go into it
+unfoldable pub given : OpenPage → Pair → List ℕ
+given page pair = if has_room page pair then [] else page_bytes page.body
+
+-- the open page behind a pair
+unfoldable pub filled : OpenPage → Pair → OpenPage
+filled page pair =
+    if has_room page pair then record { body = page.body ++ added page pair; last = pair; ended = false }
+    else record { body = (pair_behind ORIGIN).short pair; last = pair; ended = false }
+
+-- the bytes that end the map: the open page, if it has pairs, and the page without pairs
+abbrev pub closing_body : List ℕ → List ℕ
+closing_body [] = []
+closing_body (byte ∷ bytes) = page_bytes (byte ∷ bytes)
+
+unfoldable pub closing : OpenPage → List ℕ
+closing page = closing_body page.body ++ page_bytes []
+
+-- the bytes of the map from an open page on: each pair goes into the open page where there is room, and else a new page begins
+unfoldable pub map_behind : OpenPage → List Pair → List ℕ
+map_behind page [] = closing page
+map_behind page (pair ∷ pairs) = given page pair ++ map_behind (filled page pair) pairs
+
+-- the bytes of the map of these pairs
+unfoldable pub map_bytes : List Pair → List ℕ
+map_bytes pairs = map_behind FRESH pairs
+
+-- pairs in ascending order of positive handles behind a handle, with places in range: what a map is written of
+abbrev pub Ascend : ℕ → List Pair → Type 0
+Ascend handle [] = ⊤
+Ascend handle (pair ∷ pairs) = (handle < pair.handle) × (pair.handle < 2 ^ 63) × (pair.place < 2 ^ 63) × Ascend pair.handle pairs
