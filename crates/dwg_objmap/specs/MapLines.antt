@@ -1,5 +1,5 @@
 -- The lines of the table of refusals on the object map, tried page by page and within a page pair by pair. A rule of this project, over the map of the Open Design Specification, "Object map".
-use Rattle.std.specs.Prelude.{◌≡◌, ◌≢◌, ◌⊎◌, ℕ, zero, suc, ◌+◌, ◌-◌, ◌*◌, ◌<◌, ◌≤◌, not, ◌&&◌, ◌||◌, List, [], ◌∷◌, ◌++◌, length, take, drop, flat_map, slice_index, nat_lt, ◌==◌, Option, Some, None, Result, Ok, Err, Contains, if◌then◌else◌}
+use Rattle.std.specs.Prelude.{◌≡◌, ◌≢◌, ◌⊎◌, Bool, ℕ, zero, suc, ◌+◌, ◌-◌, ◌*◌, ◌<◌, ◌≤◌, not, ◌&&◌, ◌||◌, List, [], ◌∷◌, ◌++◌, length, take, drop, flat_map, slice_index, nat_lt, ◌==◌, Option, Some, None, Result, Ok, Err, Contains, if◌then◌else◌}
 use Rattle.std.specs.List.{list_any}
 use Rattle.dwg_base.specs.Refusals.{Tried}
 use Rattle.dwg_base.specs.declared.refusal.Refusal.{Refusal}
@@ -36,12 +36,16 @@ abbrev pub last_of : Pair → List Pair → Pair
 last_of before [] = before
 last_of before (pair ∷ pairs) = last_of pair pairs
 
+-- one of the pairs has the handle
+abbrev pub has_handle : List Pair → ℕ → Bool
+has_handle pairs handle = list_any (λ (pair : Pair). pair.handle == handle) pairs
+
 -- what a pair that was parsed gives, or its refusal: none is spelled, its handle is null, or an earlier pair has it; others is what the bytes behind it give
 abbrev pub with_pair : ℕ → List Pair → ℕ → (Pair → List ℕ → Tried (List Pair)) → Option (Pair × List ℕ) → Tried (List Pair)
 with_pair index seen place others None = Err (map_refusal 24 index place)
 with_pair index seen place others (Some (pair, rest)) =
     if pair.handle == 0 then Err (map_refusal 25 index place)
-    else (if list_any (λ (other : Pair). other.handle == pair.handle) seen then Err (map_refusal 26 index place)
+    else (if has_handle seen pair.handle then Err (map_refusal 26 index place)
     else others pair rest)
 
 -- the pairs seen before and those that the bytes of a page spell behind the last of them in the page, or the first refusal; no more pairs follow than the fuel
