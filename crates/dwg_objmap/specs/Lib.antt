@@ -4,3 +4,8 @@ pub mod MapLines
 pub mod Writing
 pub mod PairLaws
 pub mod HandleLaws
+pub mod PagePlaces
+pub mod PairChains
+pub mod PairsTried
+pub mod PageLaws
+pub mod MapLaws
