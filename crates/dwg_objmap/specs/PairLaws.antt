@@ -13,7 +13,7 @@ use Rattle.dwg_codes.specs.ModularLaws.{mc_is_code, mc_below, mc_has}
 use Rattle.dwg_codes.specs.SignedLaws.{signed_mc_is_code}
 use Rattle.dwg_codes.specs.ListLaws.{AreChained}
 use Rattle.dwg_objmap.specs.declared.pair.Pair.{Pair}
-use Rattle.dwg_objmap.specs.Pairs.{IsPair, ORIGIN, PairSpells, moved, move_between, pair_at_steps, pair_behind}
+use Rattle.dwg_objmap.specs.Pairs.{IsPair, ORIGIN, PairSpells, moved, move_between, place_at_step, pair_at_steps, pair_behind}
 
 -- what two steps from a pair lead to
 pub record StepsLead (before : Pair) (step : ℕ) (move : ℤ) (pair : Pair) : Type 0 where
@@ -74,34 +74,49 @@ move_small from to small small_to = by_test (nat_le from to) refl
     by_test true holds = omega arith
     by_test false fails = let far : to < from = grind (arith, nat_tests) in omega arith
 
+-- a step leads to a place in range
+place_leads : (place to : ℕ) (move : ℤ) → place_at_step place move ≡ Some to → (to < 2 ^ 63) × (pos to ≡ pos place +ℤ move)
+place_leads place to move same =
+    option_and_then_some (λ (to : ℕ). if nat_lt to (2 ^ 63) then Some to else None) (moved place move) to same
+    (λ there was made. if_some (nat_lt there (2 ^ 63)) (Some there) None to made
+    (λ holds known. let is : there ≡ to = same_Some there to known in
+    (below there to holds is, moved_adds place to move (was ∙ ap Some is)))
+    (λ fails none. absurd (none-some to none)))
+  where
+    below : (there to : ℕ) → nat_lt there (2 ^ 63) ≡ true → there ≡ to → to < 2 ^ 63
+    below there to holds is = let small : there < 2 ^ 63 = grind (arith, nat_tests) in omega arith
+
+-- and each place in range is led to
+place_there : (place to : ℕ) (move : ℤ) → to < 2 ^ 63 → pos to ≡ pos place +ℤ move → place_at_step place move ≡ Some to
+place_there place to move small adds =
+    let holds : nat_lt to (2 ^ 63) ≡ true = grind (arith, nat_tests) in
+    ap (option_and_then (λ (to : ℕ). if nat_lt to (2 ^ 63) then Some to else None)) (moved_there place to move adds)
+    ∙ ap (λ (test : Bool). if test then Some to else None) holds
+
 -- the pair that two steps lead to
 steps_lead : (before pair : Pair) (step : ℕ) (move : ℤ) → pair_at_steps before step move ≡ Some pair → StepsLead before step move pair
 steps_lead before pair step move same =
-    option_and_then_some
-    (λ (place : ℕ). if nat_lt (before.handle + step) (2 ^ 63) && nat_lt place (2 ^ 63) then Some (record { handle = before.handle + step; place = place }) else None)
-    (moved before.place move) pair same
-    (λ place was made. if_some (nat_lt (before.handle + step) (2 ^ 63) && nat_lt place (2 ^ 63)) (Some (record { handle = before.handle + step; place = place })) None pair made
-    (λ holds known. subst (StepsLead before step move) (same_Some (record { handle = before.handle + step; place = place }) pair known)
-    (of_place place (both _ _ holds) (moved_adds before.place place move was)))
-    (λ fails none. absurd (none-some pair none)))
+    if_some (nat_lt (before.handle + step) (2 ^ 63)) (option_map (λ (place : ℕ). record { handle = before.handle + step; place = place }) (place_at_step before.place move)) None pair same
+    (λ holds known. option_map_some (λ (place : ℕ). record { handle = before.handle + step; place = place }) (place_at_step before.place move) pair known
+    (λ place was made. subst (StepsLead before step move) made (of_place place (below (before.handle + step) holds) (place_leads before.place place move was))))
+    (λ fails none. absurd (none-some pair none))
   where
-    both : (a b : ℕ) → nat_lt a (2 ^ 63) && nat_lt b (2 ^ 63) ≡ true → (a < 2 ^ 63) × (b < 2 ^ 63)
-    both a b holds = (grind (arith, nat_tests), grind (arith, nat_tests))
+    below : (handle : ℕ) → nat_lt handle (2 ^ 63) ≡ true → handle < 2 ^ 63
+    below handle holds = grind (arith, nat_tests)
 
-    of_place : (place : ℕ) → (before.handle + step < 2 ^ 63) × (place < 2 ^ 63) → pos place ≡ pos before.place +ℤ move
+    of_place : (place : ℕ) → before.handle + step < 2 ^ 63 → (place < 2 ^ 63) × (pos place ≡ pos before.place +ℤ move)
         → StepsLead before step move (record { handle = before.handle + step; place = place })
-    of_place place small adds = record { in_range = record { handle = small.0; place = small.1 }; handle = refl; place = adds }
+    of_place place small leads = record { in_range = record { handle = small; place = leads.0 }; handle = refl; place = leads.1 }
 
 -- and only that
 steps_there : (before pair : Pair) (step : ℕ) (move : ℤ) → StepsLead before step move pair → pair_at_steps before step move ≡ Some pair
 steps_there before pair step move leads =
-    ap (option_and_then (λ (place : ℕ). if nat_lt (before.handle + step) (2 ^ 63) && nat_lt place (2 ^ 63) then Some (record { handle = before.handle + step; place = place }) else None))
-    (moved_there before.place pair.place move leads.place)
-    ∙ ap₂ (λ (handle : ℕ) (test : Bool). if test then Some (record { handle = handle; place = pair.place }) else None) (sym leads.handle)
-    (passes (before.handle + step) pair.place (subst (λ n. n < 2 ^ 63) leads.handle leads.in_range.handle) leads.in_range.place)
+    ap₂ (λ (test : Bool) (handle : ℕ). if test then option_map (λ (place : ℕ). record { handle = handle; place = place }) (place_at_step before.place move) else None)
+    (passes (before.handle + step) (subst (λ n. n < 2 ^ 63) leads.handle leads.in_range.handle)) (sym leads.handle)
+    ∙ ap (option_map (λ (place : ℕ). record { handle = pair.handle; place = place })) (place_there before.place pair.place move leads.in_range.place leads.place)
   where
-    passes : (a b : ℕ) → a < 2 ^ 63 → b < 2 ^ 63 → nat_lt a (2 ^ 63) && nat_lt b (2 ^ 63) ≡ true
-    passes a b small small_too = grind (arith, nat_tests)
+    passes : (handle : ℕ) → handle < 2 ^ 63 → nat_lt handle (2 ^ 63) ≡ true
+    passes handle small = grind (arith, nat_tests)
 
 -- a pair behind another is a code
 pub pair_is_code : (before : Pair) → IsPair before → IsCode AreBytes (pair_behind before)

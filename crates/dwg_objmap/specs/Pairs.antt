@@ -35,12 +35,14 @@ moved place (negsuc less) = if nat_lt less place then Some (place - suc less) el
 abbrev pub move_between : ℕ → ℕ → ℤ
 move_between from to = if nat_le from to then pos (to - from) else negsuc (from - to - 1)
 
+-- the place that a step leads to, where it is in range
+abbrev pub place_at_step : ℕ → ℤ → Option ℕ
+place_at_step place move = option_and_then (λ to. if nat_lt to (2 ^ 63) then Some to else None) (moved place move)
+
 -- the pair that two steps lead to, where it is in range
 abbrev pub pair_at_steps : Pair → ℕ → ℤ → Option Pair
 pair_at_steps before step move =
-    option_and_then
-    (λ place. if nat_lt (before.handle + step) (2 ^ 63) && nat_lt place (2 ^ 63) then Some (record { handle = before.handle + step; place = place }) else None)
-    (moved before.place move)
+    if nat_lt (before.handle + step) (2 ^ 63) then option_map (λ place. record { handle = before.handle + step; place = place }) (place_at_step before.place move) else None
 
 -- a pair behind another as a code over bytes
 unfoldable pub pair_behind : Pair → Grammar ℕ Pair

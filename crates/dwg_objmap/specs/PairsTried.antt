@@ -187,7 +187,7 @@ pairs_all pairs seen index place body spelled are =
     (λ less long. pairs_end less index (place + length body) (seen ++ pairs) (last_of ORIGIN pairs))
 
 -- where no front spells a value, none is parsed
-none_parsed : {A V : Type 0} (IsText : List A → Type 0) (code : Grammar A V) (letters : List A) → IsCode IsText code → IsText letters → (BeginsWith code letters → ⊥) → code.parse letters ≡ None
+pub none_parsed : {A V : Type 0} (IsText : List A → Type 0) (code : Grammar A V) (letters : List A) → IsCode IsText code → IsText letters → (BeginsWith code letters → ⊥) → code.parse letters ≡ None
 none_parsed {A} {V} IsText code letters is text none = by_parse (code.parse letters) refl
   where
     by_parse : (found : Option (V × List A)) → code.parse letters ≡ found → found ≡ None
