@@ -1,1 +1,2 @@
 pub mod PairReading
+pub mod StepReading

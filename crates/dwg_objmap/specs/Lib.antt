@@ -9,3 +9,5 @@ pub mod PairChains
 pub mod PairsTried
 pub mod PageLaws
 pub mod MapLaws
+pub mod Gathered
+pub mod Reading

@@ -1,8 +1,10 @@
 //! The object map: where the frame of each object stands (Open Design Specification, "Object map").
 #![tactic(auto)]
 
+mod gathered;
 mod page;
 mod pair;
+mod reading;
 
 pub use page::Page;
 pub use pair::Pair;

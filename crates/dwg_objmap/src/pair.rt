@@ -39,7 +39,7 @@ fn pair_at_steps(before: &Pair, step: u64, move_: i64) -> Option<Pair>
 }
 
 /// What is behind so many bytes.
-fn behind(bytes: &[u8], count: usize) -> &[u8]
+pub(crate) fn behind(bytes: &[u8], count: usize) -> &[u8]
     requires { count ≤ length bytes.now }
     ensures { result.now ≡ drop count bytes.now }
 {
