@@ -1,2 +1,3 @@
 pub mod PairReading
 pub mod StepReading
+pub mod Answered

@@ -8,3 +8,4 @@ mod reading;
 
 pub use page::Page;
 pub use pair::Pair;
+pub use reading::{read_map, read_page};

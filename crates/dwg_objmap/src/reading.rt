@@ -6,7 +6,7 @@ ghost use Rattle.dwg_objmap.specs.declared.pair.Pair.{Pair};
 ghost use Rattle.dwg_objmap.specs.Pairs.{ORIGIN};
 ghost use Rattle.dwg_objmap.specs.Pages.{PageAt, AreHandles, handles_of, MapOf};
 ghost use Rattle.dwg_objmap.specs.MapLines.{map_refusal, word_at, sized_at, body_at, page_end, pairs_behind, page_behind, pages_behind, tried_page, tried_map, HasPage, HasCheckWord, RefusesPage, RefusesMap};
-ghost use Rattle.dwg_objmap.specs.Reading.{GoesOn};
+ghost use Rattle.dwg_objmap.specs.Reading.{GoesOn, AnswersPage};
 
 use crate::gathered::Gathered;
 use crate::page::Page;
@@ -152,4 +152,104 @@ fn read_pairs(
         at += step.used;
     }
     Ok(gathered)
+}
+
+/// The place behind the check word of a page.
+fn next_place(bytes: &[u8], place: u64) -> u64
+    requires { HasPage bytes.now place }
+    ensures { result ≡ page_end bytes.now place }
+{
+    place + word_at(bytes, place as usize) + 2
+}
+
+/// The pairs of a page, as bytes.
+fn body(bytes: &[u8], place: u64) -> &[u8]
+    requires { HasPage bytes.now place }
+    ensures { result.now ≡ body_at bytes.now place }
+{
+    let size = word_at(bytes, place as usize);
+    behind(sized(bytes, place as usize, size as usize), 2)
+}
+
+/// Reads the page at a place behind the pairs that were read before.
+#[tactic(auto, using(crate::specs::PageLaws::page_right, crate::specs::PagePlaces::length_of_body))]
+fn read_page_behind(
+    gathered: Gathered,
+    bytes: &[u8],
+    place: u64,
+    index: u64,
+) -> Result<Gathered, Fault>
+    ensures tried { Answers result (page_behind gathered place index bytes.now) }
+    ensures lies { OnOk result (HasPage bytes.now place) }
+{
+    if let Some(refusal) = refusal_of_page(bytes, place, index) {
+        return Err(Fault::Refused(refusal));
+    }
+    read_pairs(gathered, body(bytes, place), place + 2, index)
+}
+
+/// Reads the page at a place of the input. `index` is the number of the page, counted from 0, which a refusal tells.
+///
+/// It is refused where it is short, its size is below 2 or its check word is wrong; and by its first pair that isn't spelled
+/// or leaves its range, has the null handle, or has the handle of an earlier pair of the page (Open Design Specification,
+/// "Object map"). What memory is taken is for the pairs that are there.
+pub fn read_page(alloc: Global, bytes: &[u8], place: u64, index: u64) -> Result<Page, Fault>
+    // The page that stands at the place, and the place behind it.
+    ensures found { IfOk result (λ page. PageAt bytes.now place page.pairs page.next × AreHandles (handles_of page.pairs)) }
+
+    // The first line of the table that fails, or want of memory.
+    ensures refused { IfErr result (λ fault. IfRefused fault (RefusesPage [] place index bytes.now)) }
+    ensures of_table { IfErr result IsFaultOfTable }
+
+    // What trying the page gives.
+    ensures tried { AnswersPage result (tried_page place index bytes.now) (page_end bytes.now place) }
+{
+    match read_page_behind(Gathered::new(alloc), bytes, place, index) {
+        Ok(gathered) => Ok(Page {
+            pairs: gathered.into_pairs(),
+            next: next_place(bytes, place),
+        }),
+        Err(fault) => Err(fault),
+    }
+}
+
+/// Reads the pages of the map from a place on. Each takes a byte or more.
+fn read_pages(alloc: Global, bytes: &[u8], place: u64) -> Result<Gathered, Fault>
+    ensures { Answers result (pages_behind (length bytes.now + 1) [] place 0 bytes.now) }
+{
+    let mut gathered = Gathered::new(alloc);
+    let mut at = place;
+    'along: for index in 0..bytes.len() + 1 {
+        gathered = match read_page_behind(gathered, bytes, at, index as u64) {
+            Ok(gathered) => gathered,
+            Err(fault) => return Err(fault),
+        };
+        if word_at(bytes, at as usize) == END_SIZE {
+            return Ok(gathered);
+        }
+        at = next_place(bytes, at);
+    }
+    Ok(gathered)
+}
+
+/// Reads all pairs of the map whose first page is at a place of the input, in map order.
+///
+/// It is refused by the first page that `read_page` would refuse, where the pairs of the pages before it count as earlier
+/// pairs; the index in the refusal is the number of that page, counted from 0. What memory is taken is for the pairs that
+/// are there.
+pub fn read_map(alloc: Global, bytes: &[u8], place: u64) -> Result<Items<Pair>, Fault>
+    // The pairs of the map that stands at the place.
+    ensures found { IfOk result (λ pairs. MapOf bytes.now place pairs) }
+
+    // The first line of the table that fails, or want of memory.
+    ensures refused { IfErr result (λ fault. IfRefused fault (RefusesMap place bytes.now)) }
+    ensures of_table { IfErr result IsFaultOfTable }
+
+    // What trying the map gives.
+    ensures tried { Answers result (tried_map place bytes.now) }
+{
+    match read_pages(alloc, bytes, place) {
+        Ok(gathered) => Ok(gathered.into_pairs()),
+        Err(fault) => Err(fault),
+    }
 }

@@ -1,0 +1,120 @@
+-- What is answered of a page and of a map, from what was tried.
+use Rattle.std.proofs.Common.{◌≡◌, refl, sym, ◌∙◌, ap, ap₂, subst, ℕ, suc, ◌+◌, ◌-◌, ◌<◌, ◌≤◌, List, [], length, get_or, arith, add-one, inl, inr}
+use Rattle.std.specs.Prelude.{Ok, Err, ◌⊎◌}
+use Rattle.dwg_base.specs.Bytes.{AreBytes, are_bytes}
+use Rattle.dwg_base.specs.Refusals.{Tried, Answers, IfRefused, IsOfTable, IsFaultOfTable}
+use Rattle.dwg_base.specs.declared.refusal.Refusal.{Refusal}
+use Rattle.dwg_base.specs.declared.refusal.Fault.{Fault}
+use Rattle.dwg_base.specs.declared.refusal.Fault.TheVariants.{NoMemory, Refused}
+use Rattle.dwg_objmap.specs.declared.pair.Pair.{Pair}
+use Rattle.dwg_objmap.specs.Pages.{PageAt, AreHandles, handles_of, MapOf}
+use Rattle.dwg_objmap.specs.MapLines.{map_refusal, word_at, page_end, page_behind, pages_behind, tried_page, tried_map, HasPage, HasCheckWord, FailsAtPair, RefusesPage, RefusesMap}
+use Rattle.dwg_objmap.specs.MapLaws.{page_fails, page_ends, page_follows, page_is_tried, page_is_refused, map_is_tried, map_is_refused}
+use Rattle.dwg_objmap.specs.Reading.{AnswersPage}
+
+-- a refusal by one of the lines on the map is by a line of the table
+of_line : (line index place : ℕ) (refusal : Refusal) → 21 ≤ line → line ≤ 26 → refusal ≡ map_refusal line index place → IsOfTable refusal
+of_line line index place refusal least most is = subst IsOfTable (sym is) (record { least = omega arith; most = omega arith })
+
+-- a pair that fails does so by a line of the table
+pair_of_table : (seen : List Pair) (place index : ℕ) (body : List ℕ) (refusal : Refusal) → FailsAtPair seen place index body refusal → IsOfTable refusal
+pair_of_table seen place index body refusal fails =
+    elim fails.fails [
+      | inl none ↦ of_line 24 index _ refusal (omega arith) (omega arith) none.0
+      | inr bad ↦ elim bad.5 [
+        | inl null ↦ of_line 25 index _ refusal (omega arith) (omega arith) null.0
+        | inr again ↦ of_line 26 index _ refusal (omega arith) (omega arith) again.0
+      ]
+    ]
+
+-- so is a page refused by one
+page_of_table : (seen : List Pair) (place index : ℕ) (bytes : List ℕ) (refusal : Refusal) → RefusesPage seen place index bytes refusal → IsOfTable refusal
+page_of_table seen place index bytes refusal (inl short) = of_line 21 index place refusal (omega arith) (omega arith) short.0
+page_of_table seen place index bytes refusal (inr (inl cut)) = of_line 21 index place refusal (omega arith) (omega arith) cut.0
+page_of_table seen place index bytes refusal (inr (inr (inl small))) = of_line 22 index place refusal (omega arith) (omega arith) small.0
+page_of_table seen place index bytes refusal (inr (inr (inr (inl wrong)))) = of_line 23 index _ refusal (omega arith) (omega arith) wrong.0
+page_of_table seen place index bytes refusal (inr (inr (inr (inr fails)))) = pair_of_table seen _ index _ refusal fails.2
+
+-- the fault of a page is a refusal by a line of the table, or want of memory
+pub page_fault_of_table : (fault : Fault) (place index : ℕ) (bytes : List ℕ) → IfRefused fault (RefusesPage [] place index bytes) → IsFaultOfTable fault
+page_fault_of_table NoMemory place index bytes refused = tt
+page_fault_of_table (Refused refusal) place index bytes refused = page_of_table [] place index bytes refusal refused
+
+-- and that of a map too
+pub map_fault_of_table : (fault : Fault) (place : ℕ) (bytes : List ℕ) → IfRefused fault (RefusesMap place bytes) → IsFaultOfTable fault
+map_fault_of_table NoMemory place bytes refused = tt
+map_fault_of_table (Refused refusal) place bytes refused = page_of_table _ refused.last _ bytes refusal refused.refuses
+
+-- the pairs that were read of a page are those that are tried
+pub page_tried : (seen gathered pairs : List Pair) (place index : ℕ) (bytes : List ℕ) → seen ≡ [] → page_behind seen place index bytes ≡ Ok gathered → pairs ≡ gathered
+    → tried_page place index bytes ≡ Ok pairs
+unfolding tried_page
+page_tried seen gathered pairs place index bytes none told same = ap (λ all. page_behind all place index bytes) (sym none) ∙ told ∙ ap Ok (sym same)
+
+-- so they stand there
+pub page_found : (pairs : List Pair) (place index next : ℕ) (bytes : List ℕ) → ((i : ℕ) → get_or bytes i 0 < 256) → tried_page place index bytes ≡ Ok pairs → next ≡ page_end bytes place
+    → PageAt bytes place pairs next × AreHandles (handles_of pairs)
+page_found pairs place index next bytes small tried is =
+    let (page, handles) = (page_is_tried place index bytes pairs (are_bytes bytes small)).0 tried in (subst (PageAt bytes place pairs) (sym is) page, handles)
+
+-- the fault of reading a page is that of trying it
+pub page_fault : (seen : List Pair) (fault : Fault) (place index end : ℕ) (bytes : List ℕ) → seen ≡ [] → Answers {V = List Pair} (Err fault) (page_behind seen place index bytes)
+    → AnswersPage (Err fault) (tried_page place index bytes) end
+unfolding tried_page
+page_fault seen NoMemory place index end bytes none answers = tt
+page_fault seen (Refused refusal) place index end bytes none answers = ap (λ all. page_behind all place index bytes) (sym none) ∙ answers
+
+-- so the page is refused
+pub page_refused_by : (fault : Fault) (place index end : ℕ) (bytes : List ℕ) → ((i : ℕ) → get_or bytes i 0 < 256) → AnswersPage (Err fault) (tried_page place index bytes) end
+    → IfRefused fault (RefusesPage [] place index bytes)
+page_refused_by NoMemory place index end bytes small answers = tt
+page_refused_by (Refused refusal) place index end bytes small answers = (page_is_refused place index bytes refusal (are_bytes bytes small)).0 answers
+
+-- the pairs that were read of a map are those that are tried
+pub map_tried : (gathered pairs : List Pair) (place : ℕ) (bytes : List ℕ) → pages_behind (length bytes + 1) [] place 0 bytes ≡ Ok gathered → pairs ≡ gathered → tried_map place bytes ≡ Ok pairs
+unfolding tried_map
+map_tried gathered pairs place bytes told same = ap (λ n. pages_behind n [] place 0 bytes) (sym (add-one (length bytes))) ∙ told ∙ ap Ok (sym same)
+
+-- so it is a map of them
+pub map_found : (pairs : List Pair) (place : ℕ) (bytes : List ℕ) → ((i : ℕ) → get_or bytes i 0 < 256) → tried_map place bytes ≡ Ok pairs → MapOf bytes place pairs
+map_found pairs place bytes small tried = (map_is_tried place bytes pairs (are_bytes bytes small)).0 tried
+
+-- the fault of reading a map is that of trying it
+pub map_fault : (fault : Fault) (place : ℕ) (bytes : List ℕ) → Answers {V = List Pair} (Err fault) (pages_behind (length bytes + 1) [] place 0 bytes)
+    → Answers {V = List Pair} (Err fault) (tried_map place bytes)
+unfolding tried_map
+map_fault NoMemory place bytes answers = tt
+map_fault (Refused refusal) place bytes answers = ap (λ n. pages_behind n [] place 0 bytes) (sym (add-one (length bytes))) ∙ answers
+
+-- so the map is refused
+pub map_refused_by : (fault : Fault) (place : ℕ) (bytes : List ℕ) → ((i : ℕ) → get_or bytes i 0 < 256) → Answers {V = List Pair} (Err fault) (tried_map place bytes)
+    → IfRefused fault (RefusesMap place bytes)
+map_refused_by NoMemory place bytes small answers = tt
+map_refused_by (Refused refusal) place bytes small answers = (map_is_refused place bytes refusal (are_bytes bytes small)).0 answers
+
+-- a refused page ends the map's reading
+pub pages_wrong : (fault : Fault) (left index place : ℕ) (seen : List Pair) (bytes : List ℕ) (all : Tried (List Pair)) → 0 < left → pages_behind left seen place index bytes ≡ all
+    → Answers {V = List Pair} (Err fault) (page_behind seen place index bytes) → Answers {V = List Pair} (Err fault) all
+pages_wrong NoMemory left index place seen bytes all some whole answers = tt
+pages_wrong (Refused refusal) left index place seen bytes all some whole answers =
+    let is : left ≡ suc (left - 1) = omega arith in
+    sym whole ∙ ap (λ n. pages_behind n seen place index bytes) is ∙ page_fails (left - 1) index place seen bytes refusal answers
+
+-- the page of size 2 ends it
+pub pages_over : (left index place : ℕ) (seen gathered : List Pair) (bytes : List ℕ) (all : Tried (List Pair)) → 0 < left → pages_behind left seen place index bytes ≡ all
+    → page_behind seen place index bytes ≡ Ok gathered → word_at bytes place ≡ 2 → all ≡ Ok gathered
+pages_over left index place seen gathered bytes all some whole told two =
+    let is : left ≡ suc (left - 1) = omega arith in
+    sym whole ∙ ap (λ n. pages_behind n seen place index bytes) is ∙ page_ends (left - 1) index place seen gathered bytes told two
+
+-- and so do as many turns as there are bytes
+pub pages_out : (left index place : ℕ) (seen : List Pair) (bytes : List ℕ) (all : Tried (List Pair)) → left ≡ 0 → pages_behind left seen place index bytes ≡ all → all ≡ Ok seen
+unfolding pages_behind
+pages_out left index place seen bytes all none whole = sym whole ∙ ap (λ n. pages_behind n seen place index bytes) none
+
+-- behind any other page what is left gives the whole
+pub pages_on : (left less index place next : ℕ) (seen gathered : List Pair) (bytes : List ℕ) (all : Tried (List Pair)) → left ≡ less + 1 → pages_behind left seen place index bytes ≡ all
+    → page_behind seen place index bytes ≡ Ok gathered → (word_at bytes place ≡ 2 → ⊥) → next ≡ page_end bytes place → pages_behind less gathered next (index + 1) bytes ≡ all
+pages_on left less index place next seen gathered bytes all is whole told other there =
+    ap (λ p. pages_behind less gathered p (index + 1) bytes) there
+    ∙ sym (page_follows less index place seen gathered bytes told other) ∙ ap (λ n. pages_behind n seen place index bytes) (sym (add-one less) ∙ sym is) ∙ whole
