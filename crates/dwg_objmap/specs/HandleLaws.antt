@@ -123,11 +123,12 @@ handles_front pairs others are_all = record {
 
 -- the handle of a pair behind others is positive and new
 pub handle_behind : (pairs others : List Pair) (pair : Pair) → AreHandles (handles_of (pairs ++ pair ∷ others)) → (0 < pair.handle) × (has_handle pairs pair.handle ≡ false)
-handle_behind pairs others pair are_all =
-    (all_behind (λ n. 0 < n) (handles_of pairs) (handles_of others) pair.handle are.positive,
-      has_handles pairs pair.handle ∙ none_of_them (handles_of pairs) pair.handle (λ i inside same.
+handle_behind pairs others pair are_all = (
+  all_behind (λ n. 0 < n) (handles_of pairs) (handles_of others) pair.handle are.positive,
+  has_handles pairs pair.handle ∙ none_of_them (handles_of pairs) pair.handle (λ i inside same.
       are.distinct i (length (handles_of pairs)) inside (omega (arith, length-append (handles_of pairs) (pair.handle ∷ handles_of others)))
-      (get_or-append (handles_of pairs) (pair.handle ∷ handles_of others) 0 i inside ∙ same ∙ sym (get_or-append_seam (handles_of pairs) pair.handle (handles_of others) 0))))
+      (get_or-append (handles_of pairs) (pair.handle ∷ handles_of others) 0 i inside ∙ same ∙ sym (get_or-append_seam (handles_of pairs) pair.handle (handles_of others) 0))),
+)
   where
     are : AreHandles (handles_of pairs ++ pair.handle ∷ handles_of others)
     are = subst AreHandles (handles_behind pairs others pair) are_all

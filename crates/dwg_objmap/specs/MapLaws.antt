@@ -184,7 +184,7 @@ map_all place bytes pairs map =
 pub map_refused : (place : ℕ) (bytes : List ℕ) (refusal : Refusal) → AreBytes bytes → RefusesMap place bytes refusal → tried_map place bytes ≡ Err refusal
 unfolding tried_map
 map_refused place bytes refusal text map =
-    pages_go map.pages (suc (length bytes)) 0 place map.last [] bytes (Err refusal) map.stand map.handles (omega arith) (omega arith) 
+    pages_go map.pages (suc (length bytes)) 0 place map.last [] bytes (Err refusal) map.stand map.handles (omega arith) (omega arith)
     (λ less some. ap (λ n. pages_behind less (joined map.pages) map.last n bytes) (zero-add (length map.pages)) ∙ fails less some)
   where
     fails : (less : ℕ) → 0 < less → pages_behind less (joined map.pages) map.last (length map.pages) bytes ≡ Err refusal

@@ -153,8 +153,12 @@ pair_is_code before fits_before = record {
       let two : length (signed_mc.short (move_between before.place pair.place)) ≤ length spelled.back =
       subst (λ z. length (signed_mc.short z) ≤ length spelled.back) (move_is before.place pair.place spelled.move spelled.place)
       (signed_mc_is_code.least spelled.back spelled.move spelled.move_spelled) in
-      omega (arith, ap length spelled.whole, length-append spelled.front spelled.back,
-        length-append (mc.short (pair.handle - before.handle)) (signed_mc.short (move_between before.place pair.place)));
+      omega (
+        arith,
+        ap length spelled.whole,
+        length-append spelled.front spelled.back,
+        length-append (mc.short (pair.handle - before.handle)) (signed_mc.short (move_between before.place pair.place)),
+      );
 }
   where
     last : ℕ → ℤ × List ℕ → Option (Pair × List ℕ)
@@ -169,16 +173,19 @@ pair_is_code before fits_before = record {
     of_parts : (letters : List ℕ) (one : ℕ × List ℕ) (two : ℤ × List ℕ) (pair : Pair) → AreBytes letters → IsFound mc.Spells letters one → signed_mc.parse one.1 ≡ Some two
         → StepsLead before one.0 two.0 pair → IsFound (PairSpells before) letters (pair, two.1)
     of_parts letters one two pair text (front, first, same) was leads =
-        let (back, second, behind) = signed_mc_is_code.sound one.1 two.1 two.0 (bytes_closed front one.1 (subst AreBytes same text)) was in
-        (front ++ back, record {
-          step = one.0;
-          move = two.0;
-          front = front;
-          back = back;
-          in_range = leads.in_range;
-          handle = leads.handle;
-          place = leads.place;
-          step_spelled = first;
-          move_spelled = second;
-          whole = refl;
-        }, same ∙ ap (λ rest. front ++ rest) behind ∙ sym (append_assoc front back two.1))
+        let (back, second, behind) = signed_mc_is_code.sound one.1 two.1 two.0 (bytes_closed front one.1 (subst AreBytes same text)) was in (
+          front ++ back,
+          record {
+            step = one.0;
+            move = two.0;
+            front = front;
+            back = back;
+            in_range = leads.in_range;
+            handle = leads.handle;
+            place = leads.place;
+            step_spelled = first;
+            move_spelled = second;
+            whole = refl;
+          },
+          same ∙ ap (λ rest. front ++ rest) behind ∙ sym (append_assoc front back two.1),
+        )

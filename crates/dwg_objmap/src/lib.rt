@@ -2,10 +2,12 @@
 #![tactic(auto)]
 
 mod gathered;
+mod laws;
 mod page;
 mod pair;
 mod reading;
 
+pub use laws::map_laws;
 pub use page::Page;
 pub use pair::Pair;
 pub use reading::{read_map, read_page};

@@ -126,12 +126,7 @@ fn read_next(
 }
 
 /// Reads the pairs of a page behind those that were read before. Each takes a byte or more.
-fn read_pairs(
-    gathered: Gathered,
-    body: &[u8],
-    place: u64,
-    index: u64,
-) -> Result<Gathered, Fault>
+fn read_pairs(gathered: Gathered, body: &[u8], place: u64, index: u64) -> Result<Gathered, Fault>
     requires { place + length body.now < 2 ^ 64 }
     ensures { Answers result (pairs_behind (length body.now) index gathered ORIGIN place body.now) }
 {
