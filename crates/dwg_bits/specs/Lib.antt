@@ -6,3 +6,4 @@ pub mod Parts
 pub mod Sink
 pub mod SinkLaws
 pub mod PaddingLaw
+pub mod WholeBytes
