@@ -12,6 +12,7 @@ pub mod TableLaws
 pub mod DefaultLaws
 pub mod ModularLaws
 pub mod SignedLaws
+pub mod ModularBytes
 pub mod TruthCode
 pub mod Parts
 pub mod PlainSpellings
