@@ -9,5 +9,6 @@ pub mod PairChains
 pub mod PairsTried
 pub mod PageLaws
 pub mod MapLaws
+pub mod FillingLaws
 pub mod Gathered
 pub mod Reading

@@ -1,5 +1,6 @@
 -- How the object map is written: which pairs go into which page. A rule of this project, over the map of the Open Design Specification, "Object map".
-use Rattle.std.specs.Prelude.{◌≡◌, ⊤, ℕ, ◌+◌, ◌^◌, ◌<◌, ◌≤◌, Bool, false, true, List, [], ◌∷◌, ◌++◌, length, nat_le, if◌then◌else◌}
+use Rattle.std.specs.Prelude.{◌≡◌, ◌≢◌, ⊤, ℕ, ◌+◌, ◌^◌, ◌<◌, ◌≤◌, Bool, false, true, List, [], ◌∷◌, ◌++◌, length, flat_map, nat_le, if◌then◌else◌}
+use Rattle.dwg_codes.specs.Combinators.{short_chain}
 use Rattle.dwg_objmap.specs.declared.pair.Pair.{Pair}
 use Rattle.dwg_objmap.specs.Pairs.{ORIGIN, pair_behind}
 use Rattle.dwg_objmap.specs.Pages.{page_bytes}
@@ -19,12 +20,12 @@ abbrev pub FRESH : OpenPage
 FRESH = record { body = []; last = ORIGIN; ended = false }
 
 -- from which pair the next one of a page is told: the last put, or the origin where the page has none
+abbrev pub told_behind : List ℕ → Pair → Pair
+told_behind [] last = ORIGIN
+told_behind (byte ∷ bytes) last = last
+
 abbrev pub told_from : OpenPage → Pair
-told_from page = before page.body
-  where
-    before : List ℕ → Pair
-    before [] = ORIGIN
-    before (byte ∷ bytes) = page.last
+told_from page = told_behind page.body page.last
 
 -- the bytes of a pair in the open page
 abbrev pub added : OpenPage → Pair → List ℕ
@@ -65,3 +66,24 @@ map_bytes pairs = map_behind FRESH pairs
 abbrev pub Ascend : ℕ → List Pair → Type 0
 Ascend handle [] = ⊤
 Ascend handle (pair ∷ pairs) = (handle < pair.handle) × (pair.handle < 2 ^ 63) × (pair.place < 2 ^ 63) × Ascend pair.handle pairs
+
+-- the pairs of a page as they are written
+abbrev pub body_of : List Pair → List ℕ
+body_of pairs = short_chain pair_behind (λ pair. pair) ORIGIN pairs
+
+-- the next page, if there is one, begins with a pair for which the page has no room
+abbrev pub HasNoRoom : List Pair → List (List Pair) → Type 0
+HasNoRoom page [] = ⊤
+HasNoRoom page (next ∷ pages) = (pair : Pair) × (others : List Pair) × (next ≡ pair ∷ others) × (MOST_PAGE < 2 + length (body_of (page ++ pair ∷ [])))
+
+-- each page has pairs, is no larger than a page may be, and has no room for the first pair of the next one
+abbrev pub AreFilled : List (List Pair) → Type 0
+AreFilled [] = ⊤
+AreFilled (page ∷ pages) = (page ≢ []) × (2 + length (body_of page) ≤ MOST_PAGE) × HasNoRoom page pages × AreFilled pages
+
+-- bytes are pages of these pairs, filled one after the other, and the page that ends the map
+pub record IsFilling (pairs : List Pair) (bytes : List ℕ) : Type 0 where
+  pub pages : List (List Pair)
+  pub all : pairs ≡ flat_map (λ (page : List Pair). page) pages
+  pub filled : AreFilled pages
+  pub whole : bytes ≡ flat_map (λ (page : List Pair). page_bytes (body_of page)) pages ++ page_bytes []
