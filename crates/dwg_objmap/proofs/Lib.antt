@@ -1,3 +1,5 @@
 pub mod PairReading
 pub mod StepReading
 pub mod Answered
+pub mod PairWriting
+pub mod PageFilling

@@ -10,5 +10,6 @@ pub mod PairsTried
 pub mod PageLaws
 pub mod MapLaws
 pub mod FillingLaws
+pub mod OpenPages
 pub mod Gathered
 pub mod Reading

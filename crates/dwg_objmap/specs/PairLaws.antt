@@ -67,7 +67,7 @@ move_leads from to = by_test (nat_le from to) refl
     by_test false fails = let far : to < from = grind (arith, nat_tests) in omega (arith, ints)
 
 -- and isn't longer than the places allow
-move_small : (from to : ℕ) → from < 2 ^ 63 → to < 2 ^ 63 → (sign_and_magnitude (move_between from to)).1 < 2 ^ 63
+pub move_small : (from to : ℕ) → from < 2 ^ 63 → to < 2 ^ 63 → (sign_and_magnitude (move_between from to)).1 < 2 ^ 63
 move_small from to small small_to = by_test (nat_le from to) refl
   where
     by_test : (test : Bool) → nat_le from to ≡ test → (sign_and_magnitude (if test then pos (to - from) else negsuc (from - to - 1))).1 < 2 ^ 63

@@ -6,6 +6,7 @@ mod laws;
 mod page;
 mod pair;
 mod reading;
+mod writing;
 
 pub use laws::map_laws;
 pub use page::Page;

@@ -1,7 +1,7 @@
 //! Pairs of the map.
 
 ghost use Rattle.std.specs.Prelude.{◌≡◌, ◌+◌, ◌^◌, ◌<◌, ◌≤◌, Some, None, IfSome, IfNone, drop, length};
-ghost use Rattle.dwg_objmap.specs.Pairs.{place_at_step, pair_at_steps, pair_behind};
+ghost use Rattle.dwg_objmap.specs.Pairs.{ORIGIN, place_at_step, pair_at_steps, pair_behind};
 
 use dwg_base::Handle;
 use dwg_codes::{read_mc, read_signed_mc};
@@ -13,6 +13,16 @@ pub struct Pair {
     pub handle: Handle,
     /// The frame's place in the file, in bytes, below 2^63.
     pub place: u64,
+}
+
+/// What the first pair of a page is told from: the null handle and the place 0.
+pub(crate) fn origin() -> Pair
+    ensures { result ≡ ORIGIN }
+{
+    let Some(handle) = Handle::new(0) else {
+        unreachable!()
+    };
+    Pair { handle, place: 0 }
 }
 
 /// The place that a step leads to. None where it would lie before the begin of the file, or not below 2^63.

@@ -10,13 +10,13 @@ ghost use Rattle.dwg_objmap.specs.Reading.{GoesOn, AnswersPage};
 
 use crate::gathered::Gathered;
 use crate::page::Page;
-use crate::pair::{Pair, behind, read_pair};
-use dwg_base::{Fault, Handle, Items, NoMemory, Refusal};
+use crate::pair::{Pair, behind, origin, read_pair};
+use dwg_base::{Fault, Items, NoMemory, Refusal};
 use dwg_check::check;
 use std::alloc::Global;
 
 /// What the check word of a page begins as (Open Design Specification, "Object map").
-const CHECK_START: u16 = 0xC0C1;
+pub(crate) const CHECK_START: u16 = 0xC0C1;
 
 /// The size of the page that ends the map: no more than its own two bytes.
 const END_SIZE: u64 = 2;
@@ -26,16 +26,6 @@ fn refusal(line: u8, index: u64, place: u64) -> Refusal
     ensures { result ≡ map_refusal line index place }
 {
     Refusal { line, index, place }
-}
-
-/// What the first pair of a page is told from: the null handle and the place 0.
-fn origin() -> Pair
-    ensures { result ≡ ORIGIN }
-{
-    let Some(handle) = Handle::new(0) else {
-        unreachable!()
-    };
-    Pair { handle, place: 0 }
 }
 
 /// The two bytes at a place as a number, the most significant byte first.
