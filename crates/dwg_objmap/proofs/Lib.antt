@@ -3,3 +3,4 @@ pub mod StepReading
 pub mod Answered
 pub mod PairWriting
 pub mod PageFilling
+pub mod Putting

@@ -296,7 +296,7 @@ stands_further letters front back place stands = record {
 }
 
 -- a page has four bytes beside its pairs
-length_of_page : (body : List ℕ) → length (page_bytes body) ≡ 4 + length body
+pub length_of_page : (body : List ℕ) → length (page_bytes body) ≡ 4 + length body
 length_of_page body =
     omega (
       arith,

@@ -11,5 +11,7 @@ pub mod PageLaws
 pub mod MapLaws
 pub mod FillingLaws
 pub mod OpenPages
+pub mod MapLength
+pub mod MapLengthLaw
 pub mod Gathered
 pub mod Reading

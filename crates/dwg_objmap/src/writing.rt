@@ -1,6 +1,6 @@
 //! Writing the map: which pairs go into which page, and the pages one behind the other.
 
-ghost use Rattle.std.specs.Prelude.{◌≡◌, ◌+◌, ◌-◌, ◌*◌, ◌%◌, ◌^◌, ◌<◌, ◌≤◌, ◌++◌, List, [], length, true, IfOk};
+ghost use Rattle.std.specs.Prelude.{◌≡◌, ◌+◌, ◌-◌, ◌*◌, ◌%◌, ◌^◌, ◌<◌, ◌≤◌, ◌++◌, List, [], length, true, false, IfOk, OnOk, OnErr};
 ghost use Rattle.std.specs.Int.{w16, to_be_bytes};
 ghost use Rattle.dwg_check.specs.CheckWord.{FRAME_START, check_word};
 ghost use Rattle.dwg_bits.specs.Bits.{bits};
@@ -10,15 +10,17 @@ ghost use Rattle.dwg_base.specs.Bytes.{AreBytes};
 ghost use Rattle.dwg_base.specs.Devices.{Counts, Sends};
 ghost use Rattle.dwg_objmap.specs.Pairs.{IsPair, ORIGIN, move_between, pair_behind};
 ghost use Rattle.dwg_objmap.specs.Pages.{sized_pairs, page_bytes};
-ghost use Rattle.dwg_objmap.specs.Writing.{MOST_PAGE, told_behind, has_room, added, closing_body};
+ghost use Rattle.dwg_objmap.specs.Writing.{MOST_PAGE, FRESH, told_behind, has_room, added, given, filled, closing_body, closing};
 ghost use Rattle.dwg_objmap.specs.OpenPages.{page_of, IsOpen};
 
 use crate::pair::{Pair, origin};
 use crate::reading::CHECK_START;
-use dwg_base::{Sink, WriteFault, put_all};
+use dwg_base::{NoMemory, Sink, WriteFault, put_all};
 use dwg_bits::BitSink;
 use dwg_check::check;
 use dwg_codes::{mc_bytes, signed_mc_bytes, write_mc, write_signed_mc};
+use std::alloc::Global;
+use std::marker::Model;
 
 /// The largest size of a page that is written: its own two bytes and its pairs.
 const MOST_PAGE: u64 = 2032;
@@ -152,4 +154,103 @@ fn send_page<W: Sink>(body: &[u8], sink: &mut W) -> Result<(), WriteFault>
         Err(WriteFault) => return Err(WriteFault),
     }
     put_all(sink, &word_of_page(body))
+}
+
+/// Sends the page, if it has pairs.
+fn send_filled<W: Sink>(body: &[u8], sink: &mut W) -> Result<(), WriteFault>
+    requires { 2 + length body.now < 2 ^ 16 }
+    ensures bytes { Sends (W.taken sink.old) (W.taken sink.new) (closing_body body.now) result }
+    ensures counts { Counts (W.faults sink.old) (W.faults sink.new) result }
+{
+    if body.is_empty() {
+        return Ok(());
+    }
+    send_page(body, sink)
+}
+
+/// Writes the map of pairs that come in ascending order of handle (Open Design Specification, "Object map").
+///
+/// A pair goes into the page that is being filled where that page's size with it is at most 2032, and else begins the next
+/// page. Contracts see the page that is being filled, the last pair, and whether the map has ended. After a fault a writer
+/// isn't used again.
+#[derive(Drop)]
+pub struct PageWriter {
+    page: BitSink,
+    last: Pair,
+    ended: bool,
+}
+
+impl Model for PageWriter {
+    ghost use Rattle.dwg_objmap.specs.Writing.{OpenPage};
+
+    ghost Value = { OpenPage };
+
+    ghost use Rattle.dwg_objmap.specs.OpenPages.{page_of, IsOpen};
+
+    ghost view = { λ writer. page_of writer.page writer.last writer.ended };
+
+    ghost invariant = { λ writer. IsOpen writer.page writer.last };
+}
+
+impl PageWriter {
+    /// A writer that was given no pair yet. It takes the memory of a page here, and none later; the only refusal is want of
+    /// that memory.
+    pub fn new(alloc: Global) -> Result<PageWriter, NoMemory>
+        ensures { IfOk result (λ writer. writer ≡ FRESH) }
+    {
+        let mut page = BitSink::new(alloc);
+        if !page.reserve(8 * (MOST_PAGE - 2)) {
+            return Err(NoMemory);
+        }
+        Ok(PageWriter {
+            page,
+            last: origin(),
+            ended: false,
+        })
+    }
+
+    /// Puts the next pair into the map, and sends the page that has no room for it. A fault comes only where the sink's count
+    /// of faults rose; then it took a front of that page, and the writer isn't used again.
+    pub fn put<W: Sink>(&mut self, pair: Pair, sink: &mut W) -> Result<(), WriteFault>
+        requires handle { self.old.last.handle < pair.handle }
+        requires place { pair.place < 2 ^ 63 }
+        requires open { self.old.ended ≡ false }
+        ensures bytes { Sends (W.taken sink.old) (W.taken sink.new) (given self.old pair) result }
+        ensures counts { Counts (W.faults sink.old) (W.faults sink.new) result }
+        ensures page { OnOk result (self.new ≡ filled self.old pair) }
+        ensures failed { OnErr result (self.new.ended ≡ true) }
+    {
+        let _handle = pair.handle.value();
+        if has_room(&self.page, &self.last, &pair) {
+            add(&mut self.page, &self.last, &pair);
+            self.last = pair;
+            return Ok(());
+        }
+        match send_page(body(&self.page), sink) {
+            Ok(()) => {}
+            Err(WriteFault) => {
+                self.ended = true;
+                return Err(WriteFault);
+            }
+        }
+        start(&mut self.page, &pair);
+        self.last = pair;
+        Ok(())
+    }
+
+    /// Ends the map: sends the page that is being filled, if it has pairs, and the page without pairs. A fault comes only
+    /// where the sink's count of faults rose; then it took a front of these bytes.
+    pub fn end<W: Sink>(&mut self, sink: &mut W) -> Result<(), WriteFault>
+        requires { self.old.ended ≡ false }
+        ensures bytes { Sends (W.taken sink.old) (W.taken sink.new) (closing self.old) result }
+        ensures counts { Counts (W.faults sink.old) (W.faults sink.new) result }
+        ensures ended { self.new.ended ≡ true }
+    {
+        self.ended = true;
+        match send_filled(body(&self.page), sink) {
+            Ok(()) => {}
+            Err(WriteFault) => return Err(WriteFault),
+        }
+        send_page(&[], sink)
+    }
 }
