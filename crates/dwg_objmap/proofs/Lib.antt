@@ -4,3 +4,4 @@ pub mod Answered
 pub mod PairWriting
 pub mod PageFilling
 pub mod Putting
+pub mod Counting

@@ -1,6 +1,7 @@
 -- What is counted is the length of the map.
-use Rattle.std.proofs.Common.{◌≡◌, refl, sym, ◌∙◌, ap, ap₂, ℕ, ◌+◌, Bool, true, false, List, [], ◌∷◌, ◌++◌, length, length-append, arith}
+use Rattle.std.proofs.Common.{◌≡◌, refl, sym, ◌∙◌, ap, ap₂, ℕ, ◌+◌, ◌<◌, Bool, true, false, List, [], ◌∷◌, ◌++◌, length, length-append, arith}
 use Rattle.std.specs.Prelude.{nat_le, ◌==◌, if◌then◌else◌}
+use Rattle.std.proofs.lemmas.Bool.Decides.{nat_tests}
 use Rattle.dwg_objmap.specs.declared.pair.Pair.{Pair}
 use Rattle.dwg_objmap.specs.Pairs.{ORIGIN, pair_behind}
 use Rattle.dwg_objmap.specs.Pages.{page_bytes}
@@ -8,10 +9,14 @@ use Rattle.dwg_objmap.specs.Writing.{MOST_PAGE, OpenPage, FRESH, told_behind, to
 use Rattle.dwg_objmap.specs.FillingLaws.{length_of_page, filled_on, filled_new, given_none, given_page}
 use Rattle.dwg_objmap.specs.MapLength.{told_at, size_added, length_behind}
 
+-- a number above 0 isn't 0
+not_none : (n : ℕ) → 0 < n → (n == 0) ≡ false
+not_none n some = grind (arith, nat_tests)
+
 -- only the size of a page says from which pair the next one is told
 told_by_size : (body : List ℕ) (last : Pair) → told_behind body last ≡ told_at (length body) last
 told_by_size [] last = refl
-told_by_size (byte ∷ bytes) last = refl
+told_by_size (byte ∷ bytes) last = ap (λ (none : Bool). if none then ORIGIN else last) (sym (not_none (length (byte ∷ bytes)) (omega arith)))
 
 -- so the size of the next pair
 added_by_size : (page : OpenPage) (pair : Pair) → length (added page pair) ≡ size_added (length page.body) page.last pair
@@ -20,7 +25,8 @@ added_by_size page pair = ap (λ (from : Pair). length ((pair_behind from).short
 -- the length of what closes a map
 length_of_closing_body : (body : List ℕ) → length (closing_body body) ≡ (if length body == 0 then 0 else 4 + length body)
 length_of_closing_body [] = refl
-length_of_closing_body (byte ∷ bytes) = length_of_page (byte ∷ bytes)
+length_of_closing_body (byte ∷ bytes) =
+    length_of_page (byte ∷ bytes) ∙ ap (λ (none : Bool). if none then 0 else 4 + length (byte ∷ bytes)) (sym (not_none (length (byte ∷ bytes)) (omega arith)))
 
 -- the length of the map from an open page on
 length_from : (pairs : List Pair) (page : OpenPage) → length (map_behind page pairs) ≡ length_behind (length page.body) page.last pairs

@@ -3,12 +3,15 @@
 
 mod gathered;
 mod laws;
+mod length;
 mod page;
 mod pair;
 mod reading;
 mod writing;
 
 pub use laws::map_laws;
+pub use length::map_length;
 pub use page::Page;
 pub use pair::Pair;
 pub use reading::{read_map, read_page};
+pub use writing::PageWriter;

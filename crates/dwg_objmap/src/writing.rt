@@ -23,7 +23,7 @@ use std::alloc::Global;
 use std::marker::Model;
 
 /// The largest size of a page that is written: its own two bytes and its pairs.
-const MOST_PAGE: u64 = 2032;
+pub(crate) const MOST_PAGE: u64 = 2032;
 
 /// The step from a place to another.
 fn move_between(from: u64, to: u64) -> i64
@@ -36,7 +36,7 @@ fn move_between(from: u64, to: u64) -> i64
 
 /// How many bytes a pair is written by behind another.
 #[tactic(auto, using(crate::specs::PairLaws::move_small, crate::proofs::PairWriting::length_of_pair))]
-fn pair_bytes(before: &Pair, pair: &Pair) -> u64
+pub(crate) fn pair_bytes(before: &Pair, pair: &Pair) -> u64
     requires before { IsPair before.now }
     requires pair { IsPair pair.now }
     requires above { before.now.handle ≤ pair.now.handle }
