@@ -321,10 +321,18 @@ pages_written (page ∷ pages) bytes place (some, small, full, others) (one, mor
     let there : place + length (page_bytes (body_of page)) ≡ place + 4 + length (body_of page) = omega (arith, length_of_page (body_of page)) in
     let (last, next, stand, end) = pages_written pages bytes (place + 4 + length (body_of page)) others more
     (subst (λ at. StandsAt bytes at (flat_map (λ (page : List Pair). page_bytes (body_of page)) pages ++ page_bytes [])) there
-    (stands_further bytes (page_bytes (body_of page)) (flat_map (λ (page : List Pair). page_bytes (body_of page)) pages ++ page_bytes []) place split)) in
-    (last, next, (place + 4 + length (body_of page),
-      page_written bytes place page (body_of page) one small
-      (stands_front bytes (page_bytes (body_of page)) (flat_map (λ (page : List Pair). page_bytes (body_of page)) pages ++ page_bytes []) place split), some, stand), end)
+    (stands_further bytes (page_bytes (body_of page)) (flat_map (λ (page : List Pair). page_bytes (body_of page)) pages ++ page_bytes []) place split)) in (
+      last,
+      next,
+      (
+        place + 4 + length (body_of page),
+        page_written bytes place page (body_of page) one small
+            (stands_front bytes (page_bytes (body_of page)) (flat_map (λ (page : List Pair). page_bytes (body_of page)) pages ++ page_bytes []) place split),
+        some,
+        stand,
+      ),
+      end,
+    )
 
 -- ascending handles are above what they ascend from
 ascend_above : (pairs : List Pair) (handle i : ℕ) → Ascend handle pairs → i < length (handles_of pairs) → handle < slice_index (handles_of pairs) i

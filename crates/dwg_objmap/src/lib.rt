@@ -9,7 +9,7 @@ mod pair;
 mod reading;
 mod writing;
 
-pub use laws::map_laws;
+pub use laws::{map_laws, map_writing_laws};
 pub use length::map_length;
 pub use page::Page;
 pub use pair::Pair;

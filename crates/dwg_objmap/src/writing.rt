@@ -218,6 +218,8 @@ impl PageWriter {
         ensures bytes { Sends (W.taken sink.old) (W.taken sink.new) (given self.old pair) result }
         ensures counts { Counts (W.faults sink.old) (W.faults sink.new) result }
         ensures page { OnOk result (self.new ≡ filled self.old pair) }
+        ensures last { OnOk result (self.new.last ≡ pair) }
+        ensures still_open { OnOk result (self.new.ended ≡ false) }
         ensures failed { OnErr result (self.new.ended ≡ true) }
     {
         let _handle = pair.handle.value();

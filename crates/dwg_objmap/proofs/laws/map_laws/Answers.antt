@@ -1,9 +1,14 @@
+use Rattle.dwg_base.specs.Bytes.{AreBytes}
+use Rattle.dwg_codes.specs.CodeLaws.{lawful_of_code}
+use Rattle.dwg_objmap.specs.Pairs.{pair_behind}
+use Rattle.dwg_objmap.specs.PairLaws.{pair_is_code}
 use Rattle.dwg_objmap.specs.PageLaws.{page_next}
 use Rattle.dwg_objmap.specs.MapLaws.{page_is_tried, page_is_refused, map_is_tried, map_is_refused, map_is_unique}
 use Rattle.dwg_objmap.proofs.laws.map_laws.Goals as goal
 
 pub returns : goal.returns
 returns c = record {
+  pair = λ before fits. lawful_of_code AreBytes (pair_behind before) (pair_is_code before fits);
   read = map_is_tried;
   refused = map_is_refused;
   page_read = page_is_tried;
