@@ -16,6 +16,8 @@ mod handles;
 #[cfg(test)]
 mod modular;
 #[cfg(test)]
+mod objmap;
+#[cfg(test)]
 mod sections;
 #[cfg(test)]
 mod text;

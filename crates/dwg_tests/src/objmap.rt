@@ -1,0 +1,173 @@
+//! The object map: its pages, its pairs, and the filling of pages.
+
+ghost use Rattle.std.specs.Prelude.{◌≡◌, ◌^◌, ◌<◌, IfOk};
+
+use dwg_base::{Fault, Handle, Items, MemSink, Refusal, WriteFault};
+use dwg_objmap::{PageWriter, Pair, map_laws, map_length, map_writing_laws, read_map, read_page};
+use std::alloc::Global;
+use std::test::Fail;
+
+/// The map of one pair: the handle C at 183.
+const ONE_PAIR: [u8; 11] = [
+    0x00, 0x05, 0x0C, 0xB7, 0x01, 0x2E, 0x77, 0x00, 0x02, 0x01, 0xD0,
+];
+
+/// A pair of a handle and a place.
+fn pair(handle: u64, place: u64) -> Result<Pair, Fail>
+    ensures { IfOk result (λ pair. pair ≡ record { handle = handle; place = place }) }
+{
+    match Handle::new(handle) {
+        Some(handle) => Ok(Pair { handle, place }),
+        None => Err("no handle")?,
+    }
+}
+
+/// What a map at a place gives: its pairs as numbers, or its refusal.
+fn told(alloc: Global, bytes: &[u8], place: u64) -> Result<Result<Vec<(u64, u64)>, Refusal>, Fail> {
+    let pairs = match read_map(alloc, bytes, place) {
+        Ok(pairs) => pairs,
+        Err(Fault::Refused(refusal)) => return Ok(Err(refusal)),
+        Err(Fault::NoMemory) => Err("no memory")?,
+    };
+    let mut numbers = Vec::new(alloc);
+    for pair in pairs.as_slice() {
+        numbers.push((pair.handle.value(), pair.place))?;
+    }
+    Ok(Ok(numbers))
+}
+
+#[test]
+fn pairs_are_read_in_map_order(rt: HostRuntime) -> Result<(), Fail> {
+    map_laws();
+    let cases: [(&[u8], &[(u64, u64)]); 5] = [
+        // A map without pairs.
+        (&[0x00, 0x02, 0x01, 0xD0], &[]),
+        (&ONE_PAIR, &[(0xC, 183)]),
+        // The second page has a lesser handle, and a place that is told from 0 again.
+        (
+            &[
+                0x00, 0x04, 0x05, 0x10, 0x9D, 0x7E, 0x00, 0x04, 0x03, 0x20, 0x29, 0x7D, 0x00, 0x02,
+                0x01, 0xD0,
+            ],
+            &[(5, 16), (3, 32)],
+        ),
+        // Both steps are spelled by one byte more than is needed.
+        (
+            &[
+                0x00, 0x07, 0x8C, 0x00, 0xB7, 0x81, 0x00, 0xD2, 0x01, 0x00, 0x02, 0x01, 0xD0,
+            ],
+            &[(0xC, 183)],
+        ),
+        // The greatest place.
+        (
+            &[
+                0x00, 0x0D, 0x01, 0xFF, 0xFF, 0xFF, 0xFF, 0xFF, 0xFF, 0xFF, 0xFF, 0xFF, 0x00, 0x2D,
+                0x98, 0x00, 0x02, 0x01, 0xD0,
+            ],
+            &[(1, 0x7FFF_FFFF_FFFF_FFFF)],
+        ),
+    ];
+    for (bytes, pairs) in cases {
+        match told(rt.alloc(), bytes, 0)? {
+            Ok(numbers) => assert_eq!(rt; numbers.as_slice(), pairs),
+            Err(refusal) => assert_eq!(rt; refusal.line, 0),
+        }
+    }
+    Ok(())
+}
+
+/// The line, the page and the place by which a map at a place is refused.
+fn refused(alloc: Global, bytes: &[u8], place: u64) -> Result<Option<(u8, u64, u64)>, Fail> {
+    match told(alloc, bytes, place)? {
+        Ok(_) => Ok(None),
+        Err(refusal) => Ok(Some((refusal.line, refusal.index, refusal.place))),
+    }
+}
+
+#[test]
+fn names_the_first_line_of_the_map_that_fails(rt: HostRuntime) -> Result<(), Fail> {
+    let cases: [(&[u8], u64, (u8, u64, u64)); 12] = [
+        // Sizes of 0 and 1.
+        (&[0x00, 0x00, 0x01, 0xD0], 0, (22, 0, 0)),
+        (&[0x00, 0x01, 0x01, 0xD0], 0, (22, 0, 0)),
+        // The null handle.
+        (&[0x00, 0x05, 0x00, 0xB7, 0x01, 0x2D, 0xB7], 0, (25, 0, 2)),
+        // A handle twice in a page.
+        (
+            &[0x00, 0x07, 0x0C, 0xB7, 0x01, 0x00, 0x10, 0xC2, 0xA7],
+            0,
+            (26, 0, 5),
+        ),
+        // A handle in two pages.
+        (
+            &[
+                0x00, 0x04, 0x05, 0x10, 0x9D, 0x7E, 0x00, 0x06, 0x03, 0x20, 0x02, 0x01, 0xEE, 0x59,
+                0x00, 0x02, 0x01, 0xD0,
+            ],
+            0,
+            (26, 1, 10),
+        ),
+        // A place before the begin of the file.
+        (&[0x00, 0x04, 0x0C, 0x41, 0x31, 0xB9], 0, (24, 0, 2)),
+        // A place one step behind the greatest.
+        (
+            &[
+                0x00, 0x0F, 0x01, 0xFF, 0xFF, 0xFF, 0xFF, 0xFF, 0xFF, 0xFF, 0xFF, 0xFF, 0x00, 0x01,
+                0x01, 0x4F, 0x68,
+            ],
+            0,
+            (24, 0, 13),
+        ),
+        // A handle one step behind the greatest.
+        (
+            &[
+                0x00, 0x0E, 0xFF, 0xFF, 0xFF, 0xFF, 0xFF, 0xFF, 0xFF, 0xFF, 0x7F, 0x00, 0x01, 0x00,
+                0xDF, 0x9B,
+            ],
+            0,
+            (24, 0, 12),
+        ),
+        // A pair that the page cuts off.
+        (&[0x00, 0x04, 0x0C, 0xB7, 0x77, 0x39], 0, (24, 0, 2)),
+        // A step of eleven bytes.
+        (
+            &[
+                0x00, 0x0E, 0x80, 0x80, 0x80, 0x80, 0x80, 0x80, 0x80, 0x80, 0x80, 0x80, 0x00, 0x00,
+                0x82, 0xA5,
+            ],
+            0,
+            (24, 0, 2),
+        ),
+        // The place counts from the begin of the input; no place is too great to ask for.
+        (
+            &[0xFF, 0xFF, 0xFF, 0x00, 0x05, 0x00, 0xB7, 0x01, 0x2D, 0xB7],
+            3,
+            (25, 0, 5),
+        ),
+        (&ONE_PAIR, u64::MAX, (21, 0, u64::MAX)),
+    ];
+    for (bytes, place, refusal) in cases {
+        assert_eq!(rt; refused(rt.alloc(), bytes, place)?, Some(refusal));
+    }
+    Ok(())
+}
+
+#[test]
+fn a_map_that_is_cut_or_changed_is_refused(rt: HostRuntime) -> Result<(), Fail> {
+    for length in 0..ONE_PAIR.len() {
+        let (index, place) = if length < 7 { (0, 0) } else { (1, 7) };
+        assert_eq!(rt;
+            refused(rt.alloc(), &ONE_PAIR[..length], 0)?,
+            Some((21, index, place)),
+            "{length} bytes"
+        );
+    }
+    for (changed, refusal) in [(2, (23, 0, 5)), (6, (23, 0, 5)), (10, (23, 1, 9))] {
+        let mut bytes = ONE_PAIR;
+        if let Some(byte) = bytes.get_mut(changed) {
+            *byte ^= 1;
+        }
+        assert_eq!(rt; refused(rt.alloc(), &bytes, 0)?, Some(refusal));
+    }
+    Ok(())
+}
