@@ -12,11 +12,8 @@ use crate::gathered::Gathered;
 use crate::page::Page;
 use crate::pair::{Pair, behind, origin, read_pair};
 use dwg_base::{Fault, Items, NoMemory, Refusal};
-use dwg_check::check;
+use dwg_check::{FRAME_START, check};
 use std::alloc::Global;
-
-/// What the check word of a page begins as (Open Design Specification, "Object map").
-pub(crate) const CHECK_START: u16 = 0xC0C1;
 
 /// The size of the page that ends the map: no more than its own two bytes.
 const END_SIZE: u64 = 2;
@@ -52,7 +49,7 @@ fn is_right(bytes: &[u8], place: usize, size: usize) -> bool
     requires size { size ≡ word_at bytes.now place }
     ensures { IsTrue result ↔ HasCheckWord bytes.now place }
 {
-    word_at(bytes, place + size) == u64::from(check(CHECK_START, sized(bytes, place, size)))
+    word_at(bytes, place + size) == u64::from(check(FRAME_START, sized(bytes, place, size)))
 }
 
 /// Why the page at a place is refused, whatever its pairs: it is short, its size is below 2, or its check word is wrong.

@@ -14,10 +14,9 @@ ghost use Rattle.dwg_objmap.specs.Writing.{MOST_PAGE, FRESH, told_behind, has_ro
 ghost use Rattle.dwg_objmap.specs.OpenPages.{page_of, IsOpen};
 
 use crate::pair::{Pair, origin};
-use crate::reading::CHECK_START;
 use dwg_base::{NoMemory, Sink, WriteFault, put_all};
 use dwg_bits::BitSink;
-use dwg_check::check;
+use dwg_check::{FRAME_START, check};
 use dwg_codes::{mc_bytes, signed_mc_bytes, write_mc, write_signed_mc};
 use std::alloc::Global;
 use std::marker::Model;
@@ -136,7 +135,7 @@ fn word_of_page(body: &[u8]) -> [u8; 2]
     requires { 2 + length body.now < 2 ^ 16 }
     ensures { result ≡ to_be_bytes w16 (check_word FRAME_START (sized_pairs body.now)) }
 {
-    check(check(CHECK_START, &size_of_page(body)), body).to_be_bytes()
+    check(check(FRAME_START, &size_of_page(body)), body).to_be_bytes()
 }
 
 /// Sends a page: its size, its pairs, and its check word.

@@ -18,6 +18,8 @@ mod modular;
 #[cfg(test)]
 mod objmap;
 #[cfg(test)]
+mod objects;
+#[cfg(test)]
 mod sections;
 #[cfg(test)]
 mod text;

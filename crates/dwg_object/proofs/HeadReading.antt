@@ -1,0 +1,87 @@
+-- Reading a head, part by part.
+use Rattle.std.proofs.Common.{◌≡◌, refl, sym, ◌∙◌, ap, subst, ℕ, ◌*◌, Bool, List, ◌++◌, length, Option, Some, None}
+use Rattle.std.proofs.lemmas.List.{append_assoc, append_cancel_left}
+use Rattle.dwg_bits.specs.Bits.{bits}
+use Rattle.dwg_bits.specs.BitLaws.{bits_between_all}
+use Rattle.dwg_bits.specs.Cursor.{bits_between}
+use Rattle.dwg_codes.specs.Grammar.{Grammar, IsCode, AnyLetters, BeginsWith, Reads}
+use Rattle.dwg_codes.specs.CodeLaws.{unique_of_code}
+use Rattle.dwg_codes.specs.Codes.{bs, rl}
+use Rattle.dwg_codes.specs.Combinators.{seq}
+use Rattle.dwg_codes.specs.NumberLaws.{rl_is_code}
+use Rattle.dwg_codes.specs.TableLaws.{bs_is_code}
+use Rattle.dwg_handles.specs.ReferenceCodes.{own_handle}
+use Rattle.dwg_object.specs.Objects.{HeadParts}
+use Rattle.dwg_object.specs.Forms.{head}
+use Rattle.dwg_object.specs.HeadLaws.{TellsHead}
+
+-- two values that were read one behind the other
+seq_read : {V W : Type 0} (first : Grammar Bool V) (second : V → Grammar Bool W) (v : V) (w : W) (old mid new : List Bool)
+    → Reads first (Some v) old mid → Reads (second v) (Some w) mid new → Reads (seq first second) (Some (v, w)) old new
+seq_read first second v w old mid new one two =
+    (one.0 ++ two.0, (one.0, two.0, one.1, two.1, refl), one.2 ∙ ap (λ rest. one.0 ++ rest) two.2 ∙ sym (append_assoc one.0 two.0 new))
+
+-- where the first isn't there, both aren't
+first_unread : {V W : Type 0} (first : Grammar Bool V) (second : V → Grammar Bool W) (old : List Bool) → (BeginsWith first old → ⊥) → BeginsWith (seq first second) old → ⊥
+first_unread first second old unread (both, front, rest, spelled, whole) =
+    unread (both.0, spelled.0, spelled.1 ++ rest, spelled.2, whole ∙ ap (λ all. all ++ rest) spelled.4 ∙ append_assoc spelled.0 spelled.1 rest)
+
+-- where the second isn't behind the first, both aren't there
+second_unread : {V W : Type 0} (first : Grammar Bool V) (second : V → Grammar Bool W) (v : V) (old mid : List Bool) → IsCode AnyLetters first
+    → Reads first (Some v) old mid → (BeginsWith (second v) mid → ⊥) → BeginsWith (seq first second) old → ⊥
+second_unread first second v old mid is one unread (both, front, rest, spelled, whole) =
+    let split : old ≡ spelled.0 ++ (spelled.1 ++ rest) = whole ∙ ap (λ all. all ++ rest) spelled.4 ∙ append_assoc spelled.0 spelled.1 rest in
+    let same : (v ≡ both.0) × (one.0 ≡ spelled.0) =
+    unique_of_code AnyLetters first is v both.0 one.0 spelled.0 mid (spelled.1 ++ rest) one.1 spelled.2 (sym one.2 ∙ split) in
+    let behind : mid ≡ spelled.1 ++ rest = append_cancel_left one.0 mid (spelled.1 ++ rest) (sym one.2 ∙ split ∙ ap (λ f. f ++ (spelled.1 ++ rest)) (sym same.1)) in
+    unread (both.1, spelled.1, rest, subst (λ x. (second x).Spells both.1 spelled.1) (sym same.0) spelled.3, behind)
+
+-- a bit size and an own handle
+abbrev size_and_own : Grammar Bool (ℕ × ℕ)
+size_and_own = seq rl (λ size. own_handle)
+
+-- a number, a bit size and an own handle that were read are a head
+pub head_read : (number size own : ℕ) (old behind_number behind_size new : List Bool) → Reads bs (Some number) old behind_number → Reads rl (Some size) behind_number behind_size
+    → Reads own_handle (Some own) behind_size new → Reads head (Some (record { number = number; size = size; own = own })) old new
+unfolding head
+head_read number size own old behind_number behind_size new one two three =
+    let others = seq_read rl (λ size. own_handle) size own behind_number behind_size new two three in
+    let all = seq_read bs (λ number. size_and_own) number (size, own) old behind_number new one others in
+    (all.0, ((number, (size, own)), refl, all.1), all.2)
+
+-- where these aren't there, there is no head
+none_read : (result : Option HeadParts) (old : List Bool) → result ≡ None → (BeginsWith (seq bs (λ number. size_and_own)) old → ⊥) → Reads head result old old
+unfolding head
+none_read result old none unread = subst (λ (one : Option HeadParts). Reads head one old old) (sym none) (begins, refl)
+  where
+    begins : BeginsWith head old → ⊥
+    begins (parts, front, rest, spelled, whole) = unread (spelled.0, front, rest, spelled.2, whole)
+
+-- there is no number
+pub number_unread : (result : Option HeadParts) (old left : List Bool) → result ≡ None → Reads bs None old left → Reads head result old old
+number_unread result old left none one = none_read result old none (first_unread bs (λ number. size_and_own) old one.0)
+
+-- there is no bit size behind it
+pub size_unread : (number : ℕ) (result : Option HeadParts) (old behind_number left : List Bool) → result ≡ None → Reads bs (Some number) old behind_number → Reads rl None behind_number left
+    → Reads head result old old
+size_unread number result old behind_number left none one two =
+    none_read result old none (second_unread bs (λ number. size_and_own) number old behind_number bs_is_code one (first_unread rl (λ size. own_handle) behind_number two.0))
+
+-- there is no own handle behind these
+pub own_unread : (number size : ℕ) (result : Option HeadParts) (old behind_number behind_size left : List Bool) → result ≡ None
+    → Reads bs (Some number) old behind_number → Reads rl (Some size) behind_number behind_size → Reads own_handle None behind_size left → Reads head result old old
+own_unread number size result old behind_number behind_size left none one two three =
+    none_read result old none
+    (second_unread bs (λ number. size_and_own) number old behind_number bs_is_code one (second_unread rl (λ size. own_handle) size behind_number behind_size rl_is_code two three.0))
+
+-- what was read of bits tells their head
+pub read_tells : (result : Option HeadParts) (letters old left : List Bool) → old ≡ letters → Reads head result old left → TellsHead letters result
+read_tells (Some parts) letters old left same (front, spelled, whole) = record { front = front; rest = left; spelled = spelled; whole = sym same ∙ whole }
+read_tells None letters old left same (none, unmoved) = λ parts is. none (parts, is.front, is.rest, is.spelled, same ∙ is.whole)
+
+-- what was read from the first bit of a body tells its head
+pub body_tells : (body bytes : List ℕ) (place end : ℕ) (result : Option HeadParts) (left : List Bool) → bytes ≡ body → place ≡ 0 → end ≡ 8 * length body
+    → Reads head result (bits_between bytes place end) left → TellsHead (bits body) result
+body_tells body bytes place end result left same from to =
+    read_tells result (bits body) (bits_between bytes place end) left
+    (ap (λ (all : List ℕ). bits_between all place end) same ∙ ap (λ (n : ℕ). bits_between body n end) from ∙ bits_between_all body end to)

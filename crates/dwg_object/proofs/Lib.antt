@@ -1,0 +1,4 @@
+pub mod SpanReading
+pub mod HeadReading
+pub mod FrameReading
+pub mod FrameWriting

@@ -1,0 +1,26 @@
+use Rattle.dwg_codes.specs.CodeLaws.{lawful_of_code}
+use Rattle.dwg_codes.specs.Grammar.{AnyLetters}
+use Rattle.dwg_object.specs.Forms.{head}
+use Rattle.dwg_object.specs.HeadLaws.{head_is_code, begins_same}
+use Rattle.dwg_object.specs.SpanLaws.{tried_span_means}
+use Rattle.dwg_object.specs.FrameLaws.{frames_same, tried_frame_means, held_frame}
+use Rattle.dwg_object.specs.FormLaws.{forms_same, form_of_head, head_of_form, form_is_valid, valid_is_form, written_frame, frame_is_bytes}
+use Rattle.dwg_object.proofs.laws.frame_laws.Goals as goal
+
+pub returns : goal.returns
+returns c =
+    record {
+      head_lawful = lawful_of_code AnyLetters head head_is_code;
+      one_head = begins_same;
+      spans = tried_span_means;
+      frames = tried_frame_means;
+      one_frame = frames_same;
+      held = held_frame;
+      one_form = forms_same;
+      form = form_of_head;
+      form_head = head_of_form;
+      valid = form_is_valid;
+      written = valid_is_form;
+      framed = written_frame;
+      bytes = frame_is_bytes;
+    }

@@ -1,0 +1,45 @@
+-- Frames of objects: a length, a body, a check word (Open Design Specification, "R13 to R2000 file layout, object data").
+use Rattle.std.specs.Prelude.{◌≡◌, ℕ, ◌+◌, List, ◌++◌, length}
+use Rattle.std.specs.Int.{w16, to_le_bytes}
+use Rattle.dwg_base.specs.Bytes.{StandsAt}
+use Rattle.dwg_bits.specs.Bits.{bits}
+use Rattle.dwg_check.specs.CheckWord.{FRAME_START, check_word}
+use Rattle.dwg_codes.specs.ModularCodes.{ms}
+use Rattle.dwg_object.specs.declared.span.Span.{Span}
+use Rattle.dwg_object.specs.Forms.{BeginsWithHead}
+use Rattle.dwg_object.specs.Objects.{ObjectValue, RawValue}
+
+-- what a frame's check word is over, and the check word, its least significant byte first: a spelling of the body's length, and the body
+abbrev pub framed_body : List ℕ → List ℕ → List ℕ
+framed_body size body = size ++ body ++ to_le_bytes w16 (check_word FRAME_START (size ++ body))
+
+-- a frame of this body stands at a place of the input, and ends at another: MS length of the body in bytes, the body, RS check word
+pub record FrameAt (bytes : List ℕ) (place : ℕ) (body : List ℕ) (end : ℕ) : Type 0 where
+  pub size : List ℕ
+  pub spelled : ms.Spells (length body) size
+  pub stands : StandsAt bytes place (framed_body size body)
+  pub ends : end ≡ place + length size + length body + 2
+
+-- a frame of an object with this handle stands at a place
+abbrev pub FrameHolds : List ℕ → ℕ → ℕ → ℕ → Type 0
+FrameHolds bytes place own end = (body : List ℕ) × (number : ℕ) × FrameAt bytes place body end × BeginsWithHead (bits body) number own
+
+-- a length, and so many bytes and two more, stand at the place of a span, and its places are theirs
+pub record SpanAt (bytes : List ℕ) (span : Span) : Type 0 where
+  pub size : List ℕ
+  pub body : List ℕ
+  pub word : List ℕ
+  pub spelled : ms.Spells (length body) size
+  pub two : length word ≡ 2
+  pub stands : StandsAt bytes span.from (size ++ body ++ word)
+  pub body_place : span.body ≡ span.from + length size
+  pub body_end : span.body_end ≡ span.body + length body
+  pub ends : span.end ≡ span.body_end + 2
+
+-- the bytes of an object's body as they are written
+abbrev pub body_bytes : ObjectValue → List ℕ
+body_bytes (RawValue number handle bytes) = bytes
+
+-- the frame of an object as it is written: the length in the fewest units
+unfoldable pub frame_bytes : ObjectValue → List ℕ
+frame_bytes value = framed_body (ms.short (length (body_bytes value))) (body_bytes value)

@@ -1,0 +1,12 @@
+pub mod Objects
+pub mod Forms
+pub mod Frames
+pub mod FrameLines
+pub mod FrameCauses
+pub mod FoundFrames
+pub mod StandingLaws
+pub mod HeadLaws
+pub mod LengthLaws
+pub mod SpanLaws
+pub mod FrameLaws
+pub mod FormLaws

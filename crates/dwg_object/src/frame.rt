@@ -1,0 +1,96 @@
+//! Frames of objects: a length, a body, a check word.
+
+ghost use Rattle.std.specs.Prelude.{◌≡◌, ◌+◌, ◌≤◌, ℕ, List, length, IfOk, IfErr};
+ghost use Rattle.std.specs.Int.{w16, from_le_bytes};
+ghost use Rattle.dwg_base.specs.Refusals.{IsFaultOfTable};
+ghost use Rattle.dwg_object.specs.Forms.{FormOf};
+ghost use Rattle.dwg_object.specs.FoundFrames.{AnswersFrame};
+ghost use Rattle.dwg_object.specs.FrameLines.{bytes_from, has_check_word, tried_frame};
+ghost use Rattle.dwg_object.specs.Frames.{FrameAt};
+ghost use Rattle.dwg_object.specs.Objects.{value_of};
+
+use crate::object::{Object, read_body};
+use crate::span::{Span, frame_refusal, span_at};
+use dwg_base::{Fault, NoMemory};
+use dwg_check::{FRAME_START, check};
+use dwg_classes::Class;
+use std::alloc::Global;
+
+// The lines of the table on the check word of a frame and on the head of its body.
+const CHECK_LINE: u8 = 30;
+
+const HEAD_LINE: u8 = 31;
+
+/// An object that was read, and where its frame ends.
+#[derive(Drop)]
+pub struct Found<'a> {
+    /// The object.
+    pub object: Object<'a>,
+    /// The place behind its frame's check word.
+    pub end: u64,
+}
+
+/// The bytes from one place to another.
+fn piece(bytes: &[u8], from: u64, to: u64) -> &[u8]
+    requires ordered { from ≤ to }
+    requires within { to ≤ length bytes.now }
+    ensures { result.now ≡ bytes_from bytes.now from to }
+{
+    &bytes[from as usize..to as usize]
+}
+
+/// The RS at a place: two bytes, the low one first.
+fn word_at(bytes: &[u8], place: u64, end: u64) -> u16
+    requires two { end ≡ place + 2 }
+    requires within { end ≤ length bytes.now }
+    ensures { result ≡ from_le_bytes w16 (bytes_from bytes.now place end) }
+{
+    let word = piece(bytes, place, end);
+    u16::from_le_bytes([word[0], word[1]])
+}
+
+/// Whether the check word of a span is that of its length and its body.
+fn has_check_word(bytes: &[u8], span: &Span) -> bool
+    requires body { span.now.from ≤ span.now.body }
+    requires body_end { span.now.body ≤ span.now.body_end }
+    requires ends { span.now.end ≡ span.now.body_end + 2 }
+    requires within { span.now.end ≤ length bytes.now }
+    ensures { result ≡ has_check_word bytes.now span.now }
+{
+    let word = check(FRAME_START, piece(bytes, span.from, span.body_end));
+    word_at(bytes, span.body_end, span.end) == word
+}
+
+/// Reads the frame at a place of the input, of the pair of this index. It is refused where the place is behind the input,
+/// where no length is spelled there or the frame passes the end of the input, where the check word is wrong, and where the
+/// body has no head, in this order.
+pub fn read_frame<'a>(
+    alloc: Global,
+    bytes: &'a [u8],
+    place: u64,
+    index: u64,
+    classes: &[Class],
+) -> Result<Found<'a>, Fault>
+    // The object of the frame that stands there.
+    ensures found { IfOk result (λ found. (body : List ℕ) × FrameAt bytes.now place body found.end × FormOf classes.now body (value_of found.object)) }
+
+    // What is found and what is refused is what is tried; there is want of memory beside.
+    ensures tried { AnswersFrame result (tried_frame place index bytes.now) }
+    ensures of_table { IfErr result IsFaultOfTable }
+{
+    let span = match span_at(bytes, place, index) {
+        Ok(span) => span,
+        Err(refusal) => return Err(Fault::Refused(refusal)),
+    };
+    if !has_check_word(bytes, &span) {
+        return Err(Fault::Refused(frame_refusal(CHECK_LINE, index, place)));
+    }
+    match read_body(alloc, piece(bytes, span.body, span.body_end), classes) {
+        Ok(Some(object)) => Ok(Found {
+            object,
+            end: span.end,
+        }),
+        Ok(None) => Err(Fault::Refused(frame_refusal(HEAD_LINE, index, place))),
+        Err(NoMemory) => Err(Fault::NoMemory),
+    }
+}

@@ -1,0 +1,32 @@
+//! Laws of heads, frames and forms, as the contract of a function without code.
+
+ghost use Rattle.dwg_codes.specs.CodeLaws.{IsLawful};
+ghost use Rattle.dwg_object.specs.Forms.{head};
+ghost use Rattle.dwg_object.specs.FormLaws.{FormsAreOne, HeadsHaveForms, FormsHaveHeads, FormsAreValid, ValidObjectsAreForms, WrittenFramesStand, WrittenFramesAreBytes};
+ghost use Rattle.dwg_object.specs.FrameLaws.{FramesAreOne, FramesAreTold, FramesAreHeld};
+ghost use Rattle.dwg_object.specs.HeadLaws.{HeadsAreOne};
+ghost use Rattle.dwg_object.specs.SpanLaws.{SpansAreTold};
+
+/// What holds of heads, frames and forms, for all bytes: heads are told apart, and a body begins with one at the most. What
+/// is tried of a span and of a frame is what stands at the place or the first line that refuses it, and nothing else; at a
+/// place there is one frame at the most. A body is read as one object exactly where it has a head; what is read of one below
+/// 2^29 bytes is valid and written no longer, what is written of a valid object is read as it, and where its frame stands
+/// its body is framed.
+pub fn frame_laws()
+    ensures head_lawful { IsLawful head }
+    ensures one_head { HeadsAreOne }
+
+    ensures spans { SpansAreTold }
+    ensures frames { FramesAreTold }
+    ensures one_frame { FramesAreOne }
+    ensures held { FramesAreHeld }
+
+    ensures one_form { FormsAreOne }
+    ensures form { HeadsHaveForms }
+    ensures form_head { FormsHaveHeads }
+    ensures valid { FormsAreValid }
+    ensures written { ValidObjectsAreForms }
+
+    ensures framed { WrittenFramesStand }
+    ensures bytes { WrittenFramesAreBytes }
+{}
