@@ -50,8 +50,7 @@ pub record IsOfTable (refusal : Refusal) : Type 0 where
 
 -- a refusal that a fault carries is by a line of the table
 abbrev pub IsFaultOfTable : Fault → Type 0
-IsFaultOfTable NoMemory = ⊤
-IsFaultOfTable (Refused refusal) = IsOfTable refusal
+IsFaultOfTable fault = IfRefused fault IsOfTable
 
 -- the part of the file that a line of the table speaks of
 unfoldable pub part_word_of : ℕ → List ℕ

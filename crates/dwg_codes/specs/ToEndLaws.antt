@@ -46,17 +46,6 @@ pub spells_one_more : {A V : Type 0} (code : Grammar A V) (values : List V) (val
     → SpellsAll code (values ++ value ∷ []) (front ++ letters)
 spells_one_more code values value front letters spelled one = spells_all_append code values (value ∷ []) front letters spelled (spells_one code value letters one)
 
--- lists of values, one behind the other, are values
-pub are_values_append : {A V : Type 0} (code : Grammar A V) (values others : List V) → AreValues code values → AreValues code others → AreValues code (values ++ others)
-are_values_append code [] others are are_others = are_others
-are_values_append code (value ∷ values) others are are_others = (are.0, are_values_append code values others are.1 are_others)
-
--- and are written one behind the other
-pub short_all_append : {A V : Type 0} (code : Grammar A V) (values others : List V) → short_all code (values ++ others) ≡ short_all code values ++ short_all code others
-short_all_append code [] others = refl
-short_all_append code (value ∷ values) others =
-    ap (λ rest. code.short value ++ rest) (short_all_append code values others) ∙ sym (append_assoc (code.short value) (short_all code values) (short_all code others))
-
 -- no value behind a tag has fewer bits than the tag
 pub tag_is_least : {V : Type 0} (count : ℕ) (by : ℕ → Grammar Bool V) (IsTagged : V → Type 0) (pick : V → ℕ) → HaveLeast count (tagged (fixed count) by IsTagged pick)
 tag_is_least count by IsTagged pick value front (tag, first, back, tag_spelled, spelled, same) = omega (arith, tag_spelled.0, ap length same, length-append first back)
@@ -64,40 +53,6 @@ tag_is_least count by IsTagged pick value front (tag, first, back, tag_spelled, 
 -- no BS has fewer than two bits
 pub bs_least : HaveLeast 2 bs
 bs_least value front spelled = tag_is_least 2 bs_by (λ value. value < 2 ^ 16) (λ value. 0) value front spelled
-
--- values have at least as many letters as the shortest of each
-pub length_of_all : {A V : Type 0} (least : ℕ) (code : Grammar A V) (values : List V) (letters : List A) → HaveLeast least code → SpellsAll code values letters
-    → least * length values ≤ length letters
-length_of_all least code [] letters have spelled = omega arith
-length_of_all least code (value ∷ values) letters have (front, back, first, others, same) =
-    let one = have value front first in
-    let more = length_of_all least code values back have others in
-    omega (arith, ap length same, length-append front back)
-
--- letters too few for a value are cut into none, and all are left
-pub nothing_to_end : {A V : Type 0} (least : ℕ) (code : Grammar A V) (letters : List A) → length letters < least → SpellsToEnd least code [] letters letters
-nothing_to_end least code letters few = record {
-  front = [];
-  spelled = refl;
-  whole = refl;
-  short = few;
-}
-
--- values in front of those that go to the end
-pub more_to_end : {A V : Type 0} (least : ℕ) (code : Grammar A V) (values others : List V) (letters front behind left : List A) → SpellsAll code values front → letters ≡ front ++ behind
-    → SpellsToEnd least code others behind left → SpellsToEnd least code (values ++ others) letters left
-more_to_end least code values others letters front behind left spelled same cut = record {
-  front = front ++ cut.front;
-  spelled = spells_all_append code values others front cut.front spelled cut.spelled;
-  whole = same ∙ ap (λ rest. front ++ rest) cut.whole ∙ sym (append_assoc front cut.front left);
-  short = cut.short;
-}
-
--- a value in front of those that go to the end
-pub one_more_to_end : {A V : Type 0} (least : ℕ) (code : Grammar A V) (value : V) (values : List V) (letters front behind left : List A) → code.Spells value front → letters ≡ front ++ behind
-    → SpellsToEnd least code values behind left → SpellsToEnd least code (value ∷ values) letters left
-one_more_to_end least code value values letters front behind left spelled same cut =
-    more_to_end least code (value ∷ []) values letters front behind left (spells_one code value front spelled) same cut
 
 -- values behind which too few letters for another are left go to the end
 pub all_to_end : {A V : Type 0} (least : ℕ) (code : Grammar A V) (values : List V) (letters front left : List A) → SpellsAll code values front → letters ≡ front ++ left → length left < least

@@ -20,7 +20,7 @@ pub use default::CodeDD;
 pub use extrusion::CodeBE;
 pub use fixed::{CodeB, CodeBB, CodeRC, CodeRD, CodeRL, CodeRS};
 pub use laws::{byte_code_laws, plain_spellings};
-pub use list::{read_list, read_to_end};
+pub use list::{list_laws, read_list, read_to_end};
 pub use modular::{
     mc_bytes, ms_bytes, read_mc, read_ms, read_signed_mc, signed_mc_bytes, write_mc, write_ms,
     write_signed_mc,

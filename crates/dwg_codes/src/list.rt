@@ -5,7 +5,8 @@ ghost use Rattle.std.specs.Prelude.{◌≡◌, ◌<◌, Ok, None, IfOk, IfErr, I
 ghost use Rattle.dwg_bits.specs.Cursor.{rest};
 ghost use Rattle.dwg_codes.specs.Combinators.{items};
 ghost use Rattle.dwg_codes.specs.Grammar.{Reads};
-ghost use Rattle.dwg_codes.specs.ToEnd.{AreValues, HaveLeast, ReadsToEnd};
+ghost use Rattle.dwg_codes.specs.CodeLaws.{IsLawful};
+ghost use Rattle.dwg_codes.specs.ToEnd.{AreValues, HaveLeast, IsCutUniquely, ReadsToEnd};
 
 use crate::code::BitCode;
 use dwg_base::{Items, NoMemory};
@@ -82,3 +83,13 @@ where
     *cursor = ahead;
     Ok(Some(found))
 }
+
+/// The laws of lists of a code's values in a context: letters spell at most one list of so many, and what is written of
+/// one spells it by a shortest spelling; and letters are cut to their end in one way, where no value has fewer than `least`
+/// bits.
+pub fn list_laws<C: BitCode>(context: &C::Context, count: u32, least: u64)
+    requires context { C.IsContext context.now }
+    requires least { HaveLeast least (C.grammar context.now) }
+    ensures counted { IsLawful (items (C.grammar context.now) count) }
+    ensures cut { IsCutUniquely least (C.grammar context.now) }
+{}

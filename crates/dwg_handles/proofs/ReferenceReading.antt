@@ -3,7 +3,7 @@ use Rattle.std.proofs.Common.{◌≡◌, refl, sym, ◌∙◌, ap, ap₂, subst,
 use Rattle.std.proofs.lemmas.Bool.Decides.{nat_tests}
 use Rattle.dwg_bits.specs.Bits.{low_bits}
 use Rattle.dwg_codes.specs.Grammar.{BeginsWith, Reads}
-use Rattle.dwg_handles.specs.Reference.{Reference, Tells, reaches}
+use Rattle.dwg_handles.specs.Reference.{Reference, TellsTarget, reaches}
 use Rattle.dwg_handles.specs.ReferenceCodes.{counted_number, reference_of, reference, number_behind}
 use Rattle.dwg_handles.specs.ReferenceLaws.{reference_spelled, reference_short}
 use Rattle.dwg_handles.specs.declared.parts.Parts.{Parts}
@@ -11,11 +11,11 @@ use Rattle.dwg_handles.specs.PartsCode.{AreParts, parts}
 use Rattle.dwg_handles.proofs.PartsReading.{parts_bits, parts_spelled, parts_spells, parts_told}
 
 -- a target that is told is reached
-pub told_reached : (base code count number target : ℕ) → Tells base code count number target → reaches base (reference_of code target) ≡ true
+pub told_reached : (base code count number target : ℕ) → TellsTarget base code count number target → reaches base (reference_of code target) ≡ true
 told_reached base code count number target told = grind (arith, nat_tests)
 
 -- parts that were read, and the target that they tell, are a reference
-pub ref_read : (base target : ℕ) (found : Parts) (old new : List Bool) → Reads parts (Some found) old new → Tells base found.code found.count found.number target
+pub ref_read : (base target : ℕ) (found : Parts) (old new : List Bool) → Reads parts (Some found) old new → TellsTarget base found.code found.count found.number target
     → Reads (reference base) (Some (reference_of found.code target)) old new
 ref_read base target found old new (front, spelled, whole) told =
     let is = parts_spelled found front spelled in (
@@ -32,7 +32,7 @@ record Told (base : ℕ) (letters : List Bool) : Type 0 where
   behind : List Bool
   are : AreParts found
   whole : letters ≡ parts_bits found ++ behind
-  tells : Tells base found.code found.count found.number target
+  tells : TellsTarget base found.code found.count found.number target
 
 -- what begins with a reference does so by its parts
 told : (base : ℕ) (letters : List Bool) → BeginsWith (reference base) letters → Told base letters
@@ -58,13 +58,13 @@ ref_unread base result old left none unread =
 
 -- nor where the parts tell no target
 pub ref_untold : (base : ℕ) (result : Option Reference) (found : Parts) (old mid : List Bool) → result ≡ None → Reads parts (Some found) old mid
-    → ((target : ℕ) → Tells base found.code found.count found.number target → ⊥) → Reads (reference base) result old old
+    → ((target : ℕ) → TellsTarget base found.code found.count found.number target → ⊥) → Reads (reference base) result old old
 ref_untold base result found old mid none read untold = none_read base result old none (λ begins. of_parts (told base old begins))
   where
     of_parts : Told base old → ⊥
     of_parts is =
         let same : is.found ≡ found = sym (parts_told found is.found old mid is.behind read is.are is.whole) in
-        untold is.target (subst (λ (one : Parts). Tells base one.code one.count one.number is.target) same is.tells)
+        untold is.target (subst (λ (one : Parts). TellsTarget base one.code one.count one.number is.target) same is.tells)
 
 -- a value is what the code reaches
 pub value_reached : (base : ℕ) (value : Reference) → (reference base).IsValue value → reaches base value ≡ true

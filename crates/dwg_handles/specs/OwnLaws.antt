@@ -1,5 +1,5 @@
 -- Own handles are a code, and are spelled as the plain relation says.
-use Rattle.std.proofs.Common.{◌≡◌, refl, sym, ◌∙◌, ap, ap₂, subst, ℕ, ◌*◌, ◌^◌, ◌<◌, ◌≤◌, List, Bool, ◌++◌, length, true, arith}
+use Rattle.std.proofs.Common.{◌≡◌, refl, sym, ◌∙◌, ap, ap₂, subst, ℕ, ◌*◌, ◌^◌, ◌<◌, List, Bool, ◌++◌, true, arith}
 use Rattle.std.specs.Prelude.{◌↔◌, ◌==◌, ◌&&◌, nat_lt}
 use Rattle.std.proofs.lemmas.Bool.Decides.{nat_tests}
 use Rattle.dwg_bits.specs.Bits.{low_bits}
@@ -9,7 +9,6 @@ use Rattle.dwg_codes.specs.CombinatorLaws.{any_letters_closed, fixed_is_code, re
 use Rattle.dwg_handles.specs.Reference.{OwnSpells}
 use Rattle.dwg_handles.specs.ReferenceCodes.{counted_number, own_handle}
 use Rattle.dwg_handles.specs.CountedLaws.{fixed_spelled, fixed_spells, counted_spelled, counted_spells, counted_is_code}
-use Rattle.dwg_handles.specs.ReferenceLaws.{spelling_length}
 
 -- code 0
 abbrev code_none : Grammar Bool ℕ
@@ -69,11 +68,3 @@ own_spelled own letters = (spelled, spells)
 pub own_short : (own : ℕ) → own_handle.short own ≡ low_bits 4 0 ++ counted_number.short own
 unfolding own_handle
 own_short own = refl
-
--- which has at most 72 bits
-pub own_most : (own : ℕ) → 0 < own → own < 2 ^ 63 → length (own_handle.short own) ≤ 72
-unfolding own_handle
-own_most own some small =
-    let letters : List Bool = own_handle.short own in
-    let is = (own_spelled own letters).0 (own_is_code.canonical own (some, small)) in
-    omega (arith, spelling_length 0 is.count own letters is.spelled, is.few)

@@ -1,5 +1,5 @@
 -- References: what a reference is for and how its target is told, and the target (Open Design Specification, "Handle references"). Which codes are references, and the bounds on targets, are rules of this project.
-use Rattle.std.specs.Prelude.{◌≡◌, ◌⊎◌, ℕ, ◌+◌, ◌*◌, ◌^◌, ◌<◌, ◌≤◌, Bool, List, ◌++◌, ◌==◌, ◌||◌, ◌&&◌, nat_lt, nat_le, true}
+use Rattle.std.specs.Prelude.{◌≡◌, ◌⊎◌, ℕ, ◌+◌, ◌*◌, ◌^◌, ◌<◌, ◌≤◌, Bool, List, ◌++◌, ◌==◌, ◌||◌, ◌&&◌, nat_lt, nat_le}
 use Rattle.dwg_bits.specs.Bits.{low_bits}
 
 -- a reference as contracts see it
@@ -11,14 +11,9 @@ pub record Reference : Type 0 where
 abbrev pub is_reference_code : ℕ → Bool
 is_reference_code code = nat_lt code 7 || code == 8 || code == 10 || code == 12
 
--- a reference's code and target lie in their ranges
-pub record IsReference (reference : Reference) : Type 0 where
-  pub code : is_reference_code reference.code ≡ true
-  pub target : reference.target < 2 ^ 63
-
 -- what a code, a count of bytes and the number in them tell of the target, seen from the object of a handle: codes 0 to 5 tell the number itself, 6 and 8 without bytes the next handle and the one before, A and C an offset ahead and back
-abbrev pub Tells : ℕ → ℕ → ℕ → ℕ → ℕ → Type 0
-Tells base code count number target = (target < 2 ^ 63) × (
+abbrev pub TellsTarget : ℕ → ℕ → ℕ → ℕ → ℕ → Type 0
+TellsTarget base code count number target = (target < 2 ^ 63) × (
     ((code < 6) × (target ≡ number))
     ⊎ ((code ≡ 6) × (count ≡ 0) × (target ≡ base + 1))
     ⊎ ((code ≡ 8) × (count ≡ 0) × (target + 1 ≡ base))
@@ -32,7 +27,7 @@ pub record RefSpells (base : ℕ) (reference : Reference) (letters : List Bool) 
   pub few : count ≤ 8
   pub fits : number < 2 ^ (8 * count)
   pub spelled : letters ≡ low_bits 4 reference.code ++ (low_bits 4 count ++ low_bits (8 * count) number)
-  pub tells : Tells base reference.code count number reference.target
+  pub tells : TellsTarget base reference.code count number reference.target
 
 -- bits spell an object's own handle: code 0, and a positive number
 pub record OwnSpells (own : ℕ) (letters : List Bool) : Type 0 where

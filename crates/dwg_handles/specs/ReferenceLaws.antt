@@ -10,7 +10,7 @@ use Rattle.dwg_codes.specs.Combinators.{fixed, never, choose, restrict}
 use Rattle.dwg_codes.specs.CombinatorLaws.{fixed_is_code, never_is_code, restrict_is_code, struct_is_code}
 use Rattle.dwg_codes.specs.ToEnd.{HaveLeast}
 use Rattle.dwg_codes.specs.TableLaws.{bit_tagged_is_code}
-use Rattle.dwg_handles.specs.Reference.{Reference, Tells, RefSpells, is_reference_code, reaches}
+use Rattle.dwg_handles.specs.Reference.{Reference, TellsTarget, RefSpells, is_reference_code, reaches}
 use Rattle.dwg_handles.specs.ReferenceCodes.{byte_count, counted_number, reference_of, told, no_bytes, absolute, next_handle, handle_before, ahead, back, by_reference_code, reference, number_behind}
 use Rattle.dwg_handles.specs.CountedLaws.{fixed_spelled, fixed_spells, IsCounted, counted_spelled, counted_spells, none_spelled, none_spells, none_counted, counted_is_code}
 
@@ -128,11 +128,11 @@ record IsBehind (base code : ℕ) (value : Reference) (letters : List Bool) : Ty
   few : count ≤ 8
   fits : number < 2 ^ (8 * count)
   spelled : letters ≡ low_bits 4 count ++ low_bits (8 * count) number
-  tells : Tells base code count number value.target
+  tells : TellsTarget base code count number value.target
 
 -- a target told by bytes
 told_behind : (base code : ℕ) (value : Reference) (letters : List Bool) (number target : ℕ) → value ≡ reference_of code target → IsCounted number letters
-    → ((count : ℕ) → Tells base code count number target) → IsBehind base code value letters
+    → ((count : ℕ) → TellsTarget base code count number target) → IsBehind base code value letters
 told_behind base code value letters number target same is told = record {
   code_is = ap (λ (one : Reference). one.code) same;
   count = is.count;
@@ -140,12 +140,12 @@ told_behind base code value letters number target same is told = record {
   few = is.few;
   fits = is.fits;
   spelled = is.spelled;
-  tells = subst (λ (one : ℕ). Tells base code is.count number one) (sym (ap (λ (one : Reference). one.target) same)) (told is.count);
+  tells = subst (λ (one : ℕ). TellsTarget base code is.count number one) (sym (ap (λ (one : Reference). one.target) same)) (told is.count);
 }
 
 -- a target told by no bytes
 none_behind : (base code : ℕ) (value : Reference) (letters : List Bool) (number target : ℕ) → value ≡ reference_of code target → no_bytes.Spells number letters
-    → Tells base code 0 0 target → IsBehind base code value letters
+    → TellsTarget base code 0 0 target → IsBehind base code value letters
 none_behind base code value letters number target same spelled told = record {
   code_is = ap (λ (one : Reference). one.code) same;
   count = 0;
@@ -153,7 +153,7 @@ none_behind base code value letters number target same spelled told = record {
   few = omega arith;
   fits = omega arith;
   spelled = none_spelled number letters spelled;
-  tells = subst (λ (one : ℕ). Tells base code 0 0 one) (sym (ap (λ (one : Reference). one.target) same)) told;
+  tells = subst (λ (one : ℕ). TellsTarget base code 0 0 one) (sym (ap (λ (one : Reference). one.target) same)) told;
 }
 
 -- what stands behind a code spells it so
@@ -200,7 +200,7 @@ reference_spelled base value letters = (spelled, spells)
           few = line.few;
           fits = line.fits;
           spelled = same ∙ ap₂ (λ some more. some ++ more) ((fixed_spelled 4 code front first).1 ∙ ap (low_bits 4) (sym line.code_is)) line.spelled;
-          tells = subst (λ (one : ℕ). Tells base one line.count line.number value.target) (sym line.code_is) line.tells;
+          tells = subst (λ (one : ℕ). TellsTarget base one line.count line.number value.target) (sym line.code_is) line.tells;
         }
 
     spells : RefSpells base value letters → (reference base).Spells value letters

@@ -34,6 +34,7 @@ pub fn read_refs(
     ensures same_bytes { cursor.new.bytes.now ≡ cursor.old.bytes.now }
     ensures same_end { cursor.new.end ≡ cursor.old.end }
 {
+    // The laws of references ask that their base is a handle's number.
     let _base = base.value();
     read_list::<CodeH>(alloc, &base, count, cursor)
 }
@@ -54,6 +55,7 @@ pub fn read_refs_to_end(
     ensures same_bytes { cursor.new.bytes.now ≡ cursor.old.bytes.now }
     ensures same_end { cursor.new.end ≡ cursor.old.end }
 {
+    // The laws of references ask that their base is a handle's number.
     let _base = base.value();
     read_to_end::<CodeH>(alloc, &base, LEAST, cursor)
 }

@@ -6,7 +6,7 @@ ghost use Rattle.dwg_bits.specs.Cursor.{rest};
 ghost use Rattle.dwg_bits.specs.Sink.{Extends};
 ghost use Rattle.dwg_codes.specs.Grammar.{Reads};
 ghost use Rattle.dwg_handles.specs.PartsCode.{IsOwn, parts};
-ghost use Rattle.dwg_handles.specs.Reference.{Tells};
+ghost use Rattle.dwg_handles.specs.Reference.{TellsTarget};
 ghost use Rattle.dwg_handles.specs.ReferenceCodes.{byte_count, counted_number};
 
 use dwg_base::Handle;
@@ -53,8 +53,8 @@ impl Parts {
 
     /// The target that the parts tell, seen from the object of the handle `base`. None exactly where they tell none.
     pub(crate) fn target(&self, base: Handle) -> Option<Handle>
-        ensures told { IfSome result (λ target. Tells base self.now.code self.now.count self.now.number target) }
-        ensures untold { IfNone result ((target : ℕ) → Tells base self.now.code self.now.count self.now.number target → ⊥) }
+        ensures told { IfSome result (λ target. TellsTarget base self.now.code self.now.count self.now.number target) }
+        ensures untold { IfNone result ((target : ℕ) → TellsTarget base self.now.code self.now.count self.now.number target → ⊥) }
     {
         let base = base.value();
         match self.code {

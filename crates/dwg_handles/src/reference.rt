@@ -10,8 +10,8 @@ use std::marker::Model;
 /// A reference of one object to another (Open Design Specification, "Handle references").
 ///
 /// Codes 2 to 5 are soft owner, hard owner, soft pointer and hard pointer. 6 and 8 reach the handle next to the object's
-/// own and the one before it, A and C one further ahead and one further back. Contracts see a reference as its code and
-/// the number of its target.
+/// own and the one before it, A one at or ahead of it, and C one at or behind it. Contracts see a reference as its code
+/// and the number of its target.
 #[derive(Clone, Copy, Debug, PartialEq, Eq)]
 pub struct Ref {
     /// What the reference is for, and how its target is told: 0 to 6, 8, 10 or 12.

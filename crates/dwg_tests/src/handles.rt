@@ -224,11 +224,13 @@ fn listed(
     base: Handle,
     count: Option<u32>,
     bytes: &[u8],
+    from: u64,
     end: u64,
 ) -> (Option<Items<Ref>>, u64) {
     assert!(rt; bytes.len() < 64);
+    assert!(rt; from <= end);
     assert!(rt; end <= 8 * bytes.len() as u64);
-    let mut cursor = BitCursor::new(bytes, 0, end);
+    let mut cursor = BitCursor::new(bytes, from, end);
     let read = match count {
         Some(count) => read_refs(alloc, &mut cursor, base, count),
         None => read_refs_to_end(alloc, &mut cursor, base),
@@ -256,13 +258,30 @@ fn lists_of_references_are_seen_from_one_object(rt: HostRuntime) -> Result<(), F
         (Some(0), 46, Some(0), 0),
         (Some(4), 46, None, 0),
     ] {
-        let (found, at) = listed(&rt, alloc, handle(0x80)?, count, &three, end);
+        let (found, at) = listed(&rt, alloc, handle(0x80)?, count, &three, 0, end);
         let wanted = length.map(|length| &refs[..length]);
         assert_eq!(rt; found.as_ref().map(Items::as_slice), wanted);
         assert_eq!(rt; at, place);
     }
-    let (found, at) = listed(&rt, alloc, handle(0x80)?, Some(u32::MAX), &[0x60; 10], 80);
+    let (found, at) = listed(&rt, alloc, handle(0x80)?, Some(u32::MAX), &[0x60; 10], 0, 80);
     assert!(rt; found.is_none());
     assert_eq!(rt; at, 0);
+    Ok(())
+}
+
+#[test]
+fn the_references_of_an_object_end_before_its_padding(rt: HostRuntime) -> Result<(), Fail> {
+    let alloc = rt.alloc();
+    let owner_and_xdict = [reference(4, 0)?, reference(3, 0)?];
+    for last in [0x00, 0x3F] {
+        let body = [
+            0x4A, 0x92, 0x80, 0x00, 0x00, 0x00, 0x43, 0x2A, 0x80, 0x10, 0x0C, last,
+        ];
+        for count in [Some(2u32), None] {
+            let (found, at) = listed(&rt, alloc, handle(0xC)?, count, &body, 74, 96);
+            assert_eq!(rt; found.as_ref().map(Items::as_slice), Some(owner_and_xdict.as_slice()));
+            assert_eq!(rt; at, 90);
+        }
+    }
     Ok(())
 }
