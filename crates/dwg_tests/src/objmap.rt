@@ -171,3 +171,90 @@ fn a_map_that_is_cut_or_changed_is_refused(rt: HostRuntime) -> Result<(), Fail> 
     }
     Ok(())
 }
+
+/// Where the frame of a handle stands: frames of 16 bytes up to handle 255, and of 17 from 256 on, the first at 183.
+fn frame_place(handle: u64) -> u64
+    requires { handle < 2_000 }
+    ensures { result < 2 ^ 32 }
+{
+    if handle < 256 {
+        return 167 + 16 * handle;
+    }
+    17 * handle - 89
+}
+
+/// Writes the map of the handles from 1 to `count`, and says whether the sink took it whole.
+fn write_map(alloc: Global, count: u64, sink: &mut MemSink) -> Result<bool, Fail>
+    requires { count < 2_000 }
+{
+    let mut writer = match PageWriter::new(alloc) {
+        Ok(writer) => writer,
+        Err(_) => Err("no memory")?,
+    };
+    'along: for handle in 0..count {
+        let next = pair(handle + 1, frame_place(handle + 1))?;
+        match writer.put(next, sink) {
+            Ok(()) => {}
+            Err(WriteFault) => return Ok(false),
+        }
+    }
+    Ok(writer.end(sink).is_ok())
+}
+
+#[test]
+fn pages_are_filled_and_read_again(rt: HostRuntime) -> Result<(), Fail> {
+    map_writing_laws();
+    let alloc = rt.alloc();
+    let mut sink = MemSink::new(alloc, 4_000, 1_000, Items::new(alloc)).or(Err("no memory"))?;
+    assert!(rt; write_map(alloc, 1_100, &mut sink)?);
+    let bytes = sink.bytes();
+    assert_eq!(rt; bytes.len(), 2_216);
+    // The check words of the two pages, and the page that ends the map.
+    for (place, word) in [
+        (0usize, [0x07u8, 0xEF].as_slice()),
+        (2_031, &[0xF3, 0x19, 0x00, 0xB1, 0xF7, 0x07, 0x8E, 0x86]),
+        (2_210, &[0x12, 0x06, 0x00, 0x02, 0x01, 0xD0]),
+    ] {
+        assert_eq!(rt;
+            bytes.get(place..).unwrap_or(&[]).starts_with(word),
+            true,
+            "at {place}"
+        );
+    }
+    let mut place = 0;
+    for (pairs, next) in [(1_014usize, 2_033u64), (86, 2_212), (0, 2_216)] {
+        let page = read_page(alloc, bytes, place, 0).or(Err("refused"))?;
+        assert_eq!(rt; page.pairs.as_slice().len(), pairs);
+        assert_eq!(rt; page.next, next);
+        place = page.next;
+    }
+    let all = read_map(alloc, bytes, 0).or(Err("refused"))?;
+    assert_eq!(rt; all.as_slice().len(), 1_100);
+    let mut handle = 0;
+    for pair in all.as_slice() {
+        assert!(rt; handle < 1_100);
+        handle += 1;
+        assert_eq!(rt; pair.handle.value(), handle);
+        assert_eq!(rt; pair.place, frame_place(handle));
+    }
+    Ok(())
+}
+
+#[test]
+fn the_length_of_a_map_is_known_before_it_is_written(rt: HostRuntime) -> Result<(), Fail> {
+    assert_eq!(rt; map_length(&[]), 4);
+    let pairs = [pair(1, 183)?, pair(2, 199)?, pair(300, 20)?];
+    assert_eq!(rt; map_length(&pairs), 17);
+    Ok(())
+}
+
+#[test]
+fn a_map_that_is_not_taken_whole_is_a_fault(rt: HostRuntime) -> Result<(), Fail> {
+    let alloc = rt.alloc();
+    for room in [0, 1, 2_032, 2_033, 2_215] {
+        let mut sink = MemSink::new(alloc, room, 1_000, Items::new(alloc)).or(Err("no memory"))?;
+        assert!(rt; !write_map(alloc, 1_100, &mut sink)?);
+        assert_eq!(rt; sink.bytes().len(), room);
+    }
+    Ok(())
+}
