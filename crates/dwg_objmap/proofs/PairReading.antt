@@ -1,5 +1,5 @@
 -- A pair read at the front of bytes.
-use Rattle.std.proofs.Common.{◌≡◌, refl, sym, ◌∙◌, ap, ap₂, subst, ℕ, ◌+◌, ◌<◌, ◌≤◌, List, take, drop, length, get_or, Option, Some, None, arith}
+use Rattle.std.proofs.Common.{◌≡◌, sym, ◌∙◌, ap, ℕ, ◌+◌, ◌<◌, List, take, drop, get_or, Option, Some, None, arith}
 use Rattle.std.specs.Prelude.{ℤ, option_map, option_and_then}
 use Rattle.std.proofs.lemmas.List.{take-append-drop, drop-drop, get_or-drop}
 use Rattle.dwg_base.specs.Bytes.{AreBytes, are_bytes}

@@ -1,5 +1,5 @@
 -- What a writer does, said of the open page that contracts see.
-use Rattle.std.proofs.Common.{◌≡◌, refl, sym, ◌∙◌, ap, ap₂, subst, ℕ, ◌+◌, ◌-◌, ◌*◌, ◌%◌, ◌<◌, ◌≤◌, Bool, true, false, List, [], ◌∷◌, ◌++◌, length, arith}
+use Rattle.std.proofs.Common.{◌≡◌, sym, ◌∙◌, ap, ap₂, subst, ℕ, ◌+◌, ◌<◌, Bool, true, false, List, [], ◌++◌, length, arith}
 use Rattle.std.specs.Prelude.{Option, Result}
 use Rattle.std.specs.Io.KnownBytes.{Appends}
 use Rattle.dwg_base.specs.Devices.{AppendsFront, Sends}
@@ -9,7 +9,7 @@ use Rattle.dwg_bits.specs.WholeBytes.{whole_bytes, length_of_whole}
 use Rattle.dwg_objmap.specs.declared.pair.Pair.{Pair}
 use Rattle.dwg_objmap.specs.Pairs.{ORIGIN, pair_behind}
 use Rattle.dwg_objmap.specs.Pages.{page_bytes}
-use Rattle.dwg_objmap.specs.Writing.{MOST_PAGE, OpenPage, FRESH, has_room, added, given, filled, closing_body, closing}
+use Rattle.dwg_objmap.specs.Writing.{OpenPage, FRESH, has_room, added, given, filled, closing_body, closing}
 use Rattle.dwg_objmap.specs.FillingLaws.{filled_on, filled_new, given_none, given_page}
 use Rattle.dwg_objmap.specs.OpenPages.{page_of, IsOpen}
 

@@ -1,18 +1,18 @@
 -- One step of reading, said of what is left to try.
-use Rattle.std.proofs.Common.{◌≡◌, refl, sym, ◌∙◌, ap, ap₂, subst, ℕ, suc, ◌+◌, ◌-◌, ◌<◌, ◌≤◌, Bool, true, false, List, [], ◌∷◌, ◌++◌, length, drop, Option, Some, None, arith, add-one, length-drop}
+use Rattle.std.proofs.Common.{◌≡◌, refl, sym, ◌∙◌, ap, ap₂, subst, ℕ, suc, ◌+◌, ◌-◌, ◌<◌, ◌≤◌, Bool, true, false, List, [], ◌∷◌, ◌++◌, length, drop, Some, None, arith, add-one, length-drop}
 use Rattle.std.specs.Prelude.{Ok, Err, not}
 use Rattle.std.proofs.lemmas.List.{drop-drop, nil_from_length}
-use Rattle.std.specs.Prelude.{IsTrue, Result}
+use Rattle.std.specs.Prelude.{IsTrue}
 use Rattle.dwg_base.specs.Refusals.{Tried, Answers}
 use Rattle.dwg_base.specs.declared.refusal.Fault.{Fault}
 use Rattle.dwg_base.specs.declared.refusal.Fault.TheVariants.{NoMemory, Refused}
 use Rattle.dwg_objmap.specs.Reading.{GoesOn}
 use Rattle.dwg_base.specs.declared.refusal.Refusal.{Refusal}
 use Rattle.dwg_objmap.specs.declared.pair.Pair.{Pair}
-use Rattle.dwg_objmap.specs.Pairs.{ORIGIN, pair_behind}
-use Rattle.dwg_objmap.specs.MapLines.{map_refusal, has_handle, pairs_behind, page_behind, word_at, page_end, HasPage, HasCheckWord}
+use Rattle.dwg_objmap.specs.Pairs.{pair_behind}
+use Rattle.dwg_objmap.specs.MapLines.{map_refusal, has_handle, pairs_behind, page_behind, word_at, HasPage, HasCheckWord}
 use Rattle.dwg_objmap.specs.PairChains.{pairs_end, no_pair, null_pair, pair_again, one_pair}
-use Rattle.dwg_objmap.specs.PageLaws.{page_short, page_cut, page_small, page_wrong}
+use Rattle.dwg_objmap.specs.PageLaws.{page_wrong}
 
 -- so many turns, and one more
 more_fuel : (fuel index place : ℕ) (seen : List Pair) (last : Pair) (rest : List ℕ) → pairs_behind (fuel + 1) index seen last place rest ≡ pairs_behind (suc fuel) index seen last place rest

@@ -1,17 +1,16 @@
 -- How pages are filled, said of the whole map without a loop.
-use Rattle.std.proofs.Common.{◌≡◌, refl, sym, ◌∙◌, ap, ap₂, subst, ℕ, zero, suc, ◌+◌, ◌-◌, ◌^◌, ◌<◌, ◌≤◌, Bool, true, false, List, [], ◌∷◌, ◌++◌, length, arith, append_assoc, length-append}
-use Rattle.std.specs.Prelude.{◌≢◌, ⊤, nat_le, slice_index, flat_map, if◌then◌else◌}
+use Rattle.std.proofs.Common.{◌≡◌, refl, sym, ◌∙◌, ap, ap₂, subst, ℕ, zero, suc, ◌+◌, ◌<◌, ◌≤◌, Bool, true, false, List, [], ◌∷◌, ◌++◌, length, arith, append_assoc, length-append}
+use Rattle.std.specs.Prelude.{◌≢◌, ⊤, slice_index, flat_map, if◌then◌else◌}
 use Rattle.std.specs.List.{AllByRecursion}
 use Rattle.std.proofs.lemmas.Bool.Decides.{nat_tests}
 use Rattle.std.proofs.lemmas.List.{append-nil}
 use Rattle.std.specs.Int.{w16, to_be_bytes}
 use Rattle.dwg_base.specs.Bytes.{AreBytes, StandsAt}
 use Rattle.dwg_check.specs.CheckWord.{FRAME_START, check_word}
-use Rattle.dwg_codes.specs.Combinators.{SpellsChain, short_chain}
-use Rattle.dwg_codes.specs.Grammar.{IsCode}
+use Rattle.dwg_codes.specs.Combinators.{short_chain}
 use Rattle.dwg_codes.specs.ModularBytes.{AreFewBytes, mc_few, signed_mc_few}
 use Rattle.dwg_objmap.specs.declared.pair.Pair.{Pair}
-use Rattle.dwg_objmap.specs.Pairs.{IsPair, ORIGIN, PairSpells, pair_behind}
+use Rattle.dwg_objmap.specs.Pairs.{IsPair, ORIGIN, pair_behind}
 use Rattle.dwg_objmap.specs.PairLaws.{pair_is_code}
 use Rattle.dwg_objmap.specs.Pages.{PairsSpell, PageAt, PagesAt, AreHandles, handles_of, MapOf, page_bytes}
 use Rattle.dwg_objmap.specs.MapLines.{last_of}

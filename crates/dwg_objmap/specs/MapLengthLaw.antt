@@ -5,7 +5,7 @@ use Rattle.std.proofs.lemmas.Bool.Decides.{nat_tests}
 use Rattle.dwg_objmap.specs.declared.pair.Pair.{Pair}
 use Rattle.dwg_objmap.specs.Pairs.{ORIGIN, pair_behind}
 use Rattle.dwg_objmap.specs.Pages.{page_bytes}
-use Rattle.dwg_objmap.specs.Writing.{MOST_PAGE, OpenPage, FRESH, told_behind, told_from, added, has_room, given, filled, closing_body, closing, map_behind, map_bytes}
+use Rattle.dwg_objmap.specs.Writing.{MOST_PAGE, OpenPage, FRESH, told_behind, added, has_room, given, filled, closing_body, closing, map_behind, map_bytes}
 use Rattle.dwg_objmap.specs.FillingLaws.{length_of_page, filled_on, filled_new, given_none, given_page}
 use Rattle.dwg_objmap.specs.MapLength.{told_at, size_added, length_behind}
 

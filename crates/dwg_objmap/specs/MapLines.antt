@@ -1,13 +1,11 @@
 -- The lines of the table of refusals on the object map, tried page by page and within a page pair by pair. A rule of this project, over the map of the Open Design Specification, "Object map".
-use Rattle.std.specs.Prelude.{◌≡◌, ◌≢◌, ◌⊎◌, Bool, ℕ, zero, suc, ◌+◌, ◌-◌, ◌*◌, ◌<◌, ◌≤◌, not, ◌&&◌, ◌||◌, List, [], ◌∷◌, ◌++◌, length, take, drop, flat_map, slice_index, nat_lt, ◌==◌, Option, Some, None, Result, Ok, Err, Contains, if◌then◌else◌}
+use Rattle.std.specs.Prelude.{◌≡◌, ◌≢◌, ◌⊎◌, Bool, ℕ, zero, suc, ◌+◌, ◌-◌, ◌*◌, ◌<◌, ◌≤◌, not, ◌&&◌, List, [], ◌∷◌, ◌++◌, length, take, drop, flat_map, slice_index, nat_lt, ◌==◌, Option, Some, None, Ok, Err, Contains, if◌then◌else◌}
 use Rattle.std.specs.List.{list_any}
 use Rattle.dwg_base.specs.Refusals.{Tried}
 use Rattle.dwg_base.specs.declared.refusal.Refusal.{Refusal}
 use Rattle.dwg_check.specs.CheckWord.{FRAME_START, check_word}
-use Rattle.dwg_codes.specs.Combinators.{SpellsChain}
 use Rattle.dwg_codes.specs.Grammar.{BeginsWith}
 use Rattle.dwg_objmap.specs.declared.pair.Pair.{Pair}
-use Rattle.dwg_objmap.specs.declared.page.Page.{Page}
 use Rattle.dwg_objmap.specs.Pairs.{ORIGIN, PairSpells, pair_behind}
 use Rattle.dwg_objmap.specs.Pages.{PagesAt, PairsSpell, AreHandles, handles_of}
 

@@ -1,5 +1,5 @@
 -- How a writer holds the page that is being filled. A rule of this project.
-use Rattle.std.specs.Prelude.{◌≡◌, ℕ, ◌+◌, ◌-◌, ◌*◌, ◌%◌, ◌≤◌, Bool, false, List, length}
+use Rattle.std.specs.Prelude.{◌≡◌, ◌+◌, ◌-◌, ◌*◌, ◌%◌, ◌≤◌, Bool, length}
 use Rattle.dwg_bits.specs.Sink.{Written}
 use Rattle.dwg_bits.specs.WholeBytes.{whole_bytes}
 use Rattle.dwg_objmap.specs.declared.pair.Pair.{Pair}

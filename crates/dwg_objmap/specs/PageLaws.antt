@@ -1,18 +1,18 @@
 -- What trying a page tells, and that it tells no other.
-use Rattle.std.proofs.Common.{◌≡◌, refl, sym, ◌∙◌, ap, ap₂, subst, ℕ, zero, suc, ◌+◌, ◌^◌, ◌<◌, ◌≤◌, Bool, true, false, List, [], ◌∷◌, ◌++◌, length, arith, length-append, inl, inr}
-use Rattle.std.specs.Prelude.{◌≢◌, ◌⊎◌, ◌==◌, ◌&&◌, not, nat_lt, Ok, Err, if◌then◌else◌}
+use Rattle.std.proofs.Common.{◌≡◌, refl, sym, ◌∙◌, ap, ap₂, subst, ℕ, ◌+◌, ◌<◌, ◌≤◌, Bool, true, false, List, [], ◌∷◌, ◌++◌, length, arith, length-append, inl, inr}
+use Rattle.std.specs.Prelude.{◌≢◌, ◌==◌, ◌&&◌, not, nat_lt, Ok, Err, if◌then◌else◌}
 use Rattle.std.proofs.lemmas.Bool.Decides.{nat_tests}
 use Rattle.std.proofs.lemmas.List.{append-nil}
-use Rattle.dwg_base.specs.Bytes.{AreBytes, StandsAt}
+use Rattle.dwg_base.specs.Bytes.{AreBytes}
 use Rattle.dwg_base.specs.Refusals.{Tried}
 use Rattle.dwg_base.specs.declared.refusal.Refusal.{Refusal}
 use Rattle.dwg_check.specs.CheckWord.{FRAME_START, check_word}
 use Rattle.dwg_objmap.specs.declared.pair.Pair.{Pair}
 use Rattle.dwg_objmap.specs.Pairs.{ORIGIN}
-use Rattle.dwg_objmap.specs.Pages.{PairsSpell, PageAt, AreHandles, handles_of, page_bytes}
-use Rattle.dwg_objmap.specs.MapLines.{map_refusal, word_at, sized_at, body_at, page_end, pairs_behind, page_behind, HasPage, HasCheckWord, FailsAtPair, RefusesPage}
+use Rattle.dwg_objmap.specs.Pages.{PageAt, AreHandles, handles_of}
+use Rattle.dwg_objmap.specs.MapLines.{map_refusal, word_at, sized_at, body_at, page_end, pairs_behind, page_behind, HasPage, HasCheckWord, RefusesPage}
 use Rattle.dwg_objmap.specs.PagePlaces.{body_is_bytes, PageStands, page_stands, length_of_body, size_below, page_there}
-use Rattle.dwg_objmap.specs.PairChains.{pair_has_bytes, PairsAll, TellsPairs, PairsSoFar}
+use Rattle.dwg_objmap.specs.PairChains.{pair_has_bytes, TellsPairs, PairsSoFar}
 use Rattle.dwg_objmap.specs.PairsTried.{pairs_told, pairs_all, pairs_fail}
 
 -- what the tests of a page give

@@ -1,14 +1,12 @@
 -- Where the parts of a page stand, by its size.
-use Rattle.std.proofs.Common.{◌≡◌, refl, sym, ◌∙◌, ap, ap₂, subst, ℕ, zero, suc, ◌+◌, ◌-◌, ◌*◌, ◌/◌, ◌%◌, ◌^◌, ◌<◌, ◌≤◌, List, [], ◌∷◌, ◌++◌, length, take, drop, get_or, w16, arith, append_assoc, length-append, length-take, length-drop, take_at, drop_at}
-use Rattle.std.specs.Int.{to_be_bytes, from_be_bytes}
-use Rattle.std.proofs.lemmas.Nat.{be_bytes_2, from_be_bytes-to_be_bytes_2}
+use Rattle.std.proofs.Common.{◌≡◌, sym, ◌∙◌, ap, ap₂, ℕ, ◌+◌, ◌*◌, ◌/◌, ◌%◌, ◌^◌, ◌<◌, ◌≤◌, List, [], ◌∷◌, ◌++◌, length, take, drop, get_or, w16, arith, append_assoc, length-append, length-take, length-drop, take_at, drop_at}
+use Rattle.std.specs.Int.{to_be_bytes}
 use Rattle.std.proofs.lemmas.List.{take-append-drop, drop-drop, get_or-drop, take-take}
 use Rattle.std.proofs.lemmas.List.Elements.{All-from_recursion, recursion_from_All, All-take, All-drop}
 use Rattle.dwg_base.specs.Bytes.{AreBytes, byte_below, StandsAt}
 use Rattle.dwg_check.specs.CheckWord.{FRAME_START, check_word}
 use Rattle.dwg_check.specs.CheckWordLaws.{check_word_fits}
-use Rattle.dwg_objmap.specs.declared.pair.Pair.{Pair}
-use Rattle.dwg_objmap.specs.Pages.{PairsSpell, PageAt, sized_pairs, page_bytes}
+use Rattle.dwg_objmap.specs.Pages.{sized_pairs, page_bytes}
 use Rattle.dwg_objmap.specs.MapLines.{word_at, sized_at, body_at, page_end, HasPage, HasCheckWord}
 
 -- the first two bytes as a number

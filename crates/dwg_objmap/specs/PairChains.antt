@@ -1,24 +1,18 @@
 -- The pairs of a page as they are tried, pair by pair, and as they are spelled.
-use Rattle.std.proofs.Common.{◌≡◌, refl, sym, ◌∙◌, ap, ap₂, subst, ℕ, zero, suc, ◌+◌, ◌-◌, ◌^◌, ◌<◌, ◌≤◌, Bool, true, false, List, [], ◌∷◌, ◌++◌, length, Option, Some, None, arith, append_assoc, length-append}
-use Rattle.std.specs.Prelude.{◌≢◌, ◌⊎◌, ◌==◌, Result, Ok, Err, if◌then◌else◌}
-use Rattle.std.proofs.Common.{inl, inr}
+use Rattle.std.proofs.Common.{◌≡◌, refl, sym, ◌∙◌, ap, ap₂, ℕ, zero, suc, ◌+◌, ◌-◌, ◌<◌, Bool, true, false, List, [], ◌∷◌, ◌++◌, length, Some, None, arith, append_assoc, length-append}
+use Rattle.std.specs.Prelude.{◌==◌, Ok, Err, if◌then◌else◌}
 use Rattle.std.proofs.lemmas.Bool.Decides.{nat_tests}
 use Rattle.std.proofs.lemmas.List.{append-nil}
 use Rattle.dwg_base.specs.Bytes.{AreBytes}
 use Rattle.dwg_base.specs.Refusals.{Tried}
-use Rattle.dwg_base.specs.declared.refusal.Refusal.{Refusal}
-use Rattle.dwg_codes.specs.Grammar.{IsCode, BeginsWith}
 use Rattle.dwg_codes.specs.Combinators.{SpellsChain}
 use Rattle.dwg_codes.specs.ModularCodes.{mc_within, mc}
-use Rattle.dwg_codes.specs.CombinatorLaws.{bytes_closed}
-use Rattle.dwg_codes.specs.CodeLaws.{reads_none}
-use Rattle.dwg_codes.specs.ListLaws.{AreChained, value_chain, canonical_chain}
+use Rattle.dwg_codes.specs.ListLaws.{AreChained}
 use Rattle.dwg_objmap.specs.declared.pair.Pair.{Pair}
 use Rattle.dwg_objmap.specs.Pairs.{IsPair, ORIGIN, PairSpells, pair_behind}
 use Rattle.dwg_objmap.specs.PairLaws.{pair_is_code}
 use Rattle.dwg_objmap.specs.Pages.{PairsSpell, AreHandles, handles_of}
-use Rattle.dwg_objmap.specs.HandleLaws.{stands_among, has_among, handles_more, handles_front, handle_behind}
-use Rattle.dwg_objmap.specs.MapLines.{map_refusal, last_of, has_handle, with_pair, pairs_behind, IsBadPair, FailsAtPair}
+use Rattle.dwg_objmap.specs.MapLines.{map_refusal, last_of, has_handle, with_pair, pairs_behind, FailsAtPair}
 
 -- pairs behind a pair, one behind the other
 abbrev pub SpellBehind : Pair → List Pair → List ℕ → Type 0

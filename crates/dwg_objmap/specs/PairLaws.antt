@@ -1,19 +1,18 @@
 -- A pair behind another is a code over bytes, and so are pairs one behind the other.
-use Rattle.std.proofs.Common.{◌≡◌, refl, sym, ◌∙◌, ap, ap₂, subst, ℕ, zero, suc, ◌+◌, ◌-◌, ◌^◌, ◌<◌, ◌≤◌, Bool, true, false, List, [], ◌∷◌, ◌++◌, length, Option, Some, None, arith}
-use Rattle.std.specs.Prelude.{ℤ, pos, negsuc, ◌+ℤ◌, ◌&&◌, nat_lt, nat_le, option_map, option_and_then, if◌then◌else◌}
+use Rattle.std.proofs.Common.{◌≡◌, refl, sym, ◌∙◌, ap, ap₂, subst, ℕ, suc, ◌+◌, ◌-◌, ◌^◌, ◌<◌, ◌≤◌, Bool, true, false, List, ◌++◌, length, Option, Some, None, arith}
+use Rattle.std.specs.Prelude.{ℤ, pos, negsuc, ◌+ℤ◌, nat_lt, nat_le, option_map, option_and_then, if◌then◌else◌}
 use Rattle.std.proofs.lemmas.Bool.Decides.{nat_tests}
 use Rattle.std.proofs.lemmas.Int.{ints}
 use Rattle.std.proofs.lemmas.List.{append_assoc, length-append}
 use Rattle.std.proofs.lemmas.Option.{none-some, same_Some, option_and_then_some}
 use Rattle.dwg_base.specs.Bytes.{AreBytes}
-use Rattle.dwg_codes.specs.Grammar.{Grammar, IsCode}
+use Rattle.dwg_codes.specs.Grammar.{IsCode}
 use Rattle.dwg_codes.specs.CombinatorLaws.{IsFound, option_map_some, if_some, bytes_closed}
 use Rattle.dwg_codes.specs.ModularCodes.{mc, signed_mc, sign_and_magnitude}
-use Rattle.dwg_codes.specs.ModularLaws.{mc_is_code, mc_below, mc_has}
+use Rattle.dwg_codes.specs.ModularLaws.{mc_is_code, mc_has}
 use Rattle.dwg_codes.specs.SignedLaws.{signed_mc_is_code}
-use Rattle.dwg_codes.specs.ListLaws.{AreChained}
 use Rattle.dwg_objmap.specs.declared.pair.Pair.{Pair}
-use Rattle.dwg_objmap.specs.Pairs.{IsPair, ORIGIN, PairSpells, moved, move_between, place_at_step, pair_at_steps, pair_behind}
+use Rattle.dwg_objmap.specs.Pairs.{IsPair, PairSpells, moved, move_between, place_at_step, pair_at_steps, pair_behind}
 
 -- what two steps from a pair lead to
 pub record StepsLead (before : Pair) (step : ℕ) (move : ℤ) (pair : Pair) : Type 0 where

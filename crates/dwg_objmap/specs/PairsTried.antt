@@ -13,7 +13,7 @@ use Rattle.dwg_objmap.specs.declared.pair.Pair.{Pair}
 use Rattle.dwg_objmap.specs.Pairs.{IsPair, ORIGIN, PairSpells, pair_behind}
 use Rattle.dwg_objmap.specs.PairLaws.{pair_is_code}
 use Rattle.dwg_objmap.specs.Pages.{PairsSpell, AreHandles, handles_of}
-use Rattle.dwg_objmap.specs.HandleLaws.{stands_among, has_among, handles_more, handles_front, handle_behind}
+use Rattle.dwg_objmap.specs.HandleLaws.{stands_among, has_among, handles_more, handle_behind}
 use Rattle.dwg_objmap.specs.MapLines.{map_refusal, last_of, has_handle, pairs_behind, IsBadPair, FailsAtPair}
 use Rattle.dwg_objmap.specs.PairChains.{SpellBehind, origin_is_pair, spelled_is_pair, spells_pair, last_is_pair, last_of_more, spell_more, pair_has_bytes, pairs_end, no_pair, null_pair, pair_again, one_pair, PairsAll, TellsPairs, PairsSoFar}
 

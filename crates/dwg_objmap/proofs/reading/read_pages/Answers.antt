@@ -1,4 +1,4 @@
-use Rattle.std.proofs.Common.{◌≡◌, sym, ◌∙◌, arith}
+use Rattle.std.proofs.Common.{sym, ◌∙◌, arith}
 use Rattle.dwg_objmap.proofs.Answered.{pages_wrong, pages_over, pages_out, pages_on}
 use Rattle.dwg_objmap.proofs.reading.read_pages.Goals as goal
 
