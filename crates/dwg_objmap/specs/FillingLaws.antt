@@ -44,7 +44,7 @@ pub pair_written : (before pair : Pair) → IsPair before → IsPair pair → be
 pair_written before pair fits_before fits above = (pair_is_code before fits_before).canonical pair (pair_is_value before pair fits above)
 
 -- pairs, and then one more, are written one behind the other
-short_more : (pairs : List Pair) (before pair : Pair)
+pub short_more : (pairs : List Pair) (before pair : Pair)
     → short_chain pair_behind (λ pair. pair) before (pairs ++ pair ∷ []) ≡ short_chain pair_behind (λ pair. pair) before pairs ++ (pair_behind (last_of before pairs)).short pair
 short_more [] before pair = append-nil ((pair_behind before).short pair)
 short_more (other ∷ pairs) before pair =
@@ -60,7 +60,7 @@ pub record Holds (page : OpenPage) (held : List Pair) : Type 0 where
   pub size : 2 + length page.body ≤ MOST_PAGE
 
 -- no bytes hold no pair
-some_bytes : (pair : Pair) (pairs : List Pair) (body : List ℕ) → PairsSpell (pair ∷ pairs) body → 0 < length body
+pub some_bytes : (pair : Pair) (pairs : List Pair) (body : List ℕ) → PairsSpell (pair ∷ pairs) body → 0 < length body
 some_bytes pair pairs body (front, back, one, others, same) = omega (arith, pair_has_bytes ORIGIN pair front one, ap length same, length-append front back)
 
 -- the next pair is told from the last one held

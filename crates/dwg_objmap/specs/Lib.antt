@@ -10,6 +10,7 @@ pub mod PairsTried
 pub mod PageLaws
 pub mod MapLaws
 pub mod FillingLaws
+pub mod FillingOnly
 pub mod OpenPages
 pub mod MapLength
 pub mod MapLengthLaw

@@ -24,11 +24,12 @@ pub fn map_laws()
 {}
 
 /// What is written of pairs: wherever it stands, it is the map of these pairs; its pages hold as many pairs as have room, none
-/// is larger than 2032 bytes, and the last one alone has no pairs. It is what a `PageWriter` sends that is given one pair
-/// after the other and then ended.
+/// is larger than 2032 bytes, and the last one alone has no pairs; no other bytes are filled so. It is what a `PageWriter`
+/// sends that is given one pair after the other and then ended.
 pub fn map_writing_laws()
     ensures written { (place : ℕ) (bytes : List ℕ) (pairs : List Pair) → Ascend 0 pairs → StandsAt bytes place (map_bytes pairs) → MapOf bytes place pairs }
     ensures filled { (pairs : List Pair) → Ascend 0 pairs → IsFilling pairs (map_bytes pairs) }
+    ensures only { (pairs : List Pair) (bytes : List ℕ) → Ascend 0 pairs → IsFilling pairs bytes → bytes ≡ map_bytes pairs }
     ensures begins { (pairs : List Pair) → map_bytes pairs ≡ map_behind FRESH pairs }
     ensures goes_on { (page : OpenPage) (pair : Pair) (pairs : List Pair) → map_behind page (pair ∷ pairs) ≡ given page pair ++ map_behind (filled page pair) pairs }
     ensures ends { (page : OpenPage) → map_behind page [] ≡ closing page }
