@@ -201,41 +201,64 @@ fn write_map(alloc: Global, count: u64, sink: &mut MemSink) -> Result<bool, Fail
     Ok(writer.end(sink).is_ok())
 }
 
+/// A sink with room for so many bytes, which takes them in pieces.
+fn sink(alloc: Global, room: usize) -> Result<MemSink, Fail> {
+    match MemSink::new(alloc, room, 1_000, Items::new(alloc)) {
+        Ok(sink) => Ok(sink),
+        Err(_) => Err("no memory")?,
+    }
+}
+
 #[test]
-fn pages_are_filled_and_read_again(rt: HostRuntime) -> Result<(), Fail> {
+fn pages_are_filled(rt: HostRuntime) -> Result<(), Fail> {
     map_writing_laws();
-    let alloc = rt.alloc();
-    let mut sink = MemSink::new(alloc, 4_000, 1_000, Items::new(alloc)).or(Err("no memory"))?;
-    assert!(rt; write_map(alloc, 1_100, &mut sink)?);
-    let bytes = sink.bytes();
-    assert_eq!(rt; bytes.len(), 2_216);
-    // The check words of the two pages, and the page that ends the map.
-    for (place, word) in [
-        (0usize, [0x07u8, 0xEF].as_slice()),
-        (2_031, &[0xF3, 0x19, 0x00, 0xB1, 0xF7, 0x07, 0x8E, 0x86]),
-        (2_210, &[0x12, 0x06, 0x00, 0x02, 0x01, 0xD0]),
+    let mut sink = sink(rt.alloc(), 4_000)?;
+    assert!(rt; write_map(rt.alloc(), 1_100, &mut sink)?);
+    assert_eq!(rt; sink.bytes().len(), 2_216);
+    // The sizes and the check words of both pages, and the page that ends the map.
+    for (place, byte) in [
+        (0usize, 0x07u8),
+        (1, 0xEF),
+        (2_031, 0xF3),
+        (2_032, 0x19),
+        (2_033, 0x00),
+        (2_034, 0xB1),
+        (2_210, 0x12),
+        (2_211, 0x06),
+        (2_212, 0x00),
+        (2_213, 0x02),
+        (2_214, 0x01),
+        (2_215, 0xD0),
     ] {
-        assert_eq!(rt;
-            bytes.get(place..).unwrap_or(&[]).starts_with(word),
-            true,
-            "at {place}"
-        );
+        assert_eq!(rt; sink.bytes().get(place), Some(&byte), "at {place}");
     }
-    let mut place = 0;
-    for (pairs, next) in [(1_014usize, 2_033u64), (86, 2_212), (0, 2_216)] {
-        let page = read_page(alloc, bytes, place, 0).or(Err("refused"))?;
-        assert_eq!(rt; page.pairs.as_slice().len(), pairs);
-        assert_eq!(rt; page.next, next);
-        place = page.next;
+    Ok(())
+}
+
+/// How many pairs the page at a place has, and the place behind it.
+fn page_told(alloc: Global, bytes: &[u8], place: u64) -> Result<(usize, u64), Fail> {
+    match read_page(alloc, bytes, place, 0) {
+        Ok(page) => Ok((page.pairs.as_slice().len(), page.next)),
+        Err(_) => Err("refused")?,
     }
-    let all = read_map(alloc, bytes, 0).or(Err("refused"))?;
-    assert_eq!(rt; all.as_slice().len(), 1_100);
-    let mut handle = 0;
-    for pair in all.as_slice() {
-        assert!(rt; handle < 1_100);
-        handle += 1;
-        assert_eq!(rt; pair.handle.value(), handle);
-        assert_eq!(rt; pair.place, frame_place(handle));
+}
+
+#[test]
+fn pages_that_were_filled_are_read(rt: HostRuntime) -> Result<(), Fail> {
+    let mut sink = sink(rt.alloc(), 4_000)?;
+    assert!(rt; write_map(rt.alloc(), 1_100, &mut sink)?);
+    for (place, pairs, next) in [(0, 1_014, 2_033), (2_033, 86, 2_212), (2_212, 0, 2_216)] {
+        assert_eq!(rt; page_told(rt.alloc(), sink.bytes(), place)?, (pairs, next));
+    }
+    match told(rt.alloc(), sink.bytes(), 0)? {
+        Ok(numbers) => {
+            assert_eq!(rt; numbers.len(), 1_100);
+            for (handle, place) in &numbers {
+                assert!(rt; *handle < 2_000);
+                assert_eq!(rt; *place, frame_place(*handle));
+            }
+        }
+        Err(refusal) => assert_eq!(rt; refusal.line, 0),
     }
     Ok(())
 }
@@ -252,7 +275,7 @@ fn the_length_of_a_map_is_known_before_it_is_written(rt: HostRuntime) -> Result<
 fn a_map_that_is_not_taken_whole_is_a_fault(rt: HostRuntime) -> Result<(), Fail> {
     let alloc = rt.alloc();
     for room in [0, 1, 2_032, 2_033, 2_215] {
-        let mut sink = MemSink::new(alloc, room, 1_000, Items::new(alloc)).or(Err("no memory"))?;
+        let mut sink = sink(alloc, room)?;
         assert!(rt; !write_map(alloc, 1_100, &mut sink)?);
         assert_eq!(rt; sink.bytes().len(), room);
     }
