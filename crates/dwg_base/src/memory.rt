@@ -141,6 +141,13 @@ impl MemSink {
     {
         self.bytes.as_slice()
     }
+
+    /// The bytes taken so far as a list of its own, without taking memory.
+    pub fn into_bytes(self) -> ByteRun
+        ensures { result ≡ self.taken }
+    {
+        ByteRun::from_vec(self.bytes)
+    }
 }
 
 impl Sink for MemSink {

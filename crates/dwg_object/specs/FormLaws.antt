@@ -10,7 +10,7 @@ use Rattle.dwg_codes.specs.ModularCodes.{ms}
 use Rattle.dwg_codes.specs.ModularLaws.{ms_is_code, ms_has}
 use Rattle.dwg_codes.specs.NumberLaws.{bytes_of_number}
 use Rattle.dwg_object.specs.Objects.{HeadParts, ObjectValue, RawValue, number_of, handle_of}
-use Rattle.dwg_object.specs.Forms.{HasHead, BeginsWithHead, FormOf, IsWhole, IsValidObject}
+use Rattle.dwg_object.specs.Forms.{HasHead, BeginsWithHead, FormOf, form_at, IsWhole, IsValidObject}
 use Rattle.dwg_object.specs.Frames.{FrameAt, body_bytes, frame_bytes}
 use Rattle.dwg_object.specs.LengthLaws.{bytes_joined, length_is_bytes}
 use Rattle.dwg_object.specs.HeadLaws.{head_begins, begins_head, begins_same, head_fits}
@@ -37,9 +37,13 @@ HeadsHaveForms =
     (classes : List Class) (body : List ℕ) (parts : HeadParts) → HasHead (bits body) parts
     → (value : ObjectValue) × FormOf classes body value × (number_of value ≡ parts.number) × (handle_of value ≡ parts.own)
 
+-- the object of its head
+pub form_is_at : (classes : List Class) (body : List ℕ) (parts : HeadParts) → HasHead (bits body) parts → FormOf classes body (form_at classes body parts)
+form_is_at classes body parts is = (begins_head (bits body) parts is, refl)
+
 -- so it is
 pub form_of_head : HeadsHaveForms
-form_of_head classes body parts is = (RawValue parts.number parts.own body, (begins_head (bits body) parts is, refl), refl, refl)
+form_of_head classes body parts is = (form_at classes body parts, form_is_at classes body parts is, refl, refl)
 
 -- and where it is read as one, it has a head of its number and its handle
 abbrev pub FormsHaveHeads : Type 0

@@ -45,6 +45,10 @@ RawForm body (RawValue number handle bytes) = BeginsWithHead (bits body) number 
 abbrev pub FormOf : List Class → List ℕ → ObjectValue → Type 0
 FormOf classes body value = RawForm body value
 
+-- the object that a body with this head is read as
+abbrev pub form_at : List Class → List ℕ → HeadParts → ObjectValue
+form_at classes body parts = RawValue parts.number parts.own body
+
 -- an object whose parts are those that its form can spell
 abbrev pub IsWhole : ObjectValue → Type 0
 IsWhole (RawValue number handle bytes) = 0 < handle
