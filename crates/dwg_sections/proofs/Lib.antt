@@ -1,5 +1,6 @@
 pub mod LocatorStep
 pub mod LocatorNumbers
+pub mod LocatorFinding
 pub mod BytePieces
 pub mod TableLines
 pub mod HeaderPasses

@@ -1,10 +1,11 @@
 -- Laws of the file header: what the input begins with, and what the lines on the header say, are one.
-use Rattle.std.specs.Prelude.{◌≡◌, ℕ, ◌+◌, ◌*◌, List, length, None}
+use Rattle.std.specs.Prelude.{◌≡◌, ℕ, ◌+◌, ◌*◌, ◌<◌, List, length, Contains, Some, None}
 use Rattle.dwg_base.specs.Bytes.{AreBytes}
 use Rattle.dwg_base.specs.Refusals.{first_fault}
+use Rattle.dwg_sections.specs.declared.header.Locator.{Locator}
 use Rattle.dwg_sections.specs.declared.header.FileHeader.{FileHeader}
 use Rattle.dwg_sections.specs.FileHeader.{IsFileHeader, BeginsWithHeader, header_bytes}
-use Rattle.dwg_sections.specs.HeaderLines.{HEADER_LINES, header_at}
+use Rattle.dwg_sections.specs.HeaderLines.{HEADER_LINES, header_at, place_of}
 
 -- bytes in which no line on the header fails begin with the header that is read
 abbrev pub PassingBytesBeginWithHeader : Type 0
@@ -20,3 +21,9 @@ HeaderIsRead =
 -- a header has 43 bytes, and nine for each locator
 abbrev pub HeaderIsCounted : Type 0
 HeaderIsCounted = (header : FileHeader) → IsFileHeader header → length (header_bytes header) ≡ 43 + 9 * length header.locators
+
+-- a header has a locator of each of the numbers 0, 1 and 2, and it says where the section of the number lies
+abbrev pub SectionsAreLocated : Type 0
+SectionsAreLocated =
+    (header : FileHeader) (number : ℕ) → IsFileHeader header → number < 3
+    → (locator : Locator) × Contains header.locators locator × (locator.number ≡ number) × (place_of number header.locators ≡ Some locator.place)

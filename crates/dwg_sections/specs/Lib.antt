@@ -1,5 +1,6 @@
 pub mod FileHeader
 pub mod HeaderLines
+pub mod FirstLocator
 pub mod HeaderLaws
 pub mod Framed
 pub mod FramedLines

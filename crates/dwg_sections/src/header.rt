@@ -1,8 +1,9 @@
 //! The file header: its locators say where each section lies.
 
-ghost use Rattle.std.specs.Prelude.{◌≡◌, ◌+◌, ◌*◌, ◌≤◌, length, IfOk, IfErr, OnOk, None};
+ghost use Rattle.std.specs.Prelude.{◌≡◌, ◌+◌, ◌*◌, ◌≤◌, length, IfSome, IfNone, IfOk, IfErr, OnOk, None};
 ghost use Rattle.dwg_base.specs.Refusals.{first_fault, Tells, IsFaultOfTable};
 ghost use Rattle.dwg_sections.specs.FileHeader.{BeginsWithHeader};
+ghost use Rattle.dwg_sections.specs.FirstLocator.{HaveOther, IsFirstPlace};
 ghost use Rattle.dwg_sections.specs.HeaderLines.{HEADER_LINES, bytes_at, rs_at, rl_at, locator_at, locators_at, locators_end, header_at, place_of};
 
 use crate::fields::{rl, rs};
@@ -38,16 +39,25 @@ pub struct FileHeader {
 }
 
 impl FileHeader {
-    /// The place of the section with this number, if a locator has it: the first locator's.
+    /// The place of the section with this number: the first locator's that has it. None exactly where no locator has it.
+    #[tactic(auto, using(crate::proofs::LocatorFinding::place_found, crate::proofs::LocatorFinding::place_not_found))]
     pub fn place_of(&self, number: u8) -> Option<u32>
-        ensures { result ≡ place_of number self.now.locators }
+        ensures place { result ≡ place_of number self.now.locators }
+        ensures found { IfSome result (IsFirstPlace self.now.locators number) }
+        ensures none { IfNone result (HaveOther number self.now.locators) }
     {
-        self.locators
-            .as_slice()
-            .iter()
-            .find(|locator| locator.number == number)
-            .map(|locator| locator.place)
+        first_place(self.locators.as_slice(), number)
     }
+}
+
+/// The place of the first locator with this number.
+fn first_place(locators: &[Locator], number: u8) -> Option<u32>
+    ensures { result ≡ place_of number locators.now }
+{
+    locators
+        .iter()
+        .find(|locator| locator.number == number)
+        .map(|locator| locator.place)
 }
 
 /// Where the seven bytes behind the version stand.

@@ -1,5 +1,6 @@
 use Rattle.dwg_sections.proofs.HeaderSound.{begins_with_header}
 use Rattle.dwg_sections.proofs.HeaderComplete.{header_is_read, header_is_counted}
+use Rattle.dwg_sections.proofs.LocatorFinding.{sections_are_located}
 use Rattle.dwg_sections.proofs.laws.file_header_laws.Goals as goal
 
 pub returns-clause-sound : goal.returns-clause-sound
@@ -10,3 +11,6 @@ returns-clause-complete c = header_is_read
 
 pub returns-clause-counted : goal.returns-clause-counted
 returns-clause-counted c = header_is_counted
+
+pub returns-clause-located : goal.returns-clause-located
+returns-clause-located c = sections_are_located
