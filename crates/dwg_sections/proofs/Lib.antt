@@ -1,6 +1,7 @@
 pub mod LocatorStep
 pub mod LocatorNumbers
 pub mod LocatorFinding
+pub mod LocatorRefusals
 pub mod BytePieces
 pub mod TableLines
 pub mod HeaderPasses

@@ -1,15 +1,22 @@
 //! Laws of the file header and of framed sections, each the contract of a function without code.
 
+ghost use Rattle.std.specs.Prelude.{◌≡◌};
 ghost use Rattle.dwg_sections.specs.FramedLaws.{PassingBytesHaveSection, SectionIsRead, SectionIsCounted};
-ghost use Rattle.dwg_sections.specs.HeaderLaws.{PassingBytesBeginWithHeader, HeaderIsRead, HeaderIsCounted, SectionsAreLocated};
+ghost use Rattle.dwg_sections.specs.HeaderLaws.{PassingBytesBeginWithHeader, HeaderIsRead, HeaderIsCounted, SectionsAreLocated, RepeatedIsFirst, MissingIsLeast};
+ghost use Rattle.dwg_sections.specs.declared.locator_lines.TheConstants.{VARIABLES_NUMBER, CLASSES_NUMBER, OBJECT_MAP_NUMBER};
 
 /// The input begins with a file header exactly where no line on the header fails, and with one alone; its
-/// length follows from the count of its locators, and it locates the header variables, the classes and the object map.
+/// length follows from the count of its locators, and it locates the header variables (0), the
+/// classes (1) and the object map (2). The line on repeated numbers tells the first locator that has the number of an
+/// earlier one, and the line on missing numbers the least of 0, 1 and 2 that no locator has.
 pub fn file_header_laws()
     ensures sound { PassingBytesBeginWithHeader }
     ensures complete { HeaderIsRead }
     ensures counted { HeaderIsCounted }
     ensures located { SectionsAreLocated }
+    ensures numbers { (VARIABLES_NUMBER ≡ 0) × (CLASSES_NUMBER ≡ 1) × (OBJECT_MAP_NUMBER ≡ 2) }
+    ensures repeated { RepeatedIsFirst }
+    ensures missing { MissingIsLeast }
 {}
 
 /// A framed section stands at a place of the input exactly where no line on it there fails, and with one content
