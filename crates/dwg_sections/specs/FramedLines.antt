@@ -16,9 +16,13 @@ first_line Classes = 14
 abbrev pub size_at : List ℕ → ℕ → ℕ
 size_at bytes place = rl_at bytes (place + 16)
 
+-- how many bytes of a section stand before its content
+abbrev pub BEFORE_CONTENT : ℕ
+BEFORE_CONTENT = 20
+
 -- the content of the section at a place, where no line on it fails
 abbrev pub content_at : List ℕ → ℕ → List ℕ
-content_at bytes place = bytes_at bytes (place + 20) (size_at bytes place)
+content_at bytes place = bytes_at bytes (place + BEFORE_CONTENT) (size_at bytes place)
 
 -- fewer bytes than a section has up to its content
 unfoldable pub framed_short_line : Framed → ℕ → RefusalRow

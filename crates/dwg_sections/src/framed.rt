@@ -8,7 +8,7 @@ ghost use Rattle.dwg_sections.specs.Framed.{begin_sentinel, end_sentinel, Framed
 ghost use Rattle.dwg_sections.specs.FramedLines.{first_line, size_at, content_at, framed_lines};
 
 use crate::fields::{piece, rl, rs};
-use crate::locator_lines::refusal;
+use crate::refusals::refusal;
 use dwg_base::Refusal;
 use dwg_check::{FRAME_START, check};
 
@@ -24,11 +24,11 @@ pub enum Framed {
 /// The bytes of a sentinel.
 const SENTINEL_SIZE: usize = 16;
 
-/// Where the content stands in a section.
-const CONTENT_PLACE: usize = 20;
+/// Where the content stands in a framed section: so many bytes of the section stand before it.
+pub const CONTENT_PLACE: usize = 20;
 
-/// The bytes of the size of the content, over which the check word goes too.
-const SIZE_SIZE: usize = 4;
+/// How many bytes the size of the content has, over which the check word goes too.
+const SIZE_BYTES: usize = 4;
 
 /// Where the end sentinel stands in a section without content.
 const END_PLACE: usize = 22;
@@ -101,7 +101,7 @@ fn has_check_word(bytes: &[u8], place: usize, size: usize) -> bool
     requires { place + 22 + size ≤ length bytes.now }
     ensures { result ≡ (rs_at bytes.now (place + 20 + size) == check_word FRAME_START (bytes_at bytes.now (place + 16) (4 + size))) }
 {
-    let sized = piece(bytes, place + SENTINEL_SIZE, SIZE_SIZE + size);
+    let sized = piece(bytes, place + SENTINEL_SIZE, SIZE_BYTES + size);
     rs(bytes, place + CONTENT_PLACE + size) == check(FRAME_START, sized)
 }
 

@@ -8,7 +8,9 @@ ghost use Rattle.dwg_sections.specs.HeaderLines.{HEADER_LINES, bytes_at, rs_at, 
 
 use crate::fields::{rl, rs};
 use crate::header_lines::{count, refusal_of_header};
-use crate::locator_lines::{LOCATOR_SIZE, LOCATORS_PLACE};
+use crate::header_places::{
+    CODE_PAGE_PLACE, LEAD_PLACE, LOCATOR_SIZE, LOCATORS_PLACE, MARK_PLACE, PREVIEW_PLACE,
+};
 use dwg_base::{Fault, Items, NoMemory};
 use std::alloc::Global;
 
@@ -59,18 +61,6 @@ fn first_place(locators: &[Locator], number: u8) -> Option<u32>
         .find(|locator| locator.number == number)
         .map(|locator| locator.place)
 }
-
-/// Where the seven bytes behind the version stand.
-const LEAD_PLACE: usize = 6;
-
-/// Where the place of the preview section stands.
-const PREVIEW_PLACE: usize = 13;
-
-/// Where the two bytes before the code page stand.
-const MARK_PLACE: usize = 17;
-
-/// Where the code page stands.
-const CODE_PAGE_PLACE: usize = 19;
 
 /// The seven bytes behind the version.
 fn lead(bytes: &[u8]) -> [u8; 7]

@@ -7,9 +7,9 @@ ghost use Rattle.dwg_sections.specs.FileHeader.{VERSION, HEADER_SENTINEL};
 ghost use Rattle.dwg_sections.specs.HeaderLines.{HEADER_LINES, bytes_at, rs_at, count_at, locators_end};
 
 use crate::fields::{piece, rl, rs};
-use crate::locator_lines::{
-    COUNT_PLACE, LOCATOR_SIZE, LOCATORS_PLACE, refusal, refusal_of_locators,
-};
+use crate::header_places::{COUNT_PLACE, LOCATOR_SIZE, LOCATORS_PLACE};
+use crate::locator_lines::refusal_of_locators;
+use crate::refusals::refusal;
 use dwg_base::Refusal;
 use dwg_check::header_word;
 

@@ -2,8 +2,10 @@
 
 ghost use Rattle.std.specs.Prelude.{◌≡◌};
 ghost use Rattle.dwg_sections.specs.FramedLaws.{PassingBytesHaveSection, SectionIsRead, SectionIsCounted};
+ghost use Rattle.dwg_sections.specs.FramedLines.{BEFORE_CONTENT};
 ghost use Rattle.dwg_sections.specs.HeaderLaws.{PassingBytesBeginWithHeader, HeaderIsRead, HeaderIsCounted, SectionsAreLocated, RepeatedIsFirst, MissingIsLeast};
-ghost use Rattle.dwg_sections.specs.declared.locator_lines.TheConstants.{VARIABLES_NUMBER, CLASSES_NUMBER, OBJECT_MAP_NUMBER};
+ghost use Rattle.dwg_sections.specs.declared.framed.TheConstants.{CONTENT_PLACE};
+ghost use Rattle.dwg_sections.specs.declared.section_numbers.TheConstants.{VARIABLES_NUMBER, CLASSES_NUMBER, OBJECT_MAP_NUMBER};
 
 /// The input begins with a file header exactly where no line on the header fails, and with one alone; its
 /// length follows from the count of its locators, and it locates the header variables (0), the
@@ -20,9 +22,10 @@ pub fn file_header_laws()
 {}
 
 /// A framed section stands at a place of the input exactly where no line on it there fails, and with one content
-/// alone; its length follows from that of its content.
+/// alone; its length follows from that of its content, which stands behind as many bytes as the public constant says.
 pub fn framed_laws()
     ensures sound { PassingBytesHaveSection }
     ensures complete { SectionIsRead }
     ensures counted { SectionIsCounted }
+    ensures content_place { CONTENT_PLACE ≡ BEFORE_CONTENT }
 {}

@@ -7,13 +7,16 @@ mod framed;
 mod framed_writer;
 mod header;
 mod header_lines;
+mod header_places;
 mod header_writer;
 mod laws;
 mod locator_lines;
+mod refusals;
+mod section_numbers;
 
-pub use framed::{Framed, read_framed};
+pub use framed::{CONTENT_PLACE, Framed, read_framed};
 pub use framed_writer::write_framed;
 pub use header::{FileHeader, Locator, read_file_header};
 pub use header_writer::write_file_header;
 pub use laws::{file_header_laws, framed_laws};
-pub use locator_lines::{CLASSES_NUMBER, OBJECT_MAP_NUMBER, VARIABLES_NUMBER};
+pub use section_numbers::{CLASSES_NUMBER, OBJECT_MAP_NUMBER, VARIABLES_NUMBER};

@@ -5,41 +5,15 @@ ghost use Rattle.std.specs.List.{range_with_len};
 ghost use Rattle.dwg_base.specs.Refusals.{first_fault, IsOfTable};
 ghost use Rattle.dwg_sections.specs.HeaderLines.{count_at, locators_end, numbers_at, stands_earlier, is_missing, repeated_line, missing_line};
 
+use crate::header_places::{COUNT_PLACE, LOCATOR_SIZE, LOCATORS_PLACE};
+use crate::refusals::refusal;
+use crate::section_numbers::OBJECT_MAP_NUMBER;
 use dwg_base::Refusal;
-
-/// The number of the locator of the header variables.
-pub const VARIABLES_NUMBER: u8 = 0;
-
-/// The number of the locator of the classes.
-pub const CLASSES_NUMBER: u8 = 1;
-
-/// The number of the locator of the object map.
-pub const OBJECT_MAP_NUMBER: u8 = 2;
-
-/// The place of the count of locators.
-pub const COUNT_PLACE: usize = 21;
-
-/// The place of the first locator.
-pub const LOCATORS_PLACE: usize = 25;
-
-/// The bytes of a locator.
-pub const LOCATOR_SIZE: usize = 9;
 
 // The lines of the table, in the order in which they are tried.
 const REPEATED_LINE: u8 = 7;
 
 const MISSING_LINE: u8 = 8;
-
-/// The refusal by a line, with an index, at a place.
-pub fn refusal(line: u8, index: u32, place: usize) -> Refusal
-    ensures { result ≡ record { line = line; index = index; place = place } }
-{
-    Refusal {
-        line,
-        index: u64::from(index),
-        place: place as u64,
-    }
-}
 
 /// The number of the locator at an index.
 #[tactic(auto, using(crate::proofs::LocatorStep::number_is_read), unfolding(crate::specs::HeaderLines::locators_end))]
