@@ -7,7 +7,7 @@ use Rattle.dwg_base.specs.declared.refusal.Fault.{Fault}
 use Rattle.dwg_base.specs.declared.refusal.Fault.TheVariants.{Refused}
 use Rattle.dwg_codes.specs.CodeLaws.{reads_some, reads_none}
 use Rattle.dwg_classes.specs.declared.class.Class.{Class}
-use Rattle.dwg_classes.specs.Class.{any_class, IsTaken, LEAST_NUMBER}
+use Rattle.dwg_classes.specs.Class.{any_class, numbered_class, LEAST_NUMBER}
 use Rattle.dwg_classes.specs.ClassCode.{any_class_is_code}
 use Rattle.dwg_classes.specs.ClassLines.{spelling_refusal, number_refusal, ClassFails}
 use Rattle.dwg_codes.specs.Grammar.{Grammar, IsCode, AnyLetters, BeginsWith, Reads}
@@ -39,10 +39,10 @@ pub b_parsed : (found : Option Bool) (old new : List Bool) → Reads b found old
 b_parsed found old new read = parsed b found old new b_is_code read
 
 -- a class that was parsed and whose number is one that classes have was taken
-pub class_taken : (class : Class) (old new : List Bool) → any_class.parse old ≡ Some (class, new) → LEAST_NUMBER ≤ class.number → IsTaken class old new
+pub class_taken : (class : Class) (old new : List Bool) → any_class.parse old ≡ Some (class, new) → LEAST_NUMBER ≤ class.number → Reads numbered_class (Some class) old new
 class_taken class old new found enough =
     let parts = reads_some AnyLetters any_class old new class any_class_is_code tt found in
-    record { spelling = parts.0; spelled = (grind (arith, nat_tests), parts.1); whole = parts.2 }
+    (parts.0, (grind (arith, nat_tests), parts.1), parts.2)
 
 -- one that wasn't parsed is refused
 pub class_unread : (place index first : ℕ) (old : List Bool) (fault : Fault) → fault ≡ Refused (spelling_refusal place index first) → any_class.parse old ≡ None

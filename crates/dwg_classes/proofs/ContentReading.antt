@@ -1,6 +1,6 @@
 -- Reading a content class by class: what is read so far, and what is left.
 use Rattle.std.proofs.Common.{◌≡◌, refl, sym, ◌∙◌, ap, ap₂, subst, inl, inr, ℕ, ◌+◌, ◌*◌, ◌<◌, ◌≤◌, Bool, List, [], ◌∷◌, ◌++◌, length, arith}
-use Rattle.std.specs.Prelude.{Ok, Err}
+use Rattle.std.specs.Prelude.{Some, Ok, Err}
 use Rattle.std.proofs.lemmas.List.{append_assoc, length-append}
 use Rattle.dwg_base.specs.Refusals.{Answers, IfRefused, IsFaultOfTable, IsOfTable}
 use Rattle.dwg_base.specs.declared.refusal.Refusal.{Refusal}
@@ -9,10 +9,11 @@ use Rattle.dwg_base.specs.declared.refusal.Fault.TheVariants.{NoMemory, Refused}
 use Rattle.dwg_bits.specs.Bits.{bits}
 use Rattle.dwg_bits.specs.BitLaws.{bits_between_all}
 use Rattle.dwg_bits.specs.Cursor.{bits_between}
+use Rattle.dwg_codes.specs.Grammar.{Reads}
 use Rattle.dwg_codes.specs.ToEnd.{SpellsAll}
 use Rattle.dwg_codes.specs.ToEndLaws.{all_to_end, spells_one_more}
 use Rattle.dwg_classes.specs.declared.class.Class.{Class}
-use Rattle.dwg_classes.specs.Class.{numbered_class, IsTaken, LEAST_BITS, AreClasses}
+use Rattle.dwg_classes.specs.Class.{numbered_class, LEAST_BITS, AreClasses}
 use Rattle.dwg_classes.specs.ClassCode.{class_least}
 use Rattle.dwg_classes.specs.ClassLines.{ClassFails, RefusesClass, tried_classes}
 use Rattle.dwg_classes.specs.ClassLineLaws.{tried_ok, tried_err}
@@ -35,19 +36,19 @@ none_so_far content classes bytes first end none same begin last = record {
 }
 
 -- a class more is read, and the bits behind it are left
-pub one_so_far : (content : List ℕ) (classes : List Class) (class : Class) (first next : ℕ) (left behind : List Bool) → AreReadSoFar content classes first left → IsTaken class left behind
+pub one_so_far : (content : List ℕ) (classes : List Class) (class : Class) (first next : ℕ) (left behind : List Bool) → AreReadSoFar content classes first left → Reads numbered_class (Some class) left behind
     → next + length behind ≡ first + length left → AreReadSoFar content (classes ++ class ∷ []) next behind
 one_so_far content classes class first next left behind so_far taken moved = record {
-  front = so_far.front ++ taken.spelling;
-  spelled = spells_one_more numbered_class classes class so_far.front taken.spelling so_far.spelled taken.spelled;
-  whole = so_far.whole ∙ ap (λ rest. so_far.front ++ rest) taken.whole ∙ sym (append_assoc so_far.front taken.spelling behind);
-  far = omega (arith, so_far.far, length-append so_far.front taken.spelling, ap length taken.whole, length-append taken.spelling behind);
+  front = so_far.front ++ taken.0;
+  spelled = spells_one_more numbered_class classes class so_far.front taken.0 so_far.spelled taken.1;
+  whole = so_far.whole ∙ ap (λ rest. so_far.front ++ rest) taken.2 ∙ sym (append_assoc so_far.front taken.0 behind);
+  far = omega (arith, so_far.far, length-append so_far.front taken.0, ap length taken.2, length-append taken.0 behind);
 }
 
 -- a class that was taken leaves fewer bits
-pub fewer_left : (class : Class) (left behind : List Bool) → IsTaken class left behind → length behind < length left
+pub fewer_left : (class : Class) (left behind : List Bool) → Reads numbered_class (Some class) left behind → length behind < length left
 fewer_left class left behind taken =
-    omega (arith, class_least class taken.spelling taken.spelled, ap length taken.whole, length-append taken.spelling behind)
+    omega (arith, class_least class taken.0 taken.1, ap length taken.2, length-append taken.0 behind)
 
 -- where fewer bits than a class has are left, the content is cut into the classes so far
 pub all_read : (content : List ℕ) (classes : List Class) (first : ℕ) (left : List Bool) → AreReadSoFar content classes first left → length left < LEAST_BITS → AreClasses content classes

@@ -1,5 +1,5 @@
 -- Classes: what one spells, and what the content of the classes section is cut into (Open Design Specification, "Classes"). The least number and the slack are rules of this project.
-use Rattle.std.specs.Prelude.{◌≡◌, ℕ, ◌^◌, ◌<◌, ◌≤◌, Bool, List, ◌++◌, length, nat_le}
+use Rattle.std.specs.Prelude.{ℕ, ◌^◌, ◌<◌, ◌≤◌, Bool, List, length, nat_le}
 use Rattle.dwg_base.specs.Bytes.{AreBytes}
 use Rattle.dwg_bits.specs.Bits.{bits}
 use Rattle.dwg_codes.specs.Grammar.{Grammar}
@@ -59,12 +59,6 @@ LEAST_NUMBER = 500
 -- a class whose number is one that classes have
 abbrev pub numbered_class : Grammar Bool Class
 numbered_class = restrict (λ class. nat_le LEAST_NUMBER class.number) any_class
-
--- a class whose number is one that classes have was taken off the front of the letters
-pub record IsTaken (class : Class) (letters left : List Bool) : Type 0 where
-  pub spelling : List Bool
-  pub spelled : numbered_class.Spells class spelling
-  pub whole : letters ≡ spelling ++ left
 
 -- how many bits a class has at the least
 abbrev pub LEAST_BITS : ℕ

@@ -1,11 +1,12 @@
 //! Reading the classes of a content.
 
-ghost use Rattle.std.specs.Prelude.{◌≡◌, ◌+◌, ◌*◌, ◌/◌, ◌^◌, ◌<◌, ◌≤◌, length, IfOk, IfErr};
+ghost use Rattle.std.specs.Prelude.{◌≡◌, ◌+◌, ◌*◌, ◌/◌, ◌^◌, ◌<◌, ◌≤◌, length, Some, IfOk, IfErr};
 ghost use Rattle.std.specs.Option.{option_map};
 ghost use Rattle.dwg_base.specs.Refusals.{Answers, IfRefused, IsFaultOfTable};
 ghost use Rattle.dwg_bits.specs.Cursor.{rest};
+ghost use Rattle.dwg_codes.specs.Grammar.{Reads};
 ghost use Rattle.dwg_codes.specs.ToEnd.{short_all};
-ghost use Rattle.dwg_classes.specs.Class.{any_class, numbered_class, IsTaken, AreClasses};
+ghost use Rattle.dwg_classes.specs.Class.{any_class, numbered_class, AreClasses};
 ghost use Rattle.dwg_classes.specs.ClassLines.{ClassFails, RefusesClass, tried_classes};
 ghost use Rattle.dwg_classes.specs.WrittenClasses.{AreWritable};
 
@@ -88,7 +89,7 @@ fn next_class(
     index: u64,
 ) -> Result<Class, Fault>
     requires { place < 2 ^ 62 }
-    ensures taken { IfOk result (λ class. IsTaken class (rest cursor.old) (rest cursor.new)) }
+    ensures taken { IfOk result (λ class. Reads numbered_class (Some class) (rest cursor.old) (rest cursor.new)) }
     ensures refused { IfErr result (λ fault. IfRefused fault (ClassFails place index cursor.old.place (rest cursor.old))) }
     ensures same_bytes { cursor.new.bytes.now ≡ cursor.old.bytes.now }
     ensures same_end { cursor.new.end ≡ cursor.old.end }

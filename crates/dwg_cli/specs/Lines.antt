@@ -3,7 +3,7 @@ use Rattle.std.specs.Prelude.{ℕ, ◌+◌, List, [], ◌∷◌, ◌++◌, unwra
 use Rattle.std.specs.Result.{result_unwrap_or}
 use Rattle.dwg_base.specs.Refusals.{RefusalRow, Tried, first_fault, fault_of}
 use Rattle.dwg_sections.specs.HeaderLines.{HEADER_LINES, header_at, place_of}
-use Rattle.dwg_sections.specs.FramedLines.{framed_lines, content_at}
+use Rattle.dwg_sections.specs.FramedLines.{BEFORE_CONTENT, framed_lines, content_at}
 use Rattle.dwg_sections.specs.declared.framed.Framed.TheVariants as framed
 use Rattle.dwg_classes.specs.declared.class.Class.{Class}
 use Rattle.dwg_classes.specs.ClassLines.{tried_classes}
@@ -18,7 +18,7 @@ classes_section_row bytes = first_fault (framed_lines framed.Classes (classes_pl
 
 -- the classes that the content of their section is cut into, or the first of them that fails a line
 unfoldable pub classes_tried : List ℕ → Tried (List Class)
-classes_tried bytes = tried_classes (classes_place bytes + 20) (content_at bytes (classes_place bytes))
+classes_tried bytes = tried_classes (classes_place bytes + BEFORE_CONTENT) (content_at bytes (classes_place bytes))
 
 -- the lines on the classes themselves, class by class
 unfoldable pub classes_row : RefusalRow

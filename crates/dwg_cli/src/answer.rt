@@ -7,19 +7,18 @@ ghost use Rattle.dwg_sections.specs.HeaderLines.{HEADER_LINES, header_at};
 ghost use Rattle.dwg_text.specs.Notes as texts;
 ghost use Rattle.dwg_cli.specs.Lines.{CLASSES_LINES, classes_of};
 ghost use Rattle.dwg_cli.specs.Words.{texts as words_of, command_of, IsReading};
-ghost use Rattle.dwg_cli.specs.Outcome.{noted, printed, outcome_within, outcome_of, outcome};
+ghost use Rattle.dwg_cli.specs.Outcome.{noted, printed, AnswersFault, outcome_within, outcome_of, outcome};
 ghost use Rattle.dwg_cli.specs.Run.{Feeds, Came, IsSettled, IsDrained, IsDrainedSource};
 
 use crate::status::Status;
 use crate::words::{Command, read_words};
 use dwg_base::{ByteRun, Fault, Intake, Items, LIMIT, NoMemory, Refusal, Source, read_all};
 use dwg_classes::{Class, read_classes};
-use dwg_sections::{CLASSES_NUMBER, FileHeader, Framed, read_file_header, read_framed};
+use dwg_sections::{
+    CLASSES_NUMBER, CONTENT_PLACE, FileHeader, Framed, read_file_header, read_framed,
+};
 use dwg_text::{classes_text, refusal_note, sections_text, too_long_note, usage_note};
 use std::alloc::Global;
-
-/// How many bytes of a section stand before its content.
-const BEFORE_CONTENT: u64 = 20;
 
 /// What goes to the output and then to the notes, and how the run ends where both take it.
 #[derive(Drop)]
@@ -83,15 +82,25 @@ fn refused_answer(alloc: Global, refusal: Refusal) -> Result<Answer, NoMemory>
     noted_answer(alloc, note.as_slice(), Status::Refused(refusal))
 }
 
+/// The answer of a fault: want of memory gives none.
+fn fault_answer(alloc: Global, fault: Fault) -> Result<Answer, NoMemory>
+    requires { IsFaultOfTable fault }
+    ensures { IfOk result (λ answer. AnswersFault answer fault) }
+{
+    match fault {
+        Fault::Refused(refusal) => refused_answer(alloc, refusal),
+        Fault::NoMemory => Err(NoMemory),
+    }
+}
+
 /// What `sections` answers to an input within the limit.
-#[tactic(auto, unfolding(crate::specs::Outcome::outcome_within))]
+#[tactic(auto, using(crate::proofs::Faults::sections_refused), unfolding(crate::specs::Outcome::outcome_within))]
 fn sections_answer(alloc: Global, bytes: &[u8]) -> Result<Answer, NoMemory>
     ensures { IfOk result (λ answer. answer ≡ outcome_within Command.Sections bytes.now) }
 {
     match read_file_header(alloc, bytes) {
         Ok(header) => printed_answer(alloc, sections_text(alloc, &header)?),
-        Err(Fault::Refused(refusal)) => refused_answer(alloc, refusal),
-        Err(Fault::NoMemory) => Err(NoMemory),
+        Err(fault) => fault_answer(alloc, fault),
     }
 }
 
@@ -108,26 +117,24 @@ fn classes_of_file(alloc: Global, bytes: &[u8], header: &FileHeader) -> Result<I
 {
     let place = header.place_of(CLASSES_NUMBER).unwrap_or(0);
     match read_framed(bytes, place, Framed::Classes) {
-        Ok(content) => read_classes(alloc, content, u64::from(place) + BEFORE_CONTENT),
+        Ok(content) => read_classes(alloc, content, u64::from(place) + CONTENT_PLACE as u64),
         Err(refusal) => Err(Fault::Refused(refusal)),
     }
 }
 
 /// What `classes` answers to an input within the limit.
-#[tactic(auto, unfolding(crate::specs::Outcome::outcome_within))]
+#[tactic(auto, using(crate::proofs::Faults::classes_refused, crate::proofs::Faults::header_refused), unfolding(crate::specs::Outcome::outcome_within))]
 fn classes_answer(alloc: Global, bytes: &[u8]) -> Result<Answer, NoMemory>
     requires { length bytes.now ≤ MOST_BYTES }
     ensures { IfOk result (λ answer. answer ≡ outcome_within Command.Classes bytes.now) }
 {
     let header = match read_file_header(alloc, bytes) {
         Ok(header) => header,
-        Err(Fault::Refused(refusal)) => return refused_answer(alloc, refusal),
-        Err(Fault::NoMemory) => return Err(NoMemory),
+        Err(fault) => return fault_answer(alloc, fault),
     };
     match classes_of_file(alloc, bytes, &header) {
         Ok(classes) => printed_answer(alloc, classes_text(alloc, classes.as_slice())?),
-        Err(Fault::Refused(refusal)) => refused_answer(alloc, refusal),
-        Err(Fault::NoMemory) => Err(NoMemory),
+        Err(fault) => fault_answer(alloc, fault),
     }
 }
 

@@ -263,7 +263,15 @@ fn lists_of_references_are_seen_from_one_object(rt: HostRuntime) -> Result<(), F
         assert_eq!(rt; found.as_ref().map(Items::as_slice), wanted);
         assert_eq!(rt; at, place);
     }
-    let (found, at) = listed(&rt, alloc, handle(0x80)?, Some(u32::MAX), &[0x60; 10], 0, 80);
+    let (found, at) = listed(
+        &rt,
+        alloc,
+        handle(0x80)?,
+        Some(u32::MAX),
+        &[0x60; 10],
+        0,
+        80,
+    );
     assert!(rt; found.is_none());
     assert_eq!(rt; at, 0);
     Ok(())
@@ -279,7 +287,10 @@ fn the_references_of_an_object_end_before_its_padding(rt: HostRuntime) -> Result
         ];
         for count in [Some(2u32), None] {
             let (found, at) = listed(&rt, alloc, handle(0xC)?, count, &body, 74, 96);
-            assert_eq!(rt; found.as_ref().map(Items::as_slice), Some(owner_and_xdict.as_slice()));
+            assert_eq!(rt;
+                found.as_ref().map(Items::as_slice),
+                Some(owner_and_xdict.as_slice())
+            );
             assert_eq!(rt; at, 90);
         }
     }

@@ -16,9 +16,9 @@ mod handles;
 #[cfg(test)]
 mod modular;
 #[cfg(test)]
-mod objmap;
-#[cfg(test)]
 mod objects;
+#[cfg(test)]
+mod objmap;
 #[cfg(test)]
 mod sections;
 #[cfg(test)]

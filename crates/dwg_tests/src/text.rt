@@ -82,7 +82,8 @@ fn prints_classes_with_their_texts_between_quotation_marks(rt: HostRuntime) -> R
     classes.push(first)?;
     classes.push(second)?;
     let text = classes_text(alloc, &classes).or(Err("no memory"))?;
-    let expected: &[u8] = b"classes 2\nclass 501 version 300 proxy 1 item 499 app \"a \\22b\\5c~\" cpp \"\\00\\1f\\7f\\ab\\ff\" dxf \"\"\nclass 65535 version 0 proxy 0 item 7 app \"\" cpp \"\" dxf \"LWPOLYLINE\"\n";
+    let expected: &[u8] =
+        b"classes 2\nclass 501 version 300 proxy 1 item 499 app \"a \\22b\\5c~\" cpp \"\\00\\1f\\7f\\ab\\ff\" dxf \"\"\nclass 65535 version 0 proxy 0 item 7 app \"\" cpp \"\" dxf \"LWPOLYLINE\"\n";
     assert_eq!(rt; text.as_slice(), expected);
     Ok(())
 }

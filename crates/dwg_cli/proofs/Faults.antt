@@ -1,0 +1,48 @@
+-- A fault that tells the first refusal of the lines of a command gives the command's answer.
+use Rattle.std.proofs.Common.{◌≡◌, ◌∙◌, refl, sym, ap, ℕ, List, [], ◌∷◌, ◌++◌, Option, Some, None}
+use Rattle.std.specs.Option.{option_or}
+use Rattle.dwg_base.specs.Refusals.{RefusalRow, first_fault, Tells}
+use Rattle.dwg_base.specs.declared.refusal.Refusal.{Refusal}
+use Rattle.dwg_base.specs.declared.refusal.Fault.{Fault}
+use Rattle.dwg_base.specs.declared.refusal.Fault.TheVariants.{NoMemory, Refused}
+use Rattle.dwg_sections.specs.HeaderLines.{HEADER_LINES}
+use Rattle.dwg_cli.specs.declared.words.Command.TheVariants.{Sections, Classes}
+use Rattle.dwg_cli.specs.declared.answer.Answer.{Answer}
+use Rattle.dwg_cli.specs.Lines.{classes_section_row, classes_row, CLASSES_LINES}
+use Rattle.dwg_cli.specs.Outcome.{refused_or, AnswersFault, outcome_within}
+
+-- the answer of a fault is that of the first refusal, which the fault tells
+told : (answer : Answer) (fault : Fault) (first : Option Refusal) (output : List ℕ) → Tells fault first → AnswersFault answer fault → answer ≡ refused_or first output
+told answer NoMemory first output tells answers = absurd answers
+told answer (Refused refusal) first output tells answers = answers ∙ ap (λ some. refused_or some output) (sym tells)
+
+-- a refusal of one row or of those behind it is that of the row or of more rows behind it
+by_row : (here behind longer : Option Refusal) (refusal : Refusal) → (behind ≡ Some refusal → longer ≡ Some refusal) → option_or here behind ≡ Some refusal → option_or here longer ≡ Some refusal
+by_row (Some one) behind longer refusal further told = told
+by_row None behind longer refusal further told = further told
+
+-- a refusal by a line stands first among more lines
+first_of_more : (rows more : List RefusalRow) (bytes : List ℕ) (refusal : Refusal) → first_fault rows bytes ≡ Some refusal → first_fault (rows ++ more) bytes ≡ Some refusal
+first_of_more [] more bytes refusal told = absurd cc
+first_of_more (row ∷ rows) more bytes refusal told =
+    by_row (row bytes) (first_fault rows bytes) (first_fault (rows ++ more) bytes) refusal (first_of_more rows more bytes refusal) told
+
+-- a fault that tells the first refusal of some lines tells that of more
+told_by_more : (fault : Fault) (rows more : List RefusalRow) (bytes : List ℕ) → Tells fault (first_fault rows bytes) → Tells fault (first_fault (rows ++ more) bytes)
+told_by_more NoMemory rows more bytes tells = tells
+told_by_more (Refused refusal) rows more bytes tells = first_of_more rows more bytes refusal tells
+
+-- a fault of the header is what `sections` answers
+pub sections_refused : (answer : Answer) (fault : Fault) (bytes : List ℕ) → AnswersFault answer fault → Tells fault (first_fault HEADER_LINES bytes) → answer ≡ outcome_within Sections bytes
+unfolding outcome_within
+sections_refused answer fault bytes answers tells = told answer fault (first_fault HEADER_LINES bytes) _ tells answers
+
+-- a fault of the lines of `classes` is what it answers
+pub classes_refused : (answer : Answer) (fault : Fault) (bytes : List ℕ) → AnswersFault answer fault → Tells fault (first_fault CLASSES_LINES bytes) → answer ≡ outcome_within Classes bytes
+unfolding outcome_within
+classes_refused answer fault bytes answers tells = told answer fault (first_fault CLASSES_LINES bytes) _ tells answers
+
+-- and so is one of the header
+pub header_refused : (answer : Answer) (fault : Fault) (bytes : List ℕ) → AnswersFault answer fault → Tells fault (first_fault HEADER_LINES bytes) → answer ≡ outcome_within Classes bytes
+header_refused answer fault bytes answers tells =
+    classes_refused answer fault bytes answers (told_by_more fault HEADER_LINES (classes_section_row ∷ classes_row ∷ []) bytes tells)
