@@ -2,7 +2,7 @@
 use Rattle.std.proofs.Common.{◌≡◌, subst, sym, ℕ, List, inl, inr}
 use Rattle.std.specs.Prelude.{Option}
 use Rattle.dwg_cli.specs.declared.status.Status.{Status}
-use Rattle.dwg_cli.specs.declared.status.Status.TheVariants.{Done, Usage, Refused, ReadFault, WriteFault, NoMemory, TooLong}
+use Rattle.dwg_cli.specs.declared.status.Status.TheVariants.{Done, Usage, Refused, ReadFault, WriteFault, NoMemory, TooLong, TooLarge}
 use Rattle.dwg_cli.specs.declared.answer.Answer.{Answer}
 use Rattle.dwg_cli.specs.Run.{IsSettled, IsStopped, IsCut, Sent}
 
@@ -15,6 +15,7 @@ settled_goes_on ReadFault settled stopped = settled
 settled_goes_on WriteFault settled stopped = settled
 settled_goes_on NoMemory settled stopped = settled
 settled_goes_on TooLong settled stopped = stopped
+settled_goes_on (TooLarge size) settled stopped = stopped
 
 -- a run that stopped as it sent its answer left a front of what was told
 pub stopped_is_cut : (answer told : Answer) (status : Status) (output output' notes notes' : Option (List ℕ)) (faults faults' note_faults note_faults' : ℕ)

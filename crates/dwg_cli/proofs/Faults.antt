@@ -6,15 +6,16 @@ use Rattle.dwg_base.specs.declared.refusal.Refusal.{Refusal}
 use Rattle.dwg_base.specs.declared.refusal.Fault.{Fault}
 use Rattle.dwg_base.specs.declared.refusal.Fault.TheVariants.{NoMemory, Refused}
 use Rattle.dwg_sections.specs.HeaderLines.{HEADER_LINES}
-use Rattle.dwg_cli.specs.declared.words.Command.TheVariants.{Sections, Classes}
+use Rattle.dwg_cli.specs.declared.words.Command.TheVariants.{Sections, Classes, Rewrite}
 use Rattle.dwg_cli.specs.declared.answer.Answer.{Answer}
-use Rattle.dwg_cli.specs.Lines.{classes_section_row, classes_row, CLASSES_LINES}
+use Rattle.dwg_file.specs.FileLines.{classes_section_row, classes_row, ALL_LINES}
+use Rattle.dwg_cli.specs.Lines.{CLASSES_LINES}
 use Rattle.dwg_cli.specs.Outcome.{refused_or, AnswersFault, outcome_within}
 
 -- the answer of a fault is that of the first refusal, which the fault tells
-told : (answer : Answer) (fault : Fault) (first : Option Refusal) (output : List ℕ) → Tells fault first → AnswersFault answer fault → answer ≡ refused_or first output
-told answer NoMemory first output tells answers = absurd answers
-told answer (Refused refusal) first output tells answers = answers ∙ ap (λ some. refused_or some output) (sym tells)
+told : (answer : Answer) (fault : Fault) (first : Option Refusal) (behind : Answer) → Tells fault first → AnswersFault answer fault → answer ≡ refused_or first behind
+told answer NoMemory first behind tells answers = absurd answers
+told answer (Refused refusal) first behind tells answers = answers ∙ ap (λ some. refused_or some behind) (sym tells)
 
 -- a refusal of one row or of those behind it is that of the row or of more rows behind it
 by_row : (here behind longer : Option Refusal) (refusal : Refusal) → (behind ≡ Some refusal → longer ≡ Some refusal) → option_or here behind ≡ Some refusal → option_or here longer ≡ Some refusal
@@ -46,3 +47,8 @@ classes_refused answer fault bytes answers tells = told answer fault (first_faul
 pub header_refused : (answer : Answer) (fault : Fault) (bytes : List ℕ) → AnswersFault answer fault → Tells fault (first_fault HEADER_LINES bytes) → answer ≡ outcome_within Classes bytes
 header_refused answer fault bytes answers tells =
     classes_refused answer fault bytes answers (told_by_more fault HEADER_LINES (classes_section_row ∷ classes_row ∷ []) bytes tells)
+
+-- a fault of any line is what `rewrite` answers
+pub rewrite_refused : (answer : Answer) (fault : Fault) (bytes : List ℕ) → AnswersFault answer fault → Tells fault (first_fault ALL_LINES bytes) → answer ≡ outcome_within Rewrite bytes
+unfolding outcome_within
+rewrite_refused answer fault bytes answers tells = told answer fault (first_fault ALL_LINES bytes) _ tells answers

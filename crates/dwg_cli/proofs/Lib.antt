@@ -1,3 +1,4 @@
 pub mod Outcomes
 pub mod Faults
 pub mod Deliveries
+pub mod Rewriting

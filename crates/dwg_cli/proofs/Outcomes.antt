@@ -1,30 +1,49 @@
 -- What the defined outcomes are, by their causes.
 use Rattle.std.proofs.Common.{◌≡◌, ℕ, ◌+◌, ◌≤◌, ◌<◌, List, ◌++◌, length, Some, None, sym, ap, ◌∙◌, subst, arith, true, false, append-nil, length-append}
 use Rattle.std.proofs.lemmas.Bool.Decides.{nat_tests}
-use Rattle.std.specs.Prelude.{Option, nat_lt}
+use Rattle.std.specs.Prelude.{Bool, Option, nat_lt, if◌then◌else◌}
 use Rattle.std.specs.Io.KnownBytes.{Consumes, IsAtEnd}
 use Rattle.dwg_base.specs.Devices.{MOST_BYTES}
 use Rattle.dwg_base.specs.declared.refusal.Refusal.{Refusal}
 use Rattle.dwg_base.specs.Refusals.{first_fault}
 use Rattle.dwg_sections.specs.HeaderLines.{HEADER_LINES}
-use Rattle.dwg_text.specs.Notes.{usage_note, too_long_note}
+use Rattle.dwg_text.specs.Notes.{usage_note, too_long_note, too_large_note}
 use Rattle.dwg_cli.specs.declared.words.Command.{Command}
-use Rattle.dwg_cli.specs.declared.words.Command.TheVariants.{Sections, Classes}
-use Rattle.dwg_cli.specs.declared.status.Status.TheVariants.{Usage, TooLong}
+use Rattle.dwg_cli.specs.declared.words.Command.TheVariants.{Sections, Classes, Rewrite}
+use Rattle.dwg_cli.specs.declared.status.Status.TheVariants.{Usage, TooLong, TooLarge}
 use Rattle.dwg_cli.specs.declared.answer.Answer.{Answer}
+use Rattle.dwg_file.specs.Contents.{Contents}
+use Rattle.dwg_file.specs.FileLines.{ALL_LINES}
+use Rattle.dwg_file.specs.DrawingAt.{drawing_at}
+use Rattle.dwg_file.specs.Canonical.{size_of, canonical}
 use Rattle.dwg_cli.specs.Lines.{CLASSES_LINES}
-use Rattle.dwg_cli.specs.Outcome.{noted, refused_or, outcome_within, outcome_of}
+use Rattle.dwg_cli.specs.Outcome.{noted, printed, refused_or, written, outcome_within, outcome_of}
 use Rattle.dwg_cli.specs.Run.{IsDrained}
 
-refused_or_is_drained : (first : Option Refusal) (output : List ℕ) → IsDrained (refused_or first output).status
-refused_or_is_drained (Some refusal) output = tt
-refused_or_is_drained None output = tt
+-- a refusal, and an answer behind no refusal, come of an input that was read to its end
+refused_or_is_drained : (first : Option Refusal) (answer : Answer) → IsDrained answer.status → IsDrained (refused_or first answer).status
+refused_or_is_drained (Some refusal) answer drained = tt
+refused_or_is_drained None answer drained = drained
 
--- an input within the limit was read to its end
-pub within_is_drained : (command : Command) (bytes : List ℕ) (answer : Answer) → answer ≡ outcome_within command bytes → IsDrained answer.status
+-- so does what is written of a drawing
+written_is_drained : (drawing : Contents) → IsDrained (written drawing).status
+unfolding written
+written_is_drained drawing = of_test (nat_lt MOST_BYTES (size_of drawing))
+  where
+    of_test : (test : Bool) → IsDrained (if test then noted (too_large_note (size_of drawing)) (TooLarge (size_of drawing)) else printed (canonical drawing)).status
+    of_test true = tt
+    of_test false = tt
+
+-- what a command answers to an input within the limit comes of one that was read to its end
+command_is_drained : (command : Command) (bytes : List ℕ) → IsDrained (outcome_within command bytes).status
 unfolding outcome_within
-within_is_drained Sections bytes answer is = subst (λ (told : Answer). IsDrained told.status) (sym is) (refused_or_is_drained (first_fault HEADER_LINES bytes) _)
-within_is_drained Classes bytes answer is = subst (λ (told : Answer). IsDrained told.status) (sym is) (refused_or_is_drained (first_fault CLASSES_LINES bytes) _)
+command_is_drained Sections bytes = refused_or_is_drained (first_fault HEADER_LINES bytes) _ tt
+command_is_drained Classes bytes = refused_or_is_drained (first_fault CLASSES_LINES bytes) _ tt
+command_is_drained Rewrite bytes = refused_or_is_drained (first_fault ALL_LINES bytes) _ (written_is_drained (drawing_at bytes))
+
+-- and so does an answer that is that
+pub within_is_drained : (command : Command) (bytes : List ℕ) (answer : Answer) → answer ≡ outcome_within command bytes → IsDrained answer.status
+within_is_drained command bytes answer is = subst (λ (told : Answer). IsDrained told.status) (sym is) (command_is_drained command bytes)
 
 -- a source that told its bytes and is at its end gave them all
 told_whole : (old new : Option (List ℕ)) (run bytes : List ℕ) → Consumes old new run → IsAtEnd new → old ≡ Some bytes → bytes ≡ run

@@ -5,7 +5,7 @@ use Rattle.dwg_base.specs.Devices.{Rose, AppendsFront, MOST_BYTES}
 use Rattle.dwg_text.specs.Notes.{read_fault_note}
 use Rattle.dwg_cli.specs.declared.words.Command.{Command}
 use Rattle.dwg_cli.specs.declared.status.Status.{Status}
-use Rattle.dwg_cli.specs.declared.status.Status.TheVariants.{Done, Usage, Refused, ReadFault, WriteFault, NoMemory, TooLong}
+use Rattle.dwg_cli.specs.declared.status.Status.TheVariants.{Done, Usage, Refused, ReadFault, WriteFault, NoMemory, TooLong, TooLarge}
 use Rattle.dwg_cli.specs.declared.answer.Answer.{Answer}
 use Rattle.dwg_cli.specs.Words.{IsReading}
 use Rattle.dwg_cli.specs.Outcome.{outcome}
@@ -27,6 +27,7 @@ IsSettled ReadFault = ⊥
 IsSettled WriteFault = ⊥
 IsSettled NoMemory = ⊥
 IsSettled TooLong = ⊤
+IsSettled (TooLarge size) = ⊤
 
 -- a write failed, or memory was wanted
 abbrev pub IsStopped : Status → Type 0
@@ -37,6 +38,7 @@ IsStopped ReadFault = ⊥
 IsStopped WriteFault = ⊤
 IsStopped NoMemory = ⊤
 IsStopped TooLong = ⊥
+IsStopped (TooLarge size) = ⊥
 
 -- a device or memory failed
 abbrev pub IsFailed : Status → Type 0
@@ -51,6 +53,7 @@ IsDrained ReadFault = ⊥
 IsDrained WriteFault = ⊥
 IsDrained NoMemory = ⊥
 IsDrained TooLong = ⊥
+IsDrained (TooLarge size) = ⊤
 
 -- where the source told its bytes, it tells that none are left
 abbrev pub IsDrainedSource : Option (List ℕ) → Option (List ℕ) → Type 0

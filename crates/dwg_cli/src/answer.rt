@@ -1,23 +1,23 @@
 //! What the program answers to its words and its input.
 
-ghost use Rattle.std.specs.Prelude.{◌≡◌, ◌+◌, ◌≤◌, ◌⊎◌, IfOk, IfErr, OnOk, OnErr, length, List, Some, IsErrOf, None, ℕ};
+ghost use Rattle.std.specs.Prelude.{◌≡◌, ◌+◌, ◌≤◌, ◌⊎◌, IfOk, OnErr, length, List, Some, IsErrOf, None, ℕ};
 ghost use Rattle.dwg_base.specs.Devices.{Rose, MOST_BYTES};
-ghost use Rattle.dwg_base.specs.Refusals.{IsOfTable, IsFaultOfTable, Tells, first_fault};
-ghost use Rattle.dwg_sections.specs.HeaderLines.{HEADER_LINES, header_at};
+ghost use Rattle.dwg_base.specs.Refusals.{IsOfTable, IsFaultOfTable};
 ghost use Rattle.dwg_text.specs.Notes as texts;
-ghost use Rattle.dwg_cli.specs.Lines.{CLASSES_LINES, classes_of};
 ghost use Rattle.dwg_cli.specs.Words.{texts as words_of, command_of, IsReading};
-ghost use Rattle.dwg_cli.specs.Outcome.{noted, printed, AnswersFault, outcome_within, outcome_of, outcome};
+ghost use Rattle.dwg_cli.specs.Outcome.{noted, printed, written, AnswersFault, outcome_within, outcome_of, outcome};
 ghost use Rattle.dwg_cli.specs.Run.{Feeds, Came, IsSettled, IsDrained, IsDrainedSource};
 
 use crate::status::Status;
 use crate::words::{Command, read_words};
-use dwg_base::{ByteRun, Fault, Intake, Items, LIMIT, NoMemory, Refusal, Source, read_all};
-use dwg_classes::{Class, read_classes};
-use dwg_sections::{
-    CLASSES_NUMBER, CONTENT_PLACE, FileHeader, Framed, read_file_header, read_framed,
+use dwg_base::{
+    ByteRun, Fault, Intake, Items, LIMIT, MemSink, NoMemory, Refusal, Source, WriteFault, read_all,
 };
-use dwg_text::{classes_text, refusal_note, sections_text, too_long_note, usage_note};
+use dwg_file::{Drawing, Plan, PlanFault, classes_of_file, drawing_laws, read_drawing};
+use dwg_sections::read_file_header;
+use dwg_text::{
+    classes_text, refusal_note, sections_text, too_large_note, too_long_note, usage_note,
+};
 use std::alloc::Global;
 
 /// What goes to the output and then to the notes, and how the run ends where both take it.
@@ -104,24 +104,6 @@ fn sections_answer(alloc: Global, bytes: &[u8]) -> Result<Answer, NoMemory>
     }
 }
 
-/// The classes of the file, by the header that it begins with.
-#[tactic(auto, unfolding(crate::specs::Lines::classes_section_row, crate::specs::Lines::classes_tried, crate::specs::Lines::classes_row))]
-fn classes_of_file(alloc: Global, bytes: &[u8], header: &FileHeader) -> Result<Items<Class>, Fault>
-    requires length { length bytes.now ≤ MOST_BYTES }
-    requires header { header.now ≡ header_at bytes.now }
-    requires holds { first_fault HEADER_LINES bytes.now ≡ None }
-    ensures classes { IfOk result (λ classes. classes ≡ classes_of bytes.now) }
-    ensures holds { OnOk result (first_fault CLASSES_LINES bytes.now ≡ None) }
-    ensures refused { IfErr result (λ fault. Tells fault (first_fault CLASSES_LINES bytes.now)) }
-    ensures of_table { IfErr result IsFaultOfTable }
-{
-    let place = header.place_of(CLASSES_NUMBER).unwrap_or(0);
-    match read_framed(bytes, place, Framed::Classes) {
-        Ok(content) => read_classes(alloc, content, u64::from(place) + CONTENT_PLACE as u64),
-        Err(refusal) => Err(Fault::Refused(refusal)),
-    }
-}
-
 /// What `classes` answers to an input within the limit.
 #[tactic(auto, using(crate::proofs::Faults::classes_refused, crate::proofs::Faults::header_refused), unfolding(crate::specs::Outcome::outcome_within))]
 fn classes_answer(alloc: Global, bytes: &[u8]) -> Result<Answer, NoMemory>
@@ -138,6 +120,41 @@ fn classes_answer(alloc: Global, bytes: &[u8]) -> Result<Answer, NoMemory>
     }
 }
 
+/// The answer of a drawing that is written by its canonical file.
+#[tactic(auto, unfolding(crate::specs::Outcome::written))]
+fn written_answer(alloc: Global, drawing: &Drawing<'_>) -> Result<Answer, NoMemory>
+    ensures { IfOk result (λ answer. answer ≡ written drawing.now) }
+{
+    let mut plan = match Plan::prepare(alloc, drawing) {
+        Ok(plan) => plan,
+        Err(PlanFault::TooLarge { size }) => {
+            let note = too_large_note(alloc, size)?;
+            return noted_answer(alloc, note.as_slice(), Status::TooLarge { size });
+        }
+        Err(PlanFault::NoMemory) => return Err(NoMemory),
+    };
+    let room = plan.size() as usize;
+    let mut made = MemSink::new(alloc, room, usize::MAX, Items::new(alloc))?;
+    match plan.write_to(&mut made) {
+        Ok(()) => printed_answer(alloc, made.into_bytes()),
+        // A sink with room for the whole file and no failing call takes it, which isn't seen through a sink's clauses.
+        Err(WriteFault) => Err(NoMemory),
+    }
+}
+
+/// What `rewrite` answers to an input within the limit.
+#[tactic(auto, using(crate::proofs::Faults::rewrite_refused), unfolding(crate::specs::Outcome::outcome_within))]
+fn rewrite_answer(alloc: Global, bytes: &[u8]) -> Result<Answer, NoMemory>
+    requires { length bytes.now ≤ MOST_BYTES }
+    ensures { IfOk result (λ answer. answer ≡ outcome_within Command.Rewrite bytes.now) }
+{
+    drawing_laws();
+    match read_drawing(alloc, bytes) {
+        Ok(drawing) => written_answer(alloc, &drawing),
+        Err(fault) => fault_answer(alloc, fault),
+    }
+}
+
 /// What a command that reads answers to an input within the limit.
 #[tactic(auto, using(crate::proofs::Outcomes::within_is_drained))]
 fn answer_within(alloc: Global, command: Command, bytes: &[u8]) -> Result<Answer, NoMemory>
@@ -148,6 +165,7 @@ fn answer_within(alloc: Global, command: Command, bytes: &[u8]) -> Result<Answer
     match command {
         Command::Sections => sections_answer(alloc, bytes),
         Command::Classes => classes_answer(alloc, bytes),
+        Command::Rewrite => rewrite_answer(alloc, bytes),
     }
 }
 

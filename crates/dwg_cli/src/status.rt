@@ -21,6 +21,11 @@ pub enum Status {
     NoMemory,
     /// The input is longer than the limit.
     TooLong,
+    /// The canonical file would be longer than the limit.
+    TooLarge {
+        /// How many bytes it would have.
+        size: u64,
+    },
 }
 
 impl Status {
@@ -38,6 +43,7 @@ impl Status {
             Status::WriteFault => 5,
             Status::NoMemory => 6,
             Status::TooLong => 7,
+            Status::TooLarge { .. } => 8,
         }
     }
 }

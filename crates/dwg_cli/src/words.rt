@@ -10,6 +10,8 @@ pub enum Command {
     Sections,
     /// The text of the file's classes.
     Classes,
+    /// The canonical file of the drawing.
+    Rewrite,
 }
 
 /// The command that the words name. None exactly where they stand in no line of the command table. It takes no memory.
@@ -23,6 +25,8 @@ pub fn read_words(words: &[String]) -> Option<Command>
                 Some(Command::Sections)
             } else if word.as_str() == "classes" {
                 Some(Command::Classes)
+            } else if word.as_str() == "rewrite" {
+                Some(Command::Rewrite)
             } else {
                 None
             }

@@ -21,3 +21,7 @@ read_fault_note = line (codes "dwg: read fault")
 -- the input is longer than the limit
 unfoldable pub too_long_note : List ℕ
 too_long_note = line (codes "dwg: input too long")
+
+-- the canonical file would be longer than the limit
+unfoldable pub too_large_note : ℕ → List ℕ
+too_large_note size = line (codes "dwg: drawing too large: " ++ decimal size ++ codes " bytes")

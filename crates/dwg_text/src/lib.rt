@@ -7,5 +7,5 @@ mod quoted;
 mod sections;
 
 pub use classes::classes_text;
-pub use notes::{read_fault_note, refusal_note, too_long_note, usage_note};
+pub use notes::{read_fault_note, refusal_note, too_large_note, too_long_note, usage_note};
 pub use sections::sections_text;

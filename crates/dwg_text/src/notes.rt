@@ -56,3 +56,22 @@ pub fn refusal_note(alloc: Global, refusal: Refusal) -> Result<ByteRun, NoMemory
         Err(_) => Err(NoMemory),
     }
 }
+
+#[tactic(auto, unfolding(crate::specs::Notes::too_large_note))]
+fn too_large_text(alloc: Global, size: u64) -> Result<String, AllocError>
+    ensures { IfOk result (λ note. string_bytes note ≡ texts.too_large_note size) }
+{
+    let mut note = format!(in alloc; "dwg: drawing too large: {size}")?;
+    note.push_str(" bytes\n")?;
+    Ok(note)
+}
+
+/// The canonical file would have so many bytes, more than the limit. The only refusal is want of memory.
+pub fn too_large_note(alloc: Global, size: u64) -> Result<ByteRun, NoMemory>
+    ensures { IfOk result (λ note. note ≡ texts.too_large_note size) }
+{
+    match too_large_text(alloc, size) {
+        Ok(note) => Ok(ByteRun::from_vec(note.into_bytes())),
+        Err(_) => Err(NoMemory),
+    }
+}

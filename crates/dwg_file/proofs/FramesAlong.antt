@@ -1,0 +1,105 @@
+-- Reading frames pair by pair: what was read so far, and what is left.
+use Rattle.std.proofs.Common.{◌≡◌, refl, sym, ◌∙◌, ap, ap₂, subst, ℕ, ◌+◌, ◌-◌, ◌<◌, ◌≤◌, Bool, true, false, List, [], ◌∷◌, ◌++◌, length, take, drop, map, get_or, arith, add-one}
+use Rattle.std.specs.Prelude.{◌&&◌, ◌||◌, nat_lt, Ok, Err}
+use Rattle.std.proofs.Math.Seq.{drop-cons}
+use Rattle.std.proofs.lemmas.Bool.Decides.{nat_tests}
+use Rattle.std.proofs.lemmas.List.{take_more, drop_all, map-append}
+use Rattle.std.proofs.lemmas.List.Folds.{list_any-append}
+use Rattle.dwg_base.specs.Refusals.{Tried}
+use Rattle.dwg_base.specs.declared.refusal.Fault.{Fault}
+use Rattle.dwg_base.specs.declared.refusal.Fault.TheVariants.{NoMemory, Refused}
+use Rattle.dwg_classes.specs.declared.class.Class.{Class}
+use Rattle.dwg_object.specs.declared.frame.Found.{Found}
+use Rattle.dwg_object.specs.declared.object.Object.{Object}
+use Rattle.dwg_object.specs.Forms.{FormOf}
+use Rattle.dwg_object.specs.FrameLines.{span_body}
+use Rattle.dwg_object.specs.Objects.{ObjectValue, value_of, handle_of}
+use Rattle.dwg_objmap.specs.declared.pair.Pair.{Pair}
+use Rattle.dwg_objmap.specs.Pages.{handles_of}
+use Rattle.dwg_file.specs.declared.frames.Frames.{Frames}
+use Rattle.dwg_file.specs.FileLines.{FoundFrame, with_found, tried_pair, frames_behind}
+use Rattle.dwg_file.specs.FrameReading.{AreTaken, IsFrameFound, values_of, HasRead, GoesOn, AnswersFrames, IsAlong}
+use Rattle.dwg_file.specs.ReadAs.{AreFormsOf}
+use Rattle.dwg_file.specs.Taken.{Run, meets, shares}
+
+-- one body more is read as one object more
+forms_with : (classes : List Class) (bytes : List ℕ) (frames : List FoundFrame) (values : List ObjectValue) (frame : FoundFrame) (value : ObjectValue) → AreFormsOf classes bytes frames values
+    → FormOf classes (span_body bytes frame.0) value → AreFormsOf classes bytes (frames ++ frame ∷ []) (values ++ value ∷ [])
+forms_with classes bytes [] values frame value forms form = (value, [], ap (λ v. v ++ value ∷ []) forms, form, refl)
+forms_with classes bytes (first ∷ frames) values frame value forms form =
+    (forms.0, forms.1 ++ value ∷ [], ap (λ v. v ++ value ∷ []) forms.2, forms.3, forms_with classes bytes frames forms.1 frame value forms.4 form)
+
+-- one frame more is touched where its bytes are
+touches_with : (earlier : List FoundFrame) (taken more : List Run) (frame : FoundFrame) (place end : ℕ) → AreTaken earlier taken → frame.0.from ≡ place → frame.0.end ≡ end → place < end
+    → ((other to : ℕ) → shares more other to ≡ (shares taken other to || meets other to (end - 1, place))) → AreTaken (earlier ++ frame ∷ []) more
+touches_with earlier taken more frame place end touched from ends some added = λ other to.
+    let one : (nat_lt other frame.0.end && nat_lt frame.0.from to) ≡ meets other to (end - 1, place) = grind (arith, nat_tests) in
+    list_any-append (λ (found : FoundFrame). nat_lt other found.0.end && nat_lt found.0.from to) earlier (frame ∷ [])
+    ∙ ap₂ (λ (test last : Bool). test || last) (touched other to) (or_false (nat_lt other frame.0.end && nat_lt frame.0.from to) ∙ one)
+    ∙ sym (added other to)
+  where
+    or_false : (test : Bool) → (test || false) ≡ test
+    or_false true = refl
+    or_false false = refl
+
+-- the frame of the next pair is read behind the others
+pub frame_read : (classes : List Class) (bytes : List ℕ) (earlier : List FoundFrame) (handles : List ℕ) (taken more : List Run) (objects all : List Object) (pair : Pair) (tried : Tried FoundFrame) (found : Found)
+    → HasRead classes bytes earlier handles taken objects → IsFrameFound classes bytes pair tried found → pair.place < found.end
+    → ((other to : ℕ) → shares more other to ≡ (shares taken other to || meets other to (found.end - 1, pair.place))) → all ≡ objects ++ found.object ∷ []
+    → (frame : FoundFrame) × (tried ≡ Ok frame) × HasRead classes bytes (earlier ++ frame ∷ []) (handles ++ pair.handle ∷ []) more all
+frame_read classes bytes earlier handles taken more objects all pair tried found read is some added joined =
+    let values : values_of all ≡ values_of objects ++ value_of found.object ∷ [] = ap values_of joined ∙ map-append value_of objects (found.object ∷ []) in (
+      is.frame,
+      is.tries,
+      record {
+        touched = touches_with earlier taken more is.frame pair.place found.end read.touched is.from is.end some added;
+        forms = subst (AreFormsOf classes bytes (earlier ++ is.frame ∷ [])) (sym values) (forms_with classes bytes earlier (values_of objects) is.frame (value_of found.object) read.forms is.form);
+        own = ap (map handle_of) values ∙ map-append handle_of (values_of objects) (value_of found.object ∷ [])
+            ∙ ap₂ (λ (own : List ℕ) (last : ℕ). own ++ last ∷ []) read.own is.own;
+      },
+    )
+
+-- what is left behind so many pairs is tried with the next of them
+behind_next : (bytes : List ℕ) (index : ℕ) (earlier : List FoundFrame) (pairs : List Pair) (pair : Pair) → index < length pairs → pair ≡ get_or pairs index pair
+    → frames_behind bytes index earlier (drop index pairs)
+    ≡ with_found (λ found. frames_behind bytes (index + 1) (earlier ++ found ∷ []) (drop (index + 1) pairs)) (tried_pair bytes earlier index pair)
+unfolding frames_behind
+behind_next bytes index earlier pairs pair within is =
+    let left : drop index pairs ≡ pair ∷ drop (index + 1) pairs = drop-cons pairs index pair within ∙ ap₂ (λ (p : Pair) (n : ℕ). p ∷ drop n pairs) (sym is) (sym (add-one index)) in
+    ap (frames_behind bytes index earlier) left
+
+-- a pair that is refused refuses all
+pub frames_refused : (classes : List Class) (bytes : List ℕ) (pairs : List Pair) (index : ℕ) (taken : List Run) (objects : List Object) (pair : Pair) (fault : Fault)
+    → (along : IsAlong classes bytes pairs index taken objects) → index < length pairs → pair ≡ get_or pairs index pair
+    → GoesOn classes bytes along.earlier (handles_of (take index pairs)) pair (tried_pair bytes along.earlier index pair) (Err fault)
+    → AnswersFrames classes bytes (frames_behind bytes 0 [] pairs) (Err fault)
+frames_refused classes bytes pairs index taken objects pair NoMemory along within is goes = tt
+frames_refused classes bytes pairs index taken objects pair (Refused refusal) along within is goes =
+    sym along.left ∙ behind_next bytes index along.earlier pairs pair within is
+    ∙ ap (with_found (λ found. frames_behind bytes (index + 1) (along.earlier ++ found ∷ []) (drop (index + 1) pairs))) goes
+
+-- the handles of one pair more
+handles_more : (pairs : List Pair) (index : ℕ) (pair : Pair) → index < length pairs → pair ≡ get_or pairs index pair
+    → handles_of (take (index + 1) pairs) ≡ handles_of (take index pairs) ++ pair.handle ∷ []
+handles_more pairs index pair within is =
+    let more : take (index + 1) pairs ≡ take index pairs ++ pair ∷ [] = take_more pairs index pair within ∙ ap (λ (p : Pair). take index pairs ++ p ∷ []) (sym is) in
+    ap handles_of more ∙ map-append (λ (p : Pair). p.handle) (take index pairs) (pair ∷ [])
+
+-- with one frame more, what is left gives the whole
+pub frames_on : (classes : List Class) (bytes : List ℕ) (pairs : List Pair) (index : ℕ) (taken : List Run) (objects : List Object) (pair : Pair) (frames : Frames)
+    → (along : IsAlong classes bytes pairs index taken objects) → index < length pairs → pair ≡ get_or pairs index pair
+    → GoesOn classes bytes along.earlier (handles_of (take index pairs)) pair (tried_pair bytes along.earlier index pair) (Ok frames)
+    → IsAlong classes bytes pairs (index + 1) frames.taken frames.objects.items
+frames_on classes bytes pairs index taken objects pair frames along within is goes = record {
+  earlier = along.earlier ++ goes.0 ∷ [];
+  read = subst (λ (handles : List ℕ). HasRead classes bytes (along.earlier ++ goes.0 ∷ []) handles frames.taken frames.objects.items) (sym (handles_more pairs index pair within is)) goes.2;
+  left = sym (ap (with_found (λ found. frames_behind bytes (index + 1) (along.earlier ++ found ∷ []) (drop (index + 1) pairs))) goes.1)
+      ∙ sym (behind_next bytes index along.earlier pairs pair within is) ∙ along.left;
+}
+
+-- behind the last pair, the frames so far are all
+pub frames_over : (classes : List Class) (bytes : List ℕ) (pairs : List Pair) (index : ℕ) (taken : List Run) (objects : List Object) → IsAlong classes bytes pairs index taken objects → length pairs ≤ index
+    → (found : List FoundFrame) × (frames_behind bytes 0 [] pairs ≡ Ok found) × AreFormsOf classes bytes found (values_of objects)
+unfolding frames_behind
+frames_over classes bytes pairs index taken objects along past =
+    (along.earlier, sym along.left ∙ ap (frames_behind bytes index along.earlier) (drop_all index pairs past), along.read.forms)

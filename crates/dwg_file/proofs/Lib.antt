@@ -1,0 +1,11 @@
+pub mod TakenRuns
+pub mod PairReading
+pub mod FramesAlong
+pub mod ObjectOrder
+pub mod OthersAlong
+pub mod FileReading
+pub mod PlanLoops
+pub mod PlanContent
+pub mod PlanMap
+pub mod PlanFacts
+pub mod PlanWriting

@@ -1,0 +1,6 @@
+use Rattle.dwg_file.specs.FrameReading.{IsAlong}
+use Rattle.dwg_file.proofs.frames.read_frames.Given as goal
+
+-- the frames of the pairs so far were read, and what is left gives the whole
+abbrev pub invariant-along : goal.invariant-along
+invariant-along l = IsAlong l.classes l.bytes l.pairs l.index l.frames.taken l.frames.objects.items

@@ -1,0 +1,34 @@
+use Rattle.dwg_sections.specs.HeaderLaws.{PassingBytesBeginWithHeader, HeaderIsRead}
+use Rattle.dwg_sections.specs.FramedLaws.{PassingBytesHaveSection, SectionIsRead}
+use Rattle.dwg_file.specs.ReadingLaws.{SectionLaws, reads_spelled, spelled_reads, spelled_passes, spelled_once}
+use Rattle.dwg_file.specs.PassingLaws.{passing_is_spelled}
+use Rattle.dwg_file.specs.ValidLaws.{spelled_is_valid}
+use Rattle.dwg_file.proofs.laws.drawing_laws.Goals as goal
+
+laws : PassingBytesBeginWithHeader → HeaderIsRead → PassingBytesHaveSection → SectionIsRead → SectionLaws
+laws header_sound header_complete section_sound section_complete =
+    record { header_sound = header_sound; header_complete = header_complete; section_sound = section_sound; section_complete = section_complete }
+
+pub returns-clause-one : goal.returns-clause-one
+returns-clause-one c bytes drawing other are spelled also =
+    spelled_once (laws c.file_header_laws.ensures.sound c.file_header_laws.ensures.complete c.framed_laws.ensures.sound c.framed_laws.ensures.complete) bytes drawing other are spelled also
+
+pub returns-clause-passes : goal.returns-clause-passes
+returns-clause-passes c bytes drawing are spelled =
+    spelled_passes (laws c.file_header_laws.ensures.sound c.file_header_laws.ensures.complete c.framed_laws.ensures.sound c.framed_laws.ensures.complete) drawing bytes are spelled
+
+pub returns-clause-read : goal.returns-clause-read
+returns-clause-read c bytes drawing are reads =
+    reads_spelled (laws c.file_header_laws.ensures.sound c.file_header_laws.ensures.complete c.framed_laws.ensures.sound c.framed_laws.ensures.complete) drawing bytes are reads
+
+pub returns-clause-again : goal.returns-clause-again
+returns-clause-again c bytes drawing are spelled =
+    spelled_reads (laws c.file_header_laws.ensures.sound c.file_header_laws.ensures.complete c.framed_laws.ensures.sound c.framed_laws.ensures.complete) drawing bytes are spelled
+
+pub returns-clause-spelled : goal.returns-clause-spelled
+returns-clause-spelled c bytes are none =
+    passing_is_spelled (laws c.file_header_laws.ensures.sound c.file_header_laws.ensures.complete c.framed_laws.ensures.sound c.framed_laws.ensures.complete) bytes are none
+
+pub returns-clause-valid : goal.returns-clause-valid
+returns-clause-valid c bytes drawing are few spelled =
+    spelled_is_valid (laws c.file_header_laws.ensures.sound c.file_header_laws.ensures.complete c.framed_laws.ensures.sound c.framed_laws.ensures.complete) drawing bytes are few spelled

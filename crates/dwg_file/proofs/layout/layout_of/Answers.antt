@@ -1,0 +1,33 @@
+use Rattle.std.proofs.Common.{◌≡◌, ◌∙◌, sym, ap, subst, ◌+◌, ◌*◌, List, length, arith}
+use Rattle.std.proofs.lemmas.List.{length-map}
+use Rattle.dwg_classes.specs.declared.class.Class.{Class}
+use Rattle.dwg_file.specs.Canonical.{class_content, objects_place}
+use Rattle.std.specs.Prelude.{map}
+use Rattle.std.specs.List.{AllByRecursion}
+use Rattle.dwg_classes.specs.WrittenClasses.{AreWritable}
+use Rattle.dwg_object.specs.declared.object.Object.{Object}
+use Rattle.dwg_object.specs.Objects.{value_of}
+use Rattle.dwg_file.specs.Contents.{other_value, contents_of}
+use Rattle.dwg_file.specs.Plans.{CanBeFramed}
+use Rattle.dwg_file.proofs.PlanFacts.{valid_writable, valid_framed, pairs_ascend_from, pairs_few}
+use Rattle.dwg_file.proofs.layout.layout_of.Goals as goal
+
+pub content_length-requires-clause-writable : goal.content_length-requires-clause-writable
+content_length-requires-clause-writable c = subst AreWritable (sym c.as_slice-2.ensures) (valid_writable (contents_of c.args.parts.now) c.requires)
+
+pub place_objects-requires-clause-framed : goal.place_objects-requires-clause-framed
+place_objects-requires-clause-framed c =
+    subst (λ (objects : List Object). AllByRecursion CanBeFramed (map value_of objects)) (sym c.as_slice-3.ensures) (valid_framed (contents_of c.args.parts.now) c.requires)
+
+pub map_length-requires-clause-ascending : goal.map_length-requires-clause-ascending
+map_length-requires-clause-ascending c =
+    let classes : length (class_content c.as_slice-2.result.now) ≡ length (class_content c.args.parts.now.classes) = ap (λ (all : List Class). length (class_content all)) c.as_slice-2.ensures in
+    let there : 43 + 9 * (3 + length c.as_slice-sections.result.now) + 38 + length c.as_slice.result.now + 38 + c.content_length.result + 37 ≡ objects_place (contents_of c.args.parts.now) =
+    omega (arith, ap length c.as_slice-sections.ensures, length-map c.args.parts.now.others other_value, ap length c.as_slice.ensures, c.content_length.ensures, classes) in
+    pairs_ascend_from (contents_of c.args.parts.now) _ _ c.as_slice-4.result.now c.requires there (ap (λ (objects : List Object). map value_of objects) c.as_slice-3.ensures)
+    (c.as_slice-4.ensures ∙ c.in_ok-frames.ensures.pairs)
+
+pub map_length-requires-clause-few : goal.map_length-requires-clause-few
+map_length-requires-clause-few c =
+    pairs_few (contents_of c.args.parts.now) _ _ c.as_slice-4.result.now c.requires (ap (λ (objects : List Object). map value_of objects) c.as_slice-3.ensures)
+    (c.as_slice-4.ensures ∙ c.in_ok-frames.ensures.pairs)

@@ -1,0 +1,6 @@
+use Rattle.std.proofs.Common.{◌≡◌, ◌++◌}
+use Rattle.dwg_file.proofs.objects.listed.Given as goal
+
+-- what was put in and what is left are all
+abbrev pub invariant-along : goal.invariant-along
+invariant-along l = l.list ++ l.object-iterator.rest.items ≡ l.fn.objects.items

@@ -1,0 +1,43 @@
+//! Drawings that are valid.
+
+use crate::parts::Parts;
+use std::marker::Model;
+
+/// A drawing whose parts are valid: what its canonical file spells again.
+#[derive(Drop)]
+pub struct Drawing<'a> {
+    parts: Parts<'a>,
+}
+
+impl<'a> Model for Drawing<'a> {
+    ghost use Rattle.dwg_file.specs.Contents.{Contents, contents_of};
+    ghost use Rattle.dwg_file.specs.Valid.{IsValid};
+
+    ghost Value = { Contents };
+
+    ghost view = { λ drawing. contents_of drawing.parts };
+
+    ghost invariant = { λ drawing. IsValid (contents_of drawing.parts) };
+}
+
+impl<'a> Drawing<'a> {
+    ghost use Rattle.std.specs.Prelude.{◌≡◌};
+    ghost use Rattle.dwg_file.specs.Contents.{contents_of};
+    ghost use Rattle.dwg_file.specs.Valid.{IsValid};
+
+    /// The drawing of these parts.
+    pub fn build(parts: Parts<'a>) -> Drawing<'a>
+        requires { IsValid (contents_of parts) }
+        ensures { result ≡ contents_of parts.entry }
+    {
+        Drawing { parts }
+    }
+
+    /// Its parts.
+    pub fn parts(&self) -> &Parts<'a>
+        ensures parts { contents_of result.now ≡ self.now }
+        ensures valid { IsValid self.now }
+    {
+        &self.parts
+    }
+}

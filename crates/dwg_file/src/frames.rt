@@ -1,0 +1,135 @@
+//! Reading frames, pair by pair in map order.
+
+ghost use Rattle.std.specs.Prelude.{◌≡◌, ℕ, ◌<◌, List, [], ◌∷◌, ◌++◌, map, false, IfOk, IfErr};
+ghost use Rattle.dwg_base.specs.Refusals.{IsFaultOfTable};
+ghost use Rattle.dwg_object.specs.FrameLines.{frame_refusal};
+ghost use Rattle.dwg_object.specs.Objects.{handle_of};
+ghost use Rattle.dwg_objmap.specs.Pages.{handles_of};
+ghost use Rattle.dwg_file.specs.FileLines.{FoundFrame, tried_pair, frames_behind};
+ghost use Rattle.dwg_file.specs.FrameReading.{AreTaken, AnswersPair, HasRead, GoesOn, AnswersFrames, values_of};
+ghost use Rattle.dwg_file.specs.Taken.{shares};
+
+use crate::taken::Taken;
+use dwg_base::{Fault, NoMemory, Refusal};
+use dwg_classes::Class;
+use dwg_object::{Found, Object, read_frame, span_at};
+use dwg_objmap::Pair;
+use std::alloc::Global;
+
+// The lines of the table on a frame that shares bytes with an earlier one, and on one whose own handle isn't the pair's.
+const OVERLAP_LINE: u8 = 29;
+
+const HANDLE_LINE: u8 = 32;
+
+/// The refusal of a pair's frame by a line, at the pair's place.
+fn refused(line: u8, index: u64, place: u64) -> Fault
+    ensures { result ≡ Fault.Refused (frame_refusal line index place) }
+{
+    Fault::Refused(Refusal { line, index, place })
+}
+
+/// Reads the frame of a pair: it has a span, which shares no byte with those of earlier pairs, a check word and a head, and
+/// its own handle is the pair's.
+fn frame_of_pair<'a>(
+    alloc: Global,
+    taken: &Taken,
+    bytes: &'a [u8],
+    pair: &Pair,
+    index: u64,
+    classes: &[Class],
+) -> Result<Found<'a>, Fault>
+    ensures tried { (earlier : List FoundFrame) → AreTaken earlier taken.now → AnswersPair classes.now bytes.now pair.now (tried_pair bytes.now earlier index pair.now) result }
+    ensures some { IfOk result (λ found. pair.now.place < found.end) }
+    ensures apart { IfOk result (λ found. shares taken.now pair.now.place found.end ≡ false) }
+    ensures of_table { IfErr result IsFaultOfTable }
+{
+    let place = pair.place;
+    let span = match span_at(bytes, place, index) {
+        Ok(span) => span,
+        Err(refusal) => return Err(Fault::Refused(refusal)),
+    };
+    if taken.shares(span.from, span.end) {
+        return Err(refused(OVERLAP_LINE, index, place));
+    }
+    let found = match read_frame(alloc, bytes, place, index, classes) {
+        Ok(found) => found,
+        Err(fault) => return Err(fault),
+    };
+    if found.object.handle().value() != pair.handle.value() {
+        return Err(refused(HANDLE_LINE, index, place));
+    }
+    Ok(found)
+}
+
+/// The objects of the frames that were read so far, and the bytes that these frames took.
+#[derive(Drop)]
+pub(crate) struct Frames<'a> {
+    taken: Taken,
+    pub(crate) objects: Vec<Object<'a>>,
+}
+
+/// Puts an object at the end. The only refusal is want of memory.
+fn with_object<'a>(
+    objects: Vec<Object<'a>>,
+    object: Object<'a>,
+) -> Result<Vec<Object<'a>>, NoMemory>
+    ensures { IfOk result (λ more. more.items ≡ objects.entry.items ++ object.entry ∷ []) }
+{
+    let mut objects = objects;
+    match objects.push(object) {
+        Ok(()) => Ok(objects),
+        Err(_) => Err(NoMemory),
+    }
+}
+
+/// The frames and the one of the next pair.
+fn next_frame<'a>(
+    alloc: Global,
+    frames: Frames<'a>,
+    bytes: &'a [u8],
+    pair: &Pair,
+    index: u64,
+    classes: &[Class],
+) -> Result<Frames<'a>, Fault>
+    ensures goes_on { (earlier : List FoundFrame) (handles : List ℕ) → HasRead classes.now bytes.now earlier handles frames.entry.taken frames.entry.objects.items → GoesOn classes.now bytes.now earlier handles pair.now (tried_pair bytes.now earlier index pair.now) result }
+    ensures of_table { IfErr result IsFaultOfTable }
+{
+    let Frames { taken, objects } = frames;
+    let found = match frame_of_pair(alloc, &taken, bytes, pair, index, classes) {
+        Ok(found) => found,
+        Err(fault) => return Err(fault),
+    };
+    let taken = match taken.add(pair.place, found.end) {
+        Ok(taken) => taken,
+        Err(NoMemory) => return Err(Fault::NoMemory),
+    };
+    match with_object(objects, found.object) {
+        Ok(objects) => Ok(Frames { taken, objects }),
+        Err(NoMemory) => Err(Fault::NoMemory),
+    }
+}
+
+/// Reads the frames of pairs, in their order.
+pub(crate) fn read_frames<'a>(
+    alloc: Global,
+    bytes: &'a [u8],
+    pairs: &[Pair],
+    classes: &[Class],
+) -> Result<Frames<'a>, Fault>
+    ensures tried { AnswersFrames classes.now bytes.now (frames_behind bytes.now 0 [] pairs.now) result }
+    ensures own { IfOk result (λ frames. map handle_of (values_of frames.objects.items) ≡ handles_of pairs.now) }
+    ensures of_table { IfErr result IsFaultOfTable }
+{
+    let mut frames = Frames {
+        taken: Taken::new(alloc),
+        objects: Vec::new(alloc),
+    };
+    'along: for index in 0..pairs.len() {
+        let pair = &pairs[index];
+        frames = match next_frame(alloc, frames, bytes, pair, index as u64, classes) {
+            Ok(frames) => frames,
+            Err(fault) => return Err(fault),
+        };
+    }
+    Ok(frames)
+}

@@ -1,0 +1,29 @@
+//! Laws of what an input spells, as the contract of a function without code of its own.
+
+ghost use Rattle.std.specs.Prelude.{◌≡◌, ◌≤◌, ℕ, List, None, length};
+ghost use Rattle.dwg_base.specs.Bytes.{AreBytes};
+ghost use Rattle.dwg_base.specs.Devices.{MOST_BYTES};
+ghost use Rattle.dwg_base.specs.Refusals.{first_fault};
+ghost use Rattle.dwg_file.specs.Contents.{Contents};
+ghost use Rattle.dwg_file.specs.FileLines.{ALL_LINES};
+ghost use Rattle.dwg_file.specs.DrawingAt.{drawing_at};
+ghost use Rattle.dwg_file.specs.ReadAs.{ReadsAs};
+ghost use Rattle.dwg_file.specs.Spelled.{Spelled};
+ghost use Rattle.dwg_file.specs.Valid.{IsValid};
+
+use dwg_sections::{file_header_laws, framed_laws};
+
+/// What holds of every input: it spells one drawing at the most; it spells one exactly where no line of the table fails;
+/// what is read of it by its places, where none fails, is what it spells, and the other way round; and what an input of at
+/// most 32 MiB spells is valid.
+pub fn drawing_laws()
+    ensures one { (bytes : List ℕ) (drawing other : Contents) → AreBytes bytes → Spelled drawing bytes → Spelled other bytes → drawing ≡ other }
+    ensures passes { (bytes : List ℕ) (drawing : Contents) → AreBytes bytes → Spelled drawing bytes → first_fault ALL_LINES bytes ≡ None }
+    ensures spelled { (bytes : List ℕ) → AreBytes bytes → first_fault ALL_LINES bytes ≡ None → Spelled (drawing_at bytes) bytes }
+    ensures read { (bytes : List ℕ) (drawing : Contents) → AreBytes bytes → ReadsAs drawing bytes → Spelled drawing bytes }
+    ensures again { (bytes : List ℕ) (drawing : Contents) → AreBytes bytes → Spelled drawing bytes → ReadsAs drawing bytes }
+    ensures valid { (bytes : List ℕ) (drawing : Contents) → AreBytes bytes → length bytes ≤ MOST_BYTES → Spelled drawing bytes → IsValid drawing }
+{
+    file_header_laws();
+    framed_laws();
+}

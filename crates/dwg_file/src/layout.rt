@@ -1,0 +1,164 @@
+//! Where the parts of the canonical file stand.
+
+ghost use Rattle.std.specs.Prelude.{◌≡◌, ◌+◌, ◌^◌, ◌<◌, ◌≤◌, ◌++◌, ◌∷◌, [], length, map, IfOk, OnOk};
+ghost use Rattle.dwg_base.specs.Devices.{MOST_BYTES};
+ghost use Rattle.dwg_file.specs.Canonical.{others_bytes, others_located, header_of, size_of};
+ghost use Rattle.dwg_file.specs.Contents.{other_value, contents_of};
+ghost use Rattle.dwg_file.specs.Plans.{IsLayout};
+ghost use Rattle.dwg_file.specs.Valid.{IsValid};
+
+use crate::parts::{Other, Parts};
+use crate::plan_parts::{content_length, others_length, place_objects};
+use dwg_base::{Items, NoMemory};
+use dwg_objmap::{Pair, map_length};
+use dwg_sections::{CLASSES_NUMBER, FileHeader, Locator, OBJECT_MAP_NUMBER, VARIABLES_NUMBER};
+use std::alloc::Global;
+
+/// How many bytes a header has without locators.
+const HEADER_SIZE: u64 = 43;
+
+/// How many bytes a locator has.
+const LOCATOR_SIZE: u64 = 9;
+
+/// How many bytes a framed section has beside its content.
+const FRAMED_SIZE: u64 = 38;
+
+/// How many bytes the preview has.
+const PREVIEW_SIZE: u64 = 37;
+
+/// Where the parts of a drawing's canonical file stand, and its size in bytes.
+#[derive(Drop)]
+pub(crate) struct Layout {
+    /// The place of the header variables.
+    pub variables: u64,
+    /// The place of the classes.
+    pub classes: u64,
+    /// The place of the preview.
+    pub preview: u64,
+    /// For each object its handle and the place of its frame.
+    pub pairs: Items<Pair>,
+    /// The place of the map.
+    pub map: u64,
+    /// The place of the unknown sections.
+    pub others: u64,
+    /// The size of the file.
+    pub size: u64,
+}
+
+/// Lays out the canonical file of valid parts. The only refusal is want of memory.
+pub(crate) fn layout_of(alloc: Global, parts: &Parts<'_>) -> Result<Layout, NoMemory>
+    requires { IsValid (contents_of parts.now) }
+    ensures { IfOk result (λ layout. IsLayout layout (contents_of parts.now)) }
+{
+    let sections = parts.others.as_slice();
+    let variables = HEADER_SIZE + LOCATOR_SIZE * (3 + sections.len() as u64);
+    let classes = variables + FRAMED_SIZE + parts.variables.as_slice().len() as u64;
+    let preview = classes + FRAMED_SIZE + content_length(parts.classes.as_slice());
+    let frames = place_objects(alloc, parts.objects.as_slice(), preview + PREVIEW_SIZE)?;
+    let others = frames.end + map_length(frames.pairs.as_slice());
+    let size = others + others_length(sections);
+    Ok(Layout {
+        variables,
+        classes,
+        preview,
+        pairs: frames.pairs,
+        map: frames.end,
+        others,
+        size,
+    })
+}
+
+/// Puts a locator at the end. The only refusal is want of memory.
+fn add_locator(
+    locators: &mut Items<Locator>,
+    number: u8,
+    place: u64,
+    size: u64,
+) -> Result<(), NoMemory>
+    requires place { place < 2 ^ 32 }
+    requires size { size < 2 ^ 32 }
+    ensures { OnOk result (locators.new ≡ locators.old ++ record { number = number; place = place; size = size } ∷ []) }
+{
+    match locators.push(Locator {
+        number,
+        place: place as u32,
+        size: size as u32,
+    }) {
+        Ok(()) => Ok(()),
+        Err(_) => Err(NoMemory),
+    }
+}
+
+/// Puts the locators of unknown sections that stand one behind the other at the end. The only refusal is want of memory.
+fn locate_others(
+    others: &[Other<'_>],
+    from: u64,
+    locators: &mut Items<Locator>,
+) -> Result<(), NoMemory>
+    requires { from + length (others_bytes (map other_value others.now)) < 2 ^ 32 }
+    ensures { OnOk result (locators.new ≡ locators.old ++ others_located from (map other_value others.now)) }
+{
+    let mut place = from;
+    'along: for other in others {
+        let size = other.bytes.as_slice().len() as u64;
+        match add_locator(locators, other.number, place, size) {
+            Ok(()) => {}
+            Err(NoMemory) => return Err(NoMemory),
+        }
+        place += size;
+    }
+    Ok(())
+}
+
+/// The locators of the canonical file. The only refusal is want of memory.
+fn locators_of(
+    alloc: Global,
+    parts: &Parts<'_>,
+    layout: &Layout,
+) -> Result<Items<Locator>, NoMemory>
+    requires layout { IsLayout layout.now (contents_of parts.now) }
+    requires small { size_of (contents_of parts.now) ≤ MOST_BYTES }
+    ensures { IfOk result (λ all. all ≡ (header_of (contents_of parts.now)).locators) }
+{
+    let mut locators = Items::new(alloc);
+    add_locator(
+        &mut locators,
+        VARIABLES_NUMBER,
+        layout.variables,
+        layout.classes - layout.variables,
+    )?;
+    add_locator(
+        &mut locators,
+        CLASSES_NUMBER,
+        layout.classes,
+        layout.preview - layout.classes,
+    )?;
+    add_locator(
+        &mut locators,
+        OBJECT_MAP_NUMBER,
+        layout.map,
+        layout.others - layout.map,
+    )?;
+    locate_others(parts.others.as_slice(), layout.others, &mut locators)?;
+    Ok(locators)
+}
+
+/// The header of the canonical file. The only refusal is want of memory.
+pub(crate) fn header_of(
+    alloc: Global,
+    parts: &Parts<'_>,
+    layout: &Layout,
+) -> Result<FileHeader, NoMemory>
+    requires layout { IsLayout layout.now (contents_of parts.now) }
+    requires small { size_of (contents_of parts.now) ≤ MOST_BYTES }
+    ensures { IfOk result (λ header. header ≡ header_of (contents_of parts.now)) }
+{
+    let locators = locators_of(alloc, parts, layout)?;
+    Ok(FileHeader {
+        lead: parts.lead,
+        preview: layout.preview as u32,
+        mark: parts.mark,
+        code_page: parts.code_page,
+        locators,
+    })
+}

@@ -1,0 +1,24 @@
+//! Whole drawings: read from their bytes, and written by their canonical file.
+#![tactic(auto)]
+
+mod drawing;
+mod frames;
+mod laws;
+mod layout;
+mod objects;
+mod others;
+mod parts;
+mod plan;
+mod plan_parts;
+mod reading;
+mod sections;
+mod taken;
+mod written_laws;
+
+pub use drawing::Drawing;
+pub use laws::drawing_laws;
+pub use parts::{Other, Parts};
+pub use plan::{Plan, PlanFault};
+pub use reading::read_drawing;
+pub use sections::classes_of_file;
+pub use written_laws::canonical_laws;

@@ -1,0 +1,62 @@
+//! The objects of frames, in ascending order of their handles.
+
+ghost use Rattle.std.specs.Prelude.{◌≡◌, [], IfOk, IfErr};
+ghost use Rattle.std.specs.List.Sorted.{IsPermutation, IsNonDecreasingBy};
+ghost use Rattle.dwg_base.specs.Refusals.{IsFaultOfTable};
+ghost use Rattle.dwg_object.specs.Objects.{handle_of, value_of};
+ghost use Rattle.dwg_objmap.specs.Pages.{AreHandles, handles_of};
+ghost use Rattle.dwg_file.specs.FileLines.{frames_behind};
+ghost use Rattle.dwg_file.specs.FrameReading.{AnswersObjects};
+
+use crate::frames::read_frames;
+use dwg_base::{Fault, Items, NoMemory};
+use dwg_classes::Class;
+use dwg_object::Object;
+use dwg_objmap::Pair;
+use std::alloc::Global;
+
+/// The objects in ascending order of their handles, in n log n steps.
+fn sorted<'a>(objects: Vec<Object<'a>>) -> Vec<Object<'a>>
+    ensures same { IsPermutation objects.entry.items result.items }
+    ensures ascend { IsNonDecreasingBy (λ object. handle_of (value_of object)) result.items }
+{
+    let mut objects = objects;
+    objects.sort_unstable_by_key(|object| object.handle().value());
+    objects
+}
+
+/// The same objects as a list. The only refusal is want of memory.
+fn listed<'a>(alloc: Global, objects: Vec<Object<'a>>) -> Result<Items<Object<'a>>, NoMemory>
+    ensures { IfOk result (λ list. list ≡ objects.entry.items) }
+{
+    let mut list = Items::new(alloc);
+    'along: for object in objects {
+        match list.push(object) {
+            Ok(()) => {}
+            Err(_) => return Err(NoMemory),
+        }
+    }
+    Ok(list)
+}
+
+/// Reads the objects of the frames of pairs: in ascending order of handle, one for each pair and no other. They are refused
+/// by the first pair, in their order, that fails one of the lines on its frame.
+pub(crate) fn read_objects<'a>(
+    alloc: Global,
+    bytes: &'a [u8],
+    pairs: &[Pair],
+    classes: &[Class],
+) -> Result<Items<Object<'a>>, Fault>
+    requires { AreHandles (handles_of pairs.now) }
+    ensures tried { AnswersObjects classes.now bytes.now (frames_behind bytes.now 0 [] pairs.now) result }
+    ensures of_table { IfErr result IsFaultOfTable }
+{
+    let frames = match read_frames(alloc, bytes, pairs, classes) {
+        Ok(frames) => frames,
+        Err(fault) => return Err(fault),
+    };
+    match listed(alloc, sorted(frames.objects)) {
+        Ok(objects) => Ok(objects),
+        Err(NoMemory) => Err(Fault::NoMemory),
+    }
+}

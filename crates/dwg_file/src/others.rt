@@ -1,0 +1,105 @@
+//! Unknown sections: those whose number is none of a section that is known.
+
+ghost use Rattle.std.specs.Prelude.{◌≡◌, ◌≤◌, List, [], ◌∷◌, ◌++◌, take, drop, map, IfOk, IfSome, None, false};
+ghost use Rattle.dwg_base.specs.Refusals.{IsOfTable};
+ghost use Rattle.dwg_file.specs.Contents.{other_value};
+ghost use Rattle.dwg_file.specs.FileLines.{is_cut, first_cut};
+ghost use Rattle.dwg_file.specs.ReadAs.{sections_at};
+
+use crate::parts::Other;
+use dwg_base::{ByteRun, Items, NoMemory, Refusal};
+use dwg_codes::BytePart;
+use dwg_sections::Locator;
+use std::alloc::Global;
+
+/// The least number of an unknown section.
+const LEAST_NUMBER: u8 = 3;
+
+/// The line of the table on an unknown section that passes the end of the input.
+const SHORT_LINE: u8 = 33;
+
+/// Whether the bytes of a locator's unknown section pass the end of the input. A section without bytes passes none.
+fn is_cut(bytes: &[u8], locator: &Locator) -> bool
+    ensures { result ≡ is_cut bytes.now locator.now }
+{
+    if locator.number < LEAST_NUMBER {
+        return false;
+    }
+    let size = u64::from(locator.size);
+    if size == 0 {
+        return false;
+    }
+    (bytes.len() as u64) < u64::from(locator.place) + size
+}
+
+/// Why the unknown sections are refused: the first, locator by locator, that passes the end of the input.
+pub(crate) fn refusal_of_others(bytes: &[u8], locators: &[Locator]) -> Option<Refusal>
+    ensures first { result ≡ first_cut bytes.now 0 locators.now }
+    ensures of_table { IfSome result IsOfTable }
+{
+    'along: for index in 0..locators.len() {
+        let locator = &locators[index];
+        if is_cut(bytes, locator) {
+            return Some(Refusal {
+                line: SHORT_LINE,
+                index: index as u64,
+                place: u64::from(locator.place),
+            });
+        }
+    }
+    None
+}
+
+/// The bytes of a locator's unknown section, which don't pass the end of the input.
+fn bytes_of<'a>(bytes: &'a [u8], locator: &Locator) -> &'a [u8]
+    requires known { 3 ≤ locator.now.number }
+    requires within { is_cut bytes.now locator.now ≡ false }
+    ensures { result.now ≡ take locator.now.size (drop locator.now.place bytes.now) }
+{
+    if locator.size == 0 {
+        return &[];
+    }
+    let place = locator.place as usize;
+    &bytes[place..place + locator.size as usize]
+}
+
+/// The unknown sections and that of one locator more, where its number is none that is known. The only refusal is want of
+/// memory, of which as much is taken as the section has bytes.
+fn with_section<'a>(
+    alloc: Global,
+    others: Items<Other<'a>>,
+    bytes: &'a [u8],
+    locator: &Locator,
+) -> Result<Items<Other<'a>>, NoMemory>
+    requires { is_cut bytes.now locator.now ≡ false }
+    ensures { IfOk result (λ more. map other_value more ≡ map other_value others.entry ++ sections_at bytes.now (locator.now ∷ [])) }
+{
+    if locator.number < LEAST_NUMBER {
+        return Ok(others);
+    }
+    let run = ByteRun::from_slice(alloc, bytes_of(bytes, locator))?;
+    let mut others = others;
+    match others.push(Other {
+        number: locator.number,
+        bytes: BytePart::Owned(run),
+    }) {
+        Ok(()) => Ok(others),
+        Err(_) => Err(NoMemory),
+    }
+}
+
+/// The unknown sections of locators, in their order. The only refusal is want of memory.
+pub(crate) fn read_others<'a>(
+    alloc: Global,
+    bytes: &'a [u8],
+    locators: &[Locator],
+) -> Result<Items<Other<'a>>, NoMemory>
+    requires { first_cut bytes.now 0 locators.now ≡ None }
+    ensures { IfOk result (λ others. map other_value others ≡ sections_at bytes.now locators.now) }
+{
+    let mut others = Items::new(alloc);
+    'along: for index in 0..locators.len() {
+        others = with_section(alloc, others, bytes, &locators[index])?;
+    }
+    Ok(others)
+}

@@ -1,0 +1,34 @@
+//! The parts of a drawing.
+
+use dwg_base::Items;
+use dwg_classes::Class;
+use dwg_codes::BytePart;
+use dwg_object::Object;
+
+/// A section of which nothing is known but its number and its bytes (Open Design Specification, "R13 to R2000 file layout").
+#[derive(Drop)]
+pub struct Other<'a> {
+    /// Its number, from 3 on in a drawing.
+    pub number: u8,
+    /// Its bytes.
+    pub bytes: BytePart<'a>,
+}
+
+/// What a drawing says. Places, the preview, padding, slack and the choice of spellings aren't part of it.
+#[derive(Drop)]
+pub struct Parts<'a> {
+    /// Seven bytes behind the version, kept without meaning.
+    pub lead: [u8; 7],
+    /// Two bytes before the code page, kept without meaning.
+    pub mark: [u8; 2],
+    /// The code page of the texts.
+    pub code_page: u16,
+    /// The content of the header variables.
+    pub variables: BytePart<'a>,
+    /// The classes, in file order.
+    pub classes: Items<Class>,
+    /// The unknown sections, in the order of their locators: at most three, with distinct numbers from 3 on.
+    pub others: Items<Other<'a>>,
+    /// The objects, in ascending order of handle.
+    pub objects: Items<Object<'a>>,
+}

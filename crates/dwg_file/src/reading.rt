@@ -1,0 +1,127 @@
+//! Reading whole drawings.
+
+ghost use Rattle.std.specs.Prelude.{◌≡◌, ◌≤◌, [], ◌∷◌, length, IfOk, IfErr, OnOk, None};
+ghost use Rattle.dwg_base.specs.Devices.{MOST_BYTES};
+ghost use Rattle.dwg_base.specs.Refusals.{first_fault, Tells, IsFaultOfTable};
+ghost use Rattle.dwg_sections.specs.HeaderLines.{HEADER_LINES, header_at};
+ghost use Rattle.dwg_file.specs.Contents.{contents_of};
+ghost use Rattle.dwg_file.specs.FileLines.{ALL_LINES, map_row, frames_row};
+ghost use Rattle.dwg_file.specs.FrameReading.{values_of, AreObjectsIn};
+ghost use Rattle.dwg_file.specs.ReadAs.{ReadsAs};
+ghost use Rattle.dwg_file.specs.Spelled.{Spelled};
+
+use crate::drawing::Drawing;
+use crate::laws::drawing_laws;
+use crate::objects::read_objects;
+use crate::parts::Parts;
+use crate::sections::{classes_of_file, others_of_file, pairs_of_file, variables_of_file};
+use dwg_base::{ByteRun, Fault, Items, NoMemory};
+use dwg_classes::Class;
+use dwg_codes::BytePart;
+use dwg_object::Object;
+use dwg_sections::{FileHeader, read_file_header};
+use std::alloc::Global;
+
+/// The objects of the file: those of the frames that its map names, in ascending order of handle. The whole map is tried
+/// before the first frame.
+fn objects_of_file<'a>(
+    alloc: Global,
+    bytes: &'a [u8],
+    header: &FileHeader,
+    classes: &[Class],
+) -> Result<Items<Object<'a>>, Fault>
+    requires { header.now ≡ header_at bytes.now }
+    ensures objects { IfOk result (λ objects. AreObjectsIn classes.now bytes.now (values_of objects)) }
+    ensures holds { OnOk result (first_fault (map_row ∷ frames_row ∷ []) bytes.now ≡ None) }
+    ensures refused { IfErr result (λ fault. Tells fault (first_fault (map_row ∷ frames_row ∷ []) bytes.now)) }
+    ensures of_table { IfErr result IsFaultOfTable }
+{
+    let pairs = match pairs_of_file(alloc, bytes, header) {
+        Ok(pairs) => pairs,
+        Err(fault) => return Err(fault),
+    };
+    match read_objects(alloc, bytes, pairs.as_slice(), classes) {
+        Ok(objects) => Ok(objects),
+        Err(fault) => Err(fault),
+    }
+}
+
+/// The parts of the drawing, behind the header that the file begins with.
+fn parts_behind<'a>(alloc: Global, bytes: &'a [u8], header: &FileHeader) -> Result<Parts<'a>, Fault>
+    requires length { length bytes.now ≤ MOST_BYTES }
+    requires header { header.now ≡ header_at bytes.now }
+    requires holds { first_fault HEADER_LINES bytes.now ≡ None }
+    ensures read { IfOk result (λ parts. ReadsAs (contents_of parts) bytes.now) }
+    ensures refused { IfErr result (λ fault. Tells fault (first_fault ALL_LINES bytes.now)) }
+    ensures of_table { IfErr result IsFaultOfTable }
+{
+    let content = match variables_of_file(bytes, header) {
+        Ok(content) => content,
+        Err(refusal) => return Err(Fault::Refused(refusal)),
+    };
+    let classes = match classes_of_file(alloc, bytes, header) {
+        Ok(classes) => classes,
+        Err(fault) => return Err(fault),
+    };
+    let objects = match objects_of_file(alloc, bytes, header, classes.as_slice()) {
+        Ok(objects) => objects,
+        Err(fault) => return Err(fault),
+    };
+    let others = match others_of_file(alloc, bytes, header) {
+        Ok(others) => others,
+        Err(fault) => return Err(fault),
+    };
+    let variables = match ByteRun::from_slice(alloc, content) {
+        Ok(run) => BytePart::Owned(run),
+        Err(NoMemory) => return Err(Fault::NoMemory),
+    };
+    Ok(Parts {
+        lead: header.lead,
+        mark: header.mark,
+        code_page: header.code_page,
+        variables,
+        classes,
+        others,
+        objects,
+    })
+}
+
+/// Reads the parts of the drawing that an input spells.
+fn read_parts<'a>(alloc: Global, bytes: &'a [u8]) -> Result<Parts<'a>, Fault>
+    requires { length bytes.now ≤ MOST_BYTES }
+    ensures read { IfOk result (λ parts. ReadsAs (contents_of parts) bytes.now) }
+    ensures refused { IfErr result (λ fault. Tells fault (first_fault ALL_LINES bytes.now)) }
+    ensures of_table { IfErr result IsFaultOfTable }
+{
+    let header = match read_file_header(alloc, bytes) {
+        Ok(header) => header,
+        Err(fault) => return Err(fault),
+    };
+    match parts_behind(alloc, bytes, &header) {
+        Ok(parts) => Ok(parts),
+        Err(fault) => Err(fault),
+    }
+}
+
+/// Reads the drawing that an input spells. It is refused by the first of all lines that fails: those on the file header, the
+/// header variables, the section of the classes, the classes one by one, the whole map page by page, the frames pair by
+/// pair in map order, and the unknown sections (Open Design Specification, "R13 to R2000 file layout").
+///
+/// The objects come in ascending order of handle. What memory is taken is for what the input holds, and want of it tells
+/// nothing of the input.
+pub fn read_drawing<'a>(alloc: Global, bytes: &'a [u8]) -> Result<Drawing<'a>, Fault>
+    requires { length bytes.now ≤ MOST_BYTES }
+    // The drawing that the input spells; it spells one exactly where no line fails.
+    ensures spelled { IfOk result (λ drawing. Spelled drawing bytes.now) }
+    ensures holds { OnOk result (first_fault ALL_LINES bytes.now ≡ None) }
+
+    // The first line that fails, or want of memory.
+    ensures refused { IfErr result (λ fault. Tells fault (first_fault ALL_LINES bytes.now)) }
+    ensures of_table { IfErr result IsFaultOfTable }
+{
+    drawing_laws();
+    match read_parts(alloc, bytes) {
+        Ok(parts) => Ok(Drawing::build(parts)),
+        Err(fault) => Err(fault),
+    }
+}
