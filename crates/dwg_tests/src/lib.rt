@@ -12,6 +12,8 @@ mod classes;
 #[cfg(test)]
 mod codes;
 #[cfg(test)]
+mod drawings;
+#[cfg(test)]
 mod handles;
 #[cfg(test)]
 mod modular;
