@@ -111,26 +111,27 @@ def drawing(objects, map_bytes):
     return header(locators) + variables + classes + objects + made
 
 
-def many_objects(count):
+def frames_and_places(count, filler):
+    """So many frames, and for each the pair of its handle and its place among them."""
     frames, places, place = [], [], 0
     for handle in range(1, count + 1):
-        one = frame(handle, 32)
+        one = frame(handle, filler)
         frames.append(one)
         places.append((handle, place))
         place += len(one)
-    return drawing(b"".join(frames), lambda start: pages([(h, start + p) for h, p in places], 2030))
+    return b"".join(frames), places
+
+
+def many_objects(count):
+    frames, places = frames_and_places(count, 32)
+    return drawing(frames, lambda start: pages([(h, start + p) for h, p in places], 2030))
 
 
 def descending_map(count):
-    """The same objects with a map whose handles descend: a page for each pair."""
-    frames, places, place = [], [], 0
-    for handle in range(1, count + 1):
-        one = frame(handle, 0)
-        frames.append(one)
-        places.append((handle, place))
-        place += len(one)
+    """Small objects with a map whose handles descend: a page for each pair."""
+    frames, places = frames_and_places(count, 0)
     places.reverse()
-    return drawing(b"".join(frames), lambda start: pages([(h, start + p) for h, p in places], 2030))
+    return drawing(frames, lambda start: pages([(h, start + p) for h, p in places], 2030))
 
 
 def one_place(count):
