@@ -41,6 +41,57 @@ const ONE_CLASS: [u8; 199] = [
     0xBB, 0xEF, 0xD4, 0x00, 0x02, 0x01, 0xD0,
 ];
 
+/// The frame of a dictionary of handle C, and the map of this frame at 183.
+const ONE_OBJECT: [u8; 27] = [
+    0x0C, 0x00, 0x4A, 0x92, 0x80, 0x00, 0x00, 0x00, 0x43, 0x2A, 0x80, 0x10, 0x0C, 0x00, 0x1F, 0x49,
+    0x00, 0x05, 0x0C, 0xB7, 0x01, 0x2E, 0x77, 0x00, 0x02, 0x01, 0xD0,
+];
+
+/// What the header of the smallest file says else, where this object stands in it.
+const OF_ONE_OBJECT: [(usize, u8); 4] = [(44, 0xC7), (48, 0x0B), (52, 0xD5), (53, 0x91)];
+
+/// A map that names the null handle.
+const OF_NULL: [u8; 11] = [
+    0x00, 0x05, 0x00, 0xB7, 0x01, 0x2D, 0xB7, 0x00, 0x02, 0x01, 0xD0,
+];
+
+/// A map that names a handle twice.
+const TWICE: [u8; 13] = [
+    0x00, 0x07, 0x0C, 0xB7, 0x01, 0x00, 0x10, 0xC2, 0xA7, 0x00, 0x02, 0x01, 0xD0,
+];
+
+/// What the header of the smallest file says else, where the object and that map stand in it.
+const OF_TWICE: [(usize, u8); 4] = [(44, 0xC7), (48, 0x0D), (52, 0xD5), (53, 0x19)];
+
+/// The frame of an XRECORD of handle A whose content is the frame of the dictionary, and a map that names both.
+const OVERLAP: [u8; 45] = [
+    0x1C, 0x00, 0x53, 0xF2, 0x80, 0x00, 0x00, 0x00, 0x42, 0xA9, 0x10, 0x0C, 0x00, 0x4A, 0x92, 0x80,
+    0x00, 0x00, 0x00, 0x43, 0x2A, 0x80, 0x10, 0x0C, 0x00, 0x1F, 0x49, 0x90, 0x0C, 0x00, 0x78, 0x78,
+    0x00, 0x07, 0x0A, 0xB7, 0x01, 0x02, 0x0B, 0xA9, 0x6E, 0x00, 0x02, 0x01, 0xD0,
+];
+
+/// What the header of the smallest file says else, where these stand in it.
+const OF_OVERLAP: [(usize, u8); 4] = [(44, 0xD7), (48, 0x0D), (52, 0xD4), (53, 0x15)];
+
+/// The header of the smallest file with an unknown section of number 7 of three bytes behind the map.
+const FOUR_SECTIONS: [u8; 79] = [
+    0x41, 0x43, 0x31, 0x30, 0x31, 0x35, 0x00, 0x00, 0x00, 0x00, 0x00, 0x00, 0x00, 0x9B, 0x00, 0x00,
+    0x00, 0x00, 0x00, 0x00, 0x00, 0x04, 0x00, 0x00, 0x00, 0x00, 0x4F, 0x00, 0x00, 0x00, 0x26, 0x00,
+    0x00, 0x00, 0x01, 0x75, 0x00, 0x00, 0x00, 0x26, 0x00, 0x00, 0x00, 0x02, 0xC0, 0x00, 0x00, 0x00,
+    0x04, 0x00, 0x00, 0x00, 0x07, 0xC4, 0x00, 0x00, 0x00, 0x03, 0x00, 0x00, 0x00, 0x4E, 0x75, 0x95,
+    0xA0, 0x4E, 0x28, 0x99, 0x82, 0x1A, 0xE5, 0x5E, 0x41, 0xE0, 0x5F, 0x9D, 0x3A, 0x4D, 0x00,
+];
+
+/// The header of the smallest file with two unknown sections, each of 17,000,000 bytes from 0 on.
+const FIVE_SECTIONS: [u8; 88] = [
+    0x41, 0x43, 0x31, 0x30, 0x31, 0x35, 0x00, 0x00, 0x00, 0x00, 0x00, 0x00, 0x00, 0xA4, 0x00, 0x00,
+    0x00, 0x00, 0x00, 0x00, 0x00, 0x05, 0x00, 0x00, 0x00, 0x00, 0x58, 0x00, 0x00, 0x00, 0x26, 0x00,
+    0x00, 0x00, 0x01, 0x7E, 0x00, 0x00, 0x00, 0x26, 0x00, 0x00, 0x00, 0x02, 0xC9, 0x00, 0x00, 0x00,
+    0x04, 0x00, 0x00, 0x00, 0x03, 0x00, 0x00, 0x00, 0x00, 0x40, 0x66, 0x03, 0x01, 0x04, 0x00, 0x00,
+    0x00, 0x00, 0x40, 0x66, 0x03, 0x01, 0xDB, 0x90, 0x95, 0xA0, 0x4E, 0x28, 0x99, 0x82, 0x1A, 0xE5,
+    0x5E, 0x41, 0xE0, 0x5F, 0x9D, 0x3A, 0x4D, 0x00,
+];
+
 const SECTIONS: &str =
     "version AC1015\ncodepage 0\npreview 146\nsection 0 at 70 size 38\nsection 1 at 108 size 38\nsection 2 at 183 size 4\n";
 
@@ -88,6 +139,26 @@ fn changed(alloc: Global, bytes: &[u8], changes: &[(usize, u8)]) -> Result<Vec<u
         }
     }
     Ok(list)
+}
+
+/// The pieces, one behind the other.
+fn joined(alloc: Global, pieces: &[&[u8]]) -> Result<Vec<u8>, Fail> {
+    let mut list = Vec::new(alloc);
+    for piece in pieces {
+        list.extend_from_slice(piece)?;
+    }
+    Ok(list)
+}
+
+/// The smallest file with a changed header, and with frames and a map in the place of its empty map.
+fn with_frames(
+    alloc: Global,
+    header: &[(usize, u8)],
+    frames: &[u8],
+    map: &[u8],
+) -> Result<Vec<u8>, Fail> {
+    let front = changed(alloc, &SMALLEST[..183], header)?;
+    joined(alloc, &[&front, frames, map])
 }
 
 /// Runs the program on words and an input that comes in pieces of one byte, of ten, and whole: it must end with this
@@ -172,7 +243,7 @@ fn names_the_first_fault_of_the_header(rt: HostRuntime) -> Result<(), Fail> {
             "dwg: refused: header 0 at 69: short\n",
         ),
     ] {
-        for command in [&["sections"], &["classes"]] {
+        for command in [&["sections"], &["classes"], &["rewrite"]] {
             answers(
                 &rt,
                 alloc,
@@ -221,6 +292,121 @@ fn prints_the_classes(rt: HostRuntime) -> Result<(), Fail> {
 }
 
 #[test]
+fn rewrites_drawings(rt: HostRuntime) -> Result<(), Fail> {
+    let alloc = rt.alloc();
+    let frame = &ONE_OBJECT[..16];
+    let one_object = with_frames(alloc, &OF_ONE_OBJECT, frame, &ONE_OBJECT[16..])?;
+    let sections = joined(alloc, &[&FOUR_SECTIONS, &SMALLEST[70..], b"ABC"])?;
+    for input in [SMALLEST.as_slice(), &one_object, &sections] {
+        answers(&rt, alloc, &["rewrite"], input, Status::Done, input, b"")?;
+    }
+    // What stands behind the last part is in no drawing.
+    let more = joined(alloc, &[&one_object, b"ABC"])?;
+    answers(
+        &rt,
+        alloc,
+        &["rewrite"],
+        &more,
+        Status::Done,
+        &one_object,
+        b"",
+    )
+}
+
+#[test]
+fn names_the_first_fault_of_a_drawing(rt: HostRuntime) -> Result<(), Fail> {
+    let alloc = rt.alloc();
+    let frame = &ONE_OBJECT[..16];
+    let one_object = with_frames(alloc, &OF_ONE_OBJECT, frame, &ONE_OBJECT[16..])?;
+    let null = with_frames(alloc, &OF_ONE_OBJECT, frame, &OF_NULL)?;
+    let twice = with_frames(alloc, &OF_TWICE, frame, &TWICE)?;
+    let overlap = with_frames(alloc, &OF_OVERLAP, &OVERLAP, &[])?;
+    let frame_changed = changed(alloc, &one_object, &[(196, 0x01)])?;
+    let map_changed = changed(alloc, &one_object, &[(204, 0x2F)])?;
+    let sections = joined(alloc, &[&FOUR_SECTIONS, &SMALLEST[70..], b"AB"])?;
+    for (input, line, index, place, note) in [
+        (
+            &SMALLEST[..140],
+            16,
+            0,
+            124,
+            "dwg: refused: classes 0 at 124: length\n",
+        ),
+        (&null, 25, 0, 201, "dwg: refused: map 0 at 201: null\n"),
+        (
+            &twice,
+            26,
+            0,
+            204,
+            "dwg: refused: map 0 at 204: duplicate\n",
+        ),
+        (
+            &map_changed,
+            23,
+            0,
+            204,
+            "dwg: refused: map 0 at 204: check\n",
+        ),
+        (
+            &frame_changed,
+            30,
+            0,
+            183,
+            "dwg: refused: objects 0 at 183: check\n",
+        ),
+        (
+            &overlap,
+            29,
+            1,
+            194,
+            "dwg: refused: objects 1 at 194: overlap\n",
+        ),
+        (
+            &sections,
+            33,
+            3,
+            196,
+            "dwg: refused: sections 3 at 196: short\n",
+        ),
+    ] {
+        answers(
+            &rt,
+            alloc,
+            &["rewrite"],
+            input,
+            refused(line, index, place),
+            b"",
+            note.as_bytes(),
+        )?;
+    }
+    Ok(())
+}
+
+#[test]
+fn refuses_a_drawing_that_is_too_large(rt: HostRuntime) -> Result<(), Fail> {
+    let alloc = rt.alloc();
+    let front = joined(alloc, &[&FIVE_SECTIONS, &SMALLEST[70..]])?;
+    let mut bytes = vec![in alloc; 0u8; 17_000_000]?;
+    for (to, byte) in bytes.iter_mut().zip(front.iter()) {
+        *to = *byte;
+    }
+    let words = words(alloc, &["rewrite"])?;
+    let mut input = source(alloc, &bytes, PLENTY, &[])?;
+    let mut output = sink(alloc, PLENTY, &[])?;
+    let mut notes = sink(alloc, PLENTY, &[])?;
+    assert_eq!(rt;
+        run(alloc, &words, &mut input, &mut output, &mut notes),
+        Status::TooLarge { size: 34_000_205 }
+    );
+    assert_eq!(rt; output.bytes(), b"".as_slice());
+    assert_eq!(rt;
+        notes.bytes(),
+        b"dwg: drawing too large: 34000205 bytes\n".as_slice()
+    );
+    Ok(())
+}
+
+#[test]
 fn tells_how_it_is_used(rt: HostRuntime) -> Result<(), Fail> {
     let alloc = rt.alloc();
     for named in [
@@ -253,6 +439,7 @@ fn ends_with_the_status_of_the_table(rt: HostRuntime) {
         (Status::WriteFault, 5),
         (Status::NoMemory, 6),
         (Status::TooLong, 7),
+        (Status::TooLarge { size: 34_000_205 }, 8),
     ] {
         assert_eq!(rt; status.code(), code);
     }
