@@ -1,10 +1,11 @@
 -- The canonical file of a valid drawing that isn't too large spells it, has the size that is counted, and is bytes.
-use Rattle.std.proofs.Common.{◌≡◌, refl, subst, inl, ℕ, ◌+◌, ◌≤◌, List, ◌++◌, length, arith}
+use Rattle.std.proofs.Common.{◌≡◌, refl, ap, subst, inl, ℕ, ◌+◌, ◌≤◌, List, ◌++◌, length, None, arith}
 use Rattle.std.specs.Prelude.{map}
 use Rattle.std.specs.List.Sorted.{IsPermutation}
 use Rattle.std.proofs.lemmas.List.Sorted.{IsPermutation-refl}
 use Rattle.dwg_base.specs.Bytes.{AreBytes, StandsAt}
 use Rattle.dwg_base.specs.Devices.{MOST_BYTES}
+use Rattle.dwg_base.specs.Refusals.{first_fault}
 use Rattle.dwg_object.specs.Objects.{ObjectValue}
 use Rattle.dwg_objmap.specs.FillingLaws.{map_is_written}
 use Rattle.dwg_objmap.specs.Writing.{Ascend}
@@ -16,6 +17,8 @@ use Rattle.dwg_file.specs.Canonical.{PREVIEW, class_content, frames_bytes, place
 use Rattle.dwg_file.specs.CanonicalFrames.{frames_from, pairs_of_frames, objects_of_frames, frames_stand, frames_apart, pairs_ascend, frames_are_bytes, others_are_bytes, others_stand}
 use Rattle.dwg_file.specs.CanonicalHeader.{header_fits, length_of_located}
 use Rattle.dwg_file.specs.CanonicalParts.{length_of_header, header_is_bytes, length_of_framed, framed_is_bytes, length_of_preview, preview_is_bytes, content_is_bytes, content_is_classes}
+use Rattle.dwg_file.specs.DrawingAt.{drawing_at}
+use Rattle.dwg_file.specs.FileLines.{ALL_LINES}
 use Rattle.dwg_file.specs.MapBytes.{map_is_bytes}
 use Rattle.dwg_file.specs.SevenPieces.{length_of_seven, seven_are_bytes, seven_stand}
 use Rattle.dwg_file.specs.Spelled.{PairFrame, AreSectionsOf, Spelled}
@@ -174,3 +177,38 @@ canonical_spells_no_other once drawing other is small spelled =
 pub canonical_tells_drawing : SpelledOnce → CanonicalTellsDrawing
 canonical_tells_drawing once drawing other is also small few same =
     once (canonical other) drawing other (canonical_is_counted other also few).1 (subst (Spelled drawing) same (canonical_spells drawing is small)) (canonical_spells other also few)
+
+-- what is read of the canonical file is its drawing, and no line fails on it
+abbrev pub CanonicalIsRead : Type 0
+CanonicalIsRead = (drawing : Contents) → IsValid drawing → size_of drawing ≤ MOST_BYTES → (first_fault ALL_LINES (canonical drawing) ≡ None) × (drawing_at (canonical drawing) ≡ drawing)
+
+-- rewriting twice is rewriting once: where no line fails on an input and its canonical file isn't too large, no line fails on that file, which is written again as it is
+abbrev pub RewritingIsDoneOnce : Type 0
+RewritingIsDoneOnce =
+    (bytes : List ℕ) → AreBytes bytes → length bytes ≤ MOST_BYTES → first_fault ALL_LINES bytes ≡ None → size_of (drawing_at bytes) ≤ MOST_BYTES
+    → (first_fault ALL_LINES (canonical (drawing_at bytes)) ≡ None) × (canonical (drawing_at (canonical (drawing_at bytes))) ≡ canonical (drawing_at bytes))
+
+-- where an input spells a drawing no line fails
+abbrev pub SpelledPasses : Type 0
+SpelledPasses = (bytes : List ℕ) (drawing : Contents) → AreBytes bytes → Spelled drawing bytes → first_fault ALL_LINES bytes ≡ None
+
+-- where no line fails an input spells the drawing that is read of it
+abbrev pub PassingIsSpelled : Type 0
+PassingIsSpelled = (bytes : List ℕ) → AreBytes bytes → first_fault ALL_LINES bytes ≡ None → Spelled (drawing_at bytes) bytes
+
+-- what an input of at most 32 MiB spells is valid
+abbrev pub SpelledIsValid : Type 0
+SpelledIsValid = (bytes : List ℕ) (drawing : Contents) → AreBytes bytes → length bytes ≤ MOST_BYTES → Spelled drawing bytes → IsValid drawing
+
+-- so the canonical file is read as its drawing
+pub canonical_is_read : SpelledOnce → SpelledPasses → PassingIsSpelled → CanonicalIsRead
+canonical_is_read once passes spelled drawing is small =
+    let none = passes (canonical drawing) drawing (canonical_is_counted drawing is small).1 (canonical_spells drawing is small) in
+    (none, canonical_spells_no_other once drawing (drawing_at (canonical drawing)) is small (spelled (canonical drawing) (canonical_is_counted drawing is small).1 none))
+
+-- and rewriting twice is rewriting once
+pub rewriting_is_done_once : SpelledOnce → SpelledPasses → PassingIsSpelled → SpelledIsValid → RewritingIsDoneOnce
+rewriting_is_done_once once passes spelled valid bytes are few none small =
+    let is = valid bytes (drawing_at bytes) are few (spelled bytes are none) in
+    let read = canonical_is_read once passes spelled (drawing_at bytes) is small in
+    (read.0, ap canonical read.1)

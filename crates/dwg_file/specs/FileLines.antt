@@ -1,5 +1,5 @@
 -- The lines of the table of refusals over a whole file, in their order. A rule of this project.
-use Rattle.std.specs.Prelude.{ℕ, ◌+◌, Bool, not, ◌&&◌, ◌||◌, List, [], ◌∷◌, ◌++◌, length, nat_lt, ◌==◌, Option, Some, None, Ok, Err, unwrap_or, if◌then◌else◌}
+use Rattle.std.specs.Prelude.{ℕ, ◌+◌, Bool, not, ◌&&◌, List, [], ◌∷◌, ◌++◌, length, nat_lt, ◌==◌, Option, Some, None, Ok, Err, unwrap_or, if◌then◌else◌}
 use Rattle.std.specs.List.{list_any}
 use Rattle.std.specs.Result.{result_unwrap_or}
 use Rattle.dwg_base.specs.Refusals.{RefusalRow, Tried, first_fault, fault_of}
@@ -11,7 +11,6 @@ use Rattle.dwg_object.specs.Objects.{HeadParts}
 use Rattle.dwg_object.specs.FrameLines.{frame_refusal, tried_span, tried_frame}
 use Rattle.dwg_objmap.specs.declared.pair.Pair.{Pair}
 use Rattle.dwg_objmap.specs.MapLines.{tried_map}
-use Rattle.dwg_sections.specs.declared.framed.Framed.{Framed}
 use Rattle.dwg_sections.specs.declared.framed.Framed.TheVariants.{Variables, Classes}
 use Rattle.dwg_sections.specs.declared.header.Locator.{Locator}
 use Rattle.dwg_sections.specs.HeaderLines.{HEADER_LINES, header_at, place_of}

@@ -60,7 +60,7 @@ span_told bytes earlier pair index (Ok span) found same = of_test (touches earli
     of_test true is = absurd (not_refused (sym (ap (λ test. if test then Err (frame_refusal 29 index pair.place) else with_handle pair index (tried_frame pair.place index bytes)) is) ∙ same))
 
 -- what is found of a pair stands there
-pair_found : (bytes : List ℕ) (earlier : List FoundFrame) (index : ℕ) (pair : Pair) (found : FoundFrame) → AreBytes bytes → tried_pair bytes earlier index pair ≡ Ok found → IsFound bytes earlier pair found
+pub pair_found : (bytes : List ℕ) (earlier : List FoundFrame) (index : ℕ) (pair : Pair) (found : FoundFrame) → AreBytes bytes → tried_pair bytes earlier index pair ≡ Ok found → IsFound bytes earlier pair found
 unfolding tried_pair
 pair_found bytes earlier index pair found are same =
     let told = span_told bytes earlier pair index (tried_span pair.place index bytes) found same in
@@ -76,7 +76,7 @@ pair_found bytes earlier index pair found are same =
     }
 
 -- and what stands there is found
-found_pair : (bytes : List ℕ) (earlier : List FoundFrame) (index : ℕ) (pair : Pair) (found : FoundFrame) → AreBytes bytes → IsFound bytes earlier pair found → tried_pair bytes earlier index pair ≡ Ok found
+pub found_pair : (bytes : List ℕ) (earlier : List FoundFrame) (index : ℕ) (pair : Pair) (found : FoundFrame) → AreBytes bytes → IsFound bytes earlier pair found → tried_pair bytes earlier index pair ≡ Ok found
 unfolding tried_pair
 found_pair bytes earlier index pair found are is =
     let own : (found.1.own == pair.handle) ≡ true = same_test found.1.own pair.handle is.own in

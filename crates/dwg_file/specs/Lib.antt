@@ -9,6 +9,9 @@ pub mod FrameReading
 pub mod PassingLines
 pub mod SectionPlaces
 pub mod FramesFound
+pub mod FrameRefusals
+pub mod SectionRefusals
+pub mod SectionRefusalLaws
 pub mod FramesSpelled
 pub mod ObjectOrder
 pub mod ReadingLaws
@@ -19,6 +22,7 @@ pub mod ValidLaws
 pub mod SortedObjects
 pub mod DrawingAt
 pub mod PassingLaws
+pub mod FrameRefusalLaws
 pub mod SevenPieces
 pub mod CanonicalParts
 pub mod CanonicalHeader

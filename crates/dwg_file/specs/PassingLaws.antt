@@ -13,11 +13,9 @@ use Rattle.dwg_object.specs.FrameLines.{span_body}
 use Rattle.dwg_objmap.specs.declared.pair.Pair.{Pair}
 use Rattle.dwg_objmap.specs.Pages.{AreHandles, handles_of}
 use Rattle.dwg_objmap.specs.MapLaws.{map_is_tried}
-use Rattle.dwg_sections.specs.HeaderLines.{header_at}
-use Rattle.dwg_sections.specs.FramedLines.{content_at}
 use Rattle.dwg_file.specs.Contents.{Contents}
 use Rattle.dwg_file.specs.FileLines.{ALL_LINES, FoundFrame, section_place, classes_tried, map_tried, frames_behind, frames_tried}
-use Rattle.dwg_file.specs.ReadAs.{sections_at, AreFormsOf, ReadsAs}
+use Rattle.dwg_file.specs.ReadAs.{AreFormsOf, ReadsAs}
 use Rattle.dwg_file.specs.Spelled.{Spelled, AreAscending}
 use Rattle.dwg_file.specs.PassingLines.{each_holds, ok_of_fault}
 use Rattle.dwg_file.specs.FramesFound.{AreFound, frames_found}
@@ -26,7 +24,7 @@ use Rattle.dwg_file.specs.DrawingAt.{objects_at, classes_at, drawing_at}
 use Rattle.dwg_file.specs.SortedObjects.{sorted, sorted_same, sorted_ascends, distinct_objects}
 
 -- every frame that is found is read
-forms_at : (classes : List Class) (bytes : List ℕ) (earlier : List FoundFrame) (pairs : List Pair) (founds : List FoundFrame) → AreFound bytes earlier pairs founds
+pub forms_at : (classes : List Class) (bytes : List ℕ) (earlier : List FoundFrame) (pairs : List Pair) (founds : List FoundFrame) → AreFound bytes earlier pairs founds
     → AreFormsOf classes bytes founds (objects_at classes bytes founds)
 forms_at classes bytes earlier [] founds none = subst (λ (f : List FoundFrame). AreFormsOf classes bytes f (objects_at classes bytes f)) (sym none) refl
 forms_at classes bytes earlier (pair ∷ pairs) founds (found, behind, is, first, more) =

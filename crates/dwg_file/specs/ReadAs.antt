@@ -1,5 +1,5 @@
 -- What is read of an input in which no line fails: its parts, by their places. A rule of this project.
-use Rattle.std.specs.Prelude.{◌≡◌, ⊤, ℕ, List, [], ◌∷◌, take, drop, nat_lt, None, Ok, if◌then◌else◌}
+use Rattle.std.specs.Prelude.{◌≡◌, ℕ, List, [], ◌∷◌, take, drop, nat_lt, None, Ok, if◌then◌else◌}
 use Rattle.std.specs.List.Sorted.{IsPermutation}
 use Rattle.dwg_base.specs.Refusals.{first_fault}
 use Rattle.dwg_classes.specs.declared.class.Class.{Class}

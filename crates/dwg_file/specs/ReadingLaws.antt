@@ -77,7 +77,7 @@ reads_spelled laws drawing bytes are reads =
     }
 
 -- the place of a section of the header that an input begins with
-located_same : (bytes : List ℕ) (header : FileHeader) (number place : ℕ) → header ≡ header_at bytes → place_of number header.locators ≡ Some place → place ≡ section_place number bytes
+pub located_same : (bytes : List ℕ) (header : FileHeader) (number place : ℕ) → header ≡ header_at bytes → place_of number header.locators ≡ Some place → place ≡ section_place number bytes
 located_same bytes header number place same located =
     sym (ap (λ found. unwrap_or found 0) located) ∙ ap (λ (h : FileHeader). unwrap_or (place_of number h.locators) 0) same
 

@@ -1,5 +1,5 @@
 -- What an input spells: the drawing that its parts, each at its place, say (Open Design Specification, "R13 to R2000 file layout"). That frames share no byte, and the order of objects, are rules of this project.
-use Rattle.std.specs.Prelude.{◌≡◌, ◌⊎◌, ℕ, ◌+◌, ◌<◌, ◌≤◌, List, [], ◌∷◌, length, map, Some, AllPairs}
+use Rattle.std.specs.Prelude.{◌≡◌, ◌⊎◌, ℕ, ◌<◌, ◌≤◌, List, [], ◌∷◌, length, map, Some, AllPairs}
 use Rattle.std.specs.List.{AllByRecursion}
 use Rattle.std.specs.List.Sorted.{IsPermutation}
 use Rattle.dwg_base.specs.Bytes.{StandsAt}

@@ -6,8 +6,10 @@ ghost use Rattle.dwg_base.specs.Devices.{MOST_BYTES};
 ghost use Rattle.dwg_base.specs.Refusals.{first_fault};
 ghost use Rattle.dwg_file.specs.Contents.{Contents};
 ghost use Rattle.dwg_file.specs.FileLines.{ALL_LINES};
+ghost use Rattle.dwg_file.specs.FrameRefusals.{FramesAreRefused};
 ghost use Rattle.dwg_file.specs.DrawingAt.{drawing_at};
 ghost use Rattle.dwg_file.specs.ReadAs.{ReadsAs};
+ghost use Rattle.dwg_file.specs.SectionRefusals.{SectionsAreRefused};
 ghost use Rattle.dwg_file.specs.Spelled.{Spelled};
 ghost use Rattle.dwg_file.specs.Valid.{IsValid};
 
@@ -15,13 +17,17 @@ use dwg_sections::{file_header_laws, framed_laws};
 
 /// What holds of every input: it spells one drawing at the most; it spells one exactly where no line of the table fails;
 /// what is read of it by its places, where none fails, is what it spells, and the other way round; and what an input of at
-/// most 32 MiB spells is valid.
+/// most 32 MiB spells is valid. The lines on frames refuse an input with a map exactly where behind frames that stand, with
+/// their pairs' handles and without a common byte, a pair is the first whose frame fails, and as it does; and the line on
+/// unknown sections exactly where one is the first that passes the end.
 pub fn drawing_laws()
     ensures one { (bytes : List ℕ) (drawing other : Contents) → AreBytes bytes → Spelled drawing bytes → Spelled other bytes → drawing ≡ other }
     ensures passes { (bytes : List ℕ) (drawing : Contents) → AreBytes bytes → Spelled drawing bytes → first_fault ALL_LINES bytes ≡ None }
     ensures spelled { (bytes : List ℕ) → AreBytes bytes → first_fault ALL_LINES bytes ≡ None → Spelled (drawing_at bytes) bytes }
     ensures read { (bytes : List ℕ) (drawing : Contents) → AreBytes bytes → ReadsAs drawing bytes → Spelled drawing bytes }
     ensures again { (bytes : List ℕ) (drawing : Contents) → AreBytes bytes → Spelled drawing bytes → ReadsAs drawing bytes }
+    ensures frames { FramesAreRefused }
+    ensures sections { SectionsAreRefused }
     ensures valid { (bytes : List ℕ) (drawing : Contents) → AreBytes bytes → length bytes ≤ MOST_BYTES → Spelled drawing bytes → IsValid drawing }
 {
     file_header_laws();

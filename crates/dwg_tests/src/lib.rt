@@ -12,7 +12,7 @@ mod classes;
 #[cfg(test)]
 mod codes;
 #[cfg(test)]
-mod drawings;
+mod file;
 #[cfg(test)]
 mod handles;
 #[cfg(test)]

@@ -184,7 +184,7 @@ fn frame_place(handle: u64) -> u64
 }
 
 /// Writes the map of the handles from 1 to `count`, and says whether the sink took it whole.
-fn write_map(alloc: Global, count: u64, sink: &mut MemSink) -> Result<bool, Fail>
+pub(crate) fn write_map(alloc: Global, count: u64, sink: &mut MemSink) -> Result<bool, Fail>
     requires { count < 2_000 }
 {
     let mut writer = match PageWriter::new(alloc) {
@@ -202,7 +202,7 @@ fn write_map(alloc: Global, count: u64, sink: &mut MemSink) -> Result<bool, Fail
 }
 
 /// A sink with room for so many bytes, which takes them in pieces.
-fn sink(alloc: Global, room: usize) -> Result<MemSink, Fail> {
+pub(crate) fn sink(alloc: Global, room: usize) -> Result<MemSink, Fail> {
     match MemSink::new(alloc, room, 1_000, Items::new(alloc)) {
         Ok(sink) => Ok(sink),
         Err(_) => Err("no memory")?,

@@ -2,6 +2,8 @@ use Rattle.dwg_sections.specs.HeaderLaws.{PassingBytesBeginWithHeader, HeaderIsR
 use Rattle.dwg_sections.specs.FramedLaws.{PassingBytesHaveSection, SectionIsRead}
 use Rattle.dwg_file.specs.ReadingLaws.{SectionLaws, reads_spelled, spelled_reads, spelled_passes, spelled_once}
 use Rattle.dwg_file.specs.PassingLaws.{passing_is_spelled}
+use Rattle.dwg_file.specs.FrameRefusalLaws.{frames_are_refused}
+use Rattle.dwg_file.specs.SectionRefusalLaws.{sections_are_refused}
 use Rattle.dwg_file.specs.ValidLaws.{spelled_is_valid}
 use Rattle.dwg_file.proofs.laws.drawing_laws.Goals as goal
 
@@ -32,3 +34,9 @@ returns-clause-spelled c bytes are none =
 pub returns-clause-valid : goal.returns-clause-valid
 returns-clause-valid c bytes drawing are few spelled =
     spelled_is_valid (laws c.file_header_laws.ensures.sound c.file_header_laws.ensures.complete c.framed_laws.ensures.sound c.framed_laws.ensures.complete) drawing bytes are few spelled
+
+pub returns-clause-frames : goal.returns-clause-frames
+returns-clause-frames c = frames_are_refused c.file_header_laws.ensures.complete
+
+pub returns-clause-sections : goal.returns-clause-sections
+returns-clause-sections c = sections_are_refused c.file_header_laws.ensures.complete

@@ -1,4 +1,4 @@
-use Rattle.dwg_file.specs.CanonicalLaws.{canonical_spells, canonical_is_counted, canonical_spells_no_other, canonical_tells_drawing}
+use Rattle.dwg_file.specs.CanonicalLaws.{canonical_spells, canonical_is_counted, canonical_spells_no_other, canonical_tells_drawing, canonical_is_read, rewriting_is_done_once}
 use Rattle.dwg_file.proofs.written_laws.canonical_laws.Goals as goal
 
 pub returns-clause-spells : goal.returns-clause-spells
@@ -12,3 +12,10 @@ returns-clause-tells c = canonical_tells_drawing c.drawing_laws.ensures.one
 
 pub returns-clause-counted : goal.returns-clause-counted
 returns-clause-counted c = canonical_is_counted
+
+pub returns-clause-read : goal.returns-clause-read
+returns-clause-read c = canonical_is_read c.drawing_laws.ensures.one c.drawing_laws.ensures.passes c.drawing_laws.ensures.spelled
+
+pub returns-clause-once : goal.returns-clause-once
+returns-clause-once c =
+    rewriting_is_done_once c.drawing_laws.ensures.one c.drawing_laws.ensures.passes c.drawing_laws.ensures.spelled c.drawing_laws.ensures.valid
