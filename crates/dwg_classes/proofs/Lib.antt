@@ -2,3 +2,5 @@ pub mod ClassReading
 pub mod ContentReading
 pub mod ClassWriting
 pub mod ClassFinding
+pub mod ClassHints
+pub mod FirstHints

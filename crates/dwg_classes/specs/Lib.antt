@@ -4,3 +4,5 @@ pub mod ClassCode
 pub mod ClassLineLaws
 pub mod WrittenClasses
 pub mod FirstClass
+pub mod Hints
+pub mod Firsts

@@ -3,6 +3,8 @@
 
 mod class;
 mod finding;
+mod hinting;
+mod hints;
 mod laws;
 mod parts;
 mod reading;
@@ -10,6 +12,8 @@ mod writing;
 
 pub use class::Class;
 pub use finding::find;
+pub use hinting::hint;
+pub use hints::Hints;
 pub use laws::classes_laws;
 pub use reading::read_classes;
 pub use writing::{classes_bits, write_classes};

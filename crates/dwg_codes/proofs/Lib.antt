@@ -9,5 +9,7 @@ pub mod FrontReading
 pub mod GroupWriting
 pub mod ShortReading
 pub mod SignedReading
+pub mod RunReading
 pub mod TextReading
 pub mod ListReading
+pub mod ListWriting

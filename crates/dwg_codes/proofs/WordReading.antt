@@ -9,8 +9,9 @@ use Rattle.dwg_bits.specs.Bits.{low_bits, bits}
 use Rattle.dwg_bits.specs.BitLaws.{length_of_low_bits, num_of_low_bits, low_bits_joined, low_bits_of_remainder}
 use Rattle.dwg_bits.specs.Sink.{Written, Extends}
 use Rattle.dwg_codes.specs.Grammar.{Grammar, Reads}
-use Rattle.dwg_codes.specs.Combinators.{image, items, chain, SpellsChain, short_chain}
+use Rattle.dwg_codes.specs.Combinators.{image, items, chain, SpellsChain}
 use Rattle.dwg_codes.specs.Codes.{rc}
+use Rattle.dwg_codes.specs.ByteRunLaws.{short_of_bytes}
 use Rattle.dwg_codes.proofs.FixedReading.{none_read}
 
 -- the bytes of a number are bytes
@@ -60,12 +61,6 @@ spelling_counted state [] letters spelled = ap length spelled
 spelling_counted state (byte ∷ bytes) letters (front, back, first, others, same) =
     omega (arith, first.0, spelling_counted 0 bytes back others, ap length same, length-append front back)
 
--- bytes are written by their bits
-pub bytes_written : (state : ℕ) (bytes : List ℕ) → short_chain (λ (state : ℕ). rc) (λ value. 0) state bytes ≡ bits bytes
-unfolding bits
-bytes_written state [] = refl
-bytes_written state (byte ∷ bytes) = ap (λ rest. low_bits 8 byte ++ rest) (bytes_written 0 bytes)
-
 -- so many bytes, the least significant first
 abbrev pub word_code : Width → ℕ → Grammar Bool ℕ
 word_code w count = image (λ value. value < 2 ^ (8 * count)) (from_le_bytes w) (to_le_bytes w) (items rc count)
@@ -95,4 +90,4 @@ pub word_written : (count word : ℕ) (bytes : List ℕ) (old new : Written) →
     → Extends old new (low_bits (8 * count) word) → Extends old new ((items rc count).short bytes)
 unfolding chain
 word_written count word bytes old new same pushed =
-    subst (Extends old new) (bits_of_bytes count word ∙ ap bits same ∙ sym (bytes_written 0 bytes)) pushed
+    subst (Extends old new) (bits_of_bytes count word ∙ ap bits same ∙ sym (short_of_bytes bytes)) pushed

@@ -7,7 +7,9 @@ pub mod CodeLaws
 pub mod CombinatorLaws
 pub mod ListLaws
 pub mod ToEndLaws
+pub mod ToEndDecided
 pub mod NumberLaws
+pub mod ByteRunLaws
 pub mod TableLaws
 pub mod DefaultLaws
 pub mod ModularLaws

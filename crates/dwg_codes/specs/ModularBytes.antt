@@ -1,8 +1,7 @@
 -- What spells a modular char are bytes, at most ten.
-use Rattle.std.proofs.Common.{◌≡◌, refl, sym, ◌∙◌, ap, subst, ℕ, zero, suc, ◌+◌, ◌-◌, ◌*◌, ◌^◌, ◌<◌, ◌≤◌, Bool, true, false, List, [], ◌∷◌, ◌++◌, length, length-append, arith}
+use Rattle.std.proofs.Common.{◌≡◌, sym, ◌∙◌, ap, subst, ℕ, zero, suc, ◌-◌, ◌^◌, ◌<◌, ◌≤◌, Bool, true, false, List, [], ◌∷◌, ◌++◌, length, arith}
 use Rattle.std.specs.Prelude.{ℤ, nat_lt}
 use Rattle.dwg_base.specs.Bytes.{AreBytes}
-use Rattle.dwg_codes.specs.Grammar.{Grammar}
 use Rattle.dwg_codes.specs.Combinators.{always, choose}
 use Rattle.dwg_codes.specs.ModularCodes.{Signed, last_of, behind_group, mc_within, mc, signed_mc_within, signed_mc}
 use Rattle.dwg_codes.specs.SignedLaws.{behind_signed}

@@ -1,16 +1,17 @@
 //! Lists of values of one code: so many, or as many as there are bits for (Open Design Specification, "Bit codes"; that
 //! values go to the end while bits enough for one are left is a rule of this project).
 
-ghost use Rattle.std.specs.Prelude.{◌≡◌, ◌<◌, Ok, None, IfOk, IfErr, IfSome};
+ghost use Rattle.std.specs.Prelude.{◌≡◌, ◌^◌, ◌<◌, ◌≤◌, Ok, None, length, IfOk, IfErr, IfSome};
 ghost use Rattle.dwg_bits.specs.Cursor.{rest};
+ghost use Rattle.dwg_bits.specs.Sink.{Extends};
 ghost use Rattle.dwg_codes.specs.Combinators.{items};
 ghost use Rattle.dwg_codes.specs.Grammar.{Reads};
 ghost use Rattle.dwg_codes.specs.CodeLaws.{IsLawful};
-ghost use Rattle.dwg_codes.specs.ToEnd.{AreValues, HaveLeast, IsCutUniquely, ReadsToEnd};
+ghost use Rattle.dwg_codes.specs.ToEnd.{AreValues, HaveLeast, IsCutUniquely, ReadsToEnd, short_all};
 
 use crate::code::BitCode;
 use dwg_base::{Items, NoMemory};
-use dwg_bits::BitCursor;
+use dwg_bits::{BitCursor, BitSink};
 use std::alloc::Global;
 
 /// Reads so many values, one behind the other. None, with nothing moved, exactly where one of them isn't spelled; the only
@@ -82,6 +83,32 @@ where
     }
     *cursor = ahead;
     Ok(Some(found))
+}
+
+/// How many bits are written of values, one behind the other: each has a spelling, and there are fewer than 2^62 bits in all.
+pub fn list_length<C: BitCode>(context: &C::Context, values: &[C::Value]) -> u64
+    requires context { C.IsContext context.now }
+    requires values { AreValues (C.grammar context.now) values.now }
+    requires few { length (short_all (C.grammar context.now) values.now) < 2 ^ 62 }
+    ensures { result ≡ length (short_all (C.grammar context.now) values.now) }
+{
+    let mut bits = 0;
+    'along: for item in values {
+        bits += C::length(context, item);
+    }
+    bits
+}
+
+/// Writes values, one behind the other, each by the shortest of its spellings.
+pub fn write_list<C: BitCode>(context: &C::Context, values: &[C::Value], sink: &mut BitSink)
+    requires context { C.IsContext context.now }
+    requires values { AreValues (C.grammar context.now) values.now }
+    requires room { length (short_all (C.grammar context.now) values.now) ≤ sink.old.spare }
+    ensures { Extends sink.old sink.new (short_all (C.grammar context.now) values.now) }
+{
+    'along: for value in values {
+        C::write(context, value, sink);
+    }
 }
 
 /// The laws of lists of a code's values in a context: letters spell at most one list of so many, and what is written of

@@ -9,7 +9,7 @@ mod reference;
 mod reference_code;
 
 pub use laws::reference_laws;
-pub use list::{read_refs, read_refs_to_end};
+pub use list::{read_refs, read_refs_to_end, refs_bits, refs_fit, write_refs};
 pub use own::{own_bits, read_own, write_own};
 pub use reference::Ref;
 pub use reference_code::{CodeH, read_ref, ref_bits, write_ref};

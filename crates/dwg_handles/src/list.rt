@@ -1,18 +1,19 @@
 //! Lists of references: so many, or as many as there are bits for (Open Design Specification, "Handle references"; that
 //! references go to the end while a byte is left is a rule of this project).
 
-ghost use Rattle.std.specs.Prelude.{◌≡◌, Ok, None, IfOk, IfErr, IfSome};
+ghost use Rattle.std.specs.Prelude.{◌≡◌, ◌↔◌, ◌^◌, ◌<◌, ◌≤◌, length, Ok, None, IfOk, IfErr, IfSome, IsTrue};
 ghost use Rattle.dwg_bits.specs.Cursor.{rest};
+ghost use Rattle.dwg_bits.specs.Sink.{Extends};
 ghost use Rattle.dwg_codes.specs.Combinators.{items};
 ghost use Rattle.dwg_codes.specs.Grammar.{Reads};
-ghost use Rattle.dwg_codes.specs.ToEnd.{AreValues, ReadsToEnd};
+ghost use Rattle.dwg_codes.specs.ToEnd.{AreValues, ReadsToEnd, short_all};
 ghost use Rattle.dwg_handles.specs.ReferenceCodes.{reference};
 
 use crate::reference::Ref;
 use crate::reference_code::CodeH;
 use dwg_base::{Handle, Items, NoMemory};
-use dwg_bits::BitCursor;
-use dwg_codes::{read_list, read_to_end};
+use dwg_bits::{BitCursor, BitSink};
+use dwg_codes::{list_length, read_list, read_to_end, write_list};
 use std::alloc::Global;
 
 /// The least count of bits that a reference has: its code and its count of bytes.
@@ -58,4 +59,33 @@ pub fn read_refs_to_end(
     // The laws of references ask that their base is a handle's number.
     let _base = base.value();
     read_to_end::<CodeH>(alloc, &base, LEAST, cursor)
+}
+
+/// Whether each of the references can be told from the object of the handle `base`.
+pub fn refs_fit(refs: &[Ref], base: Handle) -> bool
+    ensures { IsTrue result ↔ AreValues (reference base) refs.now }
+{
+    refs.iter().all(|reference| reference.fits(base))
+}
+
+/// How many bits references of the object of the handle `base` are written by, fewer than 2^62.
+pub fn refs_bits(refs: &[Ref], base: Handle) -> u64
+    requires fit { AreValues (reference base) refs.now }
+    requires few { length (short_all (reference base) refs.now) < 2 ^ 62 }
+    ensures { result ≡ length (short_all (reference base) refs.now) }
+{
+    // The laws of references ask that their base is a handle's number.
+    let _base = base.value();
+    list_length::<CodeH>(&base, refs)
+}
+
+/// Writes references of the object of the handle `base`, one behind the other, each by the fewest bytes.
+pub fn write_refs(refs: &[Ref], base: Handle, sink: &mut BitSink)
+    requires fit { AreValues (reference base) refs.now }
+    requires room { length (short_all (reference base) refs.now) ≤ sink.old.spare }
+    ensures { Extends sink.old sink.new (short_all (reference base) refs.now) }
+{
+    // The laws of references ask that their base is a handle's number.
+    let _base = base.value();
+    write_list::<CodeH>(&base, refs, sink);
 }

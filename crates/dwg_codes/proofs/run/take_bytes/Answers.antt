@@ -2,9 +2,9 @@ use Rattle.std.proofs.Common.{◌∙◌, sym, ap, arith, [], ◌∷◌, ◌++◌
 use Rattle.std.proofs.lemmas.List.{length-append}
 use Rattle.dwg_bits.specs.Bits.{bits}
 use Rattle.dwg_bits.specs.Cursor.{rest}
-use Rattle.dwg_codes.proofs.TextReading.{one_read_more, bytes_more}
+use Rattle.dwg_codes.proofs.RunReading.{one_read_more, bytes_more}
 use Rattle.dwg_base.specs.Bytes.{AreBytes}
-use Rattle.dwg_codes.proofs.text.take_bytes.Goals as goal
+use Rattle.dwg_codes.proofs.run.take_bytes.Goals as goal
 
 pub along-preserved : goal.along-preserved
 along-preserved c =

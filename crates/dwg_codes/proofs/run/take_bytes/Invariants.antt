@@ -2,7 +2,7 @@ use Rattle.std.proofs.Common.{◌≡◌, ◌+◌, ◌-◌, ◌*◌, ◌≤◌, �
 use Rattle.dwg_base.specs.Bytes.{AreBytes}
 use Rattle.dwg_bits.specs.Bits.{bits}
 use Rattle.dwg_bits.specs.Cursor.{rest}
-use Rattle.dwg_codes.proofs.text.take_bytes.Given as goal
+use Rattle.dwg_codes.proofs.run.take_bytes.Given as goal
 
 -- the bytes so far are those that the cursor went over
 abbrev pub invariant-along : goal.invariant-along

@@ -1,0 +1,6 @@
+pub mod BodyReading
+pub mod AppReading
+pub mod AppWriting
+pub mod ObjectParts
+pub mod EntityReading
+pub mod GraphicParts

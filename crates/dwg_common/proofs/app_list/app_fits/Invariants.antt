@@ -1,0 +1,7 @@
+use Rattle.std.proofs.Common.{drop}
+use Rattle.dwg_common.proofs.AppWriting.{AreTried}
+use Rattle.dwg_common.proofs.app_list.app_fits.Given as goal
+
+-- the items so far have a spelling
+abbrev pub invariant-along : goal.invariant-along
+invariant-along l = AreTried l.base l.app (drop l.item-index l.app)

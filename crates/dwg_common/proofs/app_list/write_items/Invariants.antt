@@ -1,0 +1,7 @@
+use Rattle.std.proofs.Common.{drop}
+use Rattle.dwg_common.proofs.AppWriting.{AreWrittenSoFar}
+use Rattle.dwg_common.proofs.app_list.write_items.Given as goal
+
+-- what is written so far and the items that are left give the whole
+abbrev pub invariant-along : goal.invariant-along
+invariant-along l = AreWrittenSoFar l.base l.app (drop l.item-index l.app) l.fn.sink l.sink

@@ -1,0 +1,5 @@
+use Rattle.dwg_common.specs.BodyLaws.{lawful_of_body}
+use Rattle.dwg_common.proofs.body.body_laws.Goals as goal
+
+pub returns : goal.returns
+returns g c = λ base small. lawful_of_body base _ (g.met.B.BodyCode.laws base small)

@@ -1,0 +1,62 @@
+-- Application data are a code.
+use Rattle.std.proofs.Common.{◌≡◌, refl, ℕ, ◌^◌, ◌<◌, ◌≤◌, length, arith}
+use Rattle.std.specs.Prelude.{◌==◌, ◌≢◌}
+use Rattle.std.proofs.lemmas.Bool.Decides.{nat_tests}
+use Rattle.dwg_codes.specs.Codes.{bs, rc}
+use Rattle.dwg_codes.specs.Combinators.{seq, chain, items}
+use Rattle.dwg_codes.specs.CombinatorLaws.{any_letters_closed, seq_is_code}
+use Rattle.dwg_codes.specs.Grammar.{IsCode, AnyLetters}
+use Rattle.dwg_codes.specs.ListLaws.{items_is_code, until_is_code}
+use Rattle.dwg_codes.specs.NumberLaws.{rc_is_code, bytes_of_items, items_of_bytes}
+use Rattle.dwg_codes.specs.TableLaws.{bs_is_code}
+use Rattle.dwg_codes.specs.ToEndLaws.{bs_least}
+use Rattle.dwg_handles.specs.ReferenceCodes.{reference}
+use Rattle.dwg_handles.specs.ReferenceLaws.{reference_is_code}
+use Rattle.dwg_common.specs.declared.app_data.AppData.{AppData}
+use Rattle.dwg_common.specs.AppList.{IsAppData, app_item, app_list}
+use Rattle.dwg_common.specs.Shaped.{shaped_is_code}
+
+-- an item of so many bytes is a code
+pub app_item_is_code : (base size : ℕ) → base < 2 ^ 63 → IsCode AnyLetters (app_item base size)
+app_item_is_code base size small =
+    shaped_is_code (λ parts. record { application = parts.0; bytes = parts.1 }) (λ item. (item.application, item.bytes))
+    (seq (reference base) (λ application. items rc size))
+    (seq_is_code AnyLetters (reference base) (λ application. items rc size) any_letters_closed (reference_is_code base small)
+    (λ application fits. items_is_code AnyLetters rc size any_letters_closed rc_is_code))
+    (λ parts fits. refl) (λ item. refl)
+
+-- a value of so many bytes is an item of that size
+value_is_item : (base size : ℕ) (item : AppData) → size < 2 ^ 16 → size ≢ 0 → (app_item base size).IsValue item → IsAppData base item × (length item.bytes ≡ size)
+unfolding reference chain
+value_is_item base size item small some fits = (
+  record {
+    application = fits.0;
+    some = omega (arith, fits.1.0);
+    few = omega (arith, fits.1.0);
+    bytes = bytes_of_items rc (λ value byte. byte) item.bytes fits.1.1;
+  },
+  fits.1.0,
+)
+
+-- and an item is a value of as many bytes as it has
+item_is_value : (base : ℕ) (item : AppData) → IsAppData base item → bs.IsValue (length item.bytes) × (length item.bytes ≢ 0) × (app_item base (length item.bytes)).IsValue item
+unfolding reference chain
+item_is_value base item is = (is.few, nonzero (length item.bytes) is.some, (is.application, (refl, items_of_bytes rc (λ value byte. byte) item.bytes is.bytes)))
+  where
+    nonzero : (n : ℕ) → 1 ≤ n → n ≢ 0
+    nonzero n some none = omega (arith, some, none)
+
+-- the list is a code
+pub app_list_is_code : (base : ℕ) → base < 2 ^ 63 → IsCode AnyLetters (app_list base)
+unfolding app_list
+app_list_is_code base small =
+    until_is_code AnyLetters bs 0 (λ size. size == 0) (app_item base) (λ item. length item.bytes) (IsAppData base) any_letters_closed record {
+      tag_is_code = bs_is_code;
+      item_is_code = λ size fits some. app_item_is_code base size small;
+      mark_is_tag = omega arith;
+      mark_passes = refl;
+      only_mark_passes = λ size fits passed. grind (arith, nat_tests);
+      some_letters = λ size front spelled. omega (arith, bs_least size front spelled);
+      value_is_item = λ size item fits some value. value_is_item base size item fits some value;
+      item_is_value = λ item is. item_is_value base item is;
+    }

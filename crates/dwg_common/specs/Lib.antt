@@ -1,0 +1,13 @@
+pub mod Shaped
+pub mod Bodies
+pub mod BodyLaws
+pub mod References
+pub mod ReferenceParts
+pub mod MakingBodies
+pub mod MadeBodies
+pub mod AppList
+pub mod Entities
+pub mod NonEntities
+pub mod AppShort
+pub mod AppListLaws
+pub mod CommonLaws

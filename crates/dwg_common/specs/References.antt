@@ -1,0 +1,33 @@
+-- The references of a part of an object: what their bits spell, and which references those are (Open Design Specification, "Common entity data" and "Common non-entity object format").
+use Rattle.std.specs.Prelude.{ℕ, Bool, List, [], ◌∷◌, ◌++◌, Option}
+use Rattle.std.specs.Option.{option_map_or}
+use Rattle.dwg_codes.specs.Grammar.{Grammar}
+use Rattle.dwg_codes.specs.Combinators.{seq, when, items}
+use Rattle.dwg_handles.specs.Reference.{Reference}
+use Rattle.dwg_handles.specs.ReferenceCodes.{reference}
+use Rattle.dwg_common.specs.Shaped.{shaped}
+
+-- which bits spell a value of R, and the references that such bits spell, in their order
+pub record ReferencePart (R : Type 0) : Type 1 where
+  pub grammar : Grammar Bool R
+  pub list : R → List Reference
+
+-- one reference of the object of a handle
+abbrev pub one_ref : ℕ → ReferencePart Reference
+one_ref base = record { grammar = reference base; list = λ value. value ∷ [] }
+
+-- so many references
+abbrev pub some_refs : ℕ → ℕ → ReferencePart (List Reference)
+some_refs base count = record { grammar = items (reference base) count; list = λ values. values }
+
+-- a part where the test holds
+abbrev pub maybe_refs : {R : Type 0} → Bool → ReferencePart R → ReferencePart (Option R)
+maybe_refs {R} test part = record { grammar = when test part.grammar; list = λ value. option_map_or part.list value [] }
+
+-- one part and then another
+abbrev pub then_refs : {R S : Type 0} → ReferencePart R → ReferencePart S → ReferencePart (R × S)
+then_refs {R} {S} first second = record { grammar = seq first.grammar (λ value. second.grammar); list = λ both. first.list both.0 ++ second.list both.1 }
+
+-- a part that is seen as a struct, by its parts
+abbrev pub seen_refs : {R S : Type 0} → (R → S) → (S → R) → ReferencePart R → ReferencePart S
+seen_refs {R} {S} into back part = record { grammar = shaped into back part.grammar; list = λ value. part.list (back value) }

@@ -1,0 +1,167 @@
+//! The application data of an object as bits (Open Design Specification, "Extended object data").
+
+ghost use Rattle.std.specs.Prelude.{◌≡◌, ◌<◌, ◌≤◌, ◌^◌, ◌↔◌, length, IfOk, IsTrue};
+ghost use Rattle.std.specs.Option.{option_map};
+ghost use Rattle.dwg_base.specs.Bytes.{AreBytes};
+ghost use Rattle.dwg_bits.specs.Cursor.{rest};
+ghost use Rattle.dwg_bits.specs.Sink.{Extends};
+ghost use Rattle.dwg_common.specs.AppList.{IsAppData, app_item, app_list};
+ghost use Rattle.dwg_common.specs.AppShort.{item_short, items_short};
+
+use crate::app_data::AppData;
+use crate::parts::{read_one, read_run};
+use dwg_base::{Handle, Items, NoMemory};
+use dwg_bits::{BitCursor, BitSink};
+use dwg_codes::{BitCode, CodeBS, bytes_length, write_bytes};
+use dwg_handles::{ref_bits, write_ref};
+use std::alloc::Global;
+
+/// The size that no item has, which ends the list.
+const MARK: u16 = 0;
+
+/// Reads an item of so many bytes. The only refusal is want of memory.
+fn read_item(
+    alloc: Global,
+    size: u16,
+    cursor: &mut BitCursor<'_>,
+    base: Handle,
+) -> Result<Option<AppData>, NoMemory>
+    ensures parsed { IfOk result (λ found. (app_item base size).parse (rest cursor.old) ≡ option_map (λ item. (item, rest cursor.new)) found) }
+    ensures same_bytes { cursor.new.bytes.now ≡ cursor.old.bytes.now }
+    ensures same_end { cursor.new.end ≡ cursor.old.end }
+{
+    let Some(application) = read_one(cursor, base) else {
+        return Ok(None);
+    };
+    let Some(bytes) = read_run(alloc, u32::from(size), cursor)? else {
+        return Ok(None);
+    };
+    Ok(Some(AppData { application, bytes }))
+}
+
+/// Reads items up to their mark. None exactly where no front of the rest spells them; the only refusal is want of memory.
+#[tactic(auto, using(crate::proofs::AppReading::none_begun))]
+pub(crate) fn read_items(
+    alloc: Global,
+    cursor: &mut BitCursor<'_>,
+    base: Handle,
+) -> Result<Option<Items<AppData>>, NoMemory>
+    ensures parsed { IfOk result (λ found. (app_list base).parse (rest cursor.old) ≡ option_map (λ items. (items, rest cursor.new)) found) }
+    ensures same_bytes { cursor.new.bytes.now ≡ cursor.old.bytes.now }
+    ensures same_end { cursor.new.end ≡ cursor.old.end }
+{
+    // The laws of references ask that their base is a handle's number.
+    let _base = base.value();
+    let mut found = Items::new(alloc);
+    'along: loop {
+        let Some(size) = CodeBS::read(&(), cursor) else {
+            return Ok(None);
+        };
+        if size == MARK {
+            return Ok(Some(found));
+        }
+        let Some(item) = read_item(alloc, size, cursor, base)? else {
+            return Ok(None);
+        };
+        match found.push(item) {
+            Ok(()) => {}
+            Err(_) => return Err(NoMemory),
+        }
+    }
+}
+
+/// Whether an item has 1 to 65,535 bytes.
+#[tactic(auto, using(dwg_base::specs::Bytes::are_bytes))]
+fn size_fits(bytes: &[u8]) -> bool
+    ensures size { IsTrue result ↔ (1 ≤ length bytes.now) × (length bytes.now < 2 ^ 16) }
+    ensures bytes { AreBytes bytes.now }
+{
+    let size = bytes.len();
+    0 < size && size < 1 << 16
+}
+
+/// Whether an item has a spelling in the object of the handle `base`.
+fn item_fits(item: &AppData, base: Handle) -> bool
+    ensures { IsTrue result ↔ IsAppData base item.now }
+{
+    if !size_fits(item.bytes.as_slice()) {
+        return false;
+    }
+    item.application.fits(base)
+}
+
+/// Whether application data have a spelling in the object of the handle `base`: each item has 1 to 65,535 bytes, and the code
+/// of its reference reaches the application.
+#[tactic(auto, using(crate::proofs::AppWriting::none_tried, crate::proofs::AppWriting::one_fails, crate::proofs::AppWriting::all_tried))]
+pub(crate) fn app_fits(app: &[AppData], base: Handle) -> bool
+    ensures { IsTrue result ↔ (app_list base).IsValue app.now }
+{
+    'along: for item in app {
+        if !item_fits(item, base) {
+            return false;
+        }
+    }
+    true
+}
+
+/// How many bits an item and its size are written by.
+#[tactic(auto, using(crate::proofs::AppWriting::length_of_item))]
+fn item_bits(item: &AppData, base: Handle) -> u64
+    requires { IsAppData base item.now }
+    ensures length { result ≡ length (item_short base item.now) }
+    ensures few { result < 2 ^ 33 }
+{
+    let bytes = item.bytes.as_slice();
+    CodeBS::length(&(), &(bytes.len() as u16))
+        + ref_bits(item.application, base)
+        + bytes_length(bytes)
+}
+
+/// How many bits application data are written by in the object of the handle `base`, fewer than 2^62.
+#[tactic(auto, using(crate::proofs::AppWriting::none_counted, crate::proofs::AppWriting::counted_within, crate::proofs::AppWriting::all_counted))]
+pub(crate) fn app_length(app: &[AppData], base: Handle) -> u64
+    requires value { (app_list base).IsValue app.now }
+    requires few { length ((app_list base).short app.now) < 2 ^ 62 }
+    ensures { result ≡ length ((app_list base).short app.now) }
+{
+    let mut bits = CodeBS::length(&(), &MARK);
+    'along: for item in app {
+        bits += item_bits(item, base);
+    }
+    bits
+}
+
+/// Writes an item behind its size.
+#[tactic(auto, using(crate::proofs::AppWriting::length_of_item))]
+fn write_item(item: &AppData, base: Handle, sink: &mut BitSink)
+    requires item { IsAppData base item.now }
+    requires room { length (item_short base item.now) ≤ sink.old.spare }
+    ensures { Extends sink.old sink.new (item_short base item.now) }
+{
+    let bytes = item.bytes.as_slice();
+    CodeBS::write(&(), &(bytes.len() as u16), sink);
+    write_ref(item.application, base, sink);
+    write_bytes(bytes, sink);
+}
+
+/// Writes items, each behind its size.
+#[tactic(auto, using(crate::proofs::AppWriting::none_so_far, crate::proofs::AppWriting::room_at, crate::proofs::AppWriting::all_so_far))]
+fn write_items(app: &[AppData], base: Handle, sink: &mut BitSink)
+    requires value { (app_list base).IsValue app.now }
+    requires room { length (items_short base app.now) ≤ sink.old.spare }
+    ensures { Extends sink.old sink.new (items_short base app.now) }
+{
+    'along: for item in app {
+        write_item(item, base, sink);
+    }
+}
+
+/// Writes application data in the object of the handle `base`, and the mark behind them.
+pub(crate) fn write_app(app: &[AppData], base: Handle, sink: &mut BitSink)
+    requires value { (app_list base).IsValue app.now }
+    requires room { length ((app_list base).short app.now) ≤ sink.old.spare }
+    ensures { Extends sink.old sink.new ((app_list base).short app.now) }
+{
+    write_items(app, base, sink);
+    CodeBS::write(&(), &MARK, sink);
+}

@@ -1,0 +1,232 @@
+//! What all entities have.
+
+ghost use Rattle.std.specs.Prelude.{◌≡◌, IfOk};
+ghost use Rattle.std.specs.Option.{option_map};
+ghost use Rattle.dwg_bits.specs.Cursor.{rest};
+ghost use Rattle.dwg_common.specs.CommonLaws.{entity_is_body};
+ghost use Rattle.dwg_common.specs.Entities.{entity_common, entity_of, main_of_entity};
+
+use crate::app_data::AppData;
+use crate::body::{BodyCode, Lengths};
+use crate::look::{look_bits, look_fits, read_look, write_look};
+use crate::named::{names_bits, names_fit, read_named, write_names};
+use crate::start::{read_start, start_bits, start_fits, write_start};
+use dwg_base::{ByteRun, Handle, Items, NoMemory};
+use dwg_bits::{BitCursor, BitSink};
+use dwg_handles::Ref;
+use std::alloc::Global;
+
+/// The entities before and behind an entity in its block (Open Design Specification, "Common entity data").
+#[derive(Clone, Copy, Debug, PartialEq, Eq)]
+pub struct Links {
+    /// The entity before it.
+    pub previous: Ref,
+    /// The entity behind it.
+    pub next: Ref,
+}
+
+/// What all entities have (Open Design Specification, "Common entity data").
+#[derive(Drop)]
+pub struct EntityCommon {
+    /// What applications keep with it.
+    pub app: Items<AppData>,
+    /// A picture of it, below 2^32 bytes, kept without meaning.
+    pub graphic: Option<ByteRun>,
+    /// Where it belongs: 0 to its owner, 1 to the paper space, 2 to the model space.
+    pub mode: u8,
+    /// Its owner, there exactly where the mode is 0.
+    pub owner: Option<Ref>,
+    /// The objects that watch it, fewer than 2^32.
+    pub reactors: Items<Ref>,
+    /// Its dictionary of extensions.
+    pub xdict: Ref,
+    /// The entities before and behind it, where it names them.
+    pub links: Option<Links>,
+    /// Its colour.
+    pub colour: u16,
+    /// The scale of its linetype, the word of a floating-point number.
+    pub linetype_scale: u64,
+    /// How its linetype is told, 0 to 3.
+    pub linetype_flag: u8,
+    /// Its linetype, there exactly where the flag is 3.
+    pub linetype: Option<Ref>,
+    /// How its plot style is told, 0 to 3.
+    pub plotstyle_flag: u8,
+    /// Its plot style, there exactly where the flag is 3.
+    pub plotstyle: Option<Ref>,
+    /// Not 0 where it isn't shown.
+    pub invisible: u16,
+    /// Its line weight.
+    pub lineweight: u8,
+    /// Its layer.
+    pub layer: Ref,
+}
+
+/// What the main bits of an entity tell before its look: how many references of each sort it has, and what applications keep.
+#[derive(Drop)]
+pub(crate) struct Start {
+    /// What applications keep with it.
+    pub(crate) app: Items<AppData>,
+    /// A picture of it.
+    pub(crate) graphic: Option<ByteRun>,
+    /// Where it belongs; it names its owner where this is 0.
+    pub(crate) mode: u8,
+    /// How many objects watch it.
+    pub(crate) reactors: u32,
+    /// Whether it names no entities before and behind it.
+    pub(crate) nolinks: bool,
+}
+
+/// How an entity looks.
+#[derive(Clone, Copy)]
+pub(crate) struct Look {
+    /// Its colour.
+    pub(crate) colour: u16,
+    /// The scale of its linetype.
+    pub(crate) linetype_scale: u64,
+    /// How its linetype is told; it names it where this is 3.
+    pub(crate) linetype_flag: u8,
+    /// How its plot style is told; it names it where this is 3.
+    pub(crate) plotstyle_flag: u8,
+    /// Not 0 where it isn't shown.
+    pub(crate) invisible: u16,
+    /// Its line weight.
+    pub(crate) lineweight: u8,
+}
+
+/// What an entity names.
+#[derive(Drop)]
+pub(crate) struct Named {
+    /// Its owner.
+    pub(crate) owner: Option<Ref>,
+    /// The objects that watch it.
+    pub(crate) reactors: Items<Ref>,
+    /// Its dictionary of extensions.
+    pub(crate) xdict: Ref,
+    /// The entities before and behind it.
+    pub(crate) links: Option<Links>,
+    /// Its layer.
+    pub(crate) layer: Ref,
+    /// Its linetype.
+    pub(crate) linetype: Option<Ref>,
+    /// Its plot style.
+    pub(crate) plotstyle: Option<Ref>,
+}
+
+/// An entity from what its main bits tell and what it names.
+fn entity_of(start: Start, look: Look, named: Named) -> EntityCommon
+    ensures { result ≡ entity_of (start, look) named }
+{
+    EntityCommon {
+        app: start.app,
+        graphic: start.graphic,
+        mode: start.mode,
+        owner: named.owner,
+        reactors: named.reactors,
+        xdict: named.xdict,
+        links: named.links,
+        colour: look.colour,
+        linetype_scale: look.linetype_scale,
+        linetype_flag: look.linetype_flag,
+        linetype: named.linetype,
+        plotstyle_flag: look.plotstyle_flag,
+        plotstyle: named.plotstyle,
+        invisible: look.invisible,
+        lineweight: look.lineweight,
+        layer: named.layer,
+    }
+}
+
+/// How an entity looks.
+fn look_of(common: &EntityCommon) -> Look
+    ensures { result ≡ (main_of_entity common.now).1 }
+{
+    Look {
+        colour: common.colour,
+        linetype_scale: common.linetype_scale,
+        linetype_flag: common.linetype_flag,
+        plotstyle_flag: common.plotstyle_flag,
+        invisible: common.invisible,
+        lineweight: common.lineweight,
+    }
+}
+
+/// Reads what all entities have, as it is parsed. The only refusal is want of memory, which is taken only for what is there.
+#[tactic(auto, unfolding(crate::specs::Entities::entity_common))]
+fn read_entity(
+    alloc: Global,
+    main: &mut BitCursor<'_>,
+    refs: &mut BitCursor<'_>,
+    base: Handle,
+) -> Result<Option<EntityCommon>, NoMemory>
+    ensures parsed { IfOk result (λ found. (entity_common base).parse (rest main.old) (rest refs.old) ≡ option_map (λ common. (common, (rest main.new, rest refs.new))) found) }
+    ensures same_bytes { main.new.bytes.now ≡ main.old.bytes.now }
+    ensures same_end { main.new.end ≡ main.old.end }
+    ensures refs_same_bytes { refs.new.bytes.now ≡ refs.old.bytes.now }
+    ensures refs_same_end { refs.new.end ≡ refs.old.end }
+{
+    let Some(start) = read_start(alloc, main, base)? else {
+        return Ok(None);
+    };
+    let Some(look) = read_look(main) else {
+        return Ok(None);
+    };
+    let Some(named) = read_named(alloc, refs, base, &start, look)? else {
+        return Ok(None);
+    };
+    Ok(Some(entity_of(start, look, named)))
+}
+
+impl BodyCode for EntityCommon {
+    ghost grammar = { entity_common };
+
+    fn read(
+        alloc: Global,
+        main: &mut BitCursor<'_>,
+        refs: &mut BitCursor<'_>,
+        base: Handle,
+    ) -> Result<Option<EntityCommon>, NoMemory> {
+        // The laws of references ask that their base is a handle's number.
+        let _base = base.value();
+        let mut ahead = *main;
+        let mut refs_ahead = *refs;
+        let Some(common) = read_entity(alloc, &mut ahead, &mut refs_ahead, base)? else {
+            return Ok(None);
+        };
+        *main = ahead;
+        *refs = refs_ahead;
+        Ok(Some(common))
+    }
+
+    #[tactic(auto, unfolding(crate::specs::Entities::entity_common))]
+    fn fits(&self, base: Handle) -> bool {
+        if !start_fits(self, base) {
+            return false;
+        }
+        if !look_fits(look_of(self)) {
+            return false;
+        }
+        names_fit(self, base)
+    }
+
+    #[tactic(auto, unfolding(crate::specs::Entities::entity_common))]
+    fn lengths(&self, base: Handle) -> Lengths {
+        Lengths {
+            main: start_bits(self, base) + look_bits(look_of(self)),
+            refs: names_bits(self, base),
+        }
+    }
+
+    #[tactic(auto, unfolding(crate::specs::Entities::entity_common))]
+    fn write_main(&self, base: Handle, sink: &mut BitSink) {
+        write_start(self, base, sink);
+        write_look(look_of(self), sink);
+    }
+
+    #[tactic(auto, unfolding(crate::specs::Entities::entity_common))]
+    fn write_refs(&self, base: Handle, sink: &mut BitSink) {
+        write_names(self, base, sink);
+    }
+
+    ghost laws = { λ base small. entity_is_body base small };
+}

@@ -1,0 +1,23 @@
+//! The common parts of objects, and what a body is to those who read and write one (Open Design Specification, "Common
+//! entity data" and "Common non-entity object format").
+#![tactic(auto)]
+
+mod app_data;
+mod app_list;
+mod body;
+mod entity;
+mod graphic;
+mod laws;
+mod links;
+mod look;
+mod named;
+mod object;
+mod parts;
+mod present;
+mod start;
+
+pub use app_data::AppData;
+pub use body::{BodyCode, Lengths, body_laws};
+pub use entity::{EntityCommon, Links};
+pub use laws::common_laws;
+pub use object::ObjectCommon;

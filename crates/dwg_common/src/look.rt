@@ -1,0 +1,75 @@
+//! How an entity looks, as bits (Open Design Specification, "Common entity data").
+
+ghost use Rattle.std.specs.Prelude.{◌≡◌, ◌^◌, ◌<◌, ◌≤◌, ◌↔◌, length, IsTrue};
+ghost use Rattle.std.specs.Option.{option_map};
+ghost use Rattle.dwg_bits.specs.Cursor.{rest};
+ghost use Rattle.dwg_bits.specs.Sink.{Extends};
+ghost use Rattle.dwg_common.specs.Entities.{entity_look};
+
+use crate::entity::Look;
+use crate::parts::read_code;
+use dwg_bits::{BitCursor, BitSink};
+use dwg_codes::{BitCode, CodeBB, CodeBD, CodeBS, CodeRC};
+
+/// The last value of a flag: it is a BB.
+const LAST_FLAG: u8 = 3;
+
+/// Reads how an entity looks, as it is parsed.
+pub(crate) fn read_look(cursor: &mut BitCursor<'_>) -> Option<Look>
+    ensures parsed { entity_look.parse (rest cursor.old) ≡ option_map (λ look. (look, rest cursor.new)) result }
+    ensures same_bytes { cursor.new.bytes.now ≡ cursor.old.bytes.now }
+    ensures same_end { cursor.new.end ≡ cursor.old.end }
+{
+    let colour = read_code::<CodeBS>(&(), cursor)?;
+    let linetype_scale = read_code::<CodeBD>(&(), cursor)?;
+    let linetype_flag = read_code::<CodeBB>(&(), cursor)?;
+    let plotstyle_flag = read_code::<CodeBB>(&(), cursor)?;
+    let invisible = read_code::<CodeBS>(&(), cursor)?;
+    let lineweight = read_code::<CodeRC>(&(), cursor)?;
+    Some(Look {
+        colour,
+        linetype_scale,
+        linetype_flag,
+        plotstyle_flag,
+        invisible,
+        lineweight,
+    })
+}
+
+/// Whether a look can be told: its flags are 0 to 3.
+pub(crate) fn look_fits(look: Look) -> bool
+    ensures { IsTrue result ↔ entity_look.IsValue look }
+{
+    if look.linetype_flag > LAST_FLAG {
+        return false;
+    }
+    look.plotstyle_flag <= LAST_FLAG
+}
+
+/// How many bits a look is written by.
+pub(crate) fn look_bits(look: Look) -> u64
+    requires { entity_look.IsValue look }
+    ensures length { result ≡ length (entity_look.short look) }
+    ensures few { result < 2 ^ 36 }
+{
+    CodeBS::length(&(), &look.colour)
+        + CodeBD::length(&(), &look.linetype_scale)
+        + CodeBB::length(&(), &look.linetype_flag)
+        + CodeBB::length(&(), &look.plotstyle_flag)
+        + CodeBS::length(&(), &look.invisible)
+        + CodeRC::length(&(), &look.lineweight)
+}
+
+/// Writes a look.
+pub(crate) fn write_look(look: Look, sink: &mut BitSink)
+    requires value { entity_look.IsValue look }
+    requires room { length (entity_look.short look) ≤ sink.old.spare }
+    ensures { Extends sink.old sink.new (entity_look.short look) }
+{
+    CodeBS::write(&(), &look.colour, sink);
+    CodeBD::write(&(), &look.linetype_scale, sink);
+    CodeBB::write(&(), &look.linetype_flag, sink);
+    CodeBB::write(&(), &look.plotstyle_flag, sink);
+    CodeBS::write(&(), &look.invisible, sink);
+    CodeRC::write(&(), &look.lineweight, sink);
+}

@@ -1,0 +1,189 @@
+//! What an entity names, as bits (Open Design Specification, "Common entity data").
+
+ghost use Rattle.std.specs.Prelude.{◌≡◌, ◌==◌, ◌^◌, ◌<◌, ◌≤◌, ◌↔◌, length, is_none, not, IfOk, IsTrue};
+ghost use Rattle.std.specs.Option.{option_map};
+ghost use Rattle.dwg_bits.specs.Cursor.{rest};
+ghost use Rattle.dwg_bits.specs.Sink.{Extends};
+ghost use Rattle.dwg_codes.specs.Combinators.{items, when};
+ghost use Rattle.dwg_handles.specs.ReferenceCodes.{reference};
+ghost use Rattle.dwg_common.specs.Entities.{entity_refs, links, main_of_entity, named_of_entity};
+ghost use Rattle.dwg_common.specs.References.{maybe_refs, one_ref, then_refs};
+
+use crate::entity::{EntityCommon, Links, Look, Named, Start};
+use crate::links::{CodeLinks, links_fit};
+use crate::parts::{read_code, read_some};
+use crate::present::read_present;
+use dwg_base::{Handle, NoMemory};
+use dwg_bits::{BitCursor, BitSink};
+use dwg_codes::{BitCode, length_when, write_when};
+use dwg_handles::{CodeH, Ref, refs_bits, refs_fit, write_refs};
+use std::alloc::Global;
+
+/// The mode of an entity that names its owner.
+const TO_OWNER: u8 = 0;
+
+/// The flag of a linetype or a plot style that is named.
+const NAMED: u8 = 3;
+
+/// Reads the linetype and the plot style of the entity of the handle `base`, as they are parsed: each where its flag is 3.
+fn read_styles(
+    cursor: &mut BitCursor<'_>,
+    base: Handle,
+    look: Look,
+) -> Option<(Option<Ref>, Option<Ref>)>
+    ensures parsed { (then_refs (maybe_refs (look.linetype_flag == 3) (one_ref base)) (maybe_refs (look.plotstyle_flag == 3) (one_ref base))).grammar.parse (rest cursor.old) ≡ option_map (λ styles. (styles, rest cursor.new)) result }
+    ensures same_bytes { cursor.new.bytes.now ≡ cursor.old.bytes.now }
+    ensures same_end { cursor.new.end ≡ cursor.old.end }
+{
+    // The laws of references ask that their base is a handle's number.
+    let _base = base.value();
+    let linetype = read_present::<CodeH>(&base, look.linetype_flag == NAMED, cursor)?;
+    let plotstyle = read_present::<CodeH>(&base, look.plotstyle_flag == NAMED, cursor)?;
+    Some((linetype, plotstyle))
+}
+
+/// Reads what the entity of the handle `base` names, as it is parsed: what there is of it is told by what it begins with and
+/// by its look. The only refusal is want of memory, which is taken only for references that are there.
+pub(crate) fn read_named(
+    alloc: Global,
+    cursor: &mut BitCursor<'_>,
+    base: Handle,
+    start: &Start,
+    look: Look,
+) -> Result<Option<Named>, NoMemory>
+    ensures parsed { IfOk result (λ found. (entity_refs base (start.now, look)).grammar.parse (rest cursor.old) ≡ option_map (λ named. (named, rest cursor.new)) found) }
+    ensures same_bytes { cursor.new.bytes.now ≡ cursor.old.bytes.now }
+    ensures same_end { cursor.new.end ≡ cursor.old.end }
+{
+    // The laws of references ask that their base is a handle's number.
+    let _base = base.value();
+    let Some(owner) = read_present::<CodeH>(&base, start.mode == TO_OWNER, cursor) else {
+        return Ok(None);
+    };
+    let Some(reactors) = read_some(alloc, cursor, base, start.reactors)? else {
+        return Ok(None);
+    };
+    let Some(xdict) = read_code::<CodeH>(&base, cursor) else {
+        return Ok(None);
+    };
+    let Some(links) = read_present::<CodeLinks>(&base, !start.nolinks, cursor) else {
+        return Ok(None);
+    };
+    let Some(layer) = read_code::<CodeH>(&base, cursor) else {
+        return Ok(None);
+    };
+    let Some(styles) = read_styles(cursor, base, look) else {
+        return Ok(None);
+    };
+    Ok(Some(Named {
+        owner,
+        reactors,
+        xdict,
+        links,
+        layer,
+        linetype: styles.0,
+        plotstyle: styles.1,
+    }))
+}
+
+/// Whether a reference is there exactly where it is present, and can be told from the object of the handle `base`.
+#[tactic(auto, unfolding(dwg_handles::specs::ReferenceCodes::reference))]
+fn ref_fits_when(present: bool, value: &Option<Ref>, base: Handle) -> bool
+    ensures { IsTrue result ↔ (when present (reference base)).IsValue value.now }
+{
+    match value {
+        Some(inner) => {
+            if !present {
+                return false;
+            }
+            inner.fits(base)
+        }
+        None => !present,
+    }
+}
+
+/// Whether each of so many references can be told from the object of the handle `base`.
+#[tactic(auto, unfolding(dwg_codes::specs::Combinators::chain))]
+fn reactors_fit(refs: &[Ref], base: Handle) -> bool
+    ensures { IsTrue result ↔ (items (reference base) (length refs.now)).IsValue refs.now }
+{
+    refs_fit(refs, base)
+}
+
+/// Whether the entities before and behind an entity can be told from it, where it names them.
+fn links_fit_where_there(value: &Option<Links>, base: Handle) -> bool
+    ensures { IsTrue result ↔ (when (not (is_none value.now)) (links base).grammar).IsValue value.now }
+{
+    match value {
+        Some(inner) => links_fit(inner, base),
+        None => true,
+    }
+}
+
+/// Whether what an entity names can be told from it: its owner is there exactly where its mode is 0, its linetype and its
+/// plot style exactly where their flags are 3, and each reference reaches its target.
+#[tactic(auto, unfolding(dwg_handles::specs::ReferenceCodes::reference))]
+pub(crate) fn names_fit(common: &EntityCommon, base: Handle) -> bool
+    ensures { IsTrue result ↔ (entity_refs base (main_of_entity common.now)).grammar.IsValue (named_of_entity common.now) }
+{
+    if !ref_fits_when(common.mode == TO_OWNER, &common.owner, base) {
+        return false;
+    }
+    if !reactors_fit(common.reactors.as_slice(), base) {
+        return false;
+    }
+    if !common.xdict.fits(base) {
+        return false;
+    }
+    if !links_fit_where_there(&common.links, base) {
+        return false;
+    }
+    if !common.layer.fits(base) {
+        return false;
+    }
+    if !ref_fits_when(common.linetype_flag == NAMED, &common.linetype, base) {
+        return false;
+    }
+    ref_fits_when(common.plotstyle_flag == NAMED, &common.plotstyle, base)
+}
+
+/// How many bits what an entity names is written by.
+#[tactic(auto, unfolding(dwg_codes::specs::Combinators::chain))]
+pub(crate) fn names_bits(common: &EntityCommon, base: Handle) -> u64
+    requires value { (entity_refs base (main_of_entity common.now)).grammar.IsValue (named_of_entity common.now) }
+    requires few { length ((entity_refs base (main_of_entity common.now)).grammar.short (named_of_entity common.now)) < 2 ^ 62 }
+    ensures { result ≡ length ((entity_refs base (main_of_entity common.now)).grammar.short (named_of_entity common.now)) }
+{
+    // The laws of references ask that their base is a handle's number.
+    let _base = base.value();
+    length_when::<CodeH>(&base, common.mode == TO_OWNER, &common.owner)
+        + refs_bits(common.reactors.as_slice(), base)
+        + CodeH::length(&base, &common.xdict)
+        + length_when::<CodeLinks>(&base, common.links.is_some(), &common.links)
+        + CodeH::length(&base, &common.layer)
+        + length_when::<CodeH>(&base, common.linetype_flag == NAMED, &common.linetype)
+        + length_when::<CodeH>(&base, common.plotstyle_flag == NAMED, &common.plotstyle)
+}
+
+/// Writes what an entity names.
+#[tactic(auto, unfolding(dwg_codes::specs::Combinators::chain))]
+pub(crate) fn write_names(common: &EntityCommon, base: Handle, sink: &mut BitSink)
+    requires value { (entity_refs base (main_of_entity common.now)).grammar.IsValue (named_of_entity common.now) }
+    requires room { length ((entity_refs base (main_of_entity common.now)).grammar.short (named_of_entity common.now)) ≤ sink.old.spare }
+    ensures { Extends sink.old sink.new ((entity_refs base (main_of_entity common.now)).grammar.short (named_of_entity common.now)) }
+{
+    // The laws of references ask that their base is a handle's number.
+    let _base = base.value();
+    write_when::<CodeH>(&base, common.mode == TO_OWNER, &common.owner, sink);
+    write_refs(common.reactors.as_slice(), base, sink);
+    CodeH::write(&base, &common.xdict, sink);
+    write_when::<CodeLinks>(&base, common.links.is_some(), &common.links, sink);
+    CodeH::write(&base, &common.layer, sink);
+    write_when::<CodeH>(&base, common.linetype_flag == NAMED, &common.linetype, sink);
+    write_when::<CodeH>(
+        &base,
+        common.plotstyle_flag == NAMED,
+        &common.plotstyle,
+        sink,
+    );
+}

@@ -1,0 +1,139 @@
+//! What all objects have that are no entities.
+
+ghost use Rattle.std.specs.Prelude.{◌≡◌, IfOk};
+ghost use Rattle.std.specs.Option.{option_map};
+ghost use Rattle.dwg_bits.specs.Cursor.{rest};
+ghost use Rattle.dwg_common.specs.CommonLaws.{object_is_body};
+ghost use Rattle.dwg_common.specs.NonEntities.{object_common};
+
+use crate::app_data::AppData;
+use crate::app_list::{app_fits, app_length, read_items, write_app};
+use crate::body::{BodyCode, Lengths};
+use crate::parts::{read_code, read_one, read_some};
+use dwg_base::{Handle, Items, NoMemory};
+use dwg_bits::{BitCursor, BitSink};
+use dwg_codes::{BitCode, CodeBL};
+use dwg_handles::{Ref, ref_bits, refs_bits, refs_fit, write_ref, write_refs};
+use std::alloc::Global;
+
+/// How many objects can't be told to watch one: their count is a BL.
+const TOO_MANY: usize = 1 << 32;
+
+/// What all objects have that are no entities (Open Design Specification, "Common non-entity object format").
+#[derive(Drop)]
+pub struct ObjectCommon {
+    /// What applications keep with it.
+    pub app: Items<AppData>,
+    /// The objects that watch it, fewer than 2^32.
+    pub reactors: Items<Ref>,
+    /// Its owner.
+    pub owner: Ref,
+    /// Its dictionary of extensions.
+    pub xdict: Ref,
+}
+
+/// Reads the parts, those of the main bits first. None exactly where one of them isn't spelled; the only refusal is want of
+/// memory.
+#[tactic(auto, unfolding(crate::specs::NonEntities::object_common))]
+fn read_parts(
+    alloc: Global,
+    main: &mut BitCursor<'_>,
+    refs: &mut BitCursor<'_>,
+    base: Handle,
+) -> Result<Option<ObjectCommon>, NoMemory>
+    ensures parsed { IfOk result (λ found. (object_common base).parse (rest main.old) (rest refs.old) ≡ option_map (λ common. (common, (rest main.new, rest refs.new))) found) }
+    ensures same_bytes { main.new.bytes.now ≡ main.old.bytes.now }
+    ensures same_end { main.new.end ≡ main.old.end }
+    ensures refs_same_bytes { refs.new.bytes.now ≡ refs.old.bytes.now }
+    ensures refs_same_end { refs.new.end ≡ refs.old.end }
+{
+    let Some(app) = read_items(alloc, main, base)? else {
+        return Ok(None);
+    };
+    let Some(count) = read_code::<CodeBL>(&(), main) else {
+        return Ok(None);
+    };
+    let Some(owner) = read_one(refs, base) else {
+        return Ok(None);
+    };
+    let Some(reactors) = read_some(alloc, refs, base, count)? else {
+        return Ok(None);
+    };
+    let Some(xdict) = read_one(refs, base) else {
+        return Ok(None);
+    };
+    Ok(Some(ObjectCommon {
+        app,
+        reactors,
+        owner,
+        xdict,
+    }))
+}
+
+impl BodyCode for ObjectCommon {
+    ghost grammar = { object_common };
+
+    fn read(
+        alloc: Global,
+        main: &mut BitCursor<'_>,
+        refs: &mut BitCursor<'_>,
+        base: Handle,
+    ) -> Result<Option<ObjectCommon>, NoMemory> {
+        // The laws of bodies ask that their base is a handle's number.
+        let _base = base.value();
+        let mut main_ahead = *main;
+        let mut refs_ahead = *refs;
+        let Some(common) = read_parts(alloc, &mut main_ahead, &mut refs_ahead, base)? else {
+            return Ok(None);
+        };
+        *main = main_ahead;
+        *refs = refs_ahead;
+        Ok(Some(common))
+    }
+
+    #[tactic(auto, using(crate::proofs::ObjectParts::fits_of_parts, crate::proofs::ObjectParts::parts_of_fits))]
+    fn fits(&self, base: Handle) -> bool {
+        let reactors = self.reactors.as_slice();
+        if !app_fits(self.app.as_slice(), base) {
+            return false;
+        }
+        if reactors.len() >= TOO_MANY {
+            return false;
+        }
+        if !refs_fit(reactors, base) {
+            return false;
+        }
+        if !self.owner.fits(base) {
+            return false;
+        }
+        self.xdict.fits(base)
+    }
+
+    #[tactic(auto, using(crate::proofs::ObjectParts::parts_of_fits, crate::proofs::ObjectParts::length_of_main, crate::proofs::ObjectParts::length_of_refs))]
+    fn lengths(&self, base: Handle) -> Lengths {
+        let reactors = self.reactors.as_slice();
+        let count = reactors.len() as u32;
+        Lengths {
+            main: app_length(self.app.as_slice(), base) + CodeBL::length(&(), &count),
+            refs: ref_bits(self.owner, base)
+                + refs_bits(reactors, base)
+                + ref_bits(self.xdict, base),
+        }
+    }
+
+    #[tactic(auto, using(crate::proofs::ObjectParts::parts_of_fits, crate::proofs::ObjectParts::length_of_main))]
+    fn write_main(&self, base: Handle, sink: &mut BitSink) {
+        let count = self.reactors.as_slice().len() as u32;
+        write_app(self.app.as_slice(), base, sink);
+        CodeBL::write(&(), &count, sink);
+    }
+
+    #[tactic(auto, using(crate::proofs::ObjectParts::parts_of_fits, crate::proofs::ObjectParts::length_of_refs))]
+    fn write_refs(&self, base: Handle, sink: &mut BitSink) {
+        write_ref(self.owner, base, sink);
+        write_refs(self.reactors.as_slice(), base, sink);
+        write_ref(self.xdict, base, sink);
+    }
+
+    ghost laws = { λ base small. object_is_body base small };
+}

@@ -1,0 +1,115 @@
+//! What an entity begins with, as bits (Open Design Specification, "Common entity data").
+
+ghost use Rattle.std.specs.Prelude.{◌≡◌, ◌^◌, ◌<◌, ◌≤◌, ◌↔◌, length, IfOk, IsTrue};
+ghost use Rattle.std.specs.Option.{option_map};
+ghost use Rattle.dwg_bits.specs.Cursor.{rest};
+ghost use Rattle.dwg_bits.specs.Sink.{Extends};
+ghost use Rattle.dwg_common.specs.Entities.{entity_mode, entity_start, main_of_entity};
+
+use crate::app_list::{app_fits, app_length, read_items, write_app};
+use crate::entity::{EntityCommon, Start};
+use crate::graphic::{graphic_bits, graphic_fits, read_graphic, write_graphic};
+use crate::parts::read_code;
+use dwg_base::{Handle, NoMemory};
+use dwg_bits::{BitCursor, BitSink};
+use dwg_codes::{BitCode, CodeB, CodeBB, CodeBL};
+use std::alloc::Global;
+
+/// The last of the modes: to the model space.
+const LAST_MODE: u8 = 2;
+
+/// How many objects can't be told to watch one: their count is a BL.
+const TOO_MANY: usize = 1 << 32;
+
+/// Reads where an entity belongs, as it is parsed: 0, 1 or 2.
+fn read_mode(cursor: &mut BitCursor<'_>) -> Option<u8>
+    ensures parsed { entity_mode.parse (rest cursor.old) ≡ option_map (λ mode. (mode, rest cursor.new)) result }
+    ensures same_bytes { cursor.new.bytes.now ≡ cursor.old.bytes.now }
+    ensures same_end { cursor.new.end ≡ cursor.old.end }
+{
+    let mode = read_code::<CodeBB>(&(), cursor)?;
+    if mode > LAST_MODE {
+        return None;
+    }
+    Some(mode)
+}
+
+/// Reads what the entity of the handle `base` begins with, as it is parsed. The only refusal is want of memory, which is
+/// taken only for what is there.
+pub(crate) fn read_start(
+    alloc: Global,
+    cursor: &mut BitCursor<'_>,
+    base: Handle,
+) -> Result<Option<Start>, NoMemory>
+    ensures parsed { IfOk result (λ found. (entity_start base).parse (rest cursor.old) ≡ option_map (λ start. (start, rest cursor.new)) found) }
+    ensures same_bytes { cursor.new.bytes.now ≡ cursor.old.bytes.now }
+    ensures same_end { cursor.new.end ≡ cursor.old.end }
+{
+    let Some(app) = read_items(alloc, cursor, base)? else {
+        return Ok(None);
+    };
+    let Some(graphic) = read_graphic(alloc, cursor)? else {
+        return Ok(None);
+    };
+    let Some(mode) = read_mode(cursor) else {
+        return Ok(None);
+    };
+    let Some(reactors) = read_code::<CodeBL>(&(), cursor) else {
+        return Ok(None);
+    };
+    let Some(nolinks) = read_code::<CodeB>(&(), cursor) else {
+        return Ok(None);
+    };
+    Ok(Some(Start {
+        app,
+        graphic,
+        mode,
+        reactors,
+        nolinks,
+    }))
+}
+
+/// Whether what an entity begins with can be told: its application data and its picture can, its mode is 0, 1 or 2, and it
+/// has fewer than 2^32 reactors.
+pub(crate) fn start_fits(common: &EntityCommon, base: Handle) -> bool
+    ensures { IsTrue result ↔ (entity_start base).IsValue (main_of_entity common.now).0 }
+{
+    if !app_fits(common.app.as_slice(), base) {
+        return false;
+    }
+    if !graphic_fits(&common.graphic) {
+        return false;
+    }
+    if common.mode > LAST_MODE {
+        return false;
+    }
+    common.reactors.as_slice().len() < TOO_MANY
+}
+
+/// How many bits what an entity begins with is written by.
+pub(crate) fn start_bits(common: &EntityCommon, base: Handle) -> u64
+    requires value { (entity_start base).IsValue (main_of_entity common.now).0 }
+    requires few { length ((entity_start base).short (main_of_entity common.now).0) < 2 ^ 62 }
+    ensures { result ≡ length ((entity_start base).short (main_of_entity common.now).0) }
+{
+    let reactors = common.reactors.as_slice().len() as u32;
+    app_length(common.app.as_slice(), base)
+        + graphic_bits(&common.graphic)
+        + CodeBB::length(&(), &common.mode)
+        + CodeBL::length(&(), &reactors)
+        + CodeB::length(&(), &common.links.is_none())
+}
+
+/// Writes what an entity begins with.
+pub(crate) fn write_start(common: &EntityCommon, base: Handle, sink: &mut BitSink)
+    requires value { (entity_start base).IsValue (main_of_entity common.now).0 }
+    requires room { length ((entity_start base).short (main_of_entity common.now).0) ≤ sink.old.spare }
+    ensures { Extends sink.old sink.new ((entity_start base).short (main_of_entity common.now).0) }
+{
+    let reactors = common.reactors.as_slice().len() as u32;
+    write_app(common.app.as_slice(), base, sink);
+    write_graphic(&common.graphic, sink);
+    CodeBB::write(&(), &common.mode, sink);
+    CodeBL::write(&(), &reactors, sink);
+    CodeB::write(&(), &common.links.is_none(), sink);
+}

@@ -1,0 +1,111 @@
+-- Numbers in the tables of kinds: what a run gives, what no row gives, and which kinds are those of entities.
+use Rattle.std.proofs.Common.{◌≡◌, refl, sym, ap, ◌∙◌, ℕ, ◌<◌, ◌≤◌, true, false, List, [], ◌∷◌, arith}
+use Rattle.std.specs.Prelude.{◌≢◌, ◌==◌, ◌↔◌, ◌&&◌, Bool, nat_lt, not, None, Contains, IsTrue}
+use Rattle.std.specs.List.{AllByRecursion, list_all}
+use Rattle.std.specs.Map.{lookup}
+use Rattle.std.proofs.lemmas.Bool.Decides.{nat_tests}
+use Rattle.std.proofs.lemmas.Bool.{true≢false}
+use Rattle.std.proofs.lemmas.List.Elements.{All-contains}
+use Rattle.std.proofs.lemmas.List.Sums.{AllPass-from_list_all}
+use Rattle.dwg_kinds.specs.declared.kind.Kind.{Kind}
+use Rattle.dwg_kinds.specs.declared.kind.Kind.TheVariants.{Text, Attrib, Attdef, Block, EndBlk, SeqEnd, Insert, Arc, Circle, Line, Point, LwPolyline, PlainEntity, Unknown}
+use Rattle.dwg_kinds.specs.declared.number.ClassHint.{ClassHint}
+use Rattle.dwg_kinds.specs.Kinds.{Run, TYPED_KINDS, PLAIN_ENTITIES, PLAIN_OBJECTS, ENTITY_KINDS, LiesOutside, lies_in, fixed_kind_of, kind_at, is_entity_kind}
+
+-- a number of no row is not found
+not_found : (number : ℕ) (rows : List (ℕ × Kind)) → AllByRecursion (λ typed. number ≢ typed.0) rows → lookup (λ typed. typed == number) rows ≡ None
+not_found number [] others = refl
+not_found number (row ∷ rows) others =
+    let test : (row.0 == number) ≡ false = grind (arith, nat_tests, others.0) in
+    rw test (not_found number rows others.1)
+
+-- a number outside each run lies in none
+outside : (number : ℕ) (runs : List Run) → LiesOutside runs number → lies_in runs number ≡ false
+outside number [] out = refl
+outside number (run ∷ runs) out =
+    let test : lies_in (run ∷ []) number ≡ false = grind (arith, nat_tests, out.0) in
+    grind (arith, nat_tests, out.0, outside number runs out.1)
+
+-- a number below 500 in none of the lists has no kind
+pub no_other : (number : ℕ) (hint : ClassHint) → number < 500 → AllByRecursion (λ typed. number ≢ typed.0) TYPED_KINDS → LiesOutside PLAIN_ENTITIES number → LiesOutside PLAIN_OBJECTS number
+    → kind_at number hint ≡ Unknown
+unfolding kind_at fixed_kind_of
+no_other number hint small typed entities objects =
+    let fixed : nat_lt number 500 ≡ true = grind (arith, nat_tests) in
+    rw (fixed, not_found number TYPED_KINDS typed, outside number PLAIN_ENTITIES entities, outside number PLAIN_OBJECTS objects) refl
+
+-- what holds of a number where it lies in a run holds of it at each run that has it
+at_each_run : (P : Type 0) (number : ℕ) (runs : List Run) → (lies_in runs number ≡ true → P) → AllByRecursion (λ (run : Run). run.0 ≤ number → number ≤ run.1 → P) runs
+at_each_run P number [] lies = tt
+at_each_run P number (run ∷ runs) lies = (
+  λ first last. lies (grind (arith, nat_tests)),
+  at_each_run P number runs (λ others. lies (grind (arith, nat_tests, others))),
+)
+
+-- a number that lies in runs is below what all runs lie below
+below_all : (number bound : ℕ) (runs : List Run) → list_all (λ run. nat_lt run.1 bound) runs ≡ true → lies_in runs number ≡ true → nat_lt number bound ≡ true
+below_all number bound [] below lies = absurd (cc)
+below_all number bound (run ∷ runs) below lies = grind (arith, nat_tests, below_all number bound runs)
+
+-- a test fails, and the others pass
+fails_first : (one others : Bool) → (not one && others) ≡ true → (one ≡ false) × (others ≡ true)
+fails_first true others pass = absurd (cc)
+fails_first false others pass = (refl, pass)
+
+-- two numbers of which one lies in runs differ
+differ : (number other : ℕ) (runs : List Run) → lies_in runs number ≡ true → lies_in runs other ≡ false → number ≢ other
+differ number other runs lies out = λ same. true≢false (sym lies ∙ (ap (lies_in runs) same ∙ out))
+
+-- a number that lies in runs is that of no row whose number lies in none
+no_row : (number : ℕ) (runs : List Run) (rows : List (ℕ × Kind)) → list_all (λ row. not (lies_in runs row.0)) rows ≡ true → lies_in runs number ≡ true → AllByRecursion (λ typed. number ≢ typed.0) rows
+no_row number runs [] apart lies = tt
+no_row number runs (row ∷ rows) apart lies =
+    let tests = fails_first (lies_in runs row.0) (list_all (λ row. not (lies_in runs row.0)) rows) apart in
+    (differ number row.0 runs lies tests.0, no_row number runs rows tests.1 lies)
+
+-- tests of the tables: plain entities have numbers below 500, and no number of a typed kind
+below_classes : list_all (λ run. nat_lt run.1 500) PLAIN_ENTITIES ≡ true
+unfolding PLAIN_ENTITIES
+below_classes = refl
+
+entities_untyped : list_all (λ row. not (lies_in PLAIN_ENTITIES row.0)) TYPED_KINDS ≡ true
+unfolding PLAIN_ENTITIES TYPED_KINDS
+entities_untyped = refl
+
+-- a number in a run of plain entities has their kind
+pub in_plain_entities : (number : ℕ) (hint : ClassHint) → AllByRecursion (λ (run : Run). run.0 ≤ number → number ≤ run.1 → kind_at number hint ≡ PlainEntity) PLAIN_ENTITIES
+unfolding kind_at fixed_kind_of
+in_plain_entities number hint =
+    at_each_run (kind_at number hint ≡ PlainEntity) number PLAIN_ENTITIES
+    (λ lies. rw (below_all number 500 PLAIN_ENTITIES below_classes lies, not_found number TYPED_KINDS (no_row number PLAIN_ENTITIES TYPED_KINDS entities_untyped lies), lies) refl)
+
+-- a kind of entities is in their list
+entity_listed : (kind : Kind) → IsTrue (is_entity_kind kind) → Contains ENTITY_KINDS kind
+unfolding is_entity_kind fixed_kind_of TYPED_KINDS
+entity_listed Text is = (0, omega arith, refl)
+entity_listed Attrib is = (1, omega arith, refl)
+entity_listed Attdef is = (2, omega arith, refl)
+entity_listed Block is = (3, omega arith, refl)
+entity_listed EndBlk is = (4, omega arith, refl)
+entity_listed SeqEnd is = (5, omega arith, refl)
+entity_listed Insert is = (6, omega arith, refl)
+entity_listed Arc is = (7, omega arith, refl)
+entity_listed Circle is = (8, omega arith, refl)
+entity_listed Line is = (9, omega arith, refl)
+entity_listed Point is = (10, omega arith, refl)
+entity_listed LwPolyline is = (11, omega arith, refl)
+entity_listed PlainEntity is = (12, omega arith, refl)
+entity_listed kind is = absurd (cc)
+
+-- a test of the table: each kind of the list is one of entities
+listed_are_entities : list_all is_entity_kind ENTITY_KINDS ≡ true
+unfolding is_entity_kind fixed_kind_of TYPED_KINDS
+listed_are_entities = refl
+
+-- the kinds of entities are those of the list
+pub entities_listed : (kind : Kind) → IsTrue (is_entity_kind kind) ↔ Contains ENTITY_KINDS kind
+entities_listed kind = (
+  entity_listed kind,
+  λ listed. All-contains (λ (other : Kind). IsTrue (is_entity_kind other)) ENTITY_KINDS kind
+      (AllPass-from_list_all is_entity_kind ENTITY_KINDS listed_are_entities) listed,
+)
