@@ -12,7 +12,7 @@ use Rattle.dwg_codes.specs.ToEndLaws.{bs_least}
 use Rattle.dwg_common.specs.declared.app_data.AppData.{AppData}
 use Rattle.dwg_common.specs.AppList.{app_item, app_list}
 use Rattle.dwg_common.specs.AppListLaws.{app_item_is_code, app_list_is_code}
-use Rattle.dwg_common.proofs.BodyReading.{parsed, parsed_read, parsed_unread}
+use Rattle.dwg_common.specs.BodyReading.{parsed, parsed_read, parsed_unread}
 
 -- the items so far were read at the front of the old bits: a list that is read of the new bits goes on behind them, and where none begins the new bits none begins the old ones
 pub record IsBegun (base : ℕ) (found : List AppData) (old new : List Bool) : Type 0 where

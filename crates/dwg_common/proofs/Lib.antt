@@ -1,4 +1,3 @@
-pub mod BodyReading
 pub mod AppReading
 pub mod AppWriting
 pub mod ObjectParts

@@ -11,3 +11,5 @@ pub mod NonEntities
 pub mod AppShort
 pub mod AppListLaws
 pub mod CommonLaws
+pub mod MainBodies
+pub mod BodyReading

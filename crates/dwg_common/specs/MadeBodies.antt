@@ -8,9 +8,9 @@ use Rattle.dwg_codes.specs.CombinatorLaws.{IsFound, option_map_some}
 use Rattle.dwg_codes.specs.ToEnd.{SpellsAll}
 use Rattle.dwg_handles.specs.ReferenceCodes.{reference}
 use Rattle.dwg_common.specs.Bodies.{BodyGrammar, BeginsWithBody, IsBody}
-use Rattle.dwg_common.specs.MakingBodies.{body, variant}
-use Rattle.dwg_common.specs.References.{ReferencePart}
-use Rattle.dwg_common.specs.ReferenceParts.{IsReferencePart}
+use Rattle.dwg_common.specs.MakingBodies.{body, main_body, variant}
+use Rattle.dwg_common.specs.References.{ReferencePart, no_refs}
+use Rattle.dwg_common.specs.ReferenceParts.{IsReferencePart, none_is_part}
 
 -- what was found of a body: its value, and the bits behind its fronts
 abbrev pub IsFoundBody : {V : Type 0} → BodyGrammar V → List Bool → List Bool → V × (List Bool × List Bool) → Type 0
@@ -114,6 +114,11 @@ body_is_body {A} {R} {V} base main references into main_of references_of is_main
         (is_main.complete main_bits main_left told spelled)
         ∙ ap (option_map (put_together into (told, main_left))) ((is_part told (is_main.value main_bits told spelled)).is_code.complete reference_bits references_left named spelled_named)
         ∙ ap (λ (one : V). Some (one, (main_left, references_left))) (sym is_into)
+
+-- what main bits tell alone is a body
+pub main_is_body : {V : Type 0} (base : ℕ) (main : Grammar Bool V) → IsCode AnyLetters main → IsBody base (main_body main)
+main_is_body {V} base main is =
+    body_is_body base main (λ told. no_refs) (λ told named. told) (λ value. value) (λ value. tt) is (λ told fits. none_is_part base) (λ told named fits none. (refl, refl)) (λ value. refl)
 
 -- a body as one variant of an enum is a body
 pub variant_is_body : {V W : Type 0} (base : ℕ) (into : V → W) (back : W → Option V) (inner : BodyGrammar V) → IsBody base inner

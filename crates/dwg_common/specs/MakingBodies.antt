@@ -3,7 +3,7 @@ use Rattle.std.specs.Prelude.{◌≡◌, ⊤, Bool, List, [], Option, option_map
 use Rattle.std.specs.Option.{option_map_or}
 use Rattle.dwg_codes.specs.Grammar.{Grammar}
 use Rattle.dwg_common.specs.Bodies.{BodyGrammar}
-use Rattle.dwg_common.specs.References.{ReferencePart}
+use Rattle.dwg_common.specs.References.{ReferencePart, no_refs}
 
 -- a struct by what its main bits tell and by its references, of which the main bits tell how many there are
 abbrev pub body : {A R V : Type 0} → Grammar Bool A → (A → ReferencePart R) → (A → R → V) → (V → A) → (V → R) → BodyGrammar V
@@ -20,6 +20,10 @@ body {A} {R} {V} main references into main_of references_of = record {
   short_references = λ value. (references (main_of value)).grammar.short (references_of value);
   references = λ value. (references (main_of value)).list (references_of value);
 }
+
+-- what its main bits tell alone: no references
+abbrev pub main_body : {V : Type 0} → Grammar Bool V → BodyGrammar V
+main_body {V} main = body main (λ told. no_refs) (λ told named. told) (λ value. value) (λ value. tt)
 
 -- a body as one variant of an enum
 abbrev pub variant : {V W : Type 0} → (V → W) → (W → Option V) → BodyGrammar V → BodyGrammar W

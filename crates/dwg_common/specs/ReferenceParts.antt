@@ -4,14 +4,14 @@ use Rattle.std.specs.Option.{option_map_or}
 use Rattle.std.proofs.lemmas.List.{append_assoc, append-nil}
 use Rattle.dwg_codes.specs.Grammar.{Grammar, IsCode, AnyLetters}
 use Rattle.dwg_codes.specs.Combinators.{chain}
-use Rattle.dwg_codes.specs.CombinatorLaws.{any_letters_closed, seq_is_code}
+use Rattle.dwg_codes.specs.CombinatorLaws.{any_letters_closed, always_is_code, seq_is_code}
 use Rattle.dwg_codes.specs.ListLaws.{items_is_code, when_is_code}
 use Rattle.dwg_codes.specs.ToEnd.{SpellsAll}
 use Rattle.dwg_codes.specs.ToEndLaws.{spells_one, spells_all_append}
 use Rattle.dwg_handles.specs.ReferenceCodes.{reference}
 use Rattle.dwg_handles.specs.ReferenceLaws.{reference_is_code}
 use Rattle.dwg_common.specs.Shaped.{shaped_is_code}
-use Rattle.dwg_common.specs.References.{ReferencePart, one_ref, some_refs, maybe_refs, then_refs, seen_refs}
+use Rattle.dwg_common.specs.References.{ReferencePart, no_refs, one_ref, some_refs, maybe_refs, then_refs, seen_refs}
 
 -- a part of the references of the object of a handle
 pub record IsReferencePart {R : Type 0} (base : ℕ) (part : ReferencePart R) : Type 0 where
@@ -84,6 +84,14 @@ then_is_part {R} {S} base first second is is_second = record {
   respelled = λ both letters other spelled others.
       let parts = split_all (reference base) (first.list both.0) (second.list both.1) other others in
       (parts.0, parts.1, is.respelled both.0 spelled.0 parts.0 spelled.2 parts.2, is_second.respelled both.1 spelled.1 parts.1 spelled.3 parts.3, parts.4);
+}
+
+-- no references
+pub none_is_part : (base : ℕ) → IsReferencePart base no_refs
+none_is_part base = record {
+  is_code = always_is_code AnyLetters tt;
+  listed = λ value letters spelled. spelled.1;
+  respelled = λ value letters other spelled others. (spelled.0, others);
 }
 
 -- a part that is seen as a struct, where struct and parts follow from each other

@@ -1,8 +1,8 @@
 -- The references of a part of an object: what their bits spell, and which references those are (Open Design Specification, "Common entity data" and "Common non-entity object format").
-use Rattle.std.specs.Prelude.{ℕ, Bool, List, [], ◌∷◌, ◌++◌, Option}
+use Rattle.std.specs.Prelude.{⊤, ℕ, Bool, List, [], ◌∷◌, ◌++◌, Option}
 use Rattle.std.specs.Option.{option_map_or}
 use Rattle.dwg_codes.specs.Grammar.{Grammar}
-use Rattle.dwg_codes.specs.Combinators.{seq, when, items}
+use Rattle.dwg_codes.specs.Combinators.{always, seq, when, items}
 use Rattle.dwg_handles.specs.Reference.{Reference}
 use Rattle.dwg_handles.specs.ReferenceCodes.{reference}
 use Rattle.dwg_common.specs.Shaped.{shaped}
@@ -27,6 +27,10 @@ maybe_refs {R} test part = record { grammar = when test part.grammar; list = λ 
 -- one part and then another
 abbrev pub then_refs : {R S : Type 0} → ReferencePart R → ReferencePart S → ReferencePart (R × S)
 then_refs {R} {S} first second = record { grammar = seq first.grammar (λ value. second.grammar); list = λ both. first.list both.0 ++ second.list both.1 }
+
+-- no references
+abbrev pub no_refs : ReferencePart ⊤
+no_refs = record { grammar = always tt; list = λ value. [] }
 
 -- a part that is seen as a struct, by its parts
 abbrev pub seen_refs : {R S : Type 0} → (R → S) → (S → R) → ReferencePart R → ReferencePart S

@@ -9,7 +9,7 @@ ghost use Rattle.dwg_common.specs.AppList.{IsAppData, app_item, app_list};
 ghost use Rattle.dwg_common.specs.AppShort.{item_short, items_short};
 
 use crate::app_data::AppData;
-use crate::parts::{read_one, read_run};
+use crate::parts::{parse_bytes, parse_ref};
 use dwg_base::{Handle, Items, NoMemory};
 use dwg_bits::{BitCursor, BitSink};
 use dwg_codes::{BitCode, CodeBS, bytes_length, write_bytes};
@@ -30,10 +30,10 @@ fn read_item(
     ensures same_bytes { cursor.new.bytes.now ≡ cursor.old.bytes.now }
     ensures same_end { cursor.new.end ≡ cursor.old.end }
 {
-    let Some(application) = read_one(cursor, base) else {
+    let Some(application) = parse_ref(cursor, base) else {
         return Ok(None);
     };
-    let Some(bytes) = read_run(alloc, u32::from(size), cursor)? else {
+    let Some(bytes) = parse_bytes(alloc, u32::from(size), cursor)? else {
         return Ok(None);
     };
     Ok(Some(AppData { application, bytes }))

@@ -8,7 +8,7 @@ ghost use Rattle.dwg_codes.specs.Codes.{rc, rl};
 ghost use Rattle.dwg_codes.specs.Combinators.{counted};
 ghost use Rattle.dwg_common.specs.Entities.{graphic};
 
-use crate::parts::{read_code, read_run};
+use crate::parts::{parse_bytes, parse_code};
 use dwg_base::{ByteRun, NoMemory};
 use dwg_bits::{BitCursor, BitSink};
 use dwg_codes::{BitCode, CodeB, CodeRL, bytes_length, write_bytes};
@@ -23,10 +23,10 @@ fn read_sized(alloc: Global, cursor: &mut BitCursor<'_>) -> Result<Option<ByteRu
     ensures same_bytes { cursor.new.bytes.now ≡ cursor.old.bytes.now }
     ensures same_end { cursor.new.end ≡ cursor.old.end }
 {
-    let Some(size) = read_code::<CodeRL>(&(), cursor) else {
+    let Some(size) = parse_code::<CodeRL>(&(), cursor) else {
         return Ok(None);
     };
-    let Some(bytes) = read_run(alloc, size, cursor)? else {
+    let Some(bytes) = parse_bytes(alloc, size, cursor)? else {
         return Ok(None);
     };
     Ok(Some(bytes))
@@ -43,7 +43,7 @@ pub(crate) fn read_graphic(
     ensures same_bytes { cursor.new.bytes.now ≡ cursor.old.bytes.now }
     ensures same_end { cursor.new.end ≡ cursor.old.end }
 {
-    let Some(there) = read_code::<CodeB>(&(), cursor) else {
+    let Some(there) = parse_code::<CodeB>(&(), cursor) else {
         return Ok(None);
     };
     if !there {

@@ -13,7 +13,6 @@ mod look;
 mod named;
 mod object;
 mod parts;
-mod present;
 mod start;
 
 pub use app_data::AppData;
@@ -21,3 +20,4 @@ pub use body::{BodyCode, Lengths, body_laws};
 pub use entity::{EntityCommon, Links};
 pub use laws::common_laws;
 pub use object::ObjectCommon;
+pub use parts::{parse_bytes, parse_code, parse_ref, parse_refs, parse_when};

@@ -7,7 +7,7 @@ ghost use Rattle.dwg_common.specs.CommonLaws.{links_is_part};
 ghost use Rattle.dwg_common.specs.Entities.{links};
 
 use crate::entity::Links;
-use crate::parts::read_code;
+use crate::parts::parse_code;
 use dwg_base::Handle;
 use dwg_bits::{BitCursor, BitSink};
 use dwg_codes::BitCode;
@@ -21,8 +21,8 @@ fn read_links(cursor: &mut BitCursor<'_>, base: Handle) -> Option<Links>
 {
     // The laws of references ask that their base is a handle's number.
     let _base = base.value();
-    let previous = read_code::<CodeH>(&base, cursor)?;
-    let next = read_code::<CodeH>(&base, cursor)?;
+    let previous = parse_code::<CodeH>(&base, cursor)?;
+    let next = parse_code::<CodeH>(&base, cursor)?;
     Some(Links { previous, next })
 }
 

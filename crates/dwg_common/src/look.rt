@@ -7,7 +7,7 @@ ghost use Rattle.dwg_bits.specs.Sink.{Extends};
 ghost use Rattle.dwg_common.specs.Entities.{entity_look};
 
 use crate::entity::Look;
-use crate::parts::read_code;
+use crate::parts::parse_code;
 use dwg_bits::{BitCursor, BitSink};
 use dwg_codes::{BitCode, CodeBB, CodeBD, CodeBS, CodeRC};
 
@@ -20,12 +20,12 @@ pub(crate) fn read_look(cursor: &mut BitCursor<'_>) -> Option<Look>
     ensures same_bytes { cursor.new.bytes.now ≡ cursor.old.bytes.now }
     ensures same_end { cursor.new.end ≡ cursor.old.end }
 {
-    let colour = read_code::<CodeBS>(&(), cursor)?;
-    let linetype_scale = read_code::<CodeBD>(&(), cursor)?;
-    let linetype_flag = read_code::<CodeBB>(&(), cursor)?;
-    let plotstyle_flag = read_code::<CodeBB>(&(), cursor)?;
-    let invisible = read_code::<CodeBS>(&(), cursor)?;
-    let lineweight = read_code::<CodeRC>(&(), cursor)?;
+    let colour = parse_code::<CodeBS>(&(), cursor)?;
+    let linetype_scale = parse_code::<CodeBD>(&(), cursor)?;
+    let linetype_flag = parse_code::<CodeBB>(&(), cursor)?;
+    let plotstyle_flag = parse_code::<CodeBB>(&(), cursor)?;
+    let invisible = parse_code::<CodeBS>(&(), cursor)?;
+    let lineweight = parse_code::<CodeRC>(&(), cursor)?;
     Some(Look {
         colour,
         linetype_scale,

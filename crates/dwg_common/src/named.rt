@@ -11,8 +11,7 @@ ghost use Rattle.dwg_common.specs.References.{maybe_refs, one_ref, then_refs};
 
 use crate::entity::{EntityCommon, Links, Look, Named, Start};
 use crate::links::{CodeLinks, links_fit};
-use crate::parts::{read_code, read_some};
-use crate::present::read_present;
+use crate::parts::{parse_code, parse_refs, parse_when};
 use dwg_base::{Handle, NoMemory};
 use dwg_bits::{BitCursor, BitSink};
 use dwg_codes::{BitCode, length_when, write_when};
@@ -37,8 +36,8 @@ fn read_styles(
 {
     // The laws of references ask that their base is a handle's number.
     let _base = base.value();
-    let linetype = read_present::<CodeH>(&base, look.linetype_flag == NAMED, cursor)?;
-    let plotstyle = read_present::<CodeH>(&base, look.plotstyle_flag == NAMED, cursor)?;
+    let linetype = parse_when::<CodeH>(&base, look.linetype_flag == NAMED, cursor)?;
+    let plotstyle = parse_when::<CodeH>(&base, look.plotstyle_flag == NAMED, cursor)?;
     Some((linetype, plotstyle))
 }
 
@@ -57,19 +56,19 @@ pub(crate) fn read_named(
 {
     // The laws of references ask that their base is a handle's number.
     let _base = base.value();
-    let Some(owner) = read_present::<CodeH>(&base, start.mode == TO_OWNER, cursor) else {
+    let Some(owner) = parse_when::<CodeH>(&base, start.mode == TO_OWNER, cursor) else {
         return Ok(None);
     };
-    let Some(reactors) = read_some(alloc, cursor, base, start.reactors)? else {
+    let Some(reactors) = parse_refs(alloc, cursor, base, start.reactors)? else {
         return Ok(None);
     };
-    let Some(xdict) = read_code::<CodeH>(&base, cursor) else {
+    let Some(xdict) = parse_code::<CodeH>(&base, cursor) else {
         return Ok(None);
     };
-    let Some(links) = read_present::<CodeLinks>(&base, !start.nolinks, cursor) else {
+    let Some(links) = parse_when::<CodeLinks>(&base, !start.nolinks, cursor) else {
         return Ok(None);
     };
-    let Some(layer) = read_code::<CodeH>(&base, cursor) else {
+    let Some(layer) = parse_code::<CodeH>(&base, cursor) else {
         return Ok(None);
     };
     let Some(styles) = read_styles(cursor, base, look) else {

@@ -9,7 +9,7 @@ ghost use Rattle.dwg_common.specs.NonEntities.{object_common};
 use crate::app_data::AppData;
 use crate::app_list::{app_fits, app_length, read_items, write_app};
 use crate::body::{BodyCode, Lengths};
-use crate::parts::{read_code, read_one, read_some};
+use crate::parts::{parse_code, parse_ref, parse_refs};
 use dwg_base::{Handle, Items, NoMemory};
 use dwg_bits::{BitCursor, BitSink};
 use dwg_codes::{BitCode, CodeBL};
@@ -50,16 +50,16 @@ fn read_parts(
     let Some(app) = read_items(alloc, main, base)? else {
         return Ok(None);
     };
-    let Some(count) = read_code::<CodeBL>(&(), main) else {
+    let Some(count) = parse_code::<CodeBL>(&(), main) else {
         return Ok(None);
     };
-    let Some(owner) = read_one(refs, base) else {
+    let Some(owner) = parse_ref(refs, base) else {
         return Ok(None);
     };
-    let Some(reactors) = read_some(alloc, refs, base, count)? else {
+    let Some(reactors) = parse_refs(alloc, refs, base, count)? else {
         return Ok(None);
     };
-    let Some(xdict) = read_one(refs, base) else {
+    let Some(xdict) = parse_ref(refs, base) else {
         return Ok(None);
     };
     Ok(Some(ObjectCommon {

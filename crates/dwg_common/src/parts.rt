@@ -1,23 +1,20 @@
-//! The parts of bodies, read as they are parsed.
+//! The parts of bodies, read as they are parsed: so a body that reads one behind the other is parsed as its grammar says.
 
 ghost use Rattle.std.specs.Prelude.{◌≡◌, IfOk};
 ghost use Rattle.std.specs.Option.{option_map};
 ghost use Rattle.dwg_bits.specs.Cursor.{rest};
 ghost use Rattle.dwg_codes.specs.Codes.{rc};
-ghost use Rattle.dwg_codes.specs.Combinators.{items};
+ghost use Rattle.dwg_codes.specs.Combinators.{items, when};
 ghost use Rattle.dwg_handles.specs.ReferenceCodes.{reference};
 
 use dwg_base::{ByteRun, Handle, Items, NoMemory};
 use dwg_bits::BitCursor;
-use dwg_codes::{BitCode, read_bytes};
+use dwg_codes::{BitCode, read_bytes, read_when};
 use dwg_handles::{Ref, read_ref, read_refs};
 use std::alloc::Global;
 
-/// A value of a code.
-pub(crate) fn read_code<C: BitCode>(
-    context: &C::Context,
-    cursor: &mut BitCursor<'_>,
-) -> Option<C::Value>
+/// Reads a value of a code. None exactly where no front of the rest spells one.
+pub fn parse_code<C: BitCode>(context: &C::Context, cursor: &mut BitCursor<'_>) -> Option<C::Value>
     requires { C.IsContext context.now }
     ensures parsed { (C.grammar context.now).parse (rest cursor.old) ≡ option_map (λ value. (value, rest cursor.new)) result }
     ensures same_bytes { cursor.new.bytes.now ≡ cursor.old.bytes.now }
@@ -26,9 +23,9 @@ pub(crate) fn read_code<C: BitCode>(
     C::read(context, cursor)
 }
 
-/// A reference of the object of the handle `base`.
-#[tactic(auto, using(crate::proofs::BodyReading::ref_parsed))]
-pub(crate) fn read_one(cursor: &mut BitCursor<'_>, base: Handle) -> Option<Ref>
+/// Reads a reference of the object of the handle `base`. None exactly where no front of the rest spells one.
+#[tactic(auto, using(crate::specs::BodyReading::ref_parsed))]
+pub fn parse_ref(cursor: &mut BitCursor<'_>, base: Handle) -> Option<Ref>
     ensures parsed { (reference base).parse (rest cursor.old) ≡ option_map (λ found. (found, rest cursor.new)) result }
     ensures same_bytes { cursor.new.bytes.now ≡ cursor.old.bytes.now }
     ensures same_end { cursor.new.end ≡ cursor.old.end }
@@ -38,9 +35,10 @@ pub(crate) fn read_one(cursor: &mut BitCursor<'_>, base: Handle) -> Option<Ref>
     read_ref(cursor, base)
 }
 
-/// So many references of the object of the handle `base`. The only refusal is want of memory.
-#[tactic(auto, using(crate::proofs::BodyReading::refs_parsed))]
-pub(crate) fn read_some(
+/// Reads so many references of the object of the handle `base`. None exactly where one of them isn't spelled; the only refusal
+/// is want of memory, which is taken only for references that are there.
+#[tactic(auto, using(crate::specs::BodyReading::refs_parsed))]
+pub fn parse_refs(
     alloc: Global,
     cursor: &mut BitCursor<'_>,
     base: Handle,
@@ -55,9 +53,10 @@ pub(crate) fn read_some(
     read_refs(alloc, cursor, base, count)
 }
 
-/// So many bytes. The only refusal is want of memory.
-#[tactic(auto, using(crate::proofs::BodyReading::bytes_parsed))]
-pub(crate) fn read_run(
+/// Reads so many bytes. None exactly where fewer are left; the only refusal is want of memory, which is taken only for bytes
+/// that are there.
+#[tactic(auto, using(crate::specs::BodyReading::bytes_parsed))]
+pub fn parse_bytes(
     alloc: Global,
     count: u32,
     cursor: &mut BitCursor<'_>,
@@ -67,4 +66,19 @@ pub(crate) fn read_run(
     ensures same_end { cursor.new.end ≡ cursor.old.end }
 {
     read_bytes(alloc, count, cursor)
+}
+
+/// Reads a value of a code where it is present, and no bit where it isn't. None exactly where it is present and no front of the
+/// rest spells one.
+pub fn parse_when<C: BitCode>(
+    context: &C::Context,
+    present: bool,
+    cursor: &mut BitCursor<'_>,
+) -> Option<Option<C::Value>>
+    requires { C.IsContext context.now }
+    ensures parsed { (when present (C.grammar context.now)).parse (rest cursor.old) ≡ option_map (λ value. (value, rest cursor.new)) result }
+    ensures same_bytes { cursor.new.bytes.now ≡ cursor.old.bytes.now }
+    ensures same_end { cursor.new.end ≡ cursor.old.end }
+{
+    read_when::<C>(context, present, cursor)
 }

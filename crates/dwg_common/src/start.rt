@@ -9,7 +9,7 @@ ghost use Rattle.dwg_common.specs.Entities.{entity_mode, entity_start, main_of_e
 use crate::app_list::{app_fits, app_length, read_items, write_app};
 use crate::entity::{EntityCommon, Start};
 use crate::graphic::{graphic_bits, graphic_fits, read_graphic, write_graphic};
-use crate::parts::read_code;
+use crate::parts::parse_code;
 use dwg_base::{Handle, NoMemory};
 use dwg_bits::{BitCursor, BitSink};
 use dwg_codes::{BitCode, CodeB, CodeBB, CodeBL};
@@ -27,7 +27,7 @@ fn read_mode(cursor: &mut BitCursor<'_>) -> Option<u8>
     ensures same_bytes { cursor.new.bytes.now ≡ cursor.old.bytes.now }
     ensures same_end { cursor.new.end ≡ cursor.old.end }
 {
-    let mode = read_code::<CodeBB>(&(), cursor)?;
+    let mode = parse_code::<CodeBB>(&(), cursor)?;
     if mode > LAST_MODE {
         return None;
     }
@@ -54,10 +54,10 @@ pub(crate) fn read_start(
     let Some(mode) = read_mode(cursor) else {
         return Ok(None);
     };
-    let Some(reactors) = read_code::<CodeBL>(&(), cursor) else {
+    let Some(reactors) = parse_code::<CodeBL>(&(), cursor) else {
         return Ok(None);
     };
-    let Some(nolinks) = read_code::<CodeB>(&(), cursor) else {
+    let Some(nolinks) = parse_code::<CodeB>(&(), cursor) else {
         return Ok(None);
     };
     Ok(Some(Start {

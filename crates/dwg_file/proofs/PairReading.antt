@@ -1,6 +1,6 @@
 -- The frame of a pair: its span, the bytes it shares, what is found of it, and its own handle.
 use Rattle.std.proofs.Common.{◌≡◌, sym, ◌∙◌, ap, subst, ℕ, ◌<◌, Bool, true, false, List, get_or, ◌==◌, ◌≢◌, arith}
-use Rattle.std.specs.Prelude.{Ok, Err, if◌then◌else◌}
+use Rattle.std.specs.Prelude.{Result, Ok, Err, if◌then◌else◌}
 use Rattle.std.proofs.lemmas.Bool.Decides.{nat_tests}
 use Rattle.dwg_base.specs.Bytes.{are_bytes}
 use Rattle.dwg_base.specs.declared.refusal.Refusal.{Refusal}
@@ -44,6 +44,17 @@ unfolding tried_pair
 frame_decides bytes earlier index pair span tried apart =
     ap (with_span bytes earlier pair index) tried
     ∙ ap (λ (test : Bool). if test then Err (frame_refusal 29 index pair.place) else with_handle pair index (tried_frame pair.place index bytes)) apart
+
+-- what is answered of the frame at a span's place is so at the pair's
+pub answered_at_pair : (bytes : List ℕ) (place from index : ℕ) (result : Result Found Fault) → from ≡ place → AnswersFrame result (tried_frame from index bytes)
+    → AnswersFrame result (tried_frame place index bytes)
+answered_at_pair bytes place from index result same answers = subst (λ (n : ℕ). AnswersFrame result (tried_frame n index bytes)) same answers
+
+-- and so is what was found
+pub found_at_pair : (bytes : List ℕ) (place from : ℕ) (classes : List Class) (found : Found) → from ≡ place
+    → (body : List ℕ) × FrameAt bytes from body found.end × FormOf classes body (value_of found.object)
+    → (body : List ℕ) × FrameAt bytes place body found.end × FormOf classes body (value_of found.object)
+found_at_pair bytes place from classes found same (body, frame, form) = (body, subst (λ (n : ℕ). FrameAt bytes n body found.end) same frame, form)
 
 -- a frame that is refused refuses the pair
 pub frame_refused : (classes : List Class) (bytes : List ℕ) (earlier : List FoundFrame) (index : ℕ) (pair : Pair) (span : Span) (fault : Fault) → tried_span pair.place index bytes ≡ Ok span

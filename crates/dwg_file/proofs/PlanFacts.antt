@@ -3,7 +3,7 @@ use Rattle.std.proofs.Common.{◌≡◌, sym, ◌∙◌, ap, ap₂, subst, ℕ, 
 use Rattle.std.specs.List.{AllByRecursion}
 use Rattle.dwg_classes.specs.declared.class.Class.{Class}
 use Rattle.dwg_classes.specs.WrittenClasses.{AreWritable, read_are_writable}
-use Rattle.dwg_object.specs.Forms.{IsValidObject}
+use Rattle.dwg_object.specs.Written.{IsValidObject}
 use Rattle.dwg_object.specs.FormLaws.{valid_is_whole, length_of_frame}
 use Rattle.dwg_object.specs.Frames.{frame_bytes}
 use Rattle.dwg_object.specs.Objects.{ObjectValue}

@@ -5,14 +5,12 @@ use Rattle.std.specs.List.{AllByRecursion}
 use Rattle.std.proofs.lemmas.List.Elements.{All-from_recursion}
 use Rattle.std.proofs.lemmas.List.Kept.{AllPairs-cons}
 use Rattle.dwg_base.specs.Bytes.{AreBytes, StandsAt}
-use Rattle.dwg_bits.specs.Bits.{bits}
 use Rattle.dwg_classes.specs.declared.class.Class.{Class}
-use Rattle.dwg_object.specs.Forms.{IsValidObject}
-use Rattle.dwg_object.specs.FormLaws.{valid_is_form, valid_is_whole, written_frame, frame_is_bytes}
-use Rattle.dwg_object.specs.Frames.{body_bytes, frame_bytes}
-use Rattle.dwg_object.specs.HeadLaws.{head_begins, head_fits}
+use Rattle.dwg_object.specs.Written.{IsValidObject, body_bytes}
+use Rattle.dwg_object.specs.FormLaws.{valid_handle, valid_is_form, valid_is_whole, written_frame, frame_is_bytes}
+use Rattle.dwg_object.specs.Frames.{frame_bytes}
 use Rattle.dwg_object.specs.LengthLaws.{bytes_joined}
-use Rattle.dwg_object.specs.Objects.{ObjectValue, RawValue, handle_of}
+use Rattle.dwg_object.specs.Objects.{ObjectValue, handle_of}
 use Rattle.dwg_object.specs.StandingLaws.{stands_first, stands_next}
 use Rattle.dwg_objmap.specs.declared.pair.Pair.{Pair}
 use Rattle.dwg_objmap.specs.Writing.{Ascend}
@@ -76,11 +74,6 @@ frames_apart (object ∷ objects) place =
     (All-from_recursion (AreApart one) (frames_from end objects) (apart_behind one (frames_from end objects) (frames_behind objects end end (omega arith))))
     (frames_apart objects end)
 
--- the handle of a valid object is positive and below 2^63
-handle_fits : (classes : List Class) (object : ObjectValue) → IsValidObject classes object → (0 < handle_of object) × (handle_of object < 2 ^ 63)
-handle_fits classes (RawValue number handle bytes) is =
-    let fits = head_fits (bits bytes) _ (head_begins (bits bytes) number handle is.2) in (fits.positive, fits.own)
-
 -- pairs of ascending objects ascend, where the frames end in range
 placed_ascend : (classes : List Class) (objects : List ObjectValue) (place handle : ℕ) → AllByRecursion (IsValidObject classes) objects → AreAscending objects
     → AllByRecursion (λ (object : ObjectValue). handle < handle_of object) objects → place + length (frames_bytes objects) < 2 ^ 63 → Ascend handle (placed place objects)
@@ -88,7 +81,7 @@ placed_ascend classes [] place handle are ascending above below = tt
 placed_ascend classes (object ∷ objects) place handle are ascending above below =
     let long : length (frames_bytes (object ∷ objects)) ≡ length (frame_bytes object) + length (frames_bytes objects) = length-append (frame_bytes object) (frames_bytes objects) in (
       above.0,
-      (handle_fits classes object are.0).1,
+      (valid_handle classes object are.0).1,
       omega arith,
       placed_ascend classes objects (place + length (frame_bytes object)) (handle_of object) are.1
           (pairs_tail (λ one other. handle_of one < handle_of other) object objects ascending)
@@ -98,7 +91,7 @@ placed_ascend classes (object ∷ objects) place handle are ascending above belo
 -- all handles are above 0
 handles_positive : (classes : List Class) (objects : List ObjectValue) → AllByRecursion (IsValidObject classes) objects → AllByRecursion (λ (object : ObjectValue). 0 < handle_of object) objects
 handles_positive classes [] are = tt
-handles_positive classes (object ∷ objects) are = ((handle_fits classes object are.0).0, handles_positive classes objects are.1)
+handles_positive classes (object ∷ objects) are = ((valid_handle classes object are.0).0, handles_positive classes objects are.1)
 
 -- so a map is written of them
 pub pairs_ascend : (classes : List Class) (objects : List ObjectValue) (place : ℕ) → AllByRecursion (IsValidObject classes) objects → AreAscending objects

@@ -3,7 +3,7 @@ use Rattle.std.specs.Prelude.{ℕ, List, [], map}
 use Rattle.std.specs.Result.{result_unwrap_or}
 use Rattle.dwg_classes.specs.declared.class.Class.{Class}
 use Rattle.dwg_object.specs.Objects.{ObjectValue}
-use Rattle.dwg_object.specs.Forms.{form_at}
+use Rattle.dwg_object.specs.FormLaws.{form_at}
 use Rattle.dwg_object.specs.FrameLines.{span_body}
 use Rattle.dwg_sections.specs.HeaderLines.{header_at}
 use Rattle.dwg_sections.specs.FramedLines.{content_at}
@@ -14,7 +14,7 @@ use Rattle.dwg_file.specs.SortedObjects.{sorted}
 
 -- the objects that the bodies of frames are read as
 abbrev pub objects_at : List Class → List ℕ → List FoundFrame → List ObjectValue
-objects_at classes bytes founds = map (λ (found : FoundFrame). form_at classes (span_body bytes found.0) found.1) founds
+objects_at classes bytes founds = map (λ (found : FoundFrame). form_at classes (span_body bytes found.0)) founds
 
 -- the classes of an input, where no line on them fails
 abbrev pub classes_at : List ℕ → List Class

@@ -109,7 +109,7 @@ pub record FramesOf (classes : List Class) (bytes : List ℕ) (earlier : List Fo
   pub objects : values ≡ map (λ (frame : PairFrame). frame.object) frames
 
 -- an object that a body is read as has the handle of the body's head
-own_of_head : (classes : List Class) (body : List ℕ) (object : ObjectValue) (parts : HeadParts) → FormOf classes body object → HasHead (bits body) parts → handle_of object ≡ parts.own
+pub own_of_head : (classes : List Class) (body : List ℕ) (object : ObjectValue) (parts : HeadParts) → FormOf classes body object → HasHead (bits body) parts → handle_of object ≡ parts.own
 own_of_head classes body object parts form head =
     let told = head_of_form classes body object form in
     told.3 ∙ ap (λ (p : HeadParts). p.own) (heads_same (bits body) told.0 parts told.1 head)

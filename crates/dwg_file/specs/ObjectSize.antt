@@ -19,9 +19,9 @@ use Rattle.dwg_classes.specs.WrittenClasses.{read_are_values}
 use Rattle.dwg_codes.specs.ModularCodes.{ms}
 use Rattle.dwg_codes.specs.ToEnd.{short_all}
 use Rattle.dwg_object.specs.Objects.{ObjectValue}
-use Rattle.dwg_object.specs.Forms.{IsValidObject}
+use Rattle.dwg_object.specs.Written.{IsValidObject, body_bytes}
 use Rattle.dwg_object.specs.FormLaws.{form_is_valid, length_of_frame}
-use Rattle.dwg_object.specs.Frames.{body_bytes, frame_bytes, FrameAt}
+use Rattle.dwg_object.specs.Frames.{frame_bytes, FrameAt}
 use Rattle.dwg_object.specs.LengthLaws.{length_of_one, length_of_two}
 use Rattle.dwg_object.specs.StandingLaws.{stands_first, stands_next, stands_bytes, stands_within}
 use Rattle.dwg_file.specs.Canonical.{class_content, frames_bytes, placed}

@@ -6,9 +6,10 @@ use Rattle.std.specs.List.Sorted.{IsPermutation}
 use Rattle.dwg_base.specs.Bytes.{AreBytes}
 use Rattle.dwg_base.specs.Refusals.{Tried, first_fault}
 use Rattle.dwg_classes.specs.declared.class.Class.{Class}
-use Rattle.dwg_object.specs.Objects.{ObjectValue, handle_of}
-use Rattle.dwg_object.specs.Forms.{form_at}
-use Rattle.dwg_object.specs.FormLaws.{form_is_at}
+use Rattle.dwg_bits.specs.Bits.{bits}
+use Rattle.dwg_object.specs.Objects.{HeadParts, ObjectValue, handle_of}
+use Rattle.dwg_object.specs.Forms.{HasHead}
+use Rattle.dwg_object.specs.FormLaws.{form_at, form_is_at}
 use Rattle.dwg_object.specs.FrameLines.{span_body}
 use Rattle.dwg_objmap.specs.declared.pair.Pair.{Pair}
 use Rattle.dwg_objmap.specs.Pages.{AreHandles, handles_of}
@@ -19,6 +20,7 @@ use Rattle.dwg_file.specs.ReadAs.{AreFormsOf, ReadsAs}
 use Rattle.dwg_file.specs.Spelled.{Spelled, AreAscending}
 use Rattle.dwg_file.specs.PassingLines.{each_holds, ok_of_fault}
 use Rattle.dwg_file.specs.FramesFound.{AreFound, frames_found}
+use Rattle.dwg_file.specs.FramesSpelled.{own_of_head}
 use Rattle.dwg_file.specs.ReadingLaws.{SectionLaws, reads_spelled, reads_once}
 use Rattle.dwg_file.specs.DrawingAt.{objects_at, classes_at, drawing_at}
 use Rattle.dwg_file.specs.SortedObjects.{sorted, sorted_same, sorted_ascends, distinct_objects}
@@ -29,12 +31,16 @@ pub forms_at : (classes : List Class) (bytes : List ℕ) (earlier : List FoundFr
 forms_at classes bytes earlier [] founds none = subst (λ (f : List FoundFrame). AreFormsOf classes bytes f (objects_at classes bytes f)) (sym none) refl
 forms_at classes bytes earlier (pair ∷ pairs) founds (found, behind, is, first, more) =
     subst (λ (f : List FoundFrame). AreFormsOf classes bytes f (objects_at classes bytes f)) (sym is) (
-      form_at classes (span_body bytes found.0) found.1,
+      form_at classes (span_body bytes found.0),
       objects_at classes bytes behind,
       refl,
       form_is_at classes (span_body bytes found.0) found.1 first.head,
       forms_at classes bytes (earlier ++ found ∷ []) pairs behind more,
     )
+
+-- a body with a head is read as an object of its handle
+own_at : (classes : List Class) (body : List ℕ) (parts : HeadParts) → HasHead (bits body) parts → handle_of (form_at classes body) ≡ parts.own
+own_at classes body parts has = own_of_head classes body (form_at classes body) parts (form_is_at classes body parts has) has
 
 -- with the handles of the pairs
 handles_at : (classes : List Class) (bytes : List ℕ) (earlier : List FoundFrame) (pairs : List Pair) (founds : List FoundFrame) → AreFound bytes earlier pairs founds
@@ -42,7 +48,7 @@ handles_at : (classes : List Class) (bytes : List ℕ) (earlier : List FoundFram
 handles_at classes bytes earlier [] founds none = ap (λ (f : List FoundFrame). map handle_of (objects_at classes bytes f)) none
 handles_at classes bytes earlier (pair ∷ pairs) founds (found, behind, is, first, more) =
     ap (λ (f : List FoundFrame). map handle_of (objects_at classes bytes f)) is
-    ∙ ap₂ (λ one back. one ∷ back) first.own (handles_at classes bytes (earlier ++ found ∷ []) pairs behind more)
+    ∙ ap₂ (λ one back. one ∷ back) (own_at classes (span_body bytes found.0) found.1 first.head ∙ first.own) (handles_at classes bytes (earlier ++ found ∷ []) pairs behind more)
 
 -- where no line fails the drawing by its places is read
 pub drawing_is_read : (bytes : List ℕ) → AreBytes bytes → first_fault ALL_LINES bytes ≡ None → ReadsAs (drawing_at bytes) bytes

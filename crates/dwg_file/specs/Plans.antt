@@ -3,8 +3,7 @@ use Rattle.std.specs.Prelude.{◌≡◌, ℕ, ◌^◌, ◌<◌, ◌≤◌, List,
 use Rattle.dwg_base.specs.Devices.{MOST_BYTES}
 use Rattle.dwg_bits.specs.Bits.{bits}
 use Rattle.dwg_bits.specs.Sink.{Written}
-use Rattle.dwg_object.specs.Forms.{IsWhole}
-use Rattle.dwg_object.specs.Frames.{body_bytes}
+use Rattle.dwg_object.specs.Written.{IsWhole, body_bytes}
 use Rattle.dwg_object.specs.Objects.{ObjectValue}
 use Rattle.dwg_sections.specs.declared.framed.Framed.TheVariants.{Variables, Classes}
 use Rattle.dwg_sections.specs.FileHeader.{header_bytes}

@@ -11,8 +11,8 @@ ghost use Rattle.dwg_file.specs.Taken.{shares};
 
 use crate::taken::Taken;
 use dwg_base::{Fault, NoMemory, Refusal};
-use dwg_classes::Class;
-use dwg_object::{Found, Object, read_frame, span_at};
+use dwg_classes::Hints;
+use dwg_object::{Found, Object, read_span, span_at};
 use dwg_objmap::Pair;
 use std::alloc::Global;
 
@@ -36,9 +36,9 @@ fn frame_of_pair<'a>(
     bytes: &'a [u8],
     pair: &Pair,
     index: u64,
-    classes: &[Class],
+    hints: &Hints<'_>,
 ) -> Result<Found<'a>, Fault>
-    ensures tried { (earlier : List FoundFrame) → AreTaken earlier taken.now → AnswersPair classes.now bytes.now pair.now (tried_pair bytes.now earlier index pair.now) result }
+    ensures tried { (earlier : List FoundFrame) → AreTaken earlier taken.now → AnswersPair hints.now bytes.now pair.now (tried_pair bytes.now earlier index pair.now) result }
     ensures some { IfOk result (λ found. pair.now.place < found.end) }
     ensures apart { IfOk result (λ found. shares taken.now pair.now.place found.end ≡ false) }
     ensures of_table { IfErr result IsFaultOfTable }
@@ -51,7 +51,7 @@ fn frame_of_pair<'a>(
     if taken.shares(span.from, span.end) {
         return Err(refused(OVERLAP_LINE, index, place));
     }
-    let found = match read_frame(alloc, bytes, place, index, classes) {
+    let found = match read_span(alloc, bytes, &span, index, hints) {
         Ok(found) => found,
         Err(fault) => return Err(fault),
     };
@@ -89,13 +89,13 @@ fn next_frame<'a>(
     bytes: &'a [u8],
     pair: &Pair,
     index: u64,
-    classes: &[Class],
+    hints: &Hints<'_>,
 ) -> Result<Frames<'a>, Fault>
-    ensures goes_on { (earlier : List FoundFrame) (handles : List ℕ) → HasRead classes.now bytes.now earlier handles frames.entry.taken frames.entry.objects.items → GoesOn classes.now bytes.now earlier handles pair.now (tried_pair bytes.now earlier index pair.now) result }
+    ensures goes_on { (earlier : List FoundFrame) (handles : List ℕ) → HasRead hints.now bytes.now earlier handles frames.entry.taken frames.entry.objects.items → GoesOn hints.now bytes.now earlier handles pair.now (tried_pair bytes.now earlier index pair.now) result }
     ensures of_table { IfErr result IsFaultOfTable }
 {
     let Frames { taken, objects } = frames;
-    let found = match frame_of_pair(alloc, &taken, bytes, pair, index, classes) {
+    let found = match frame_of_pair(alloc, &taken, bytes, pair, index, hints) {
         Ok(found) => found,
         Err(fault) => return Err(fault),
     };
@@ -114,9 +114,9 @@ pub(crate) fn read_frames<'a>(
     alloc: Global,
     bytes: &'a [u8],
     pairs: &[Pair],
-    classes: &[Class],
+    hints: &Hints<'_>,
 ) -> Result<Frames<'a>, Fault>
-    ensures tried { AnswersFrames classes.now bytes.now (frames_behind bytes.now 0 [] pairs.now) result }
+    ensures tried { AnswersFrames hints.now bytes.now (frames_behind bytes.now 0 [] pairs.now) result }
     ensures own { IfOk result (λ frames. map handle_of (values_of frames.objects.items) ≡ handles_of pairs.now) }
     ensures of_table { IfErr result IsFaultOfTable }
 {
@@ -126,7 +126,7 @@ pub(crate) fn read_frames<'a>(
     };
     'along: for index in 0..pairs.len() {
         let pair = &pairs[index];
-        frames = match next_frame(alloc, frames, bytes, pair, index as u64, classes) {
+        frames = match next_frame(alloc, frames, bytes, pair, index as u64, hints) {
             Ok(frames) => frames,
             Err(fault) => return Err(fault),
         };

@@ -10,7 +10,7 @@ ghost use Rattle.dwg_file.specs.FrameReading.{AnswersObjects};
 
 use crate::frames::read_frames;
 use dwg_base::{Fault, Items, NoMemory};
-use dwg_classes::Class;
+use dwg_classes::{Class, Hints};
 use dwg_object::Object;
 use dwg_objmap::Pair;
 use std::alloc::Global;
@@ -51,7 +51,11 @@ pub(crate) fn read_objects<'a>(
     ensures tried { AnswersObjects classes.now bytes.now (frames_behind bytes.now 0 [] pairs.now) result }
     ensures of_table { IfErr result IsFaultOfTable }
 {
-    let frames = match read_frames(alloc, bytes, pairs, classes) {
+    let hints = match Hints::build(alloc, classes) {
+        Ok(hints) => hints,
+        Err(NoMemory) => return Err(Fault::NoMemory),
+    };
+    let frames = match read_frames(alloc, bytes, pairs, &hints) {
         Ok(frames) => frames,
         Err(fault) => return Err(fault),
     };

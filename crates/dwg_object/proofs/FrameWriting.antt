@@ -1,45 +1,170 @@
 -- Writing a frame: its length, its body and its check word.
-use Rattle.std.proofs.Common.{◌≡◌, sym, ◌∙◌, ap, ap₂, subst, ℕ, ◌+◌, ◌*◌, ◌/◌, ◌%◌, ◌<◌, ◌≤◌, ◌^◌, List, ◌++◌, length, arith}
+use Rattle.std.proofs.Common.{◌≡◌, sym, ◌∙◌, ap, subst, ℕ, ◌+◌, ◌*◌, ◌/◌, ◌%◌, ◌<◌, ◌^◌, Bool, false, List, ◌++◌, length, drop, arith}
+use Rattle.std.specs.Prelude.{replicate}
 use Rattle.std.specs.Int.{w16, to_le_bytes}
+use Rattle.std.proofs.lemmas.List.{length-append, drop_at}
+use Rattle.dwg_base.specs.Bytes.{AreBytes}
 use Rattle.dwg_bits.specs.Bits.{bits}
-use Rattle.dwg_bits.specs.BitLaws.{bits_joined}
-use Rattle.dwg_bits.specs.Sink.{Written, Extends}
+use Rattle.dwg_bits.specs.BitLaws.{bits_joined, length_of_bits}
+use Rattle.dwg_bits.specs.Sink.{Written, Extends, padding, missing_bits}
 use Rattle.dwg_bits.specs.SinkLaws.{extends_by_both}
+use Rattle.dwg_bits.specs.WholeBytes.{whole_bytes, whole_are_bytes, whole_joined, whole_of_bits, length_of_whole}
 use Rattle.dwg_check.specs.CheckWord.{FRAME_START, check_word}
-use Rattle.dwg_check.specs.CheckWordLaws.{check_word_append}
 use Rattle.dwg_codes.specs.ModularCodes.{ms}
-use Rattle.dwg_object.specs.Frames.{body_bytes, frame_bytes}
+use Rattle.dwg_codes.specs.ToEnd.{short_all}
+use Rattle.dwg_handles.specs.Reference.{Reference}
+use Rattle.dwg_handles.specs.ReferenceCodes.{reference}
+use Rattle.dwg_object.specs.declared.common.Common.{Common}
+use Rattle.dwg_object.specs.Forms.{head}
+use Rattle.dwg_object.specs.Frames.{frame_bytes}
 use Rattle.dwg_object.specs.FormLaws.{length_of_frame}
-use Rattle.dwg_object.specs.LengthLaws.{length_of_two}
-use Rattle.dwg_object.specs.Objects.{ObjectValue}
+use Rattle.dwg_object.specs.LengthLaws.{bytes_joined, length_is_bytes}
+use Rattle.dwg_object.specs.declared.object.Object.{Object}
+use Rattle.dwg_object.specs.declared.object.Object.TheVariants as objects
+use Rattle.dwg_object.specs.declared.object.Plain.{Plain}
+use Rattle.dwg_object.specs.Objects.{ObjectValue, value_of}
+use Rattle.dwg_object.specs.PlainInHand.{front_of, refs_of, bits_of}
+use Rattle.dwg_object.specs.PlainWritten.{head_as_long, bytes_padded, bits_padded}
+use Rattle.dwg_object.specs.Written.{common_main, common_refs, written_head, plain_front, plain_refs, plain_bits, body_bytes}
 
 -- bytes that were written one behind the other
 both_written : (first second third : Written) (some others : List ℕ) → Extends first second (bits some) → Extends second third (bits others) → Extends first third (bits (some ++ others))
 both_written first second third some others by_some by_others =
     subst (Extends first third) (sym (bits_joined some others)) (extends_by_both first second third (bits some) (bits others) by_some by_others)
 
+-- how long the bits before the references are
+pub front_long : (number handle : ℕ) (common : Common) (rest : List Bool)
+    → length (plain_front number handle common rest) ≡ length (head.short (record { number = number; size = 0; own = handle })) + length (common_main handle common) + length rest
+unfolding plain_front written_head
+front_long number handle common rest =
+    let size : ℕ = length (head.short (record { number = number; size = 0; own = handle })) + length (common_main handle common ++ rest) in
+    omega (
+      arith,
+      length-append (head.short (record { number = number; size = size; own = handle })) (common_main handle common ++ rest),
+      length-append (common_main handle common) rest,
+      head_as_long number handle size 0,
+    )
+
+-- and the references
+pub refs_long : (handle : ℕ) (common : Common) (refs : List Reference) → length (plain_refs handle common refs) ≡ length (common_refs handle common) + length (short_all (reference handle) refs)
+unfolding plain_refs
+refs_long handle common refs = length-append (common_refs handle common) (short_all (reference handle) refs)
+
+-- and all of it
+pub plain_long : (number handle : ℕ) (common : Common) (rest : List Bool) (refs : List Reference)
+    → length (plain_bits number handle common rest refs) ≡ length (plain_front number handle common rest) + length (plain_refs handle common refs)
+plain_long number handle common rest refs = length-append (plain_front number handle common rest) (plain_refs handle common refs)
+
+-- whole bytes that hold so many bits
+pub padded_long : (letters : List Bool) (count : ℕ) → count ≡ length letters → (count + 7) / 8 ≡ length (whole_bytes (letters ++ padding letters))
+padded_long letters count same = let padded = bytes_padded letters in omega (arith, same, padded.enough, padded.few)
+
+-- behind whole bytes, bits are filled up as they are alone
+pub padding_behind : (front letters : List Bool) → length front % 8 ≡ 0 → padding (front ++ letters) ≡ padding letters
+padding_behind front letters whole =
+    ap (λ (n : ℕ). replicate n false) (missing_behind (length front) (length letters) (length (front ++ letters)) whole (length-append front letters))
+  where
+    missing_behind : (a b all : ℕ) → a % 8 ≡ 0 → all ≡ a + b → missing_bits all ≡ missing_bits b
+    missing_behind a b all whole same = omega (arith, whole, same)
+
+-- the bytes of a sink are those of its bits
+pub sink_bytes : (bytes : List ℕ) (letters : List Bool) → AreBytes bytes → bits bytes ≡ letters → bytes ≡ whole_bytes letters
+sink_bytes bytes letters are same = sym (whole_of_bits bytes are) ∙ ap whole_bytes same
+
+-- and behind those that were there before stand those that were written
+pub written_behind : (old new : Written) (bytes : List ℕ) (from : ℕ) → length old.written % 8 ≡ 0 → from ≡ length old.written / 8 → AreBytes bytes → Extends old new (bits bytes)
+    → drop from (whole_bytes new.written) ≡ bytes
+written_behind old new bytes from whole far are grew =
+    let place : length (whole_bytes old.written) ≡ from = omega (arith, far, length_of_whole old.written whole) in
+    ap (λ (letters : List Bool). drop from (whole_bytes letters)) grew.bits ∙ ap (drop from) (whole_joined old.written bytes whole are) ∙ drop_at (whole_bytes old.written) bytes from place
+
+-- a length and a body that were written are those of the frame
+pub size_and_body : (first second third : Written) (value : ObjectValue) → Extends first second (bits (ms.short (length (body_bytes value)))) → Extends second third (bits (body_bytes value))
+    → Extends first third (bits (ms.short (length (body_bytes value)) ++ body_bytes value))
+size_and_body first second third value by_size by_body = both_written first second third (ms.short (length (body_bytes value))) (body_bytes value) by_size by_body
+
+-- they are bytes
+pub size_and_body_bytes : (value : ObjectValue) → AreBytes (body_bytes value) → length (body_bytes value) < 2 ^ 29 → AreBytes (ms.short (length (body_bytes value)) ++ body_bytes value)
+size_and_body_bytes value are small = bytes_joined (ms.short (length (body_bytes value))) (body_bytes value) (length_is_bytes (length (body_bytes value)) (omega (arith, small))) are
+
 -- a length, a body and a check word that were written are the frame
-pub frame_written : (first second third fourth : Written) (value : ObjectValue) (body word_bytes : List ℕ) (word : ℕ) → body ≡ body_bytes value → word ≡ check_word FRAME_START (ms.short (length body) ++ body)
-    → word_bytes ≡ to_le_bytes w16 word → Extends first second (bits (ms.short (length body))) → Extends second third (bits body) → Extends third fourth (bits word_bytes) → Extends first fourth (bits (frame_bytes value))
+pub frame_written : (first third fourth : Written) (value : ObjectValue) (word_bytes : List ℕ) (word : ℕ) → word ≡ check_word FRAME_START (ms.short (length (body_bytes value)) ++ body_bytes value)
+    → word_bytes ≡ to_le_bytes w16 word → Extends first third (bits (ms.short (length (body_bytes value)) ++ body_bytes value)) → Extends third fourth (bits word_bytes)
+    → Extends first fourth (bits (frame_bytes value))
 unfolding frame_bytes
-frame_written first second third fourth value body word_bytes word same checked spelled by_size by_body by_word =
-    let size : List ℕ = ms.short (length body) in
-    let by_number = subst (λ (b : List ℕ). Extends third fourth (bits b)) spelled by_word in
-    let all = both_written first third fourth (size ++ body) (to_le_bytes w16 word) (both_written first second third size body by_size by_body) by_number in
-    subst (λ (b : List ℕ). Extends first fourth (bits (ms.short (length b) ++ b ++ to_le_bytes w16 (check_word FRAME_START (ms.short (length b) ++ b))))) same
-    (subst (λ (n : ℕ). Extends first fourth (bits (size ++ body ++ to_le_bytes w16 n))) checked all)
+frame_written first third fourth value word_bytes word checked spelled by_both by_word =
+    let both : List ℕ = ms.short (length (body_bytes value)) ++ body_bytes value in
+    both_written first third fourth both (to_le_bytes w16 (check_word FRAME_START both)) by_both
+    (subst (λ (b : List ℕ). Extends third fourth (bits b)) (spelled ∙ ap (to_le_bytes w16) checked) by_word)
 
 -- the room of a frame is that of its length, its body and its check word
-pub frame_room : (value : ObjectValue) (body : List ℕ) → body ≡ body_bytes value → 8 * length (frame_bytes value) ≡ 8 * length (ms.short (length body)) + 8 * length body + 16
-frame_room value body same =
-    omega (arith, length_of_frame value, ap length same, ap (λ (b : List ℕ). length (ms.short (length b))) same)
+pub frame_room : (value : ObjectValue) → 8 * length (frame_bytes value) ≡ length (bits (ms.short (length (body_bytes value)))) + 8 * length (body_bytes value) + 16
+frame_room value = omega (arith, length_of_frame value, length_of_bits (ms.short (length (body_bytes value))))
 
--- the check word of a length of two units
-pub two_units : (long before word : ℕ) (first second : List ℕ) → 32768 ≤ long → long < 2 ^ 30 → first ≡ to_le_bytes w16 (32768 + long % 32768) → second ≡ to_le_bytes w16 (long / 32768)
-    → before ≡ check_word FRAME_START first → word ≡ check_word before second → word ≡ check_word FRAME_START (ms.short long)
-two_units long before word first second big small is_first is_second checked goes_on =
-    goes_on
-    ∙ ap (λ (start : ℕ). check_word start second) checked
-    ∙ sym (check_word_append FRAME_START first second)
-    ∙ ap₂ (λ (some others : List ℕ). check_word FRAME_START (some ++ others)) is_first is_second
-    ∙ ap (check_word FRAME_START) (sym (length_of_two long big small))
+-- what is written one behind the other before the references is the front of a Plain object
+pub front_written : (first second third fourth : Written) (number size handle : ℕ) (common : Common) (rest : List Bool) → size ≡ length (plain_front number handle common rest)
+    → Extends first second (head.short (record { number = number; size = size; own = handle })) → Extends second third (common_main handle common) → Extends third fourth rest
+    → Extends first fourth (plain_front number handle common rest)
+unfolding plain_front written_head
+front_written first second third fourth number size handle common rest same by_head by_main by_rest =
+    let behind = extends_by_both second third fourth (common_main handle common) rest by_main by_rest in
+    let long : size ≡ length (head.short (record { number = number; size = 0; own = handle })) + length (common_main handle common ++ rest) =
+    omega (arith, same, front_long number handle common rest, length-append (common_main handle common) rest) in
+    extends_by_both first second fourth (head.short (written_head number handle (length (common_main handle common ++ rest)))) (common_main handle common ++ rest)
+    (subst (λ (n : ℕ). Extends first second (head.short (record { number = number; size = n; own = handle }))) long by_head) behind
+
+-- and what is written one behind the other of the references is these
+pub refs_written : (first second third : Written) (handle : ℕ) (common : Common) (refs : List Reference)
+    → Extends first second (common_refs handle common) → Extends second third (short_all (reference handle) refs) → Extends first third (plain_refs handle common refs)
+unfolding plain_refs
+refs_written first second third handle common refs by_common by_refs = extends_by_both first second third (common_refs handle common) (short_all (reference handle) refs) by_common by_refs
+
+-- both, filled up at whole bytes, are a Plain object
+pub plain_written : (first second third fourth : Written) (front names : List Bool) → length first.written % 8 ≡ 0 → Extends first second front → Extends second third names
+    → Extends third fourth (padding third.written) → Extends first fourth ((front ++ names) ++ padding (front ++ names))
+plain_written first second third fourth front names whole by_front by_names by_fill =
+    let both = extends_by_both first second third front names by_front by_names in
+    let fill : padding third.written ≡ padding (front ++ names) = ap padding both.bits ∙ padding_behind first.written (front ++ names) whole in
+    extends_by_both first third fourth (front ++ names) (padding (front ++ names)) both (subst (Extends third fourth) fill by_fill)
+
+-- how much is filled up behind a Plain object
+pub fill_long : (first third : Written) (letters : List Bool) → length first.written % 8 ≡ 0 → Extends first third letters → length (padding third.written) ≡ length (padding letters)
+fill_long first third letters whole by = ap length (ap padding by.bits ∙ padding_behind first.written letters whole)
+
+-- the bits of a Plain object below 2^29 bytes are below 2^32
+pub plain_small : (object : Object) (plain : Plain) → object ≡ objects.Plain plain → length (body_bytes (value_of object)) < 2 ^ 29 → length (bits_of plain) < 2 ^ 32
+plain_small object plain is small =
+    let padded = bytes_padded (bits_of plain) in
+    omega (arith, padded.enough, ap (λ (one : Object). length (body_bytes (value_of one))) is, small)
+
+-- filled up they are those of its bytes
+pub plain_room : (object : Object) (plain : Plain) → object ≡ objects.Plain plain → length (bits_of plain ++ padding (bits_of plain)) ≡ 8 * length (body_bytes (value_of object))
+plain_room object plain is =
+    sym (ap length (bits_padded (bits_of plain))) ∙ length_of_bits (whole_bytes (bits_of plain ++ padding (bits_of plain)))
+    ∙ ap (λ (one : Object). 8 * length (body_bytes (value_of one))) (sym is)
+
+-- so many bytes
+pub plain_count : (object : Object) (plain : Plain) (front refs : ℕ) → object ≡ objects.Plain plain → front ≡ length (front_of plain) → refs ≡ length (refs_of plain)
+    → (front + refs + 7) / 8 ≡ length (body_bytes (value_of object))
+plain_count object plain front refs is is_front is_refs =
+    padded_long (bits_of plain) (front + refs) (omega (arith, is_front, is_refs, length-append (front_of plain) (refs_of plain)))
+    ∙ ap (λ (one : Object). length (body_bytes (value_of one))) (sym is)
+
+-- and written they are written
+pub plain_grew : (object : Object) (plain : Plain) (old new : Written) → object ≡ objects.Plain plain → Extends old new (bits_of plain ++ padding (bits_of plain))
+    → Extends old new (bits (body_bytes (value_of object)))
+plain_grew object plain old new is grew =
+    subst (λ (one : Object). Extends old new (bits (body_bytes (value_of one)))) (sym is) (subst (Extends old new) (sym (bits_padded (bits_of plain))) grew)
+
+-- what a Plain object is written by are bytes
+pub plain_bytes : (object : Object) (plain : Plain) → object ≡ objects.Plain plain → AreBytes (body_bytes (value_of object))
+plain_bytes object plain is =
+    subst (λ (one : Object). AreBytes (body_bytes (value_of one))) (sym is) (whole_are_bytes (bits_of plain ++ padding (bits_of plain)))
+
+-- behind whole bytes, bytes end at a whole byte
+pub aligned_behind : (old new : Written) (bytes : List ℕ) → length old.written % 8 ≡ 0 → Extends old new (bits bytes) → length new.written % 8 ≡ 0
+aligned_behind old new bytes whole grew = omega (arith, whole, ap length grew.bits, length-append old.written (bits bytes), length_of_bits bytes)
+
+-- as many whole bytes
+pub eighth : (count long : ℕ) → count ≡ long → count / 8 ≡ long / 8
+eighth count long same = ap (λ (n : ℕ). n / 8) same

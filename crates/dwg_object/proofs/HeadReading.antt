@@ -1,8 +1,8 @@
 -- Reading a head, part by part.
-use Rattle.std.proofs.Common.{◌≡◌, refl, sym, ◌∙◌, ap, subst, ℕ, ◌*◌, Bool, List, ◌++◌, length, Option, Some, None}
-use Rattle.std.proofs.lemmas.List.{append_assoc, append_cancel_left}
+use Rattle.std.proofs.Common.{◌≡◌, refl, sym, ◌∙◌, ap, subst, ℕ, ◌+◌, ◌-◌, ◌*◌, ◌≤◌, Bool, List, ◌++◌, length, Option, Some, None, arith}
+use Rattle.std.proofs.lemmas.List.{append_assoc, append_cancel_left, length-append}
 use Rattle.dwg_bits.specs.Bits.{bits}
-use Rattle.dwg_bits.specs.BitLaws.{bits_between_all}
+use Rattle.dwg_bits.specs.BitLaws.{bits_between_all, length_of_bits, length_of_bits_between}
 use Rattle.dwg_bits.specs.Cursor.{bits_between}
 use Rattle.dwg_codes.specs.Grammar.{Grammar, IsCode, AnyLetters, BeginsWith, Reads}
 use Rattle.dwg_codes.specs.CodeLaws.{unique_of_code}
@@ -12,8 +12,8 @@ use Rattle.dwg_codes.specs.NumberLaws.{rl_is_code}
 use Rattle.dwg_codes.specs.TableLaws.{bs_is_code}
 use Rattle.dwg_handles.specs.ReferenceCodes.{own_handle}
 use Rattle.dwg_object.specs.Objects.{HeadParts}
-use Rattle.dwg_object.specs.Forms.{head}
-use Rattle.dwg_object.specs.HeadLaws.{TellsHead}
+use Rattle.dwg_object.specs.Forms.{head, HasHead}
+use Rattle.dwg_object.specs.HeadLaws.{IsHeadAt}
 
 -- two values that were read one behind the other
 seq_read : {V W : Type 0} (first : Grammar Bool V) (second : V → Grammar Bool W) (v : V) (w : W) (old mid new : List Bool)
@@ -74,14 +74,40 @@ own_unread number size result old behind_number behind_size left none one two th
     none_read result old none
     (second_unread bs (λ number. size_and_own) number old behind_number bs_is_code one (second_unread rl (λ size. own_handle) size behind_number behind_size rl_is_code two three.0))
 
--- what was read of bits tells their head
-pub read_tells : (result : Option HeadParts) (letters old left : List Bool) → old ≡ letters → Reads head result old left → TellsHead letters result
-read_tells (Some parts) letters old left same (front, spelled, whole) = record { front = front; rest = left; spelled = spelled; whole = sym same ∙ whole }
-read_tells None letters old left same (none, unmoved) = λ parts is. none (parts, is.front, is.rest, is.spelled, same ∙ is.whole)
+-- what was read from the first bit of a body is its head, behind which the cursor stands
+pub body_begins : (body bytes left_bytes : List ℕ) (place end at left_end : ℕ) (parts : HeadParts) → bytes ≡ body → place ≡ 0 → end ≡ 8 * length body
+    → left_bytes ≡ bytes → left_end ≡ end → at ≤ left_end → Reads head (Some parts) (bits_between bytes place end) (bits_between left_bytes at left_end) → IsHeadAt (bits body) parts at
+body_begins body bytes left_bytes place end at left_end parts same from to left_same left_to ordered (front, spelled, whole) =
+    let all : bits_between bytes place end ≡ bits body =
+    ap (λ (some : List ℕ). bits_between some place end) same ∙ ap (λ (n : ℕ). bits_between body n end) from ∙ bits_between_all body end to in
+    let left : length (bits_between left_bytes at left_end) ≡ left_end - at =
+    length_of_bits_between left_bytes at left_end (omega (arith, left_to, to, ap length left_same, ap length same)) in
+    record {
+      has = record { front = front; rest = bits_between left_bytes at left_end; spelled = spelled; whole = sym all ∙ whole };
+      far = omega (
+        arith,
+        left,
+        ap length whole,
+        ap length all,
+        length_of_bits body,
+        length-append front (bits_between left_bytes at left_end),
+        left_to,
+        to,
+        ordered,
+      );
+    }
 
--- what was read from the first bit of a body tells its head
-pub body_tells : (body bytes : List ℕ) (place end : ℕ) (result : Option HeadParts) (left : List Bool) → bytes ≡ body → place ≡ 0 → end ≡ 8 * length body
-    → Reads head result (bits_between bytes place end) left → TellsHead (bits body) result
-body_tells body bytes place end result left same from to =
-    read_tells result (bits body) (bits_between bytes place end) left
-    (ap (λ (all : List ℕ). bits_between all place end) same ∙ ap (λ (n : ℕ). bits_between body n end) from ∙ bits_between_all body end to)
+-- where none was read from the first bit of a body, it has none
+pub body_begins_not : (body bytes : List ℕ) (place end : ℕ) (left : List Bool) → bytes ≡ body → place ≡ 0 → end ≡ 8 * length body
+    → Reads head None (bits_between bytes place end) left → (parts : HeadParts) → HasHead (bits body) parts → ⊥
+body_begins_not body bytes place end left same from to (none, unmoved) = λ parts is. none (parts, is.front, is.rest, is.spelled, all ∙ is.whole)
+  where
+    all : bits_between bytes place end ≡ bits body
+    all = ap (λ (some : List ℕ). bits_between some place end) same ∙ ap (λ (n : ℕ). bits_between body n end) from ∙ bits_between_all body end to
+
+-- a head is as long as its parts
+pub head_long : (number own a b c : ℕ) → a ≡ length (bs.short number) → b ≡ length (rl.short 0) → c ≡ length (own_handle.short own)
+    → a + b + c ≡ length (head.short (record { number = number; size = 0; own = own }))
+unfolding head
+head_long number own a b c is is_size is_own =
+    omega (arith, is, is_size, is_own, length-append (bs.short number) (rl.short 0 ++ own_handle.short own), length-append (rl.short 0) (own_handle.short own))

@@ -2,3 +2,5 @@ pub mod SpanReading
 pub mod HeadReading
 pub mod FrameReading
 pub mod FrameWriting
+pub mod CommonReading
+pub mod PlainReading

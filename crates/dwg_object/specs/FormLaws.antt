@@ -1,24 +1,42 @@
 -- Forms: a body is read as at most one object, and an object that is written is read as itself.
-use Rattle.std.proofs.Common.{◌≡◌, refl, sym, ◌∙◌, ap, subst, ℕ, ◌+◌, ◌^◌, ◌<◌, ◌≤◌, List, ◌++◌, length, arith}
+use Rattle.std.proofs.Common.{◌≡◌, refl, sym, ◌∙◌, ap, subst, ℕ, ◌+◌, ◌^◌, ◌<◌, ◌≤◌, Bool, List, ◌++◌, length, Option, Some, None, inl, inr, arith}
+use Rattle.std.specs.Prelude.{◌⊎◌}
 use Rattle.std.specs.Int.{w16, to_le_bytes}
-use Rattle.std.proofs.lemmas.List.{length-append}
+use Rattle.std.proofs.lemmas.List.{append_assoc, length-append}
 use Rattle.dwg_base.specs.Bytes.{AreBytes, StandsAt}
 use Rattle.dwg_bits.specs.Bits.{bits}
+use Rattle.dwg_bits.specs.Sink.{padding}
+use Rattle.dwg_bits.specs.WholeBytes.{whole_are_bytes}
 use Rattle.dwg_check.specs.CheckWord.{FRAME_START, check_word}
 use Rattle.dwg_classes.specs.declared.class.Class.{Class}
 use Rattle.dwg_codes.specs.ModularCodes.{ms}
 use Rattle.dwg_codes.specs.ModularLaws.{ms_is_code, ms_has}
 use Rattle.dwg_codes.specs.NumberLaws.{bytes_of_number}
-use Rattle.dwg_object.specs.Objects.{HeadParts, ObjectValue, RawValue, number_of, handle_of}
-use Rattle.dwg_object.specs.Forms.{HasHead, BeginsWithHead, FormOf, form_at, IsWhole, IsValidObject}
-use Rattle.dwg_object.specs.Frames.{FrameAt, body_bytes, frame_bytes}
+use Rattle.dwg_handles.specs.Reference.{Reference}
+use Rattle.dwg_object.specs.declared.common.Common.{Common}
+use Rattle.dwg_object.specs.Objects.{HeadParts, ObjectValue, PlainValue, RawValue, number_of, handle_of}
+use Rattle.dwg_object.specs.Forms.{head, HasHead, BeginsWithHead, PlainForm, HasPlainForm, FormOf}
+use Rattle.dwg_object.specs.Written.{plain_bits, body_bytes, IsWhole, IsValidObject}
+use Rattle.dwg_object.specs.Frames.{FrameAt, frame_bytes}
 use Rattle.dwg_object.specs.LengthLaws.{bytes_joined, length_is_bytes}
-use Rattle.dwg_object.specs.HeadLaws.{head_begins, begins_head, begins_same, head_fits}
+use Rattle.dwg_object.specs.HeadLaws.{head_begins, begins_head, begins_same, heads_same, head_fits, head_parsed, head_unparsed}
+use Rattle.dwg_object.specs.PlainLaws.{plain_forms_same}
+use Rattle.dwg_object.specs.PlainDecided.{plain_decided}
+use Rattle.dwg_object.specs.PlainWritten.{plain_short, plain_valid, plain_form_written}
 
--- objects of one number, one handle and one body are one
-raw_same : (number handle : ℕ) (bytes : List ℕ) (other other_handle : ℕ) (others : List ℕ) → number ≡ other → handle ≡ other_handle → bytes ≡ others → RawValue number handle bytes ≡ RawValue other other_handle others
-raw_same number handle bytes other other_handle others a b c =
+-- Raw objects of one number, one handle and one body are one
+raw_same : (number other handle other_handle : ℕ) (bytes others : List ℕ) → number ≡ other → handle ≡ other_handle → bytes ≡ others → RawValue number handle bytes ≡ RawValue other other_handle others
+raw_same number other handle other_handle bytes others a b c =
     ap (λ (n : ℕ). RawValue n handle bytes) a ∙ ap (λ (n : ℕ). RawValue other n bytes) b ∙ ap (RawValue other other_handle) c
+
+-- Plain objects of the same parts are one
+plain_same : (number other handle other_handle : ℕ) (common other_common : Common) (rest other_rest : List Bool) (refs others : List Reference)
+    → number ≡ other → handle ≡ other_handle → common ≡ other_common → rest ≡ other_rest → refs ≡ others
+    → PlainValue number handle common rest refs ≡ PlainValue other other_handle other_common other_rest others
+plain_same number other handle other_handle common other_common rest other_rest refs others a b c d e =
+    ap (λ (n : ℕ). PlainValue n handle common rest refs) a ∙ ap (λ (n : ℕ). PlainValue other n common rest refs) b
+    ∙ ap (λ (one : Common). PlainValue other other_handle one rest refs) c ∙ ap (λ (some : List Bool). PlainValue other other_handle other_common some refs) d
+    ∙ ap (PlainValue other other_handle other_common other_rest) e
 
 -- a body is read as one object
 abbrev pub FormsAreOne : Type 0
@@ -27,23 +45,26 @@ FormsAreOne =
 
 -- so it is
 pub forms_same : FormsAreOne
+forms_same classes body (PlainValue number handle common rest refs) (PlainValue other other_handle other_common other_rest others) is was =
+    let parts = plain_forms_same classes body number other handle other_handle common other_common rest other_rest refs others is was in
+    plain_same number other handle other_handle common other_common rest other_rest refs others parts.0 parts.1 parts.2 parts.3 parts.4
+forms_same classes body (PlainValue number handle common rest refs) (RawValue other other_handle others) is was =
+    absurd (was.1 (record { number = number; handle = handle; common = common; rest = rest; refs = refs; form = is }))
+forms_same classes body (RawValue number handle bytes) (PlainValue other other_handle other_common other_rest others) is was =
+    absurd (is.1 (record { number = other; handle = other_handle; common = other_common; rest = other_rest; refs = others; form = was }))
 forms_same classes body (RawValue number handle bytes) (RawValue other other_handle others) is was =
-    let heads = begins_same (bits body) number handle other other_handle is.0 was.0 in
-    raw_same number handle bytes other other_handle others heads.0 heads.1 (is.1 ∙ sym was.1)
+    let heads = begins_same (bits body) number handle other other_handle is.0.begins was.0.begins in
+    raw_same number other handle other_handle bytes others heads.0 heads.1 (is.0.same ∙ sym was.0.same)
 
--- where a body has a head, it is read as an object of that number and that handle
-abbrev pub HeadsHaveForms : Type 0
-HeadsHaveForms =
-    (classes : List Class) (body : List ℕ) (parts : HeadParts) → HasHead (bits body) parts
-    → (value : ObjectValue) × FormOf classes body value × (number_of value ≡ parts.number) × (handle_of value ≡ parts.own)
-
--- the object of its head
-pub form_is_at : (classes : List Class) (body : List ℕ) (parts : HeadParts) → HasHead (bits body) parts → FormOf classes body (form_at classes body parts)
-form_is_at classes body parts is = (begins_head (bits body) parts is, refl)
-
--- so it is
-pub form_of_head : HeadsHaveForms
-form_of_head classes body parts is = (form_at classes body parts, form_is_at classes body parts is, refl, refl)
+-- the head of a Plain form
+pub head_of_plain : (classes : List Class) (body : List ℕ) (number handle : ℕ) (common : Common) (rest : List Bool) (refs : List Reference) (form : PlainForm classes body number handle common rest refs)
+    → HasHead (bits body) (record { number = number; size = form.size; own = handle })
+head_of_plain classes body number handle common rest refs form = record {
+  front = form.head_bits;
+  rest = (form.common_main ++ rest) ++ (form.common_refs ++ (form.refs_bits ++ form.left));
+  spelled = form.head_spelled;
+  whole = form.whole ∙ append_assoc form.head_bits (form.common_main ++ rest) (form.common_refs ++ (form.refs_bits ++ form.left));
+}
 
 -- and where it is read as one, it has a head of its number and its handle
 abbrev pub FormsHaveHeads : Type 0
@@ -53,7 +74,52 @@ FormsHaveHeads =
 
 -- so it has
 pub head_of_form : FormsHaveHeads
-head_of_form classes body (RawValue number handle bytes) is = (record { number = number; size = is.0.size; own = handle }, head_begins (bits body) number handle is.0, refl, refl)
+head_of_form classes body (PlainValue number handle common rest refs) is =
+    (record { number = number; size = is.size; own = handle }, head_of_plain classes body number handle common rest refs is, refl, refl)
+head_of_form classes body (RawValue number handle bytes) is =
+    (record { number = number; size = is.0.begins.size; own = handle }, head_begins (bits body) number handle is.0.begins, refl, refl)
+
+-- where a body has a head, it is read as an object of that number and that handle
+abbrev pub HeadsHaveForms : Type 0
+HeadsHaveForms =
+    (classes : List Class) (body : List ℕ) (parts : HeadParts) → HasHead (bits body) parts
+    → (value : ObjectValue) × FormOf classes body value × (number_of value ≡ parts.number) × (handle_of value ≡ parts.own)
+
+-- so it is
+pub form_of_head : HeadsHaveForms
+form_of_head classes body parts is = by_plain (plain_decided classes body parts is)
+  where
+    by_plain : HasPlainForm classes body ⊎ (HasPlainForm classes body → ⊥)
+        → (value : ObjectValue) × FormOf classes body value × (number_of value ≡ parts.number) × (handle_of value ≡ parts.own)
+    by_plain (inl has) =
+        let heads = heads_same (bits body) _ parts (head_of_plain classes body has.number has.handle has.common has.rest has.refs has.form) is in (
+          PlainValue has.number has.handle has.common has.rest has.refs,
+          has.form,
+          ap (λ (p : HeadParts). p.number) heads,
+          ap (λ (p : HeadParts). p.own) heads,
+        )
+    by_plain (inr none) = (RawValue parts.number parts.own body, (record { begins = begins_head (bits body) parts is; same = refl }, none), refl, refl)
+
+-- the object that a body is read as, by what is parsed of its head
+form_found : (classes : List Class) (body : List ℕ) (found : Option (HeadParts × List Bool)) → head.parse (bits body) ≡ found → ObjectValue
+form_found classes body None same = RawValue 0 0 body
+form_found classes body (Some (parts, rest)) same = (form_of_head classes body parts (head_parsed (bits body) rest parts same)).0
+
+-- the object that a body is read as, as a function of its bytes
+pub form_at : List Class → List ℕ → ObjectValue
+form_at classes body = form_found classes body (head.parse (bits body)) refl
+
+-- what is so found of a body with a head is its form
+found_is_form : (classes : List Class) (body : List ℕ) (parts : HeadParts) → HasHead (bits body) parts → (found : Option (HeadParts × List Bool)) (same : head.parse (bits body) ≡ found)
+    → FormOf classes body (form_found classes body found same)
+unfolding form_found
+found_is_form classes body parts is None same = absurd (head_unparsed (bits body) same parts is)
+found_is_form classes body parts is (Some (told, rest)) same = (form_of_head classes body told (head_parsed (bits body) rest told same)).1
+
+-- a body with a head is read as that object
+pub form_is_at : (classes : List Class) (body : List ℕ) (parts : HeadParts) → HasHead (bits body) parts → FormOf classes body (form_at classes body)
+unfolding form_at
+form_is_at classes body parts is = found_is_form classes body parts is (head.parse (bits body)) refl
 
 -- what is read of a body below 2^29 bytes is valid, and is written by no longer a body
 abbrev pub FormsAreValid : Type 0
@@ -63,10 +129,21 @@ FormsAreValid =
 
 -- so it is
 pub form_is_valid : FormsAreValid
+form_is_valid classes body (PlainValue number handle common rest refs) are small is =
+    let short = plain_short classes body number handle common rest refs is in
+    ((plain_valid classes body number handle common rest refs is, omega (arith, short, small)), short)
 form_is_valid classes body (RawValue number handle bytes) are small is =
-    let fits = head_fits (bits body) _ (head_begins (bits body) number handle is.0) in
-    let same : body ≡ bytes = sym is.1 in (
-      (fits.positive, subst AreBytes same are, subst (λ (b : List ℕ). BeginsWithHead (bits b) number handle) same is.0, subst (λ (b : List ℕ). length b < 2 ^ 29) same small),
+    let fits = head_fits (bits body) _ (head_begins (bits body) number handle is.0.begins) in
+    let same : body ≡ bytes = sym is.0.same in (
+      (
+        record {
+          whole = fits.positive;
+          are = subst AreBytes same are;
+          begins = subst (λ (b : List ℕ). BeginsWithHead (bits b) number handle) same is.0.begins;
+          strongest = subst (λ (b : List ℕ). HasPlainForm classes b → ⊥) same is.1;
+        },
+        subst (λ (b : List ℕ). length b < 2 ^ 29) same small,
+      ),
       omega (arith, ap length same),
     )
 
@@ -77,11 +154,21 @@ ValidObjectsAreForms =
 
 -- so it is
 pub valid_is_form : ValidObjectsAreForms
-valid_is_form classes (RawValue number handle bytes) is = (is.2, refl)
+valid_is_form classes (PlainValue number handle common rest refs) is = plain_form_written classes number handle common rest refs is.0 is.1
+valid_is_form classes (RawValue number handle bytes) is = (record { begins = is.0.begins; same = refl }, is.0.strongest)
 
--- a valid object is whole, and its body has fewer than 2^29 bytes
+-- a valid object is whole, and its body are fewer than 2^29 bytes
 pub valid_is_whole : (classes : List Class) (value : ObjectValue) → IsValidObject classes value → IsWhole value × AreBytes (body_bytes value) × (length (body_bytes value) < 2 ^ 29)
-valid_is_whole classes (RawValue number handle bytes) is = (is.0, is.1, is.3)
+valid_is_whole classes (PlainValue number handle common rest refs) is =
+    (is.0.whole, whole_are_bytes (plain_bits number handle common rest refs ++ padding (plain_bits number handle common rest refs)), is.1)
+valid_is_whole classes (RawValue number handle bytes) is = (is.0.whole, is.0.are, is.1)
+
+-- and its handle isn't null and below 2^63
+pub valid_handle : (classes : List Class) (value : ObjectValue) → IsValidObject classes value → (0 < handle_of value) × (handle_of value < 2 ^ 63)
+valid_handle classes (PlainValue number handle common rest refs) is = (is.0.whole.0, is.0.handle_fits)
+valid_handle classes (RawValue number handle bytes) is =
+    let fits = head_fits (bits bytes) _ (head_begins (bits bytes) number handle is.0.begins) in
+    (fits.positive, fits.own)
 
 -- the length of a frame as it is written
 pub length_of_frame : (value : ObjectValue) → length (frame_bytes value) ≡ length (ms.short (length (body_bytes value))) + length (body_bytes value) + 2

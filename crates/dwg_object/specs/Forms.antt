@@ -1,13 +1,26 @@
 -- The head of an object, and the forms in which its body is read (Open Design Specification, "R13 to R2000 file layout, object data"). Which form an object has is a rule of this project.
-use Rattle.std.specs.Prelude.{◌≡◌, ℕ, ◌^◌, ◌<◌, Bool, List, ◌++◌, length}
-use Rattle.dwg_base.specs.Bytes.{AreBytes}
+use Rattle.std.specs.Prelude.{◌≡◌, ◌≢◌, ℕ, ◌^◌, ◌<◌, Bool, true, false, List, ◌++◌, length, Option, Some, None}
 use Rattle.dwg_bits.specs.Bits.{bits}
 use Rattle.dwg_classes.specs.declared.class.Class.{Class}
+use Rattle.dwg_classes.specs.Hints.{hint_at}
 use Rattle.dwg_codes.specs.Codes.{bs, rl}
 use Rattle.dwg_codes.specs.Combinators.{seq, image}
 use Rattle.dwg_codes.specs.Grammar.{Grammar}
-use Rattle.dwg_handles.specs.ReferenceCodes.{own_handle}
-use Rattle.dwg_object.specs.Objects.{HeadParts, ObjectValue, RawValue}
+use Rattle.dwg_codes.specs.ToEnd.{SpellsAll}
+use Rattle.dwg_common.specs.declared.entity.EntityCommon.{EntityCommon}
+use Rattle.dwg_common.specs.declared.object.ObjectCommon.{ObjectCommon}
+use Rattle.dwg_common.specs.Bodies.{BodyGrammar}
+use Rattle.dwg_common.specs.Entities.{entity_common}
+use Rattle.dwg_common.specs.MakingBodies.{variant}
+use Rattle.dwg_common.specs.NonEntities.{object_common}
+use Rattle.dwg_handles.specs.Reference.{Reference}
+use Rattle.dwg_handles.specs.ReferenceCodes.{reference, own_handle}
+use Rattle.dwg_kinds.specs.Kinds.{kind_at, is_entity_kind}
+use Rattle.dwg_kinds.specs.declared.kind.Kind.{Kind}
+use Rattle.dwg_kinds.specs.declared.kind.Kind.TheVariants.{Unknown}
+use Rattle.dwg_object.specs.declared.common.Common.{Common}
+use Rattle.dwg_object.specs.declared.common.Common.TheVariants.{Entity, Object}
+use Rattle.dwg_object.specs.Objects.{HeadParts, ObjectValue, PlainValue, RawValue}
 
 -- the parts of a head lie in their ranges
 pub record IsHead (parts : HeadParts) : Type 0 where
@@ -37,23 +50,55 @@ pub record BeginsWithHead (letters : List Bool) (number own : ℕ) : Type 0 wher
   pub spelled : head.Spells (record { number = number; size = size; own = own }) front
   pub whole : letters ≡ front ++ rest
 
+-- the kind of a number under the classes of a drawing
+abbrev pub kind_under : List Class → ℕ → Kind
+kind_under classes number = kind_at number (hint_at classes number)
+
+-- an entity's common part as it is held among common parts, and another object's
+abbrev pub entity_inside : Common → Option EntityCommon
+entity_inside (Entity common) = Some common
+entity_inside (Object common) = None
+
+abbrev pub object_inside : Common → Option ObjectCommon
+object_inside (Entity common) = None
+object_inside (Object common) = Some common
+
+-- the common part of the object of a handle, which is an entity or isn't
+abbrev pub common_part : Bool → ℕ → BodyGrammar Common
+common_part true base = variant Entity entity_inside (entity_common base)
+common_part false base = variant Object object_inside (object_common base)
+
+-- a form of a body whose kind is known: the head, the common part and the bits between it and the references, together as many as the bit size says; the references of the common part and then any number of others, until fewer than eight bits are left
+pub record PlainForm (classes : List Class) (body : List ℕ) (number handle : ℕ) (common : Common) (rest : List Bool) (refs : List Reference) : Type 0 where
+  pub known : kind_under classes number ≢ Unknown
+  pub size : ℕ
+  pub head_bits : List Bool
+  pub common_main : List Bool
+  pub common_refs : List Bool
+  pub refs_bits : List Bool
+  pub left : List Bool
+  pub whole : bits body ≡ (head_bits ++ (common_main ++ rest)) ++ (common_refs ++ (refs_bits ++ left))
+  pub head_spelled : head.Spells (record { number = number; size = size; own = handle }) head_bits
+  pub common_spelled : (common_part (is_entity_kind (kind_under classes number)) handle).Spells common common_main common_refs (length (refs_bits ++ left))
+  pub filled : length (head_bits ++ (common_main ++ rest)) ≡ size
+  pub refs_spelled : SpellsAll (reference handle) refs refs_bits
+  pub few : length left < 8
+
+-- a body has that form
+pub record HasPlainForm (classes : List Class) (body : List ℕ) : Type 0 where
+  pub number : ℕ
+  pub handle : ℕ
+  pub common : Common
+  pub rest : List Bool
+  pub refs : List Reference
+  pub form : PlainForm classes body number handle common rest refs
+
 -- the form of a body that every body with a head has: its bytes, under the number and the handle of the head
-abbrev pub RawForm : List ℕ → ObjectValue → Type 0
-RawForm body (RawValue number handle bytes) = BeginsWithHead (bits body) number handle × (bytes ≡ body)
+pub record RawForm (body : List ℕ) (number handle : ℕ) (bytes : List ℕ) : Type 0 where
+  pub begins : BeginsWithHead (bits body) number handle
+  pub same : bytes ≡ body
 
--- the object that a body is read as, under the classes of its drawing
+-- the object that a body is read as, under the classes of its drawing: in the first of these forms that it has
 abbrev pub FormOf : List Class → List ℕ → ObjectValue → Type 0
-FormOf classes body value = RawForm body value
-
--- the object that a body with this head is read as
-abbrev pub form_at : List Class → List ℕ → HeadParts → ObjectValue
-form_at classes body parts = RawValue parts.number parts.own body
-
--- an object whose parts are those that its form can spell
-abbrev pub IsWhole : ObjectValue → Type 0
-IsWhole (RawValue number handle bytes) = 0 < handle
-
--- an object that a drawing with these classes can have: its body, as it is written, is read as this object, and has fewer than 2^29 bytes
-abbrev pub IsValidObject : List Class → ObjectValue → Type 0
-IsValidObject classes (RawValue number handle bytes) =
-    IsWhole (RawValue number handle bytes) × AreBytes bytes × BeginsWithHead (bits bytes) number handle × (length bytes < 2 ^ 29)
+FormOf classes body (PlainValue number handle common rest refs) = PlainForm classes body number handle common rest refs
+FormOf classes body (RawValue number handle bytes) = RawForm body number handle bytes × (HasPlainForm classes body → ⊥)

@@ -169,7 +169,7 @@ unfolding tried_frame
 frame_told bytes place index are = frame_of_tried bytes place index (tried_span place index bytes) are (span_told bytes place index are)
 
 -- what is checked of a span whose check word is right and of whose head this is told
-checked_head : (bytes : List ℕ) (place index : ℕ) (span : Span) (found : Option HeadParts) → IsFramed bytes place span → TellsHead (bits (span_body bytes span)) found
+pub checked_head : (bytes : List ℕ) (place index : ℕ) (span : Span) (found : Option HeadParts) → IsFramed bytes place span → TellsHead (bits (span_body bytes span)) found
     → frame_checked place index bytes (Ok span) ≡ head_tried place index span found
 checked_head bytes place index span found is told =
     let passed : has_check_word bytes span ≡ true = tested_where bytes span is.stands (subst (λ n. FrameAt bytes n (span_body bytes span) span.end) (sym is.from) is.frame) in

@@ -7,7 +7,8 @@ use Rattle.dwg_check.specs.CheckWord.{FRAME_START, check_word}
 use Rattle.dwg_codes.specs.ModularCodes.{ms}
 use Rattle.dwg_object.specs.declared.span.Span.{Span}
 use Rattle.dwg_object.specs.Forms.{BeginsWithHead}
-use Rattle.dwg_object.specs.Objects.{ObjectValue, RawValue}
+use Rattle.dwg_object.specs.Objects.{ObjectValue}
+use Rattle.dwg_object.specs.Written.{body_bytes}
 
 -- what a frame's check word is over, and the check word, its least significant byte first: a spelling of the body's length, and the body
 abbrev pub framed_body : List ℕ → List ℕ → List ℕ
@@ -35,10 +36,6 @@ pub record SpanAt (bytes : List ℕ) (span : Span) : Type 0 where
   pub body_place : span.body ≡ span.from + length size
   pub body_end : span.body_end ≡ span.body + length body
   pub ends : span.end ≡ span.body_end + 2
-
--- the bytes of an object's body as they are written
-abbrev pub body_bytes : ObjectValue → List ℕ
-body_bytes (RawValue number handle bytes) = bytes
 
 -- the frame of an object as it is written: the length in the fewest units
 unfoldable pub frame_bytes : ObjectValue → List ℕ

@@ -1,5 +1,5 @@
 -- Heads are a code, and a body begins with one at the most.
-use Rattle.std.proofs.Common.{◌≡◌, refl, sym, ◌∙◌, ap, ℕ, Bool, List, Option, Some, None}
+use Rattle.std.proofs.Common.{◌≡◌, refl, sym, ◌∙◌, ap, ℕ, Bool, List, length, Option, Some, None}
 use Rattle.std.specs.Prelude.{option_map}
 use Rattle.dwg_codes.specs.Grammar.{IsCode, AnyLetters}
 use Rattle.dwg_codes.specs.CodeLaws.{unique_of_code, reads_none}
@@ -54,18 +54,31 @@ pub head_fits : (letters : List Bool) (parts : HeadParts) → HasHead letters pa
 unfolding head
 head_fits letters parts is = head_is_code.value is.front parts is.spelled
 
+-- the bits begin with this head, which takes so many of them
+pub record IsHeadAt (letters : List Bool) (parts : HeadParts) (end : ℕ) : Type 0 where
+  pub has : HasHead letters parts
+  pub far : length has.front ≡ end
+
 -- what the front of the bits tells of a head: its parts, or that there is none
 abbrev pub TellsHead : List Bool → Option HeadParts → Type 0
 TellsHead letters (Some parts) = HasHead letters parts
 TellsHead letters None = (parts : HeadParts) → HasHead letters parts → ⊥
+
+-- what is parsed is a head that the bits begin with
+pub head_parsed : (letters rest : List Bool) (parts : HeadParts) → head.parse letters ≡ Some (parts, rest) → HasHead letters parts
+head_parsed letters rest parts same = let is = head_is_code.sound letters rest parts tt same in record { front = is.0; rest = rest; spelled = is.1; whole = is.2 }
+
+-- where none is parsed, they begin with none
+pub head_unparsed : (letters : List Bool) → head.parse letters ≡ None → (parts : HeadParts) → HasHead letters parts → ⊥
+head_unparsed letters same parts is = (reads_none AnyLetters head letters head_is_code same).0 (parts, is.front, is.rest, is.spelled, is.whole)
 
 -- what is parsed of a head is what the bits tell
 pub head_told : (letters : List Bool) → TellsHead letters (option_map (λ (found : HeadParts × List Bool). found.0) (head.parse letters))
 head_told letters = of_found (head.parse letters) refl
   where
     of_found : (found : Option (HeadParts × List Bool)) → head.parse letters ≡ found → TellsHead letters (option_map (λ (found : HeadParts × List Bool). found.0) found)
-    of_found (Some (parts, rest)) same = let is = head_is_code.sound letters rest parts tt same in record { front = is.0; rest = rest; spelled = is.1; whole = is.2 }
-    of_found None same = λ parts is. (reads_none AnyLetters head letters head_is_code same).0 (parts, is.front, is.rest, is.spelled, is.whole)
+    of_found (Some (parts, rest)) same = head_parsed letters rest parts same
+    of_found None same = head_unparsed letters same
 
 -- and it is all that they tell
 pub head_only : (letters : List Bool) (told other : Option HeadParts) → TellsHead letters told → TellsHead letters other → told ≡ other

@@ -1,5 +1,6 @@
 pub mod Objects
 pub mod Forms
+pub mod Written
 pub mod Frames
 pub mod FrameLines
 pub mod FrameCauses
@@ -9,4 +10,8 @@ pub mod HeadLaws
 pub mod LengthLaws
 pub mod SpanLaws
 pub mod FrameLaws
+pub mod PlainLaws
+pub mod PlainDecided
+pub mod PlainWritten
 pub mod FormLaws
+pub mod PlainInHand

@@ -1,10 +1,20 @@
--- Objects, whoever holds their bytes. A rule of this project.
-use Rattle.std.specs.Prelude.{⊤, ℕ, List}
+-- Objects, whoever holds their bits and bytes. A rule of this project.
+use Rattle.std.specs.Prelude.{⊤, ℕ, Bool, true, false, List}
+use Rattle.dwg_bits.specs.Parts.{part_bits}
+use Rattle.dwg_bits.specs.declared.part.BitPart.{BitPart}
+use Rattle.dwg_bits.specs.declared.part.BitPart.TheVariants as bit_parts
 use Rattle.dwg_codes.specs.Parts.{part_bytes}
 use Rattle.dwg_codes.specs.declared.byte_part.BytePart.{BytePart}
 use Rattle.dwg_codes.specs.declared.byte_part.BytePart.TheVariants.{Owned, Lent}
+use Rattle.dwg_handles.specs.Reference.{Reference}
+use Rattle.dwg_kinds.specs.Kinds.{kind_at}
+use Rattle.dwg_kinds.specs.declared.kind.Kind.{Kind}
+use Rattle.dwg_kinds.specs.declared.number.ClassHint.{ClassHint}
+use Rattle.dwg_kinds.specs.declared.number.ClassHint.TheVariants as hints
+use Rattle.dwg_object.specs.declared.common.Common.{Common}
+use Rattle.dwg_object.specs.declared.common.Common.TheVariants.{Entity, Object}
 use Rattle.dwg_object.specs.declared.head.Head.{Head}
-use Rattle.dwg_object.specs.declared.object.Object.{Object}
+use Rattle.dwg_object.specs.declared.object.Object as declared
 use Rattle.dwg_object.specs.declared.object.Object.TheVariants as objects
 
 -- what the head of an object says: its type number, how many bits the body has before its references, and its own handle
@@ -19,26 +29,51 @@ parts_of head = record { number = head.number; size = head.size; own = head.own 
 
 -- an object as a plain value
 pub data ObjectValue : Type 0 where
+  -- the type number, the own handle, the common part, the bits between it and the references, and the references behind those of the common part
+  PlainValue : (number handle : ℕ) (common : Common) (rest : List Bool) (refs : List Reference) → ObjectValue
   -- the type number, the own handle, and the bytes of the body
   RawValue : (number handle : ℕ) (bytes : List ℕ) → ObjectValue
 
 -- the plain value of an object in hand
-abbrev pub value_of : Object → ObjectValue
+abbrev pub value_of : declared.Object → ObjectValue
+value_of (objects.Plain plain) = PlainValue plain.number plain.handle plain.common (part_bits plain.rest) plain.refs
 value_of (objects.Raw raw) = RawValue raw.number raw.handle (part_bytes raw.bytes)
 
 -- the own handle of an object
 abbrev pub handle_of : ObjectValue → ℕ
+handle_of (PlainValue number handle common rest refs) = handle
 handle_of (RawValue number handle bytes) = handle
 
 -- the type number of an object
 abbrev pub number_of : ObjectValue → ℕ
+number_of (PlainValue number handle common rest refs) = number
 number_of (RawValue number handle bytes) = number
 
--- bytes that are owned and not lent
+-- whether a common part is that of an entity
+abbrev pub is_of_entity : Common → Bool
+is_of_entity (Entity common) = true
+is_of_entity (Object common) = false
+
+-- what a common part says of its object, as a class would
+abbrev pub hint_of_common : Common → ClassHint
+hint_of_common (Entity common) = hints.Entity
+hint_of_common (Object common) = hints.Object
+
+-- the kind of an object: that of its number, where from 500 on its common part says whether it is an entity
+abbrev pub kind_of : ObjectValue → Kind
+kind_of (PlainValue number handle common rest refs) = kind_at number (hint_of_common common)
+kind_of (RawValue number handle bytes) = kind_at number hints.Absent
+
+-- bits and bytes that are owned and not lent
+abbrev pub AreOwnedBits : BitPart → Type 0
+AreOwnedBits (bit_parts.Owned run) = ⊤
+AreOwnedBits (bit_parts.Lent span) = ⊥
+
 abbrev pub IsOwnedPart : BytePart → Type 0
 IsOwnedPart (Owned run) = ⊤
 IsOwnedPart (Lent slice) = ⊥
 
--- an object that lends no bytes
-abbrev pub HoldsItsBytes : Object → Type 0
+-- an object that lends no bits and no bytes
+abbrev pub HoldsItsBytes : declared.Object → Type 0
+HoldsItsBytes (objects.Plain plain) = AreOwnedBits plain.rest
 HoldsItsBytes (objects.Raw raw) = IsOwnedPart raw.bytes

@@ -6,14 +6,15 @@ ghost use Rattle.dwg_base.specs.Refusals.{IsFaultOfTable};
 ghost use Rattle.dwg_object.specs.Forms.{FormOf};
 ghost use Rattle.dwg_object.specs.FoundFrames.{AnswersFrame};
 ghost use Rattle.dwg_object.specs.FrameLines.{bytes_from, has_check_word, tried_frame};
-ghost use Rattle.dwg_object.specs.Frames.{FrameAt};
+ghost use Rattle.dwg_object.specs.Frames.{FrameAt, SpanAt};
 ghost use Rattle.dwg_object.specs.Objects.{value_of};
 
-use crate::object::{Object, read_body};
+use crate::object::Object;
+use crate::reading::read_body_hinted;
 use crate::span::{Span, frame_refusal, span_at};
 use dwg_base::{Fault, NoMemory};
 use dwg_check::{FRAME_START, check};
-use dwg_classes::Class;
+use dwg_classes::{Class, Hints};
 use std::alloc::Global;
 
 // The lines of the table on the check word of a frame and on the head of its body.
@@ -61,9 +62,41 @@ fn has_check_word(bytes: &[u8], span: &Span) -> bool
     word_at(bytes, span.body_end, span.end) == word
 }
 
+/// Reads the frame of a span that stands in the input, of the pair of this index. It is refused where the check word is wrong,
+/// and where the body has no head, in this order.
+pub fn read_span<'a>(
+    alloc: Global,
+    bytes: &'a [u8],
+    span: &Span,
+    index: u64,
+    hints: &Hints<'_>,
+) -> Result<Found<'a>, Fault>
+    requires { SpanAt bytes.now span.now }
+    // The object of the frame that stands there.
+    ensures found { IfOk result (λ found. (body : List ℕ) × FrameAt bytes.now span.now.from body found.end × FormOf hints.now body (value_of found.object)) }
+
+    // What is found and what is refused is what is tried; there is want of memory beside.
+    ensures tried { AnswersFrame result (tried_frame span.now.from index bytes.now) }
+    ensures of_table { IfErr result IsFaultOfTable }
+{
+    if !has_check_word(bytes, span) {
+        return Err(Fault::Refused(frame_refusal(CHECK_LINE, index, span.from)));
+    }
+    match read_body_hinted(alloc, piece(bytes, span.body, span.body_end), hints) {
+        Ok(Some(object)) => Ok(Found {
+            object,
+            end: span.end,
+        }),
+        Ok(None) => Err(Fault::Refused(frame_refusal(HEAD_LINE, index, span.from))),
+        Err(NoMemory) => Err(Fault::NoMemory),
+    }
+}
+
 /// Reads the frame at a place of the input, of the pair of this index. It is refused where the place is behind the input,
 /// where no length is spelled there or the frame passes the end of the input, where the check word is wrong, and where the
 /// body has no head, in this order.
+///
+/// It makes a table of the classes; who reads more than one frame makes it once and calls [`span_at`] and [`read_span`].
 pub fn read_frame<'a>(
     alloc: Global,
     bytes: &'a [u8],
@@ -82,15 +115,9 @@ pub fn read_frame<'a>(
         Ok(span) => span,
         Err(refusal) => return Err(Fault::Refused(refusal)),
     };
-    if !has_check_word(bytes, &span) {
-        return Err(Fault::Refused(frame_refusal(CHECK_LINE, index, place)));
-    }
-    match read_body(alloc, piece(bytes, span.body, span.body_end), classes) {
-        Ok(Some(object)) => Ok(Found {
-            object,
-            end: span.end,
-        }),
-        Ok(None) => Err(Fault::Refused(frame_refusal(HEAD_LINE, index, place))),
-        Err(NoMemory) => Err(Fault::NoMemory),
-    }
+    let hints = match Hints::build(alloc, classes) {
+        Ok(hints) => hints,
+        Err(NoMemory) => return Err(Fault::NoMemory),
+    };
+    read_span(alloc, bytes, &span, index, &hints)
 }

@@ -1,17 +1,18 @@
 //! The head of an object, with which each body begins.
 
-ghost use Rattle.std.specs.Prelude.{◌≡◌, ◌^◌, ◌<◌, length, option_map, IfSome};
+ghost use Rattle.std.specs.Prelude.{◌≡◌, ◌^◌, ◌<◌, ◌≤◌, length, option_map, IfSome, IfNone};
 ghost use Rattle.dwg_bits.specs.Bits.{bits};
 ghost use Rattle.dwg_bits.specs.Cursor.{rest};
 ghost use Rattle.dwg_codes.specs.Grammar.{Reads};
-ghost use Rattle.dwg_object.specs.Forms.{head};
-ghost use Rattle.dwg_object.specs.HeadLaws.{TellsHead};
-ghost use Rattle.dwg_object.specs.Objects.{parts_of};
+ghost use Rattle.dwg_bits.specs.Sink.{Extends};
+ghost use Rattle.dwg_object.specs.Forms.{HasHead, head};
+ghost use Rattle.dwg_object.specs.HeadLaws.{IsHeadAt};
+ghost use Rattle.dwg_object.specs.Objects.{HeadParts, parts_of};
 
 use dwg_base::Handle;
-use dwg_bits::BitCursor;
+use dwg_bits::{BitCursor, BitSink};
 use dwg_codes::{BitCode, CodeBS, CodeRL};
-use dwg_handles::read_own;
+use dwg_handles::{own_bits, read_own, write_own};
 
 /// What the head of an object says (Open Design Specification, "R13 to R2000 file layout, object data").
 #[derive(Clone, Copy)]
@@ -39,11 +40,48 @@ pub(crate) fn read_head(cursor: &mut BitCursor<'_>) -> Option<Head>
     Some(Head { number, size, own })
 }
 
-/// The head that a body begins with. None exactly where it begins with none.
-pub(crate) fn head_of(body: &[u8]) -> Option<Head>
+/// A head and the place behind it.
+#[derive(Clone, Copy)]
+pub(crate) struct HeadAt {
+    /// The head.
+    pub(crate) head: Head,
+    /// How many bits of the body it takes.
+    pub(crate) end: u64,
+}
+
+/// The head that a body begins with, and the place behind it. None exactly where it begins with none.
+pub(crate) fn head_of(body: &[u8]) -> Option<HeadAt>
     requires { length body.now < 2 ^ 60 }
-    ensures { TellsHead (bits body.now) (option_map parts_of result) }
+    ensures some { IfSome result (λ found. IsHeadAt (bits body.now) (parts_of found.head) found.end) }
+    ensures none { IfNone result ((parts : HeadParts) → HasHead (bits body.now) parts → ⊥) }
 {
     let mut cursor = BitCursor::new(body, 0, 8 * body.len() as u64);
-    read_head(&mut cursor)
+    let Some(head) = read_head(&mut cursor) else {
+        return None;
+    };
+    Some(HeadAt {
+        head,
+        end: cursor.at(),
+    })
+}
+
+/// How many bits a head is written by, whatever its bit size.
+pub(crate) fn head_length(number: u16, own: Handle) -> u64
+    requires { 0 < own }
+    ensures length { result ≡ length (head.short (record { number = number; size = 0; own = own })) }
+    ensures few { result < 2 ^ 34 }
+{
+    CodeBS::length(&(), &number) + CodeRL::length(&(), &0) + own_bits(own)
+}
+
+/// Writes a head.
+#[tactic(auto, unfolding(crate::specs::Forms::head))]
+pub(crate) fn write_head(number: u16, size: u32, own: Handle, sink: &mut BitSink)
+    requires positive { 0 < own }
+    requires room { length (head.short (record { number = number; size = size; own = own })) ≤ sink.old.spare }
+    ensures { Extends sink.old sink.new (head.short (record { number = number; size = size; own = own })) }
+{
+    CodeBS::write(&(), &number, sink);
+    CodeRL::write(&(), &size, sink);
+    write_own(own, sink);
 }

@@ -1,15 +1,19 @@
 //! Objects and their frames (Open Design Specification, "R13 to R2000 file layout, object data").
 #![tactic(auto)]
 
+mod common;
 mod frame;
 mod head;
 mod laws;
 mod object;
+mod reading;
 mod span;
 mod writing;
 
-pub use frame::{Found, read_frame};
+pub use common::Common;
+pub use frame::{Found, read_frame, read_span};
 pub use laws::frame_laws;
-pub use object::{Object, Raw, read_body};
+pub use object::{Object, Plain, Raw};
+pub use reading::{read_body, read_body_hinted};
 pub use span::{Span, span_at};
 pub use writing::{frame_length, write_frame};

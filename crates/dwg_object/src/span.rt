@@ -37,7 +37,7 @@ pub(crate) fn frame_refusal(line: u8, index: u64, place: u64) -> Refusal
 }
 
 /// The bytes behind a place.
-fn behind(bytes: &[u8], place: u64) -> &[u8]
+pub(crate) fn behind(bytes: &[u8], place: u64) -> &[u8]
     requires { place ≤ length bytes.now }
     ensures { result.now ≡ drop place bytes.now }
 {

@@ -1,4 +1,4 @@
-//! Tests of the libraries through their public calls: values from outside, each call once, and what no clause says.
+//! Tests of the libraries below drawings through their public calls: values from outside, each call once, and what no clause says.
 #![tactic(auto)]
 
 #[cfg(test)]
@@ -12,15 +12,17 @@ mod classes;
 #[cfg(test)]
 mod codes;
 #[cfg(test)]
-mod file;
+mod common;
 #[cfg(test)]
 mod handles;
+#[cfg(test)]
+mod kinds;
 #[cfg(test)]
 mod modular;
 #[cfg(test)]
 mod objects;
 #[cfg(test)]
-mod objmap;
+mod pieces;
 #[cfg(test)]
 mod sections;
 #[cfg(test)]

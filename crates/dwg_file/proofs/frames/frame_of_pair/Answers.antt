@@ -1,5 +1,6 @@
 use Rattle.std.proofs.Common.{sym, ◌∙◌, arith}
-use Rattle.dwg_file.proofs.PairReading.{span_refused, overlap_refused, frame_refused, handle_refused, frame_found, frame_apart}
+use Rattle.std.specs.Prelude.{Ok, Err}
+use Rattle.dwg_file.proofs.PairReading.{answered_at_pair, found_at_pair, span_refused, overlap_refused, frame_refused, handle_refused, frame_found, frame_apart}
 use Rattle.dwg_file.proofs.frames.frame_of_pair.Goals as goal
 
 pub returns-in-Err-clause-tried : goal.returns-in-Err-clause-tried
@@ -7,27 +8,30 @@ returns-in-Err-clause-tried c = λ earlier taken. span_refused c.args.bytes.now 
 
 pub returns-then-shares-clause-tried : goal.returns-then-shares-clause-tried
 returns-then-shares-clause-tried c = λ earlier taken.
-    overlap_refused c.args.classes.now c.args.bytes.now earlier c.args.index c.args.pair.now c.in-Ok.span c.refused.result (sym c.in-Ok.ensures.tried)
+    overlap_refused c.args.hints.now c.args.bytes.now earlier c.args.index c.args.pair.now c.in-Ok.span c.refused.result (sym c.in-Ok.ensures.tried)
     (taken c.in-Ok.span.from c.in-Ok.span.end ∙ sym c.shares.ensures ∙ c.if-shares.true) c.refused.ensures
 
-pub returns-in-Err-read_frame-clause-tried : goal.returns-in-Err-read_frame-clause-tried
-returns-in-Err-read_frame-clause-tried c = λ earlier taken.
-    frame_refused c.args.classes.now c.args.bytes.now earlier c.args.index c.args.pair.now c.in-Ok.span c.in-Err-read_frame.fault (sym c.in-Ok.ensures.tried)
-    (taken c.in-Ok.span.from c.in-Ok.span.end ∙ sym c.shares.ensures ∙ c.if-shares.false) c.in-Err-read_frame.ensures.tried
+pub returns-in-Err-read_span-clause-tried : goal.returns-in-Err-read_span-clause-tried
+returns-in-Err-read_span-clause-tried c = λ earlier taken.
+    frame_refused c.args.hints.now c.args.bytes.now earlier c.args.index c.args.pair.now c.in-Ok.span c.in-Err-read_span.fault (sym c.in-Ok.ensures.tried)
+    (taken c.in-Ok.span.from c.in-Ok.span.end ∙ sym c.shares.ensures ∙ c.if-shares.false)
+    (answered_at_pair c.args.bytes.now c.args.pair.now.place c.in-Ok.span.from c.args.index (Err c.in-Err-read_span.fault) c.in-Ok.ensures.place c.in-Err-read_span.ensures.tried)
 
 pub returns-then-value-clause-tried : goal.returns-then-value-clause-tried
 returns-then-value-clause-tried c = λ earlier taken.
-    handle_refused c.args.classes.now c.args.bytes.now earlier c.args.index c.handle.result c.args.pair.now c.in-Ok.span c.in-Ok-read_frame.found c.refused-then-value.result
-    (sym c.in-Ok.ensures.tried) (taken c.in-Ok.span.from c.in-Ok.span.end ∙ sym c.shares.ensures ∙ c.if-shares.false) c.in-Ok-read_frame.ensures.tried c.handle.ensures
+    handle_refused c.args.hints.now c.args.bytes.now earlier c.args.index c.handle.result c.args.pair.now c.in-Ok.span c.in-Ok-read_span.found c.refused-then-value.result
+    (sym c.in-Ok.ensures.tried) (taken c.in-Ok.span.from c.in-Ok.span.end ∙ sym c.shares.ensures ∙ c.if-shares.false)
+    (answered_at_pair c.args.bytes.now _ _ _ (Ok c.in-Ok-read_span.found) c.in-Ok.ensures.place c.in-Ok-read_span.ensures.tried) c.handle.ensures
     (λ same. c.if-value.true (omega (arith, same, c.value.ensures.value, c.value-2.ensures.value))) c.refused-then-value.ensures
 
 pub returns-clause-tried : goal.returns-clause-tried
 returns-clause-tried c = λ earlier taken.
-    frame_found c.args.classes.now c.args.bytes.now earlier c.args.index c.handle.result c.args.pair.now c.in-Ok.span c.in-Ok-read_frame.found (λ i. omega (arith, c.type_inv.bytes i))
+    frame_found c.args.hints.now c.args.bytes.now earlier c.args.index c.handle.result c.args.pair.now c.in-Ok.span c.in-Ok-read_span.found (λ i. omega (arith, c.type_inv.bytes i))
     (sym c.in-Ok.ensures.tried) c.in-Ok.ensures.found c.in-Ok.ensures.place (taken c.in-Ok.span.from c.in-Ok.span.end ∙ sym c.shares.ensures ∙ c.if-shares.false)
-    c.in-Ok-read_frame.ensures.tried c.in-Ok-read_frame.ensures.found c.handle.ensures (omega (arith, c.if-value.false, c.value.ensures.value, c.value-2.ensures.value))
+    (answered_at_pair c.args.bytes.now _ _ _ (Ok c.in-Ok-read_span.found) c.in-Ok.ensures.place c.in-Ok-read_span.ensures.tried)
+    (found_at_pair c.args.bytes.now _ _ _ c.in-Ok-read_span.found c.in-Ok.ensures.place c.in-Ok-read_span.ensures.found) c.handle.ensures (omega (arith, c.if-value.false, c.value.ensures.value, c.value-2.ensures.value))
 
 pub returns-clause-apart : goal.returns-clause-apart
 returns-clause-apart c =
-    frame_apart c.args.bytes.now c.args.taken.now c.args.index c.args.pair.now.place c.in-Ok.span c.in-Ok-read_frame.found (λ i. omega (arith, c.type_inv.bytes i)) c.in-Ok.ensures.found
-    c.in-Ok.ensures.place c.in-Ok-read_frame.ensures.tried (sym c.shares.ensures ∙ c.if-shares.false)
+    frame_apart c.args.bytes.now c.args.taken.now c.args.index c.args.pair.now.place c.in-Ok.span c.in-Ok-read_span.found (λ i. omega (arith, c.type_inv.bytes i)) c.in-Ok.ensures.found
+    c.in-Ok.ensures.place (answered_at_pair c.args.bytes.now _ _ _ (Ok c.in-Ok-read_span.found) c.in-Ok.ensures.place c.in-Ok-read_span.ensures.tried) (sym c.shares.ensures ∙ c.if-shares.false)

@@ -3,5 +3,5 @@ use Rattle.dwg_file.proofs.frames.next_frame.Goals as goal
 
 pub returns-in-Ok-with_object-clause-goes_on : goal.returns-in-Ok-with_object-clause-goes_on
 returns-in-Ok-with_object-clause-goes_on c = λ earlier handles read.
-    frame_read c.args.classes.now c.args.bytes.now earlier handles c.args.frames.taken c.in-Ok-add.taken c.args.frames.objects.items c.in-Ok-with_object.objects.items c.args.pair.now _
+    frame_read c.args.hints.now c.args.bytes.now earlier handles c.args.frames.taken c.in-Ok-add.taken c.args.frames.objects.items c.in-Ok-with_object.objects.items c.args.pair.now _
     c.in-Ok.found read (c.in-Ok.ensures.tried earlier read.touched) c.in-Ok.ensures.some c.in-Ok-add.ensures c.in-Ok-with_object.ensures

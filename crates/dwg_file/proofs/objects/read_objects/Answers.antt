@@ -1,10 +1,13 @@
-use Rattle.dwg_file.proofs.ObjectOrder.{objects_answered, objects_refused}
+use Rattle.std.proofs.Common.{subst, List, []}
+use Rattle.std.specs.Prelude.{Ok}
+use Rattle.dwg_classes.specs.declared.class.Class.{Class}
+use Rattle.dwg_file.specs.FileLines.{frames_behind}
+use Rattle.dwg_file.specs.FrameReading.{AnswersFrames}
+use Rattle.dwg_file.proofs.ObjectOrder.{objects_answered}
 use Rattle.dwg_file.proofs.objects.read_objects.Goals as goal
-
-pub returns-in-Err-clause-tried : goal.returns-in-Err-clause-tried
-returns-in-Err-clause-tried c = objects_refused c.args.classes.now c.args.bytes.now _ c.in-Err.fault c.in-Err.ensures.tried
 
 pub returns-in-Ok-listed-clause-tried : goal.returns-in-Ok-listed-clause-tried
 returns-in-Ok-listed-clause-tried c =
-    objects_answered c.args.classes.now c.args.bytes.now _ c.in-Ok.frames c.sorted.result.items c.in-Ok-listed.objects _ c.requires c.in-Ok.ensures.tried c.in-Ok.ensures.own c.sorted.ensures.same
-    c.sorted.ensures.ascend c.in-Ok-listed.ensures
+    let tried = subst (λ (classes : List Class). AnswersFrames classes c.args.bytes.now (frames_behind c.args.bytes.now 0 [] c.args.pairs.now) (Ok c.in-Ok-read_frames.frames)) c.in-Ok.ensures c.in-Ok-read_frames.ensures.tried in
+    objects_answered c.args.classes.now c.args.bytes.now _ c.in-Ok-read_frames.frames c.sorted.result.items c.in-Ok-listed.objects _ c.requires tried c.in-Ok-read_frames.ensures.own
+    c.sorted.ensures.same c.sorted.ensures.ascend c.in-Ok-listed.ensures
