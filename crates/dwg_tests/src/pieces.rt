@@ -3,10 +3,10 @@
 use dwg_base::Handle;
 use dwg_bits::{BitCursor, BitSink};
 use dwg_codes::{
-    CodeBS, byte_run_laws, bytes_length, length_when, list_length, read_bytes, read_list,
-    read_when, write_bytes, write_list, write_when,
+    CodeBS, byte_run_laws, bytes_length, length_when, read_bytes, read_list, read_when,
+    write_bytes, write_list, write_when,
 };
-use dwg_handles::{Ref, refs_bits, refs_fit, write_refs};
+use dwg_handles::{Ref, refs_fit};
 use std::test::Fail;
 
 #[test]
@@ -17,7 +17,6 @@ fn lists_bytes_and_options_are_written_and_read(rt: HostRuntime) -> Result<(), F
     assert!(rt; sink.length() == 0);
     assert!(rt; sink.reserve(1_000));
     let numbers = [0u16, 256, 7];
-    assert_eq!(rt; list_length::<CodeBS>(&(), &numbers), 14);
     write_list::<CodeBS>(&(), &numbers, &mut sink);
     write_when::<CodeBS>(&(), true, &Some(7), &mut sink);
     write_when::<CodeBS>(&(), false, &None, &mut sink);
@@ -27,9 +26,11 @@ fn lists_bytes_and_options_are_written_and_read(rt: HostRuntime) -> Result<(), F
     assert_eq!(rt; bytes_length(&[0xAB, 0xCD]), 16);
     assert!(rt; sink.length() == 40);
     // 10 11 01 00000111, 01 00000111, AB CD
-    assert_eq!(rt; sink.as_bytes(), [0xB4, 0x1D, 0x07, 0xAB, 0xCD].as_slice());
+    let written = sink.as_bytes();
+    assert_eq!(rt; written, [0xB4, 0x1D, 0x07, 0xAB, 0xCD].as_slice());
 
-    let mut cursor = BitCursor::new(sink.as_bytes(), 0, 40);
+    assert!(rt; written.len() == 5);
+    let mut cursor = BitCursor::new(written, 0, 40);
     let read = read_list::<CodeBS>(alloc, &(), 3, &mut cursor).or(Err("no memory"))?;
     let read = read.ok_or("no list")?;
     assert_eq!(rt; read.as_slice(), numbers.as_slice());
@@ -63,14 +64,5 @@ fn references_fit_where_each_is_reached(rt: HostRuntime) -> Result<(), Fail> {
     assert!(rt; refs_fit(&[one, other], base));
     assert!(rt; !refs_fit(&[one, wrong], base));
     assert!(rt; refs_fit(&[], base));
-    let mut sink = BitSink::new(rt.alloc());
-    assert!(rt; sink.length() == 0);
-    assert!(rt; sink.reserve(24));
-    let refs = [one, other];
-    assert!(rt; refs_fit(&refs, base));
-    assert_eq!(rt; refs_bits(&refs, base), 24);
-    write_refs(&refs, base, &mut sink);
-    assert!(rt; sink.length() == 24);
-    assert_eq!(rt; sink.as_bytes(), [0x60, 0x31, 0x80].as_slice());
     Ok(())
 }
