@@ -1,0 +1,47 @@
+-- Points that are parsed are read.
+use Rattle.std.proofs.Common.{◌≡◌, sym, subst, ◌^◌, ◌<◌, Bool, List, Option, Some, None}
+use Rattle.dwg_codes.specs.CodeLaws.{reads_some, reads_none}
+use Rattle.dwg_codes.specs.Codes.{bd3}
+use Rattle.dwg_codes.specs.Grammar.{Grammar, IsCode, AnyLetters, Reads}
+use Rattle.dwg_codes.specs.TableLaws.{bd3_is_code}
+use Rattle.dwg_codes.specs.declared.points.Point2.{Point2}
+use Rattle.dwg_codes.specs.declared.points.Point3.{Point3}
+use Rattle.dwg_entities.specs.PointLaws.{rd2_is_code, dd2_is_code}
+use Rattle.dwg_entities.specs.Points.{rd2, dd2}
+
+-- what is parsed by a code has a spelling
+pub parsed_value : {V : Type 0} (code : Grammar Bool V) (value : V) (old new : List Bool) → IsCode AnyLetters code → code.parse old ≡ Some (value, new) → code.IsValue value
+parsed_value code value old new is found = let parts = is.sound old new value tt found in is.value parts.0 value parts.1
+
+-- three BDs
+pub bd3_read : (value : Point3) (old new : List Bool) → bd3.parse old ≡ Some (value, new) → Reads bd3 (Some value) old new
+bd3_read value old new found = reads_some AnyLetters bd3 old new value bd3_is_code tt found
+
+pub bd3_value : (value : Point3) (old new : List Bool) → bd3.parse old ≡ Some (value, new) → bd3.IsValue value
+bd3_value value old new found = parsed_value bd3 value old new bd3_is_code found
+
+pub bd3_unread : (old : List Bool) → bd3.parse old ≡ None → Reads bd3 None old old
+bd3_unread old none = reads_none AnyLetters bd3 old bd3_is_code none
+
+-- two RDs
+pub rd2_read : (value : Point2) (old new : List Bool) → rd2.parse old ≡ Some (value, new) → Reads rd2 (Some value) old new
+rd2_read value old new found = reads_some AnyLetters rd2 old new value rd2_is_code tt found
+
+pub rd2_value : (value : Point2) (old new : List Bool) → rd2.parse old ≡ Some (value, new) → rd2.IsValue value
+rd2_value value old new found = parsed_value rd2 value old new rd2_is_code found
+
+pub rd2_unread : (old : List Bool) → rd2.parse old ≡ None → Reads rd2 None old old
+rd2_unread old none = reads_none AnyLetters rd2 old rd2_is_code none
+
+-- two DDs
+pub dd2_read : (default value : Point2) (old new : List Bool) → default.x < 2 ^ 64 → default.y < 2 ^ 64 → (dd2 default).parse old ≡ Some (value, new)
+    → Reads (dd2 default) (Some value) old new
+dd2_read default value old new x y found = reads_some AnyLetters (dd2 default) old new value (dd2_is_code default (record { x = x; y = y })) tt found
+
+pub dd2_value : (default value : Point2) (old new : List Bool) → default.x < 2 ^ 64 → default.y < 2 ^ 64 → (dd2 default).parse old ≡ Some (value, new) → (dd2 default).IsValue value
+dd2_value default value old new x y found = parsed_value (dd2 default) value old new (dd2_is_code default (record { x = x; y = y })) found
+
+pub dd2_unread : (default : Point2) (result : Option Point2) (old : List Bool) → default.x < 2 ^ 64 → default.y < 2 ^ 64 → result ≡ None → (dd2 default).parse old ≡ None
+    → Reads (dd2 default) result old old
+dd2_unread default result old x y none unparsed =
+    subst (λ (one : Option Point2). Reads (dd2 default) one old old) (sym none) (reads_none AnyLetters (dd2 default) old (dd2_is_code default (record { x = x; y = y })) unparsed)

@@ -1,0 +1,22 @@
+-- The end of a block, and the end of a sequence (Open Design Specification, "ENDBLK" and "SEQEND").
+use Rattle.std.specs.Prelude.{ℕ, Bool}
+use Rattle.dwg_codes.specs.Combinators.{always}
+use Rattle.dwg_codes.specs.Grammar.{Grammar}
+use Rattle.dwg_common.specs.Bodies.{BodyGrammar}
+use Rattle.dwg_common.specs.MakingBodies.{main_body}
+use Rattle.dwg_entities.specs.declared.ends.EndBlk.{EndBlk}
+use Rattle.dwg_entities.specs.declared.ends.SeqEnd.{SeqEnd}
+
+-- no bits
+abbrev pub endblk_main : Grammar Bool EndBlk
+endblk_main = always (record {})
+
+abbrev pub seqend_main : Grammar Bool SeqEnd
+seqend_main = always (record {})
+
+-- and no references
+unfoldable pub endblk_body : ℕ → BodyGrammar EndBlk
+endblk_body base = main_body endblk_main
+
+unfoldable pub seqend_body : ℕ → BodyGrammar SeqEnd
+seqend_body base = main_body seqend_main

@@ -1,0 +1,13 @@
+pub mod Flags
+pub mod Points
+pub mod TextBody
+pub mod AttribBody
+pub mod AttdefBody
+pub mod Scale
+pub mod InsertBody
+pub mod BlockBody
+pub mod BlockEnds
+pub mod PointLaws
+pub mod FlagLaws
+pub mod ScaleLaws
+pub mod BodiesLaws

@@ -1,0 +1,15 @@
+-- Points of the plane as bits (Open Design Specification, "Bit codes").
+use Rattle.std.specs.Prelude.{Bool}
+use Rattle.dwg_codes.specs.Codes.{rd, dd}
+use Rattle.dwg_codes.specs.Combinators.{seq}
+use Rattle.dwg_codes.specs.Grammar.{Grammar}
+use Rattle.dwg_codes.specs.declared.points.Point2.{Point2}
+use Rattle.dwg_common.specs.Shaped.{shaped}
+
+-- 2RD: x, y
+abbrev pub rd2 : Grammar Bool Point2
+rd2 = shaped (λ words. record { x = words.0; y = words.1 }) (λ point. (point.x, point.y)) (seq rd (λ x. rd))
+
+-- 2DD: x against the x of a default, y against its y
+abbrev pub dd2 : Point2 → Grammar Bool Point2
+dd2 default = shaped (λ words. record { x = words.0; y = words.1 }) (λ point. (point.x, point.y)) (seq (dd default.x) (λ x. dd default.y))

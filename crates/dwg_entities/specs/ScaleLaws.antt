@@ -1,0 +1,128 @@
+-- The scale of an insert is a code.
+use Rattle.std.proofs.Common.{◌≡◌, refl, sym, ◌∙◌, ap, subst, ℕ, zero, suc, ◌^◌, ◌<◌, ◌≤◌, Bool, true, false, ◌++◌, length, arith}
+use Rattle.std.specs.Prelude.{◌==◌, if◌then◌else◌}
+use Rattle.std.proofs.lemmas.Bool.Decides.{Decides-eqb}
+use Rattle.std.proofs.lemmas.List.{length-append}
+use Rattle.dwg_codes.specs.Codes.{rd, dd, ONE, IsPoint3}
+use Rattle.dwg_codes.specs.Combinators.{seq}
+use Rattle.dwg_codes.specs.CombinatorLaws.{any_letters_closed, always_is_code, never_is_code, seq_is_code, struct_is_code}
+use Rattle.dwg_codes.specs.DefaultLaws.{dd_is_code}
+use Rattle.dwg_codes.specs.Grammar.{IsCode, AnyLetters}
+use Rattle.dwg_codes.specs.NumberLaws.{rd_is_code}
+use Rattle.dwg_codes.specs.TableLaws.{bit_tagged_is_code}
+use Rattle.dwg_codes.specs.declared.points.Point3.{Point3}
+use Rattle.dwg_entities.specs.Scale.{WHOLE, scale_free, scale_beside_one, scale_even, scale_by, scale}
+
+-- 1.0 is a word
+one_is_word : ONE < 2 ^ 64
+one_is_word = omega arith
+
+-- what follows each tag is a code
+scale_by_is_code : (tag : ℕ) → IsCode AnyLetters (scale_by tag)
+scale_by_is_code zero =
+    struct_is_code AnyLetters IsPoint3 (λ (words : ℕ × (ℕ × ℕ)). record { x = words.0; y = words.1.0; z = words.1.1 }) (λ (point : Point3). (point.x, (point.y, point.z)))
+    (seq rd (λ x. seq (dd x) (λ y. dd x)))
+    (seq_is_code AnyLetters rd (λ x. seq (dd x) (λ y. dd x)) any_letters_closed rd_is_code
+    (λ x fits. seq_is_code AnyLetters (dd x) (λ y. dd x) any_letters_closed (dd_is_code x fits) (λ y y_fits. dd_is_code x fits)))
+    (λ words fits. record { x = fits.0; y = fits.1.0; z = fits.1.1 })
+    (λ point fits. ((fits.x, (fits.y, fits.z)), refl))
+    (λ words fits. refl)
+scale_by_is_code (suc zero) =
+    struct_is_code AnyLetters (λ (point : Point3). IsPoint3 point × (point.x ≡ ONE)) (λ (words : ℕ × ℕ). record { x = ONE; y = words.0; z = words.1 })
+    (λ (point : Point3). (point.y, point.z)) (seq (dd ONE) (λ y. dd ONE))
+    (seq_is_code AnyLetters (dd ONE) (λ y. dd ONE) any_letters_closed (dd_is_code ONE one_is_word) (λ y fits. dd_is_code ONE one_is_word))
+    (λ words fits. (record { x = one_is_word; y = fits.0; z = fits.1 }, refl))
+    (λ point fits. ((fits.0.y, fits.0.z), ap (λ (x : ℕ). let p : Point3 = record { x = x; y = point.y; z = point.z } in p) (sym fits.1)))
+    (λ words fits. refl)
+scale_by_is_code (suc (suc zero)) =
+    struct_is_code AnyLetters (λ (point : Point3). (point.x < 2 ^ 64) × (point.y ≡ point.x) × (point.z ≡ point.x)) (λ (x : ℕ). record { x = x; y = x; z = x })
+    (λ (point : Point3). point.x) rd rd_is_code
+    (λ x fits. (fits, refl, refl))
+    (λ point fits. (
+      fits.0,
+      ap (λ (y : ℕ). let p : Point3 = record { x = point.x; y = y; z = point.x } in p) (sym fits.1)
+          ∙ ap (λ (z : ℕ). let p : Point3 = record { x = point.x; y = point.y; z = z } in p) (sym fits.2),
+    ))
+    (λ x fits. refl)
+scale_by_is_code (suc (suc (suc zero))) = always_is_code AnyLetters WHOLE
+scale_by_is_code (suc (suc (suc (suc tag)))) = never_is_code AnyLetters
+
+-- each word of it is 1.0
+whole_is_point : IsPoint3 WHOLE
+whole_is_point = record { x = one_is_word; y = one_is_word; z = one_is_word }
+
+-- and its words have 64 bits
+scale_by_value : (tag : ℕ) (point : Point3) → (scale_by tag).IsValue point → IsPoint3 point
+scale_by_value zero point fits = fits
+scale_by_value (suc zero) point fits = fits.0
+scale_by_value (suc (suc zero)) point fits =
+    record { x = fits.0; y = subst (λ (word : ℕ). word < 2 ^ 64) (sym fits.1) fits.0; z = subst (λ (word : ℕ). word < 2 ^ 64) (sym fits.2) fits.0 }
+scale_by_value (suc (suc (suc zero))) point fits = subst IsPoint3 (sym fits) whole_is_point
+scale_by_value (suc (suc (suc (suc tag)))) point fits = absurd fits
+
+-- the tag that is written of a scale, by what the tests say
+abbrev tag_by : Bool → Bool → Bool → Bool → Bool → ℕ
+tag_by x_one y_one z_one y_same z_same = if x_one then (if y_one then (if z_one then 3 else 1) else 1) else (if y_same then (if z_same then 2 else 0) else 0)
+
+-- numbers that are told apart differ
+apart : {P : Type 0} (one other : ℕ) → (one == other) ≡ false → one ≡ other → P
+apart one other differ same = absurd (cc (differ, (Decides-eqb one other).1 same))
+
+-- a scale has the tag that is written of it
+scale_picked : (point : Point3) (x_one y_one z_one y_same z_same : Bool) → (point.x == ONE) ≡ x_one → (point.y == ONE) ≡ y_one → (point.z == ONE) ≡ z_one
+    → (point.y == point.x) ≡ y_same → (point.z == point.x) ≡ z_same → IsPoint3 point
+    → (tag_by x_one y_one z_one y_same z_same < 2 ^ 2) × (scale_by (tag_by x_one y_one z_one y_same z_same)).IsValue point
+scale_picked point true true true y_same z_same x y z same_y same_z fits = (
+  omega arith,
+  ap (λ (x : ℕ). let p : Point3 = record { x = x; y = point.y; z = point.z } in p) ((Decides-eqb point.x ONE).0 x)
+      ∙ ap (λ (y : ℕ). let p : Point3 = record { x = ONE; y = y; z = point.z } in p) ((Decides-eqb point.y ONE).0 y)
+      ∙ ap (λ (z : ℕ). let p : Point3 = record { x = ONE; y = ONE; z = z } in p) ((Decides-eqb point.z ONE).0 z),
+)
+scale_picked point true true false y_same z_same x y z same_y same_z fits = (omega arith, (fits, (Decides-eqb point.x ONE).0 x))
+scale_picked point true false z_one y_same z_same x y z same_y same_z fits = (omega arith, (fits, (Decides-eqb point.x ONE).0 x))
+scale_picked point false y_one z_one true true x y z same_y same_z fits =
+    (omega arith, (fits.x, (Decides-eqb point.y point.x).0 same_y, (Decides-eqb point.z point.x).0 same_z))
+scale_picked point false y_one z_one true false x y z same_y same_z fits = (omega arith, fits)
+scale_picked point false y_one z_one false z_same x y z same_y same_z fits = (omega arith, fits)
+
+-- beside 1.0 a scale has no more bits than behind a word
+beside_one_least : (point : Point3) → point.x ≡ ONE → length (scale_beside_one.short point) ≤ length (scale_free.short point)
+beside_one_least point x_one =
+    subst (λ (x : ℕ). length (scale_beside_one.short point) ≤ length (rd.short point.x ++ ((dd x).short point.y ++ (dd x).short point.z))) (sym x_one)
+    (omega (arith, length-append (rd.short point.x) ((dd ONE).short point.y ++ (dd ONE).short point.z)))
+
+-- nor has an even one
+even_least : (point : Point3) → length (scale_even.short point) ≤ length (scale_free.short point)
+even_least point = omega (arith, length-append (rd.short point.x) ((dd point.x).short point.y ++ (dd point.x).short point.z))
+
+-- behind the tag that is written there are no more bits than behind another
+scale_least : (point : Point3) (tag : ℕ) (x_one y_one z_one y_same z_same : Bool) → (point.x == ONE) ≡ x_one → (point.y == ONE) ≡ y_one → (point.z == ONE) ≡ z_one
+    → (point.y == point.x) ≡ y_same → (point.z == point.x) ≡ z_same → (scale_by tag).IsValue point
+    → length ((scale_by (tag_by x_one y_one z_one y_same z_same)).short point) ≤ length ((scale_by tag).short point)
+scale_least point tag true true true y_same z_same x y z same_y same_z fits = omega arith
+scale_least point zero true true false y_same z_same x y z same_y same_z fits = beside_one_least point ((Decides-eqb point.x ONE).0 x)
+scale_least point (suc zero) true true false y_same z_same x y z same_y same_z fits = omega arith
+scale_least point (suc (suc zero)) true true false y_same z_same x y z same_y same_z fits = apart point.z ONE z (fits.2 ∙ (Decides-eqb point.x ONE).0 x)
+scale_least point (suc (suc (suc zero))) true true false y_same z_same x y z same_y same_z fits = apart point.z ONE z (ap (λ (p : Point3). p.z) fits)
+scale_least point zero true false z_one y_same z_same x y z same_y same_z fits = beside_one_least point ((Decides-eqb point.x ONE).0 x)
+scale_least point (suc zero) true false z_one y_same z_same x y z same_y same_z fits = omega arith
+scale_least point (suc (suc zero)) true false z_one y_same z_same x y z same_y same_z fits = apart point.y ONE y (fits.1 ∙ (Decides-eqb point.x ONE).0 x)
+scale_least point (suc (suc (suc zero))) true false z_one y_same z_same x y z same_y same_z fits = apart point.y ONE y (ap (λ (p : Point3). p.y) fits)
+scale_least point zero false y_one z_one true true x y z same_y same_z fits = even_least point
+scale_least point (suc zero) false y_one z_one y_same z_same x y z same_y same_z fits = apart point.x ONE x fits.1
+scale_least point (suc (suc zero)) false y_one z_one true true x y z same_y same_z fits = omega arith
+scale_least point (suc (suc (suc zero))) false y_one z_one y_same z_same x y z same_y same_z fits = apart point.x ONE x (ap (λ (p : Point3). p.x) fits)
+scale_least point zero false y_one z_one true false x y z same_y same_z fits = omega arith
+scale_least point (suc (suc zero)) false y_one z_one true false x y z same_y same_z fits = apart point.z point.x same_z fits.2
+scale_least point zero false y_one z_one false z_same x y z same_y same_z fits = omega arith
+scale_least point (suc (suc zero)) false y_one z_one false z_same x y z same_y same_z fits = apart point.y point.x same_y fits.1
+scale_least point (suc (suc (suc (suc tag)))) x_one y_one z_one y_same z_same x y z same_y same_z fits = absurd fits
+
+-- a scale is a code
+pub scale_is_code : IsCode AnyLetters scale
+unfolding scale
+scale_is_code =
+    bit_tagged_is_code 2 scale_by IsPoint3 (λ point. tag_by (point.x == ONE) (point.y == ONE) (point.z == ONE) (point.y == point.x) (point.z == point.x))
+    (λ tag in_range. scale_by_is_code tag) (λ tag point in_range fits. scale_by_value tag point fits)
+    (λ point fits. scale_picked point (point.x == ONE) (point.y == ONE) (point.z == ONE) (point.y == point.x) (point.z == point.x) refl refl refl refl refl fits)
+    (λ tag point in_range fits. scale_least point tag (point.x == ONE) (point.y == ONE) (point.z == ONE) (point.y == point.x) (point.z == point.x) refl refl refl refl refl fits)

@@ -1,0 +1,75 @@
+//! The begin of a block.
+
+ghost use Rattle.std.specs.Prelude.{◌≡◌, IfOk};
+ghost use Rattle.std.specs.Option.{option_map};
+ghost use Rattle.dwg_bits.specs.Cursor.{rest};
+ghost use Rattle.dwg_entities.specs.BlockBody.{block_body, block_main};
+ghost use Rattle.dwg_entities.specs.BodiesLaws.{block_is_body};
+
+use crate::tv::{parse_tv, tv_bits, tv_fits, write_tv};
+use dwg_base::{ByteRun, Handle, NoMemory};
+use dwg_bits::{BitCursor, BitSink};
+use dwg_common::{BodyCode, Lengths};
+use std::alloc::Global;
+
+/// The begin of a block (Open Design Specification, "BLOCK").
+#[derive(Drop)]
+pub struct Block {
+    /// Its name, at most 65,535 bytes.
+    pub name: ByteRun,
+}
+
+/// Reads the begin of a block, as it is parsed. The only refusal is want of memory, which is taken only for bytes that are
+/// there.
+fn read_block(alloc: Global, cursor: &mut BitCursor<'_>) -> Result<Option<Block>, NoMemory>
+    ensures parsed { IfOk result (λ found. block_main.parse (rest cursor.old) ≡ option_map (λ block. (block, rest cursor.new)) found) }
+    ensures same_bytes { cursor.new.bytes.now ≡ cursor.old.bytes.now }
+    ensures same_end { cursor.new.end ≡ cursor.old.end }
+{
+    let Some(name) = parse_tv(alloc, cursor)? else {
+        return Ok(None);
+    };
+    Ok(Some(Block { name }))
+}
+
+impl BodyCode for Block {
+    ghost grammar = { block_body };
+
+    #[tactic(auto, using(crate::proofs::BlockReading::block_read, crate::proofs::BlockReading::block_value))]
+    fn read(
+        alloc: Global,
+        main: &mut BitCursor<'_>,
+        _refs: &mut BitCursor<'_>,
+        _base: Handle,
+    ) -> Result<Option<Block>, NoMemory> {
+        let mut ahead = *main;
+        let Some(block) = read_block(alloc, &mut ahead)? else {
+            return Ok(None);
+        };
+        *main = ahead;
+        Ok(Some(block))
+    }
+
+    #[tactic(auto, unfolding(crate::specs::BlockBody::block_body))]
+    fn fits(&self, _base: Handle) -> bool {
+        tv_fits(self.name.as_slice())
+    }
+
+    #[tactic(auto, unfolding(crate::specs::BlockBody::block_body))]
+    fn lengths(&self, _base: Handle) -> Lengths {
+        Lengths {
+            main: tv_bits(self.name.as_slice()),
+            refs: 0,
+        }
+    }
+
+    #[tactic(auto, unfolding(crate::specs::BlockBody::block_body))]
+    fn write_main(&self, _base: Handle, sink: &mut BitSink) {
+        write_tv(self.name.as_slice(), sink);
+    }
+
+    #[tactic(auto, unfolding(crate::specs::BlockBody::block_body), using(dwg_bits::specs::SinkLaws::extends_by_none))]
+    fn write_refs(&self, _base: Handle, _sink: &mut BitSink) {}
+
+    ghost laws = { λ base small. block_is_body base small };
+}

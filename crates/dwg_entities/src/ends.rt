@@ -1,0 +1,81 @@
+//! The end of a block, and the end of a sequence of entities: entities that have nothing beside the common part.
+
+ghost use Rattle.dwg_entities.specs.BlockEnds.{endblk_body, seqend_body};
+ghost use Rattle.dwg_entities.specs.BodiesLaws.{endblk_is_body, seqend_is_body};
+
+use dwg_base::{Handle, NoMemory};
+use dwg_bits::{BitCursor, BitSink};
+use dwg_common::{BodyCode, Lengths};
+use std::alloc::Global;
+
+/// The end of a block (Open Design Specification, "ENDBLK").
+#[derive(Clone, Copy, Debug, PartialEq, Eq)]
+pub struct EndBlk;
+
+/// The end of a sequence, as of the attributes of an insert (Open Design Specification, "SEQEND").
+#[derive(Clone, Copy, Debug, PartialEq, Eq)]
+pub struct SeqEnd;
+
+impl BodyCode for EndBlk {
+    ghost grammar = { endblk_body };
+
+    #[tactic(auto, using(crate::proofs::BlockReading::endblk_read, crate::proofs::BlockReading::endblk_value))]
+    fn read(
+        _alloc: Global,
+        _main: &mut BitCursor<'_>,
+        _refs: &mut BitCursor<'_>,
+        _base: Handle,
+    ) -> Result<Option<EndBlk>, NoMemory> {
+        Ok(Some(EndBlk))
+    }
+
+    #[tactic(auto, unfolding(crate::specs::BlockEnds::endblk_body))]
+    fn fits(&self, _base: Handle) -> bool {
+        true
+    }
+
+    #[tactic(auto, unfolding(crate::specs::BlockEnds::endblk_body))]
+    fn lengths(&self, _base: Handle) -> Lengths {
+        Lengths { main: 0, refs: 0 }
+    }
+
+    #[tactic(auto, unfolding(crate::specs::BlockEnds::endblk_body), using(dwg_bits::specs::SinkLaws::extends_by_none))]
+    fn write_main(&self, _base: Handle, _sink: &mut BitSink) {}
+
+    #[tactic(auto, unfolding(crate::specs::BlockEnds::endblk_body), using(dwg_bits::specs::SinkLaws::extends_by_none))]
+    fn write_refs(&self, _base: Handle, _sink: &mut BitSink) {}
+
+    ghost laws = { λ base small. endblk_is_body base small };
+}
+
+impl BodyCode for SeqEnd {
+    ghost grammar = { seqend_body };
+
+    #[tactic(auto, using(crate::proofs::BlockReading::seqend_read, crate::proofs::BlockReading::seqend_value))]
+    fn read(
+        _alloc: Global,
+        _main: &mut BitCursor<'_>,
+        _refs: &mut BitCursor<'_>,
+        _base: Handle,
+    ) -> Result<Option<SeqEnd>, NoMemory> {
+        Ok(Some(SeqEnd))
+    }
+
+    #[tactic(auto, unfolding(crate::specs::BlockEnds::seqend_body))]
+    fn fits(&self, _base: Handle) -> bool {
+        true
+    }
+
+    #[tactic(auto, unfolding(crate::specs::BlockEnds::seqend_body))]
+    fn lengths(&self, _base: Handle) -> Lengths {
+        Lengths { main: 0, refs: 0 }
+    }
+
+    #[tactic(auto, unfolding(crate::specs::BlockEnds::seqend_body), using(dwg_bits::specs::SinkLaws::extends_by_none))]
+    fn write_main(&self, _base: Handle, _sink: &mut BitSink) {}
+
+    #[tactic(auto, unfolding(crate::specs::BlockEnds::seqend_body), using(dwg_bits::specs::SinkLaws::extends_by_none))]
+    fn write_refs(&self, _base: Handle, _sink: &mut BitSink) {}
+
+    ghost laws = { λ base small. seqend_is_body base small };
+}

@@ -1,0 +1,29 @@
+//! Texts, attributes, inserts and the marks of blocks: what each has beside the common part of entities (Open Design
+//! Specification, "TEXT", "ATTRIB", "ATTDEF", "INSERT", "BLOCK", "ENDBLK" and "SEQEND").
+#![tactic(auto)]
+
+mod attdef;
+mod attrib;
+mod attributes;
+mod block;
+mod ends;
+mod flags;
+mod inscription;
+mod insert;
+mod label;
+mod laws;
+mod lettering;
+mod placing;
+mod points;
+mod scale;
+mod text;
+mod tv;
+mod wording;
+
+pub use attdef::Attdef;
+pub use attrib::Attrib;
+pub use block::Block;
+pub use ends::{EndBlk, SeqEnd};
+pub use insert::{Attributes, Insert};
+pub use laws::entity_laws;
+pub use text::Text;

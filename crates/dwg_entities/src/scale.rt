@@ -1,0 +1,194 @@
+//! The scale of an insert as bits (Open Design Specification, "INSERT").
+
+ghost use Rattle.std.specs.Prelude.{◌≡◌, ◌^◌, ◌<◌, ◌≤◌, ⊤, length};
+ghost use Rattle.std.specs.Option.{option_map};
+ghost use Rattle.dwg_bits.specs.Cursor.{rest};
+ghost use Rattle.dwg_bits.specs.Sink.{Extends};
+ghost use Rattle.dwg_codes.specs.Codes.{IsPoint3};
+ghost use Rattle.dwg_entities.specs.Scale.{scale, scale_beside_one, scale_by, scale_even, scale_free, scale_tag};
+ghost use Rattle.dwg_entities.specs.ScaleLaws.{scale_is_code};
+
+use dwg_bits::{BitCursor, BitSink};
+use dwg_codes::{BitCode, CodeBB, CodeDD, CodeRD, Point3};
+use dwg_common::parse_code;
+
+/// The word of 1.0.
+const ONE_WORD: u64 = 0x3FF0_0000_0000_0000;
+
+/// The tag of a scale of any words.
+const FREE: u8 = 0;
+
+/// The tag of a scale whose x is 1.0.
+const BESIDE_ONE: u8 = 1;
+
+/// The tag of a scale of one word.
+const EVEN: u8 = 2;
+
+/// The tag of a scale of 1.0 alone.
+const WHOLE: u8 = 3;
+
+/// Reads a scale of any words, as it is parsed.
+fn read_free(cursor: &mut BitCursor<'_>) -> Option<Point3>
+    ensures parsed { scale_free.parse (rest cursor.old) ≡ option_map (λ point. (point, rest cursor.new)) result }
+    ensures same_bytes { cursor.new.bytes.now ≡ cursor.old.bytes.now }
+    ensures same_end { cursor.new.end ≡ cursor.old.end }
+{
+    let x = parse_code::<CodeRD>(&(), cursor)?;
+    let y = parse_code::<CodeDD>(&x, cursor)?;
+    let z = parse_code::<CodeDD>(&x, cursor)?;
+    Some(Point3 { x, y, z })
+}
+
+/// Reads a scale whose x is 1.0, as it is parsed.
+fn read_beside_one(cursor: &mut BitCursor<'_>) -> Option<Point3>
+    ensures parsed { scale_beside_one.parse (rest cursor.old) ≡ option_map (λ point. (point, rest cursor.new)) result }
+    ensures same_bytes { cursor.new.bytes.now ≡ cursor.old.bytes.now }
+    ensures same_end { cursor.new.end ≡ cursor.old.end }
+{
+    let y = parse_code::<CodeDD>(&ONE_WORD, cursor)?;
+    let z = parse_code::<CodeDD>(&ONE_WORD, cursor)?;
+    Some(Point3 { x: ONE_WORD, y, z })
+}
+
+/// Reads a scale of one word, as it is parsed.
+fn read_even(cursor: &mut BitCursor<'_>) -> Option<Point3>
+    ensures parsed { scale_even.parse (rest cursor.old) ≡ option_map (λ point. (point, rest cursor.new)) result }
+    ensures same_bytes { cursor.new.bytes.now ≡ cursor.old.bytes.now }
+    ensures same_end { cursor.new.end ≡ cursor.old.end }
+{
+    let x = parse_code::<CodeRD>(&(), cursor)?;
+    Some(Point3 { x, y: x, z: x })
+}
+
+/// Reads what is behind a tag, as it is parsed.
+#[tactic(auto, using(crate::proofs::ScaleReading::none_behind))]
+fn read_behind(tag: u8, cursor: &mut BitCursor<'_>) -> Option<Point3>
+    ensures parsed { (scale_by tag).parse (rest cursor.old) ≡ option_map (λ point. (point, rest cursor.new)) result }
+    ensures same_bytes { cursor.new.bytes.now ≡ cursor.old.bytes.now }
+    ensures same_end { cursor.new.end ≡ cursor.old.end }
+{
+    match tag {
+        FREE => read_free(cursor),
+        BESIDE_ONE => read_beside_one(cursor),
+        EVEN => read_even(cursor),
+        WHOLE => Some(Point3 {
+            x: ONE_WORD,
+            y: ONE_WORD,
+            z: ONE_WORD,
+        }),
+        _ => None,
+    }
+}
+
+/// Reads a scale, as it is parsed.
+#[tactic(auto, unfolding(crate::specs::Scale::scale))]
+fn read_scale(cursor: &mut BitCursor<'_>) -> Option<Point3>
+    ensures parsed { scale.parse (rest cursor.old) ≡ option_map (λ point. (point, rest cursor.new)) result }
+    ensures same_bytes { cursor.new.bytes.now ≡ cursor.old.bytes.now }
+    ensures same_end { cursor.new.end ≡ cursor.old.end }
+{
+    let tag = parse_code::<CodeBB>(&(), cursor)?;
+    read_behind(tag, cursor)
+}
+
+/// The tag under which a scale is written: the first of 11, 01, 10 and 00 that applies.
+fn scale_tag(point: &Point3) -> u8
+    ensures tag { result ≡ scale_tag point.now }
+    ensures fits { result < 4 }
+{
+    if point.x == ONE_WORD {
+        if point.y != ONE_WORD {
+            return BESIDE_ONE;
+        }
+        if point.z != ONE_WORD {
+            return BESIDE_ONE;
+        }
+        return WHOLE;
+    }
+    if point.y != point.x {
+        return FREE;
+    }
+    if point.z != point.x {
+        return FREE;
+    }
+    EVEN
+}
+
+/// How many bits are written of a scale behind a tag.
+#[tactic(auto, using(crate::specs::PointLaws::dd_at_most, dwg_codes::specs::NumberLaws::length_of_rd))]
+fn bits_behind(tag: u8, point: &Point3) -> u64
+    requires tag { tag < 4 }
+    requires point { IsPoint3 point.now }
+    ensures length { result ≡ length ((scale_by tag).short point.now) }
+    ensures few { result ≤ 196 }
+{
+    match tag {
+        FREE => {
+            CodeRD::length(&(), &point.x)
+                + CodeDD::length(&point.x, &point.y)
+                + CodeDD::length(&point.x, &point.z)
+        }
+        BESIDE_ONE => { CodeDD::length(&ONE_WORD, &point.y) + CodeDD::length(&ONE_WORD, &point.z) }
+        EVEN => CodeRD::length(&(), &point.x),
+        _ => 0,
+    }
+}
+
+/// Writes a scale behind a tag.
+fn write_behind(tag: u8, point: &Point3, sink: &mut BitSink)
+    requires tag { tag < 4 }
+    requires point { IsPoint3 point.now }
+    requires room { length ((scale_by tag).short point.now) ≤ sink.old.spare }
+    ensures { Extends sink.old sink.new ((scale_by tag).short point.now) }
+{
+    match tag {
+        FREE => {
+            CodeRD::write(&(), &point.x, sink);
+            CodeDD::write(&point.x, &point.y, sink);
+            CodeDD::write(&point.x, &point.z, sink);
+        }
+        BESIDE_ONE => {
+            CodeDD::write(&ONE_WORD, &point.y, sink);
+            CodeDD::write(&ONE_WORD, &point.z, sink);
+        }
+        EVEN => CodeRD::write(&(), &point.x, sink),
+        _ => {}
+    }
+}
+
+/// The scale of an insert: BB 11 for 1.0 along each axis; 01 where x is 1.0, and y and z each a DD against 1.0; 10 and an RD
+/// for all three; 00 and an RD x, and y and z each a DD against x.
+pub(crate) struct CodeScale;
+
+impl BitCode for CodeScale {
+    type Context = ();
+
+    type Value = Point3;
+
+    ghost grammar = { λ context. scale };
+
+    ghost IsContext = { λ context. ⊤ };
+
+    #[tactic(auto, using(crate::proofs::ScaleReading::scale_read, crate::proofs::ScaleReading::scale_unread, crate::proofs::ScaleReading::scale_value))]
+    fn read(_context: &(), cursor: &mut BitCursor<'_>) -> Option<Point3> {
+        let mut ahead = *cursor;
+        let point = read_scale(&mut ahead)?;
+        *cursor = ahead;
+        Some(point)
+    }
+
+    #[tactic(auto, unfolding(crate::specs::Scale::scale), using(dwg_bits::specs::BitLaws::length_of_low_bits))]
+    fn length(_context: &(), value: &Point3) -> u64 {
+        let tag = scale_tag(value);
+        CodeBB::length(&(), &tag) + bits_behind(tag, value)
+    }
+
+    #[tactic(auto, unfolding(crate::specs::Scale::scale))]
+    fn write(_context: &(), value: &Point3, sink: &mut BitSink) {
+        let tag = scale_tag(value);
+        CodeBB::write(&(), &tag, sink);
+        write_behind(tag, value, sink);
+    }
+
+    ghost laws = { λ context is. scale_is_code };
+}

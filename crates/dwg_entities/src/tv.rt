@@ -1,0 +1,56 @@
+//! Texts as bits: at most 65,535 bytes (Open Design Specification, "Bit codes").
+
+ghost use Rattle.std.specs.Prelude.{◌≡◌, ◌^◌, ◌<◌, ◌≤◌, ◌↔◌, length, IfOk, IsTrue};
+ghost use Rattle.std.specs.Option.{option_map};
+ghost use Rattle.dwg_bits.specs.Cursor.{rest};
+ghost use Rattle.dwg_bits.specs.Sink.{Extends};
+ghost use Rattle.dwg_codes.specs.Codes.{tv};
+
+use dwg_base::{ByteRun, NoMemory};
+use dwg_bits::{BitCursor, BitSink};
+use dwg_codes::{read_text, text_length, write_text};
+use std::alloc::Global;
+
+/// How many bytes can't be told: their count is a BS.
+const TOO_MANY: usize = 1 << 16;
+
+/// Reads a TV, as it is parsed. The only refusal is want of memory, which is taken only for bytes that are there.
+#[tactic(auto, using(crate::proofs::TextReading::tv_parsed))]
+pub(crate) fn parse_tv(
+    alloc: Global,
+    cursor: &mut BitCursor<'_>,
+) -> Result<Option<ByteRun>, NoMemory>
+    ensures parsed { IfOk result (λ found. tv.parse (rest cursor.old) ≡ option_map (λ run. (run, rest cursor.new)) found) }
+    ensures same_bytes { cursor.new.bytes.now ≡ cursor.old.bytes.now }
+    ensures same_end { cursor.new.end ≡ cursor.old.end }
+{
+    read_text(alloc, cursor)
+}
+
+/// Whether bytes can be told by a TV: they are at most 65,535.
+#[tactic(auto, using(dwg_base::specs::Bytes::are_bytes, dwg_codes::specs::TableLaws::tv_has, dwg_codes::specs::TableLaws::tv_bytes))]
+pub(crate) fn tv_fits(text: &[u8]) -> bool
+    ensures { IsTrue result ↔ tv.IsValue text.now }
+{
+    text.len() < TOO_MANY
+}
+
+/// How many bits a TV is written by.
+#[tactic(auto, using(dwg_codes::specs::TableLaws::tv_bytes))]
+pub(crate) fn tv_bits(text: &[u8]) -> u64
+    requires { tv.IsValue text.now }
+    ensures length { result ≡ length (tv.short text.now) }
+    ensures few { result < 2 ^ 32 }
+{
+    text_length(text)
+}
+
+/// Writes a TV.
+#[tactic(auto, using(dwg_codes::specs::TableLaws::tv_bytes))]
+pub(crate) fn write_tv(text: &[u8], sink: &mut BitSink)
+    requires value { tv.IsValue text.now }
+    requires room { length (tv.short text.now) ≤ sink.old.spare }
+    ensures { Extends sink.old sink.new (tv.short text.now) }
+{
+    write_text(text, sink);
+}

@@ -1,0 +1,11 @@
+use Rattle.dwg_codes.specs.CombinatorLaws.{any_letters_closed}
+use Rattle.dwg_codes.specs.Combinators.{items}
+use Rattle.dwg_codes.specs.Grammar.{AnyLetters}
+use Rattle.dwg_codes.specs.ListLaws.{items_is_code}
+use Rattle.dwg_common.specs.BodyReading.{parsed}
+use Rattle.dwg_shapes.proofs.lists.parse_list.Goals as goal
+
+pub returns-clause-parsed : goal.returns-clause-parsed
+returns-clause-parsed g c =
+    parsed (items (g.C.BitCode.grammar c.args.context.now) c.args.count) _ _ _
+    (items_is_code AnyLetters (g.C.BitCode.grammar c.args.context.now) c.args.count any_letters_closed (g.met.C.BitCode.laws c.args.context.now c.requires)) c.in_ok-found.ensures.reads

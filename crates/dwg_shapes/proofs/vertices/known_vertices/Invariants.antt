@@ -1,0 +1,8 @@
+use Rattle.std.proofs.Common.{drop}
+use Rattle.dwg_shapes.specs.Words.{IsPoint2}
+use Rattle.dwg_shapes.proofs.Known.{IsKnownSoFar}
+use Rattle.dwg_shapes.proofs.vertices.known_vertices.Given as goal
+
+-- the points so far are known
+abbrev pub invariant-along : goal.invariant-along
+invariant-along l = IsKnownSoFar IsPoint2 l.points (drop l.point-index l.points)

@@ -1,0 +1,20 @@
+-- CIRCLE (Open Design Specification, "CIRCLE").
+use Rattle.std.specs.Prelude.{ℕ, Bool}
+use Rattle.dwg_codes.specs.Codes.{bd, bt, bd3, be}
+use Rattle.dwg_codes.specs.Combinators.{seq}
+use Rattle.dwg_codes.specs.Grammar.{Grammar}
+use Rattle.dwg_common.specs.Bodies.{BodyGrammar}
+use Rattle.dwg_common.specs.MakingBodies.{main_body}
+use Rattle.dwg_common.specs.Shaped.{shaped}
+use Rattle.dwg_shapes.specs.declared.circle.Circle.{Circle}
+
+-- 3BD centre; BD radius; BT thickness; BE extrusion
+abbrev pub circle_main : Grammar Bool Circle
+circle_main =
+    shaped (λ parts. record { centre = parts.0; radius = parts.1.0; thickness = parts.1.1.0; extrusion = parts.1.1.1 })
+    (λ circle. (circle.centre, (circle.radius, (circle.thickness, circle.extrusion))))
+    (seq bd3 (λ centre. seq bd (λ radius. seq bt (λ thickness. be))))
+
+-- a circle: no references
+unfoldable pub circle_body : ℕ → BodyGrammar Circle
+circle_body base = main_body circle_main

@@ -1,0 +1,50 @@
+-- LINE (Open Design Specification, "LINE"). That z-zero is written where both z words are 0, and only there, is a rule of this project.
+use Rattle.std.specs.Prelude.{◌==◌, ℕ, Bool, true, false, if◌then◌else◌}
+use Rattle.dwg_codes.specs.Codes.{rd, dd, bt, be, IsPoint3}
+use Rattle.dwg_codes.specs.Combinators.{always, seq, tagged}
+use Rattle.dwg_codes.specs.Grammar.{Grammar}
+use Rattle.dwg_codes.specs.TruthCode.{b}
+use Rattle.dwg_common.specs.Bodies.{BodyGrammar}
+use Rattle.dwg_common.specs.MakingBodies.{main_body}
+use Rattle.dwg_common.specs.Shaped.{shaped}
+use Rattle.dwg_shapes.specs.declared.line.Ends.{Ends}
+use Rattle.dwg_shapes.specs.declared.line.Line.{Line}
+
+-- where z-zero is 0, RD start.z; DD end.z, whose default is start.z; else both are 0
+abbrev pub heights : Bool → Grammar Bool (ℕ × ℕ)
+heights true = always (0, 0)
+heights false = seq rd (λ start_z. dd start_z)
+
+-- RD start.x; DD end.x, whose default is start.x; RD start.y; DD end.y, whose default is start.y; the z words
+abbrev pub ends_by : Bool → Grammar Bool Ends
+ends_by z_zero =
+    shaped (λ words. record {
+      start = record { x = words.0; y = words.1.1.0; z = words.1.1.1.1.0 };
+      end = record { x = words.1.0; y = words.1.1.1.0; z = words.1.1.1.1.1 };
+    })
+    (λ ends. (ends.start.x, (ends.end.x, (ends.start.y, (ends.end.y, (ends.start.z, ends.end.z))))))
+    (seq rd (λ start_x. seq (dd start_x) (λ end_x. seq rd (λ start_y. seq (dd start_y) (λ end_y. heights z_zero)))))
+
+-- the words of both ends lie in the range of their type
+pub record AreEnds (ends : Ends) : Type 0 where
+  pub start : IsPoint3 ends.start
+  pub end : IsPoint3 ends.end
+
+-- both z words are 0
+abbrev pub is_flat : Ends → Bool
+is_flat ends = if ends.start.z == 0 then ends.end.z == 0 else false
+
+-- B z-zero; the ends
+abbrev pub line_ends : Grammar Bool Ends
+line_ends = tagged b ends_by AreEnds is_flat
+
+-- the ends; BT thickness; BE extrusion
+abbrev pub line_main : Grammar Bool Line
+line_main =
+    shaped (λ parts. record { start = parts.0.start; end = parts.0.end; thickness = parts.1.0; extrusion = parts.1.1 })
+    (λ line. (record { start = line.start; end = line.end }, (line.thickness, line.extrusion)))
+    (seq line_ends (λ ends. seq bt (λ thickness. be)))
+
+-- a line: no references
+unfoldable pub line_body : ℕ → BodyGrammar Line
+line_body base = main_body line_main

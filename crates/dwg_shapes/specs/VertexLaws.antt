@@ -1,0 +1,51 @@
+-- The points of a light polyline are a code, and so are lists that are there by their counts.
+use Rattle.std.proofs.Common.{◌≡◌, refl, ◌∙◌, ap, ℕ, Bool, true, false, List, length, Option, Some, None}
+use Rattle.std.specs.Prelude.{⊤, option_map}
+use Rattle.dwg_codes.specs.Codes.{bd}
+use Rattle.dwg_codes.specs.Combinators.{chain, items}
+use Rattle.dwg_codes.specs.CombinatorLaws.{any_letters_closed, seq_is_code}
+use Rattle.dwg_codes.specs.Grammar.{Grammar, IsCode, AnyLetters}
+use Rattle.dwg_codes.specs.ListLaws.{chain_is_code, items_is_code, when_is_code}
+use Rattle.dwg_codes.specs.TableLaws.{bd_is_code}
+use Rattle.dwg_codes.specs.declared.points.Point2.{Point2}
+use Rattle.dwg_common.specs.Shaped.{shaped_is_code}
+use Rattle.dwg_shapes.specs.LwPolylines.{vertex, vertices, width_pair, items_where}
+use Rattle.dwg_shapes.specs.Words.{IsPoint2}
+use Rattle.dwg_shapes.specs.WordLaws.{rd2_is_code, dd2_is_code}
+
+-- the point before lies in the range of its type, where there is one
+abbrev pub IsBefore : Option Point2 → Type 0
+IsBefore None = ⊤
+IsBefore (Some before) = IsPoint2 before
+
+-- a point is a code behind each point
+vertex_is_code : (before : Option Point2) → IsBefore before → IsCode AnyLetters (vertex before)
+vertex_is_code None is = rd2_is_code
+vertex_is_code (Some before) is = dd2_is_code before is
+
+-- and leads to a point that may stand before another
+vertex_value : (before : Option Point2) (point : Point2) → (vertex before).IsValue point → IsPoint2 point
+vertex_value None point fits = record { x = fits.0; y = fits.1 }
+vertex_value (Some before) point fits = record { x = fits.0; y = fits.1 }
+
+-- so many points are a code
+pub vertices_is_code : (count : ℕ) → IsCode AnyLetters (vertices count)
+vertices_is_code count =
+    chain_is_code AnyLetters vertex (λ point. Some point) IsBefore None count any_letters_closed
+    record { state_is_code = λ before is. vertex_is_code before is; next_is_state = λ before point is fits. vertex_value before point fits } tt
+
+-- a width is a code
+pub width_pair_is_code : IsCode AnyLetters width_pair
+width_pair_is_code = shaped_is_code _ _ _ (seq_is_code AnyLetters bd _ any_letters_closed bd_is_code (λ start fits. bd_is_code)) (λ parts fits. refl) (λ width. refl)
+
+-- so many values are a code, where there is a count
+pub items_where_is_code : {V : Type 0} (code : Grammar Bool V) (count : Option ℕ) → IsCode AnyLetters code → IsCode AnyLetters (items_where code count)
+items_where_is_code code (Some count) is = when_is_code AnyLetters true (items code count) (λ holds. items_is_code AnyLetters code count any_letters_closed is)
+items_where_is_code code None is = when_is_code AnyLetters false (items code 0) (λ holds. items_is_code AnyLetters code 0 any_letters_closed is)
+
+-- and tell their count
+pub count_told : {V : Type 0} (code : Grammar Bool V) (count : Option ℕ) (values : Option (List V)) → (items_where code count).IsValue values
+    → option_map (λ (many : List V). length many) values ≡ count
+unfolding chain
+count_told {V} code (Some count) values (inner, same, fits) = ap (option_map (λ (many : List V). length many)) same ∙ ap (λ (many : ℕ). Some many) fits.0
+count_told {V} code None values none = ap (option_map (λ (many : List V). length many)) none

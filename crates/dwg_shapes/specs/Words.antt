@@ -1,0 +1,20 @@
+-- Codes of points that have no name of their own in the table of codes (Open Design Specification, "Bit codes").
+use Rattle.std.specs.Prelude.{◌<◌, ◌^◌, Bool}
+use Rattle.dwg_codes.specs.Codes.{rd, dd}
+use Rattle.dwg_codes.specs.Combinators.{seq}
+use Rattle.dwg_codes.specs.Grammar.{Grammar}
+use Rattle.dwg_codes.specs.declared.points.Point2.{Point2}
+use Rattle.dwg_common.specs.Shaped.{shaped}
+
+-- the words of a point of the plane lie in the range of their type
+pub record IsPoint2 (point : Point2) : Type 0 where
+  pub x : point.x < 2 ^ 64
+  pub y : point.y < 2 ^ 64
+
+-- 2RD: two RDs
+abbrev pub rd2 : Grammar Bool Point2
+rd2 = shaped (λ words. record { x = words.0; y = words.1 }) (λ point. (point.x, point.y)) (seq rd (λ x. rd))
+
+-- 2DD: two DDs, each with its word of the point before as its default
+abbrev pub dd2 : Point2 → Grammar Bool Point2
+dd2 before = shaped (λ words. record { x = words.0; y = words.1 }) (λ point. (point.x, point.y)) (seq (dd before.x) (λ x. dd before.y))

@@ -1,0 +1,110 @@
+//! Arcs of circles.
+
+ghost use Rattle.std.specs.Prelude.{◌≡◌, ◌^◌, ◌<◌, length};
+ghost use Rattle.std.specs.Option.{option_map};
+ghost use Rattle.dwg_bits.specs.Cursor.{rest};
+ghost use Rattle.dwg_shapes.specs.Arcs.{arc_body, arc_main};
+ghost use Rattle.dwg_shapes.specs.ShapeLaws.{arc_is_body};
+
+use crate::circle::{Circle, circle_bits, known_circle, read_circle, write_circle};
+use dwg_base::{Handle, NoMemory};
+use dwg_bits::{BitCursor, BitSink};
+use dwg_codes::{BitCode, CodeBD, Point3};
+use dwg_common::{BodyCode, Lengths, parse_code};
+use std::alloc::Global;
+
+/// An arc of a circle (Open Design Specification, "ARC").
+#[derive(Clone, Copy, Debug, PartialEq, Eq)]
+pub struct Arc {
+    /// The centre of its circle.
+    pub centre: Point3,
+    /// The radius of its circle, the word of a floating-point number.
+    pub radius: u64,
+    /// How thick it is, the word of a floating-point number.
+    pub thickness: u64,
+    /// The direction in which it is thick.
+    pub extrusion: Point3,
+    /// The angle at which it starts, the word of a floating-point number.
+    pub start_angle: u64,
+    /// The angle at which it ends, the word of a floating-point number.
+    pub end_angle: u64,
+}
+
+/// The circle of an arc.
+fn circle_of(arc: &Arc) -> Circle
+    ensures { result ≡ record { centre = arc.now.centre; radius = arc.now.radius; thickness = arc.now.thickness; extrusion = arc.now.extrusion } }
+{
+    Circle {
+        centre: arc.centre,
+        radius: arc.radius,
+        thickness: arc.thickness,
+        extrusion: arc.extrusion,
+    }
+}
+
+/// Reads an arc, as it is parsed.
+fn read_arc(cursor: &mut BitCursor<'_>) -> Option<Arc>
+    ensures parsed { arc_main.parse (rest cursor.old) ≡ option_map (λ arc. (arc, rest cursor.new)) result }
+    ensures same_bytes { cursor.new.bytes.now ≡ cursor.old.bytes.now }
+    ensures same_end { cursor.new.end ≡ cursor.old.end }
+{
+    let circle = read_circle(cursor)?;
+    let start_angle = parse_code::<CodeBD>(&(), cursor)?;
+    let end_angle = parse_code::<CodeBD>(&(), cursor)?;
+    Some(Arc {
+        centre: circle.centre,
+        radius: circle.radius,
+        thickness: circle.thickness,
+        extrusion: circle.extrusion,
+        start_angle,
+        end_angle,
+    })
+}
+
+impl BodyCode for Arc {
+    ghost grammar = { arc_body };
+
+    fn read(
+        _alloc: Global,
+        main: &mut BitCursor<'_>,
+        _refs: &mut BitCursor<'_>,
+        _base: Handle,
+    ) -> Result<Option<Arc>, NoMemory> {
+        let mut ahead = *main;
+        let Some(arc) = read_arc(&mut ahead) else {
+            return Ok(None);
+        };
+        *main = ahead;
+        Ok(Some(arc))
+    }
+
+    #[tactic(auto, unfolding(crate::specs::Arcs::arc_body))]
+    fn fits(&self, _base: Handle) -> bool {
+        known_circle(&circle_of(self));
+        let _start_angle = self.start_angle;
+        let _end_angle = self.end_angle;
+        true
+    }
+
+    #[tactic(auto, unfolding(crate::specs::Arcs::arc_body))]
+    fn lengths(&self, _base: Handle) -> Lengths {
+        Lengths {
+            main: circle_bits(&circle_of(self))
+                + CodeBD::length(&(), &self.start_angle)
+                + CodeBD::length(&(), &self.end_angle),
+            refs: 0,
+        }
+    }
+
+    #[tactic(auto, unfolding(crate::specs::Arcs::arc_body))]
+    fn write_main(&self, _base: Handle, sink: &mut BitSink) {
+        write_circle(&circle_of(self), sink);
+        CodeBD::write(&(), &self.start_angle, sink);
+        CodeBD::write(&(), &self.end_angle, sink);
+    }
+
+    #[tactic(auto, unfolding(crate::specs::Arcs::arc_body))]
+    fn write_refs(&self, _base: Handle, _sink: &mut BitSink) {}
+
+    ghost laws = { λ base small. arc_is_body base };
+}

@@ -1,0 +1,24 @@
+//! Simple shapes: lines, points, circles, arcs and light polylines (Open Design Specification, "LINE", "POINT", "CIRCLE",
+//! "ARC" and "LWPOLYLINE").
+#![tactic(auto)]
+
+mod arc;
+mod circle;
+mod ends;
+mod laws;
+mod line;
+mod lists;
+mod lwpolyline;
+mod point;
+mod polyline_lists;
+mod polyline_start;
+mod vertices;
+mod width;
+mod words;
+
+pub use arc::Arc;
+pub use circle::Circle;
+pub use laws::shape_laws;
+pub use line::Line;
+pub use lwpolyline::{LwPolyline, Width};
+pub use point::Point;

@@ -1,0 +1,96 @@
+//! Points that are drawn.
+
+ghost use Rattle.std.specs.Prelude.{◌≡◌, ◌^◌, ◌<◌, length};
+ghost use Rattle.std.specs.Option.{option_map};
+ghost use Rattle.dwg_bits.specs.Cursor.{rest};
+ghost use Rattle.dwg_shapes.specs.Points.{point_body, point_main};
+ghost use Rattle.dwg_shapes.specs.ShapeLaws.{point_is_body};
+
+use crate::words::{CodeBD3, known_point};
+use dwg_base::{Handle, NoMemory};
+use dwg_bits::{BitCursor, BitSink};
+use dwg_codes::{BitCode, CodeBD, CodeBE, CodeBT, Point3};
+use dwg_common::{BodyCode, Lengths, parse_code};
+use std::alloc::Global;
+
+/// A point that is drawn (Open Design Specification, "POINT").
+#[derive(Clone, Copy, Debug, PartialEq, Eq)]
+pub struct Point {
+    /// Where it stands.
+    pub place: Point3,
+    /// How thick it is, the word of a floating-point number.
+    pub thickness: u64,
+    /// The direction in which it is thick.
+    pub extrusion: Point3,
+    /// The angle of the x axis in which it is drawn, the word of a floating-point number.
+    pub angle: u64,
+}
+
+/// Reads a point, as it is parsed.
+fn read_point(cursor: &mut BitCursor<'_>) -> Option<Point>
+    ensures parsed { point_main.parse (rest cursor.old) ≡ option_map (λ point. (point, rest cursor.new)) result }
+    ensures same_bytes { cursor.new.bytes.now ≡ cursor.old.bytes.now }
+    ensures same_end { cursor.new.end ≡ cursor.old.end }
+{
+    let place = parse_code::<CodeBD3>(&(), cursor)?;
+    let thickness = parse_code::<CodeBT>(&(), cursor)?;
+    let extrusion = parse_code::<CodeBE>(&(), cursor)?;
+    let angle = parse_code::<CodeBD>(&(), cursor)?;
+    Some(Point {
+        place,
+        thickness,
+        extrusion,
+        angle,
+    })
+}
+
+impl BodyCode for Point {
+    ghost grammar = { point_body };
+
+    fn read(
+        _alloc: Global,
+        main: &mut BitCursor<'_>,
+        _refs: &mut BitCursor<'_>,
+        _base: Handle,
+    ) -> Result<Option<Point>, NoMemory> {
+        let mut ahead = *main;
+        let Some(point) = read_point(&mut ahead) else {
+            return Ok(None);
+        };
+        *main = ahead;
+        Ok(Some(point))
+    }
+
+    #[tactic(auto, unfolding(crate::specs::Points::point_body))]
+    fn fits(&self, _base: Handle) -> bool {
+        known_point(&self.place);
+        let _thickness = self.thickness;
+        known_point(&self.extrusion);
+        let _angle = self.angle;
+        true
+    }
+
+    #[tactic(auto, unfolding(crate::specs::Points::point_body))]
+    fn lengths(&self, _base: Handle) -> Lengths {
+        Lengths {
+            main: CodeBD3::length(&(), &self.place)
+                + CodeBT::length(&(), &self.thickness)
+                + CodeBE::length(&(), &self.extrusion)
+                + CodeBD::length(&(), &self.angle),
+            refs: 0,
+        }
+    }
+
+    #[tactic(auto, unfolding(crate::specs::Points::point_body))]
+    fn write_main(&self, _base: Handle, sink: &mut BitSink) {
+        CodeBD3::write(&(), &self.place, sink);
+        CodeBT::write(&(), &self.thickness, sink);
+        CodeBE::write(&(), &self.extrusion, sink);
+        CodeBD::write(&(), &self.angle, sink);
+    }
+
+    #[tactic(auto, unfolding(crate::specs::Points::point_body))]
+    fn write_refs(&self, _base: Handle, _sink: &mut BitSink) {}
+
+    ghost laws = { λ base small. point_is_body base };
+}

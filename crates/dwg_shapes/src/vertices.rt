@@ -1,0 +1,152 @@
+//! The points of a light polyline, as bits (Open Design Specification, "LWPOLYLINE").
+
+ghost use Rattle.std.specs.Prelude.{◌≡◌, ◌^◌, ◌<◌, ◌≤◌, length, IfOk};
+ghost use Rattle.std.specs.Option.{option_map};
+ghost use Rattle.dwg_bits.specs.Cursor.{rest};
+ghost use Rattle.dwg_bits.specs.Sink.{Extends};
+ghost use Rattle.dwg_shapes.specs.LwPolylines.{vertex, vertices};
+ghost use Rattle.dwg_shapes.specs.Words.{IsPoint2, rd2, dd2};
+
+use dwg_base::{Items, NoMemory};
+use dwg_bits::{BitCursor, BitSink};
+use dwg_codes::{BitCode, CodeDD, CodeRD, Point2};
+use dwg_common::parse_code;
+use std::alloc::Global;
+
+/// Reads a point by two RDs, as it is parsed.
+fn read_first(cursor: &mut BitCursor<'_>) -> Option<Point2>
+    ensures parsed { rd2.parse (rest cursor.old) ≡ option_map (λ point. (point, rest cursor.new)) result }
+    ensures same_bytes { cursor.new.bytes.now ≡ cursor.old.bytes.now }
+    ensures same_end { cursor.new.end ≡ cursor.old.end }
+{
+    let x = parse_code::<CodeRD>(&(), cursor)?;
+    let y = parse_code::<CodeRD>(&(), cursor)?;
+    Some(Point2 { x, y })
+}
+
+/// Reads a point by two DDs against the point before it, as it is parsed.
+fn read_next(before: Point2, cursor: &mut BitCursor<'_>) -> Option<Point2>
+    ensures parsed { (dd2 before).parse (rest cursor.old) ≡ option_map (λ point. (point, rest cursor.new)) result }
+    ensures same_bytes { cursor.new.bytes.now ≡ cursor.old.bytes.now }
+    ensures same_end { cursor.new.end ≡ cursor.old.end }
+{
+    let x = parse_code::<CodeDD>(&before.x, cursor)?;
+    let y = parse_code::<CodeDD>(&before.y, cursor)?;
+    Some(Point2 { x, y })
+}
+
+/// Reads a point behind the one before it, as it is parsed.
+fn read_vertex(before: Option<Point2>, cursor: &mut BitCursor<'_>) -> Option<Point2>
+    ensures parsed { (vertex before).parse (rest cursor.old) ≡ option_map (λ point. (point, rest cursor.new)) result }
+    ensures same_bytes { cursor.new.bytes.now ≡ cursor.old.bytes.now }
+    ensures same_end { cursor.new.end ≡ cursor.old.end }
+{
+    match before {
+        None => read_first(cursor),
+        Some(point) => read_next(point, cursor),
+    }
+}
+
+/// Reads so many points, as they are parsed. The only refusal is want of memory, which is taken only for points that are there.
+#[tactic(auto, using(crate::proofs::ChainReading::none_begun))]
+pub(crate) fn read_vertices(
+    alloc: Global,
+    count: u32,
+    cursor: &mut BitCursor<'_>,
+) -> Result<Option<Items<Point2>>, NoMemory>
+    ensures parsed { IfOk result (λ found. (vertices count).parse (rest cursor.old) ≡ option_map (λ points. (points, rest cursor.new)) found) }
+    ensures same_bytes { cursor.new.bytes.now ≡ cursor.old.bytes.now }
+    ensures same_end { cursor.new.end ≡ cursor.old.end }
+{
+    let mut before = None;
+    let mut found = Items::new(alloc);
+    'along: for _ in 0..count {
+        let Some(point) = read_vertex(before, cursor) else {
+            return Ok(None);
+        };
+        match found.push(point) {
+            Ok(()) => {}
+            Err(_) => return Err(NoMemory),
+        }
+        before = Some(point);
+    }
+    Ok(Some(found))
+}
+
+/// The words of a point lie in the range of their type.
+fn known_vertex(point: &Point2)
+    ensures { IsPoint2 point.now }
+{
+    let _x = point.x;
+    let _y = point.y;
+}
+
+/// So do those of many points.
+#[tactic(auto, using(crate::proofs::Known::none_known, crate::proofs::VertexLoops::vertices_known))]
+pub(crate) fn known_vertices(points: &[Point2])
+    ensures { (vertices (length points.now)).IsValue points.now }
+{
+    'along: for point in points {
+        known_vertex(point);
+    }
+}
+
+/// How many bits a point is written by behind the one before it.
+fn vertex_bits(before: Option<Point2>, point: &Point2) -> u64
+    requires { (vertex before).IsValue point.now }
+    ensures length { result ≡ length ((vertex before).short point.now) }
+    ensures few { result < 2 ^ 33 }
+{
+    match before {
+        None => CodeRD::length(&(), &point.x) + CodeRD::length(&(), &point.y),
+        Some(last) => CodeDD::length(&last.x, &point.x) + CodeDD::length(&last.y, &point.y),
+    }
+}
+
+/// How many bits points are written by.
+#[tactic(auto, using(crate::proofs::VertexLoops::none_counted, crate::proofs::VertexLoops::all_counted))]
+pub(crate) fn vertices_bits(points: &[Point2]) -> u64
+    requires value { (vertices (length points.now)).IsValue points.now }
+    requires few { length ((vertices (length points.now)).short points.now) < 2 ^ 62 }
+    ensures { result ≡ length ((vertices (length points.now)).short points.now) }
+{
+    let mut bits = 0;
+    let mut before = None;
+    'along: for point in points {
+        bits += vertex_bits(before, point);
+        before = Some(*point);
+    }
+    bits
+}
+
+/// Writes a point behind the one before it.
+fn write_vertex(before: Option<Point2>, point: &Point2, sink: &mut BitSink)
+    requires value { (vertex before).IsValue point.now }
+    requires room { length ((vertex before).short point.now) ≤ sink.old.spare }
+    ensures { Extends sink.old sink.new ((vertex before).short point.now) }
+{
+    match before {
+        None => {
+            CodeRD::write(&(), &point.x, sink);
+            CodeRD::write(&(), &point.y, sink);
+        }
+        Some(last) => {
+            CodeDD::write(&last.x, &point.x, sink);
+            CodeDD::write(&last.y, &point.y, sink);
+        }
+    }
+}
+
+/// Writes points, each behind the one before it.
+#[tactic(auto, using(crate::proofs::VertexLoops::all_written))]
+pub(crate) fn write_vertices(points: &[Point2], sink: &mut BitSink)
+    requires value { (vertices (length points.now)).IsValue points.now }
+    requires room { length ((vertices (length points.now)).short points.now) ≤ sink.old.spare }
+    ensures { Extends sink.old sink.new ((vertices (length points.now)).short points.now) }
+{
+    let mut before = None;
+    'along: for point in points {
+        write_vertex(before, point, sink);
+        before = Some(*point);
+    }
+}
