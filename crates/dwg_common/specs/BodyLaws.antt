@@ -57,3 +57,12 @@ lawful_of_body base body is = record {
   respelled = is.respelled;
   padded = is.padded;
 }
+
+-- a lawful body behind whose references any count of bits may follow
+pub record IsFreeBody {V : Type 0} (base : ℕ) (body : BodyGrammar V) : Type 0 where
+  pub lawful : IsLawfulBody base body
+  pub followed : (over : ℕ) → body.MayFollow over
+
+-- every body is one where any count may follow
+pub free_of_body : {V : Type 0} (base : ℕ) (body : BodyGrammar V) → IsBody base body → ((over : ℕ) → body.MayFollow over) → IsFreeBody base body
+free_of_body base body is may = record { lawful = lawful_of_body base body is; followed = may }

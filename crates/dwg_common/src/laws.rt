@@ -1,14 +1,15 @@
 //! Laws of the common parts, as the contract of a function without code.
 
 ghost use Rattle.std.specs.Prelude.{◌^◌, ◌<◌, ℕ};
-ghost use Rattle.dwg_common.specs.BodyLaws.{IsLawfulBody};
+ghost use Rattle.dwg_common.specs.BodyLaws.{IsFreeBody};
 ghost use Rattle.dwg_common.specs.Entities.{entity_common};
 ghost use Rattle.dwg_common.specs.NonEntities.{object_common};
 
 /// What holds of the common parts of entities and of other objects, in the object of any handle: main bits and reference bits
 /// spell at most one by their fronts; just those that fit are spelled, each by what is written of it, and none by fewer main
-/// bits or fewer reference bits; and other bits that spell the same references spell the same.
+/// bits or fewer reference bits; other bits that spell the same references spell the same; and any bits may follow the
+/// references.
 pub fn common_laws()
-    ensures entity { (base : ℕ) → base < 2 ^ 63 → IsLawfulBody base (entity_common base) }
-    ensures object { (base : ℕ) → base < 2 ^ 63 → IsLawfulBody base (object_common base) }
+    ensures entity { (base : ℕ) → base < 2 ^ 63 → IsFreeBody base (entity_common base) }
+    ensures object { (base : ℕ) → base < 2 ^ 63 → IsFreeBody base (object_common base) }
 {}

@@ -1,7 +1,7 @@
 //! Laws of these bodies, as the contract of a function without code.
 
 ghost use Rattle.std.specs.Prelude.{◌^◌, ◌<◌, ℕ};
-ghost use Rattle.dwg_common.specs.BodyLaws.{IsLawfulBody};
+ghost use Rattle.dwg_common.specs.BodyLaws.{IsFreeBody};
 ghost use Rattle.dwg_entities.specs.AttdefBody.{attdef_body};
 ghost use Rattle.dwg_entities.specs.AttribBody.{attrib_body};
 ghost use Rattle.dwg_entities.specs.BlockBody.{block_body};
@@ -11,13 +11,13 @@ ghost use Rattle.dwg_entities.specs.TextBody.{text_body};
 
 /// What holds of these bodies, in the object of any handle: main bits and reference bits spell at most one by their fronts;
 /// just those that fit are spelled, each by what is written of it, and none by fewer main bits or fewer reference bits; and
-/// other bits that spell the same references spell the same.
+/// other bits that spell the same references spell the same, and any bits may follow these.
 pub fn entity_laws()
-    ensures text { (base : ℕ) → base < 2 ^ 63 → IsLawfulBody base (text_body base) }
-    ensures attrib { (base : ℕ) → base < 2 ^ 63 → IsLawfulBody base (attrib_body base) }
-    ensures attdef { (base : ℕ) → base < 2 ^ 63 → IsLawfulBody base (attdef_body base) }
-    ensures insert { (base : ℕ) → base < 2 ^ 63 → IsLawfulBody base (insert_body base) }
-    ensures block { (base : ℕ) → base < 2 ^ 63 → IsLawfulBody base (block_body base) }
-    ensures endblk { (base : ℕ) → base < 2 ^ 63 → IsLawfulBody base (endblk_body base) }
-    ensures seqend { (base : ℕ) → base < 2 ^ 63 → IsLawfulBody base (seqend_body base) }
+    ensures text { (base : ℕ) → base < 2 ^ 63 → IsFreeBody base (text_body base) }
+    ensures attrib { (base : ℕ) → base < 2 ^ 63 → IsFreeBody base (attrib_body base) }
+    ensures attdef { (base : ℕ) → base < 2 ^ 63 → IsFreeBody base (attdef_body base) }
+    ensures insert { (base : ℕ) → base < 2 ^ 63 → IsFreeBody base (insert_body base) }
+    ensures block { (base : ℕ) → base < 2 ^ 63 → IsFreeBody base (block_body base) }
+    ensures endblk { (base : ℕ) → base < 2 ^ 63 → IsFreeBody base (endblk_body base) }
+    ensures seqend { (base : ℕ) → base < 2 ^ 63 → IsFreeBody base (seqend_body base) }
 {}

@@ -1,7 +1,7 @@
 //! Laws of the bodies of shapes, as the contract of a function without code.
 
 ghost use Rattle.std.specs.Prelude.{◌^◌, ◌<◌, ℕ};
-ghost use Rattle.dwg_common.specs.BodyLaws.{IsLawfulBody};
+ghost use Rattle.dwg_common.specs.BodyLaws.{IsFreeBody};
 ghost use Rattle.dwg_shapes.specs.Arcs.{arc_body};
 ghost use Rattle.dwg_shapes.specs.Circles.{circle_body};
 ghost use Rattle.dwg_shapes.specs.Lines.{line_body};
@@ -10,11 +10,11 @@ ghost use Rattle.dwg_shapes.specs.Points.{point_body};
 
 /// What holds of the bodies of lines, points, circles, arcs and light polylines, in the object of any handle: main bits spell
 /// at most one by their fronts, and no reference bits are taken; just those that fit are spelled, each by what is written of
-/// it, and none by fewer main bits.
+/// it, and none by fewer main bits; and any bits may follow.
 pub fn shape_laws()
-    ensures line { (base : ℕ) → base < 2 ^ 63 → IsLawfulBody base (line_body base) }
-    ensures point { (base : ℕ) → base < 2 ^ 63 → IsLawfulBody base (point_body base) }
-    ensures circle { (base : ℕ) → base < 2 ^ 63 → IsLawfulBody base (circle_body base) }
-    ensures arc { (base : ℕ) → base < 2 ^ 63 → IsLawfulBody base (arc_body base) }
-    ensures lwpolyline { (base : ℕ) → base < 2 ^ 63 → IsLawfulBody base (lwpolyline_body base) }
+    ensures line { (base : ℕ) → base < 2 ^ 63 → IsFreeBody base (line_body base) }
+    ensures point { (base : ℕ) → base < 2 ^ 63 → IsFreeBody base (point_body base) }
+    ensures circle { (base : ℕ) → base < 2 ^ 63 → IsFreeBody base (circle_body base) }
+    ensures arc { (base : ℕ) → base < 2 ^ 63 → IsFreeBody base (arc_body base) }
+    ensures lwpolyline { (base : ℕ) → base < 2 ^ 63 → IsFreeBody base (lwpolyline_body base) }
 {}
