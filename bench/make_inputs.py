@@ -86,50 +86,122 @@ def pages(pairs, most):
     return bytes(out) + page(b"")
 
 
-def bits_of(value, count):
-    return [value >> i & 1 for i in reversed(range(count))]
+def little(value, size):
+    """The bits of a value in so many bytes, the least first."""
+    return "".join(f"{byte:08b}" for byte in value.to_bytes(size, "little"))
+
+
+def short(value):
+    """A BITSHORT."""
+    if value == 0:
+        return "10"
+    return "01" + little(value, 1) if value < 256 else "00" + little(value, 2)
+
+
+def long(value):
+    """A BITLONG."""
+    if value == 0:
+        return "10"
+    return "01" + little(value, 1) if value < 256 else "00" + little(value, 4)
+
+
+def reference(code, value):
+    """A reference by its code and the bytes of its value."""
+    count = (value.bit_length() + 7) // 8
+    return f"{code:04b}{count:04b}" + "".join(f"{byte:08b}" for byte in value.to_bytes(count, "big"))
+
+
+def packed(bits):
+    """The bytes of bits, padded with zeros."""
+    size = (len(bits) + 7) // 8
+    return int(bits + "0" * (8 * size - len(bits)), 2).to_bytes(size, "big") if bits else b""
+
+
+def modular_short(value):
+    """A size in units of fifteen bits, the least first."""
+    out = bytearray()
+    while value >= 0x8000:
+        out += (0x8000 | value & 0x7FFF).to_bytes(2, "little")
+        value >>= 15
+    return bytes(out + value.to_bytes(2, "little"))
+
+
+def framed_body(body):
+    sized = modular_short(len(body)) + body
+    return sized + check(0xC0C1, sized).to_bytes(2, "little")
 
 
 def frame(handle, filler):
     """A small object: type number 200, no meaning, with so many bytes behind its head."""
-    own = handle.to_bytes(max(1, (handle.bit_length() + 7) // 8), "big")
-    bits = bits_of(1, 2) + bits_of(200, 8) + bits_of(0, 32) + bits_of(len(own), 8)
-    for byte in own:
-        bits += bits_of(byte, 8)
-    bits += [0] * (-len(bits) % 8)
-    body = bytes(int("".join(map(str, bits[i : i + 8])), 2) for i in range(0, len(bits), 8)) + bytes(filler)
-    sized = len(body).to_bytes(2, "little") + body
-    return sized + check(0xC0C1, sized).to_bytes(2, "little")
+    return framed_body(packed(short(200) + little(0, 4) + reference(0, handle)) + bytes(filler))
 
 
-def drawing(objects, map_bytes):
+def entity(number, handle, reactors, rest, references):
+    """An entity with its common part, so many reactors said and no more, bits of its own, and the references given."""
+    own = reference(0, handle)
+    common = short(0) + "0" + "10" + long(reactors) + "1" + "11" + "01" + "00" + "00" + short(0) + little(29, 1)
+    size = len(short(number)) + 32 + len(own) + len(common) + len(rest)
+    return framed_body(packed(short(number) + little(size, 4) + own + common + rest + references))
+
+
+def class_record(number):
+    """A class of entities without names."""
+    return short(number) + short(0) + short(0) * 3 + "0" + short(0x1F2)
+
+
+def drawing(objects, map_bytes, class_bits=""):
     """A file of these bytes of objects, whose map is made for the place where they begin."""
-    variables, classes = framed(VARIABLES, b""), framed(CLASSES, b"")
+    variables, classes = framed(VARIABLES, b""), framed(CLASSES, packed(class_bits))
     start = 70 + len(variables) + len(classes)
     made = map_bytes(start)
     locators = [(0, 70, len(variables)), (1, 70 + len(variables), len(classes)), (2, start + len(objects), len(made))]
     return header(locators) + variables + classes + objects + made
 
 
-def frames_and_places(count, filler):
-    """So many frames, and for each the pair of its handle and its place among them."""
+def frames_and_places(count, frame_of):
+    """The frames of so many handles, and for each the pair of its handle and its place among them."""
     frames, places, place = [], [], 0
     for handle in range(1, count + 1):
-        one = frame(handle, filler)
+        one = frame_of(handle)
         frames.append(one)
         places.append((handle, place))
         place += len(one)
     return b"".join(frames), places
 
 
+def in_order(frames, places, class_bits=""):
+    """A file of frames with a map in their order."""
+    return drawing(frames, lambda start: pages([(h, start + p) for h, p in places], 2030), class_bits)
+
+
 def many_objects(count):
-    frames, places = frames_and_places(count, 32)
-    return drawing(frames, lambda start: pages([(h, start + p) for h, p in places], 2030))
+    return in_order(*frames_and_places(count, lambda handle: frame(handle, 32)))
+
+
+def plain_entities(count):
+    """Entities with a common part, two reactors each, bits of their own and a reference more."""
+    references = reference(4, 1) + reference(4, 2) + reference(3, 0) + reference(5, 16) + reference(5, 17)
+    return in_order(*frames_and_places(count, lambda handle: entity(45, handle, 2, "101" * 40, references)))
+
+
+def plain_of_classes(count):
+    """As many classes as entities, whose types are numbers of classes, or of none in one of thirteen."""
+    classes = "".join(class_record(500 + i % 60_000) for i in range(count))
+    references = reference(3, 0) + reference(5, 16)
+    of_class = lambda handle: entity(500 + handle * 7 % 65_000, handle, 0, "1", references)
+    return in_order(*frames_and_places(count, of_class), classes)
+
+
+def many_reactors(count):
+    """One entity that refers to so many reactors, and another that says so and has none."""
+    references = reference(4, 16) * count + reference(3, 0) + reference(5, 16)
+    said = lambda handle: entity(45, handle, count, "1", references if handle == 1 else "")
+    return in_order(*frames_and_places(2, said))
 
 
 def descending_map(count):
     """Small objects with a map whose handles descend: a page for each pair."""
-    frames, places = frames_and_places(count, 0)
+    frames, places = frames_and_places(count, lambda handle: frame(handle, 0))
     places.reverse()
     return drawing(frames, lambda start: pages([(h, start + p) for h, p in places], 2030))
 
@@ -146,6 +218,9 @@ def one_handle_last(count):
 
 INPUTS = {
     "objects": (many_objects, (100_000, 200_000)),
+    "plain": (plain_entities, (100_000, 200_000)),
+    "classes": (plain_of_classes, (100_000, 200_000)),
+    "reactors": (many_reactors, (1_000_000, 2_000_000)),
     "descending": (descending_map, (150_000, 300_000)),
     "one-place": (one_place, (1_500_000, 3_000_000)),
     "repeated": (one_handle_last, (1_500_000, 3_000_000)),

@@ -1,0 +1,10 @@
+//! Tests of kinds, common parts and objects through their public calls: values from outside, each call once, and what no
+//! clause says.
+#![tactic(auto)]
+
+#[cfg(test)]
+mod common;
+#[cfg(test)]
+mod kinds;
+#[cfg(test)]
+mod objects;
