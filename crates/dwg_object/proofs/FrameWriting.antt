@@ -8,24 +8,17 @@ use Rattle.dwg_bits.specs.Bits.{bits}
 use Rattle.dwg_bits.specs.BitLaws.{bits_joined, length_of_bits}
 use Rattle.dwg_bits.specs.Sink.{Written, Extends, padding, missing_bits}
 use Rattle.dwg_bits.specs.SinkLaws.{extends_by_both}
-use Rattle.dwg_bits.specs.WholeBytes.{whole_bytes, whole_are_bytes, whole_joined, whole_of_bits, length_of_whole}
+use Rattle.dwg_bits.specs.WholeBytes.{whole_bytes, whole_joined, whole_of_bits, length_of_whole}
 use Rattle.dwg_check.specs.CheckWord.{FRAME_START, check_word}
 use Rattle.dwg_codes.specs.ModularCodes.{ms}
-use Rattle.dwg_codes.specs.ToEnd.{short_all}
-use Rattle.dwg_handles.specs.Reference.{Reference}
-use Rattle.dwg_handles.specs.ReferenceCodes.{reference}
 use Rattle.dwg_object.specs.declared.common.Common.{Common}
 use Rattle.dwg_object.specs.Forms.{head}
 use Rattle.dwg_object.specs.Frames.{frame_bytes}
 use Rattle.dwg_object.specs.FormLaws.{length_of_frame}
 use Rattle.dwg_object.specs.LengthLaws.{bytes_joined, length_is_bytes}
-use Rattle.dwg_object.specs.declared.object.Object.{Object}
-use Rattle.dwg_object.specs.declared.object.Object.TheVariants as objects
-use Rattle.dwg_object.specs.declared.object.Plain.{Plain}
-use Rattle.dwg_object.specs.Objects.{ObjectValue, value_of}
-use Rattle.dwg_object.specs.PlainInHand.{front_of, refs_of, bits_of}
-use Rattle.dwg_object.specs.PlainWritten.{head_as_long, bytes_padded, bits_padded}
-use Rattle.dwg_object.specs.Written.{common_main, common_refs, written_head, plain_front, plain_refs, plain_bits, body_bytes}
+use Rattle.dwg_object.specs.Objects.{ObjectValue}
+use Rattle.dwg_object.specs.WrittenLaws.{head_as_long, bytes_padded, bits_padded}
+use Rattle.dwg_object.specs.Written.{common_main, common_refs, written_head, front_bits, refs_bits, object_bits, object_bytes, body_bytes}
 
 -- bytes that were written one behind the other
 both_written : (first second third : Written) (some others : List ℕ) → Extends first second (bits some) → Extends second third (bits others) → Extends first third (bits (some ++ others))
@@ -33,27 +26,27 @@ both_written first second third some others by_some by_others =
     subst (Extends first third) (sym (bits_joined some others)) (extends_by_both first second third (bits some) (bits others) by_some by_others)
 
 -- how long the bits before the references are
-pub front_long : (number handle : ℕ) (common : Common) (rest : List Bool)
-    → length (plain_front number handle common rest) ≡ length (head.short (record { number = number; size = 0; own = handle })) + length (common_main handle common) + length rest
-unfolding plain_front written_head
-front_long number handle common rest =
-    let size : ℕ = length (head.short (record { number = number; size = 0; own = handle })) + length (common_main handle common ++ rest) in
+pub front_long : (number handle : ℕ) (common : Common) (own : List Bool)
+    → length (front_bits number handle common own) ≡ length (head.short (record { number = number; size = 0; own = handle })) + length (common_main handle common) + length own
+unfolding front_bits written_head
+front_long number handle common own =
+    let size : ℕ = length (head.short (record { number = number; size = 0; own = handle })) + length (common_main handle common ++ own) in
     omega (
       arith,
-      length-append (head.short (record { number = number; size = size; own = handle })) (common_main handle common ++ rest),
-      length-append (common_main handle common) rest,
+      length-append (head.short (record { number = number; size = size; own = handle })) (common_main handle common ++ own),
+      length-append (common_main handle common) own,
       head_as_long number handle size 0,
     )
 
 -- and the references
-pub refs_long : (handle : ℕ) (common : Common) (refs : List Reference) → length (plain_refs handle common refs) ≡ length (common_refs handle common) + length (short_all (reference handle) refs)
-unfolding plain_refs
-refs_long handle common refs = length-append (common_refs handle common) (short_all (reference handle) refs)
+pub refs_long : (handle : ℕ) (common : Common) (own_refs : List Bool) → length (refs_bits handle common own_refs) ≡ length (common_refs handle common) + length own_refs
+unfolding refs_bits
+refs_long handle common own_refs = length-append (common_refs handle common) own_refs
 
 -- and all of it
-pub plain_long : (number handle : ℕ) (common : Common) (rest : List Bool) (refs : List Reference)
-    → length (plain_bits number handle common rest refs) ≡ length (plain_front number handle common rest) + length (plain_refs handle common refs)
-plain_long number handle common rest refs = length-append (plain_front number handle common rest) (plain_refs handle common refs)
+pub object_long : (number handle : ℕ) (common : Common) (own own_refs : List Bool)
+    → length (object_bits number handle common own own_refs) ≡ length (front_bits number handle common own) + length (refs_bits handle common own_refs)
+object_long number handle common own own_refs = length-append (front_bits number handle common own) (refs_bits handle common own_refs)
 
 -- whole bytes that hold so many bits
 pub padded_long : (letters : List Bool) (count : ℕ) → count ≡ length letters → (count + 7) / 8 ≡ length (whole_bytes (letters ++ padding letters))
@@ -101,65 +94,48 @@ frame_written first third fourth value word_bytes word checked spelled by_both b
 pub frame_room : (value : ObjectValue) → 8 * length (frame_bytes value) ≡ length (bits (ms.short (length (body_bytes value)))) + 8 * length (body_bytes value) + 16
 frame_room value = omega (arith, length_of_frame value, length_of_bits (ms.short (length (body_bytes value))))
 
--- what is written one behind the other before the references is the front of a Plain object
-pub front_written : (first second third fourth : Written) (number size handle : ℕ) (common : Common) (rest : List Bool) → size ≡ length (plain_front number handle common rest)
-    → Extends first second (head.short (record { number = number; size = size; own = handle })) → Extends second third (common_main handle common) → Extends third fourth rest
-    → Extends first fourth (plain_front number handle common rest)
-unfolding plain_front written_head
-front_written first second third fourth number size handle common rest same by_head by_main by_rest =
-    let behind = extends_by_both second third fourth (common_main handle common) rest by_main by_rest in
-    let long : size ≡ length (head.short (record { number = number; size = 0; own = handle })) + length (common_main handle common ++ rest) =
-    omega (arith, same, front_long number handle common rest, length-append (common_main handle common) rest) in
-    extends_by_both first second fourth (head.short (written_head number handle (length (common_main handle common ++ rest)))) (common_main handle common ++ rest)
+-- what is written one behind the other before the references is the front of an object
+pub front_written : (first second third fourth : Written) (number size handle : ℕ) (common : Common) (own : List Bool) → size ≡ length (front_bits number handle common own)
+    → Extends first second (head.short (record { number = number; size = size; own = handle })) → Extends second third (common_main handle common) → Extends third fourth own
+    → Extends first fourth (front_bits number handle common own)
+unfolding front_bits written_head
+front_written first second third fourth number size handle common own same by_head by_main by_own =
+    let behind = extends_by_both second third fourth (common_main handle common) own by_main by_own in
+    let long : size ≡ length (head.short (record { number = number; size = 0; own = handle })) + length (common_main handle common ++ own) =
+    omega (arith, same, front_long number handle common own, length-append (common_main handle common) own) in
+    extends_by_both first second fourth (head.short (written_head number handle (length (common_main handle common ++ own)))) (common_main handle common ++ own)
     (subst (λ (n : ℕ). Extends first second (head.short (record { number = number; size = n; own = handle }))) long by_head) behind
 
 -- and what is written one behind the other of the references is these
-pub refs_written : (first second third : Written) (handle : ℕ) (common : Common) (refs : List Reference)
-    → Extends first second (common_refs handle common) → Extends second third (short_all (reference handle) refs) → Extends first third (plain_refs handle common refs)
-unfolding plain_refs
-refs_written first second third handle common refs by_common by_refs = extends_by_both first second third (common_refs handle common) (short_all (reference handle) refs) by_common by_refs
+pub refs_written : (first second third : Written) (handle : ℕ) (common : Common) (own_refs : List Bool)
+    → Extends first second (common_refs handle common) → Extends second third own_refs → Extends first third (refs_bits handle common own_refs)
+unfolding refs_bits
+refs_written first second third handle common own_refs by_common by_own = extends_by_both first second third (common_refs handle common) own_refs by_common by_own
 
--- both, filled up at whole bytes, are a Plain object
-pub plain_written : (first second third fourth : Written) (front names : List Bool) → length first.written % 8 ≡ 0 → Extends first second front → Extends second third names
-    → Extends third fourth (padding third.written) → Extends first fourth ((front ++ names) ++ padding (front ++ names))
-plain_written first second third fourth front names whole by_front by_names by_fill =
-    let both = extends_by_both first second third front names by_front by_names in
-    let fill : padding third.written ≡ padding (front ++ names) = ap padding both.bits ∙ padding_behind first.written (front ++ names) whole in
-    extends_by_both first third fourth (front ++ names) (padding (front ++ names)) both (subst (Extends third fourth) fill by_fill)
+-- both, filled up at whole bytes, are the bytes of an object
+pub object_written : (first second third fourth : Written) (number handle : ℕ) (common : Common) (own own_refs : List Bool) → length first.written % 8 ≡ 0
+    → Extends first second (front_bits number handle common own) → Extends second third (refs_bits handle common own_refs) → Extends third fourth (padding third.written)
+    → Extends first fourth (bits (object_bytes number handle common own own_refs))
+object_written first second third fourth number handle common own own_refs whole by_front by_names by_fill =
+    let letters : List Bool = object_bits number handle common own own_refs in
+    let both = extends_by_both first second third (front_bits number handle common own) (refs_bits handle common own_refs) by_front by_names in
+    let fill : padding third.written ≡ padding letters = ap padding both.bits ∙ padding_behind first.written letters whole in
+    subst (Extends first fourth) (sym (bits_padded letters)) (extends_by_both first third fourth letters (padding letters) both (subst (Extends third fourth) fill by_fill))
 
--- how much is filled up behind a Plain object
+-- how much is filled up behind an object
 pub fill_long : (first third : Written) (letters : List Bool) → length first.written % 8 ≡ 0 → Extends first third letters → length (padding third.written) ≡ length (padding letters)
 fill_long first third letters whole by = ap length (ap padding by.bits ∙ padding_behind first.written letters whole)
 
--- the bits of a Plain object below 2^29 bytes are below 2^32
-pub plain_small : (object : Object) (plain : Plain) → object ≡ objects.Plain plain → length (body_bytes (value_of object)) < 2 ^ 29 → length (bits_of plain) < 2 ^ 32
-plain_small object plain is small =
-    let padded = bytes_padded (bits_of plain) in
-    omega (arith, padded.enough, ap (λ (one : Object). length (body_bytes (value_of one))) is, small)
+-- the bits of an object below 2^29 bytes are below 2^32
+pub object_small : (number handle : ℕ) (common : Common) (own own_refs : List Bool) → length (object_bytes number handle common own own_refs) < 2 ^ 29
+    → length (object_bits number handle common own own_refs) < 2 ^ 32
+object_small number handle common own own_refs small = let padded = bytes_padded (object_bits number handle common own own_refs) in omega (arith, padded.enough, small)
 
 -- filled up they are those of its bytes
-pub plain_room : (object : Object) (plain : Plain) → object ≡ objects.Plain plain → length (bits_of plain ++ padding (bits_of plain)) ≡ 8 * length (body_bytes (value_of object))
-plain_room object plain is =
-    sym (ap length (bits_padded (bits_of plain))) ∙ length_of_bits (whole_bytes (bits_of plain ++ padding (bits_of plain)))
-    ∙ ap (λ (one : Object). 8 * length (body_bytes (value_of one))) (sym is)
-
--- so many bytes
-pub plain_count : (object : Object) (plain : Plain) (front refs : ℕ) → object ≡ objects.Plain plain → front ≡ length (front_of plain) → refs ≡ length (refs_of plain)
-    → (front + refs + 7) / 8 ≡ length (body_bytes (value_of object))
-plain_count object plain front refs is is_front is_refs =
-    padded_long (bits_of plain) (front + refs) (omega (arith, is_front, is_refs, length-append (front_of plain) (refs_of plain)))
-    ∙ ap (λ (one : Object). length (body_bytes (value_of one))) (sym is)
-
--- and written they are written
-pub plain_grew : (object : Object) (plain : Plain) (old new : Written) → object ≡ objects.Plain plain → Extends old new (bits_of plain ++ padding (bits_of plain))
-    → Extends old new (bits (body_bytes (value_of object)))
-plain_grew object plain old new is grew =
-    subst (λ (one : Object). Extends old new (bits (body_bytes (value_of one)))) (sym is) (subst (Extends old new) (sym (bits_padded (bits_of plain))) grew)
-
--- what a Plain object is written by are bytes
-pub plain_bytes : (object : Object) (plain : Plain) → object ≡ objects.Plain plain → AreBytes (body_bytes (value_of object))
-plain_bytes object plain is =
-    subst (λ (one : Object). AreBytes (body_bytes (value_of one))) (sym is) (whole_are_bytes (bits_of plain ++ padding (bits_of plain)))
+pub object_room : (number handle : ℕ) (common : Common) (own own_refs : List Bool)
+    → length (object_bits number handle common own own_refs ++ padding (object_bits number handle common own own_refs)) ≡ 8 * length (object_bytes number handle common own own_refs)
+object_room number handle common own own_refs =
+    sym (ap length (bits_padded (object_bits number handle common own own_refs))) ∙ length_of_bits (object_bytes number handle common own own_refs)
 
 -- behind whole bytes, bytes end at a whole byte
 pub aligned_behind : (old new : Written) (bytes : List ℕ) → length old.written % 8 ≡ 0 → Extends old new (bits bytes) → length new.written % 8 ≡ 0

@@ -2,5 +2,5 @@ pub mod SpanReading
 pub mod HeadReading
 pub mod FrameReading
 pub mod FrameWriting
-pub mod CommonReading
-pub mod PlainReading
+pub mod VariantReading
+pub mod FormReading

@@ -19,8 +19,10 @@ use Rattle.dwg_kinds.specs.Kinds.{kind_at, is_entity_kind}
 use Rattle.dwg_kinds.specs.declared.kind.Kind.{Kind}
 use Rattle.dwg_kinds.specs.declared.kind.Kind.TheVariants.{Unknown}
 use Rattle.dwg_object.specs.declared.common.Common.{Common}
+use Rattle.dwg_object.specs.declared.body.Body.{Body}
 use Rattle.dwg_object.specs.declared.common.Common.TheVariants.{Entity, Object}
-use Rattle.dwg_object.specs.Objects.{HeadParts, ObjectValue, PlainValue, RawValue}
+use Rattle.dwg_object.specs.Objects.{HeadParts, ObjectValue, TypedValue, PlainValue, RawValue}
+use Rattle.dwg_object.specs.OwnBodies.{own_body}
 
 -- the parts of a head lie in their ranges
 pub record IsHead (parts : HeadParts) : Type 0 where
@@ -68,19 +70,49 @@ abbrev pub common_part : Bool → ℕ → BodyGrammar Common
 common_part true base = variant Entity entity_inside (entity_common base)
 common_part false base = variant Object object_inside (object_common base)
 
--- a form of a body whose kind is known: the head, the common part and the bits between it and the references, together as many as the bit size says; the references of the common part and then any number of others, until fewer than eight bits are left
-pub record PlainForm (classes : List Class) (body : List ℕ) (number handle : ℕ) (common : Common) (rest : List Bool) (refs : List Reference) : Type 0 where
-  pub known : kind_under classes number ≢ Unknown
+-- what the forms that read a common part have in common: the head, the common part and the own bits before the references, together as many as the bit size says; the references of the common part, and the bits behind them
+pub record CommonForm (classes : List Class) (body : List ℕ) (number handle : ℕ) (common : Common) (own behind : List Bool) : Type 0 where
   pub size : ℕ
   pub head_bits : List Bool
   pub common_main : List Bool
   pub common_refs : List Bool
+  pub whole : bits body ≡ (head_bits ++ (common_main ++ own)) ++ (common_refs ++ behind)
+  pub head_spelled : head.Spells (record { number = number; size = size; own = handle }) head_bits
+  pub common_spelled : (common_part (is_entity_kind (kind_under classes number)) handle).Spells common common_main common_refs (length behind)
+  pub filled : length (head_bits ++ (common_main ++ own)) ≡ size
+
+-- a body has that
+pub record HasCommonForm (classes : List Class) (body : List ℕ) : Type 0 where
+  pub number : ℕ
+  pub handle : ℕ
+  pub common : Common
+  pub own : List Bool
+  pub behind : List Bool
+  pub form : CommonForm classes body number handle common own behind
+
+-- the form of a body whose own bits and own references are those of its kind, behind which fewer than eight bits are left
+pub record TypedForm (classes : List Class) (body : List ℕ) (number handle : ℕ) (common : Common) (value : Body) : Type 0 where
+  pub own : List Bool
+  pub own_refs : List Bool
+  pub left : List Bool
+  pub form : CommonForm classes body number handle common own (own_refs ++ left)
+  pub own_spelled : (own_body (kind_under classes number) handle).Spells value own own_refs (length left)
+  pub few : length left < 8
+
+-- a body has that form
+pub record HasTypedForm (classes : List Class) (body : List ℕ) : Type 0 where
+  pub number : ℕ
+  pub handle : ℕ
+  pub common : Common
+  pub value : Body
+  pub form : TypedForm classes body number handle common value
+
+-- the form of a body whose kind is known: its own bits are any, and behind the references of the common part stand any number of others, until fewer than eight bits are left
+pub record PlainForm (classes : List Class) (body : List ℕ) (number handle : ℕ) (common : Common) (rest : List Bool) (refs : List Reference) : Type 0 where
+  pub known : kind_under classes number ≢ Unknown
   pub refs_bits : List Bool
   pub left : List Bool
-  pub whole : bits body ≡ (head_bits ++ (common_main ++ rest)) ++ (common_refs ++ (refs_bits ++ left))
-  pub head_spelled : head.Spells (record { number = number; size = size; own = handle }) head_bits
-  pub common_spelled : (common_part (is_entity_kind (kind_under classes number)) handle).Spells common common_main common_refs (length (refs_bits ++ left))
-  pub filled : length (head_bits ++ (common_main ++ rest)) ≡ size
+  pub form : CommonForm classes body number handle common rest (refs_bits ++ left)
   pub refs_spelled : SpellsAll (reference handle) refs refs_bits
   pub few : length left < 8
 
@@ -100,5 +132,6 @@ pub record RawForm (body : List ℕ) (number handle : ℕ) (bytes : List ℕ) : 
 
 -- the object that a body is read as, under the classes of its drawing: in the first of these forms that it has
 abbrev pub FormOf : List Class → List ℕ → ObjectValue → Type 0
-FormOf classes body (PlainValue number handle common rest refs) = PlainForm classes body number handle common rest refs
-FormOf classes body (RawValue number handle bytes) = RawForm body number handle bytes × (HasPlainForm classes body → ⊥)
+FormOf classes body (TypedValue number handle common value) = TypedForm classes body number handle common value
+FormOf classes body (PlainValue number handle common rest refs) = PlainForm classes body number handle common rest refs × (HasTypedForm classes body → ⊥)
+FormOf classes body (RawValue number handle bytes) = RawForm body number handle bytes × (HasPlainForm classes body → ⊥) × (HasTypedForm classes body → ⊥)

@@ -1,3 +1,4 @@
+pub mod OwnBodies
 pub mod Objects
 pub mod Forms
 pub mod Written
@@ -10,8 +11,11 @@ pub mod HeadLaws
 pub mod LengthLaws
 pub mod SpanLaws
 pub mod FrameLaws
+pub mod OwnLaws
+pub mod CommonForms
 pub mod PlainLaws
-pub mod PlainDecided
+pub mod TypedLaws
+pub mod WrittenLaws
+pub mod TypedWritten
 pub mod PlainWritten
 pub mod FormLaws
-pub mod PlainInHand

@@ -11,11 +11,13 @@ use Rattle.dwg_kinds.specs.Kinds.{kind_at}
 use Rattle.dwg_kinds.specs.declared.kind.Kind.{Kind}
 use Rattle.dwg_kinds.specs.declared.number.ClassHint.{ClassHint}
 use Rattle.dwg_kinds.specs.declared.number.ClassHint.TheVariants as hints
+use Rattle.dwg_object.specs.declared.body.Body.{Body}
 use Rattle.dwg_object.specs.declared.common.Common.{Common}
 use Rattle.dwg_object.specs.declared.common.Common.TheVariants.{Entity, Object}
 use Rattle.dwg_object.specs.declared.head.Head.{Head}
 use Rattle.dwg_object.specs.declared.object.Object as declared
 use Rattle.dwg_object.specs.declared.object.Object.TheVariants as objects
+use Rattle.dwg_object.specs.OwnBodies.{body_kind}
 
 -- what the head of an object says: its type number, how many bits the body has before its references, and its own handle
 pub record HeadParts : Type 0 where
@@ -29,6 +31,8 @@ parts_of head = record { number = head.number; size = head.size; own = head.own 
 
 -- an object as a plain value
 pub data ObjectValue : Type 0 where
+  -- the type number, the own handle, the common part, and what its kind has of its own
+  TypedValue : (number handle : ℕ) (common : Common) (body : Body) → ObjectValue
   -- the type number, the own handle, the common part, the bits between it and the references, and the references behind those of the common part
   PlainValue : (number handle : ℕ) (common : Common) (rest : List Bool) (refs : List Reference) → ObjectValue
   -- the type number, the own handle, and the bytes of the body
@@ -36,16 +40,19 @@ pub data ObjectValue : Type 0 where
 
 -- the plain value of an object in hand
 abbrev pub value_of : declared.Object → ObjectValue
+value_of (objects.Typed typed) = TypedValue typed.number typed.handle typed.common typed.body
 value_of (objects.Plain plain) = PlainValue plain.number plain.handle plain.common (part_bits plain.rest) plain.refs
 value_of (objects.Raw raw) = RawValue raw.number raw.handle (part_bytes raw.bytes)
 
 -- the own handle of an object
 abbrev pub handle_of : ObjectValue → ℕ
+handle_of (TypedValue number handle common body) = handle
 handle_of (PlainValue number handle common rest refs) = handle
 handle_of (RawValue number handle bytes) = handle
 
 -- the type number of an object
 abbrev pub number_of : ObjectValue → ℕ
+number_of (TypedValue number handle common body) = number
 number_of (PlainValue number handle common rest refs) = number
 number_of (RawValue number handle bytes) = number
 
@@ -59,8 +66,9 @@ abbrev pub hint_of_common : Common → ClassHint
 hint_of_common (Entity common) = hints.Entity
 hint_of_common (Object common) = hints.Object
 
--- the kind of an object: that of its number, where from 500 on its common part says whether it is an entity
+-- the kind of an object: that of its body; without one that of its number, where from 500 on its common part says whether it is an entity
 abbrev pub kind_of : ObjectValue → Kind
+kind_of (TypedValue number handle common body) = body_kind body
 kind_of (PlainValue number handle common rest refs) = kind_at number (hint_of_common common)
 kind_of (RawValue number handle bytes) = kind_at number hints.Absent
 
@@ -75,5 +83,6 @@ IsOwnedPart (Lent slice) = ⊥
 
 -- an object that lends no bits and no bytes
 abbrev pub HoldsItsBytes : declared.Object → Type 0
+HoldsItsBytes (objects.Typed typed) = ⊤
 HoldsItsBytes (objects.Plain plain) = AreOwnedBits plain.rest
 HoldsItsBytes (objects.Raw raw) = IsOwnedPart raw.bytes

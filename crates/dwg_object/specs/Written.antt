@@ -11,8 +11,10 @@ use Rattle.dwg_handles.specs.ReferenceCodes.{reference}
 use Rattle.dwg_kinds.specs.Kinds.{is_entity_kind}
 use Rattle.dwg_kinds.specs.declared.kind.Kind.TheVariants.{Unknown}
 use Rattle.dwg_object.specs.declared.common.Common.{Common}
-use Rattle.dwg_object.specs.Objects.{HeadParts, ObjectValue, PlainValue, RawValue, is_of_entity}
-use Rattle.dwg_object.specs.Forms.{head, BeginsWithHead, HasPlainForm, kind_under, common_part}
+use Rattle.dwg_object.specs.declared.body.Body.{Body}
+use Rattle.dwg_object.specs.Objects.{HeadParts, ObjectValue, TypedValue, PlainValue, RawValue, is_of_entity}
+use Rattle.dwg_object.specs.OwnBodies.{body_kind, own_body}
+use Rattle.dwg_object.specs.Forms.{head, BeginsWithHead, HasTypedForm, HasPlainForm, kind_under, common_part}
 
 -- the bits of a common part as they are written: before the references, and among them
 abbrev pub common_main : ℕ → Common → List Bool
@@ -29,48 +31,78 @@ written_head number handle behind = record {
   own = handle;
 }
 
--- the bits of a Plain object as they are written before the references: head, common part, the bits between as they are
-unfoldable pub plain_front : ℕ → ℕ → Common → List Bool → List Bool
-plain_front number handle common rest =
-    head.short (written_head number handle (length (common_main handle common ++ rest))) ++ (common_main handle common ++ rest)
+-- the bits of an object as they are written before the references: head, common part, its own bits
+unfoldable pub front_bits : ℕ → ℕ → Common → List Bool → List Bool
+front_bits number handle common own =
+    head.short (written_head number handle (length (common_main handle common ++ own))) ++ (common_main handle common ++ own)
 
--- its references as they are written: those of the common part, and the others
-unfoldable pub plain_refs : ℕ → Common → List Reference → List Bool
-plain_refs handle common refs = common_refs handle common ++ short_all (reference handle) refs
+-- its references as they are written: those of the common part, and its own
+unfoldable pub refs_bits : ℕ → Common → List Bool → List Bool
+refs_bits handle common own_refs = common_refs handle common ++ own_refs
 
 -- and both
-abbrev pub plain_bits : ℕ → ℕ → Common → List Bool → List Reference → List Bool
-plain_bits number handle common rest refs = plain_front number handle common rest ++ plain_refs handle common refs
+abbrev pub object_bits : ℕ → ℕ → Common → List Bool → List Bool → List Bool
+object_bits number handle common own own_refs = front_bits number handle common own ++ refs_bits handle common own_refs
 
--- the bytes of an object's body as they are written: with zero bits up to a whole byte, or those that were kept
+-- with zero bits up to a whole byte
+abbrev pub object_bytes : ℕ → ℕ → Common → List Bool → List Bool → List ℕ
+object_bytes number handle common own own_refs =
+    whole_bytes (object_bits number handle common own own_refs ++ padding (object_bits number handle common own own_refs))
+
+-- the own bits and the own references of what a kind has of its own, as they are written
+abbrev pub own_main : ℕ → Body → List Bool
+own_main handle value = (own_body (body_kind value) handle).short_main value
+
+abbrev pub own_refs : ℕ → Body → List Bool
+own_refs handle value = (own_body (body_kind value) handle).short_references value
+
+-- the bytes of an object's body as they are written: by its parts, or those that were kept
 abbrev pub body_bytes : ObjectValue → List ℕ
-body_bytes (PlainValue number handle common rest refs) =
-    whole_bytes (plain_bits number handle common rest refs ++ padding (plain_bits number handle common rest refs))
+body_bytes (TypedValue number handle common value) = object_bytes number handle common (own_main handle value) (own_refs handle value)
+body_bytes (PlainValue number handle common rest refs) = object_bytes number handle common rest (short_all (reference handle) refs)
 body_bytes (RawValue number handle bytes) = bytes
+
+-- what a kind has of its own can be spelled, and its common part is an entity's where the kind is
+pub record IsWholeTyped (handle : ℕ) (common : Common) (value : Body) : Type 0 where
+  pub common_fits : (common_part (is_of_entity common) handle).Fits common
+  pub own_fits : (own_body (body_kind value) handle).Fits value
+  pub entity : is_of_entity common ≡ is_entity_kind (body_kind value)
 
 -- an object whose handle isn't null and whose parts are those that its form can spell
 abbrev pub IsWhole : ObjectValue → Type 0
+IsWhole (TypedValue number handle common value) = (0 < handle) × IsWholeTyped handle common value
 IsWhole (PlainValue number handle common rest refs) =
     (0 < handle) × (common_part (is_of_entity common) handle).Fits common × AreValues (reference handle) refs
 IsWhole (RawValue number handle bytes) = 0 < handle
 
--- a Plain object that a drawing with these classes can have: its kind is known, and is an entity's where its common part is
+-- a Typed object that a drawing with these classes can have: it is of the kind of its number
+pub record IsValidTyped (classes : List Class) (number handle : ℕ) (common : Common) (value : Body) : Type 0 where
+  pub whole : IsWhole (TypedValue number handle common value)
+  pub number_fits : number < 2 ^ 16
+  pub handle_fits : handle < 2 ^ 63
+  pub kind : kind_under classes number ≡ body_kind value
+
+-- a Plain object that a drawing with these classes can have: its kind is known, and is an entity's where its common part is; as it is written it has no stronger form
 pub record IsValidPlain (classes : List Class) (number handle : ℕ) (common : Common) (rest : List Bool) (refs : List Reference) : Type 0 where
   pub whole : IsWhole (PlainValue number handle common rest refs)
   pub number_fits : number < 2 ^ 16
   pub handle_fits : handle < 2 ^ 63
   pub known : kind_under classes number ≢ Unknown
   pub entity : is_of_entity common ≡ is_entity_kind (kind_under classes number)
+  pub untyped : HasTypedForm classes (body_bytes (PlainValue number handle common rest refs)) → ⊥
 
 -- a Raw object that a drawing with these classes can have: its bytes have a head with its number and its handle, and no stronger form
 pub record IsValidRaw (classes : List Class) (number handle : ℕ) (bytes : List ℕ) : Type 0 where
   pub whole : IsWhole (RawValue number handle bytes)
   pub are : AreBytes bytes
   pub begins : BeginsWithHead (bits bytes) number handle
-  pub strongest : HasPlainForm classes bytes → ⊥
+  pub unplain : HasPlainForm classes bytes → ⊥
+  pub untyped : HasTypedForm classes bytes → ⊥
 
 -- an object that a drawing with these classes can have: it can be written and is read again, by fewer than 2^29 bytes of a body
 abbrev pub IsValidObject : List Class → ObjectValue → Type 0
+IsValidObject classes (TypedValue number handle common value) =
+    IsValidTyped classes number handle common value × (length (body_bytes (TypedValue number handle common value)) < 2 ^ 29)
 IsValidObject classes (PlainValue number handle common rest refs) =
     IsValidPlain classes number handle common rest refs × (length (body_bytes (PlainValue number handle common rest refs)) < 2 ^ 29)
 IsValidObject classes (RawValue number handle bytes) = IsValidRaw classes number handle bytes × (length bytes < 2 ^ 29)

@@ -4,10 +4,12 @@ ghost use Rattle.std.specs.Prelude.{◌≡◌, ◌^◌, ◌<◌, ◌≤◌, leng
 ghost use Rattle.dwg_bits.specs.Cursor.{rest};
 ghost use Rattle.dwg_bits.specs.Sink.{Extends};
 ghost use Rattle.dwg_common.specs.Bodies.{ReadsBody};
-ghost use Rattle.dwg_object.specs.Forms.{common_part};
+ghost use Rattle.dwg_object.specs.declared.common.Common.TheVariants as commons;
+ghost use Rattle.dwg_object.specs.Forms.{common_part, entity_inside, object_inside};
 ghost use Rattle.dwg_object.specs.Objects.{is_of_entity};
 ghost use Rattle.dwg_object.specs.Written.{common_main, common_refs};
 
+use crate::variant::{VariantOf, read_variant};
 use dwg_base::{Handle, NoMemory};
 use dwg_bits::{BitCursor, BitSink};
 use dwg_common::{BodyCode, EntityCommon, Lengths, ObjectCommon};
@@ -21,6 +23,26 @@ pub enum Common {
     Entity(EntityCommon),
     /// Another object's.
     Object(ObjectCommon),
+}
+
+impl VariantOf<Common> for EntityCommon {
+    ghost into = { commons.Entity };
+
+    ghost back = { entity_inside };
+
+    fn held(self) -> Common {
+        Common::Entity(self)
+    }
+}
+
+impl VariantOf<Common> for ObjectCommon {
+    ghost into = { commons.Object };
+
+    ghost back = { object_inside };
+
+    fn held(self) -> Common {
+        Common::Object(self)
+    }
 }
 
 impl Common {
@@ -40,15 +62,9 @@ impl Common {
         ensures refs_same_end { refs.new.end ≡ refs.old.end }
     {
         if entity {
-            let Some(common) = EntityCommon::read(alloc, main, refs, base)? else {
-                return Ok(None);
-            };
-            Ok(Some(Common::Entity(common)))
+            read_variant::<EntityCommon, Common>(alloc, main, refs, base)
         } else {
-            let Some(common) = ObjectCommon::read(alloc, main, refs, base)? else {
-                return Ok(None);
-            };
-            Ok(Some(Common::Object(common)))
+            read_variant::<ObjectCommon, Common>(alloc, main, refs, base)
         }
     }
 

@@ -5,9 +5,11 @@ ghost use Rattle.dwg_object.specs.Forms.{head};
 ghost use Rattle.dwg_object.specs.FormLaws.{FormsAreOne, HeadsHaveForms, FormsHaveHeads, FormsAreValid, ValidObjectsAreForms, WrittenFramesStand, WrittenFramesAreBytes};
 ghost use Rattle.dwg_object.specs.FrameLaws.{FramesAreOne, FramesAreTold, FramesAreHeld};
 ghost use Rattle.dwg_object.specs.HeadLaws.{HeadsAreOne};
+ghost use Rattle.dwg_object.specs.OwnLaws.{OwnBodiesAreLawful, OwnBodiesAreOfTheirKind};
 ghost use Rattle.dwg_object.specs.SpanLaws.{SpansAreTold};
 
-/// What holds of heads, frames and forms, for all bytes: heads are told apart, and a body begins with one at the most. What
+/// What holds of heads, frames and forms, for all bytes: heads are told apart, and a body begins with one at the most. What a
+/// kind has of its own is told apart and is of that kind. What
 /// is tried of a span and of a frame is what stands at the place or the first line that refuses it, and nothing else; at a
 /// place there is one frame at the most. A body is read as one object exactly where it has a head; what is read of one below
 /// 2^29 bytes is valid and written no longer, what is written of a valid object is read as it, and where its frame stands
@@ -15,6 +17,9 @@ ghost use Rattle.dwg_object.specs.SpanLaws.{SpansAreTold};
 pub fn frame_laws()
     ensures head_lawful { IsLawful head }
     ensures one_head { HeadsAreOne }
+
+    ensures own_lawful { OwnBodiesAreLawful }
+    ensures own_kind { OwnBodiesAreOfTheirKind }
 
     ensures spans { SpansAreTold }
     ensures frames { FramesAreTold }

@@ -1,19 +1,23 @@
 //! Objects and their frames (Open Design Specification, "R13 to R2000 file layout, object data").
 #![tactic(auto)]
 
+mod body;
 mod common;
 mod frame;
 mod head;
 mod laws;
 mod object;
+mod own;
 mod reading;
 mod span;
+mod variant;
 mod writing;
 
+pub use body::Body;
 pub use common::Common;
 pub use frame::{Found, read_frame, read_span};
 pub use laws::frame_laws;
-pub use object::{Object, Plain, Raw};
+pub use object::{Object, Plain, Raw, Typed};
 pub use reading::{read_body, read_body_hinted};
 pub use span::{Span, span_at};
 pub use writing::{frame_length, write_frame};

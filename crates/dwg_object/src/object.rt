@@ -3,12 +3,26 @@
 ghost use Rattle.std.specs.Prelude.{◌≡◌};
 ghost use Rattle.dwg_object.specs.Objects.{handle_of, kind_of, hint_of_common, value_of};
 
+use crate::body::Body;
 use crate::common::Common;
 use dwg_base::{Handle, Items};
 use dwg_bits::BitPart;
 use dwg_codes::BytePart;
 use dwg_handles::Ref;
 use dwg_kinds::{ClassHint, Kind, kind_of};
+
+/// An object of a kind with fields, all of which are read.
+#[derive(Drop)]
+pub struct Typed {
+    /// The type number in its head.
+    pub number: u16,
+    /// Its own handle, positive in a drawing.
+    pub handle: Handle,
+    /// What all entities have, or all other objects: an entity's exactly where the body's kind is one.
+    pub common: Common,
+    /// What it has of its own.
+    pub body: Body,
+}
 
 /// An object whose common part is read, while its own bits are kept as they are.
 #[derive(Drop)]
@@ -39,6 +53,8 @@ pub struct Raw<'a> {
 /// An object of a drawing, in the strongest form in which it could be read.
 #[derive(Drop)]
 pub enum Object<'a> {
+    /// All its fields.
+    Typed(Typed),
     /// Its common part and its references, with its own bits as they are.
     Plain(Plain<'a>),
     /// Its bytes alone.
@@ -61,17 +77,19 @@ impl Object<'_> {
         ensures { result ≡ handle_of (value_of self.now) }
     {
         match self {
+            Object::Typed(typed) => typed.handle,
             Object::Plain(plain) => plain.handle,
             Object::Raw(raw) => raw.handle,
         }
     }
 
-    /// The object's kind, by its number. From 500 on an object whose common part is read is an entity or another object as
-    /// that part is, and one that is kept as its bytes is unknown.
+    /// The object's kind: where its fields are read, theirs, and else by its number. From 500 on an object whose common part
+    /// alone is read is an entity or another object as that part is, and one that is kept as its bytes is unknown.
     pub fn kind(&self) -> Kind
         ensures { result ≡ kind_of (value_of self.now) }
     {
         match self {
+            Object::Typed(typed) => typed.body.kind(),
             Object::Plain(plain) => kind_of(plain.number, hint_of(&plain.common)),
             Object::Raw(raw) => kind_of(raw.number, ClassHint::Absent),
         }

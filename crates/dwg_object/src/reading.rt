@@ -1,17 +1,19 @@
 //! Reading bodies, in the strongest form that they have.
 
-ghost use Rattle.std.specs.Prelude.{◌≡◌, ◌^◌, ◌<◌, ℕ, List, length, Ok, None, IfOk, IfSome};
+ghost use Rattle.std.specs.Prelude.{◌≡◌, ◌^◌, ◌<◌, ℕ, Bool, List, length, Ok, None, IfOk, IfSome};
 ghost use Rattle.dwg_bits.specs.Bits.{bits};
 ghost use Rattle.dwg_bits.specs.Cursor.{rest};
 ghost use Rattle.dwg_classes.specs.declared.class.Class.{Class};
-ghost use Rattle.dwg_object.specs.Forms.{BeginsWithHead, FormOf, HasPlainForm, kind_under};
+ghost use Rattle.dwg_object.specs.Forms.{BeginsWithHead, CommonForm, FormOf, HasCommonForm, HasPlainForm, HasTypedForm, kind_under};
 ghost use Rattle.dwg_object.specs.HeadLaws.{IsHeadAt};
 ghost use Rattle.dwg_object.specs.Objects.{HoldsItsBytes, parts_of, value_of};
+ghost use Rattle.dwg_object.specs.TypedLaws.{AreOwn, HasOwn};
 
+use crate::body::Body;
 use crate::common::Common;
 use crate::head::{HeadAt, head_of};
-use crate::object::{Object, Plain, Raw};
-use dwg_base::{ByteRun, NoMemory};
+use crate::object::{Object, Plain, Raw, Typed};
+use dwg_base::{ByteRun, Handle, NoMemory};
 use dwg_bits::{BitCursor, BitPart, BitRun};
 use dwg_classes::{Class, Hints};
 use dwg_codes::BytePart;
@@ -33,22 +35,30 @@ fn take_rest(alloc: Global, cursor: &BitCursor<'_>) -> Result<BitRun, NoMemory>
     }
 }
 
-/// Reads a body of a kind in its Plain form. None exactly where it has none; the only refusal is want of memory.
-fn read_plain<'a>(
+/// The common part of a body, and what is left before the references and of these.
+#[derive(Drop)]
+struct Front<'a> {
+    /// The common part.
+    common: Common,
+    /// The bits behind it before the references.
+    main: BitCursor<'a>,
+    /// The bits behind its references.
+    refs: BitCursor<'a>,
+}
+
+/// Reads the common part of a body of a kind. None exactly where the body isn't cut into head, common part, own bits and
+/// references; the only refusal is want of memory.
+fn read_front<'a>(
     alloc: Global,
-    body: &[u8],
+    body: &'a [u8],
     found: &HeadAt,
     kind: Kind,
-) -> Result<Option<Object<'a>>, NoMemory>
+) -> Result<Option<Front<'a>>, NoMemory>
     requires small { length body.now < 2 ^ 60 }
     requires head { IsHeadAt (bits body.now) (parts_of found.now.head) found.now.end }
-    ensures form { IfOk result (λ read. IfSome read (λ object. (classes : List Class) → kind ≡ kind_under classes found.now.head.number → FormOf classes body.now (value_of object))) }
-    ensures none { result ≡ Ok None → (classes : List Class) → kind ≡ kind_under classes found.now.head.number → HasPlainForm classes body.now → ⊥ }
-    ensures owned { IfOk result (λ read. IfSome read HoldsItsBytes) }
+    ensures form { IfOk result (λ read. IfSome read (λ front. (classes : List Class) → kind ≡ kind_under classes found.now.head.number → CommonForm classes body.now found.now.head.number found.now.head.own front.common (rest front.main) (rest front.refs))) }
+    ensures none { result ≡ Ok None → (classes : List Class) → kind ≡ kind_under classes found.now.head.number → HasCommonForm classes body.now → ⊥ }
 {
-    if kind == Kind::Unknown {
-        return Ok(None);
-    }
     let size = u64::from(found.head.size);
     let end = 8 * body.len() as u64;
     if size < found.end || end < size {
@@ -60,16 +70,87 @@ fn read_plain<'a>(
     let Some(common) = Common::read(alloc, is_entity(kind), &mut main, &mut refs, own)? else {
         return Ok(None);
     };
-    let rest = take_rest(alloc, &main)?;
+    Ok(Some(Front { common, main, refs }))
+}
+
+/// Reads what a kind has of its own behind the common part of a body. None exactly where own bits and own references are not
+/// those of the kind, but for fewer than eight bits; the only refusal is want of memory.
+fn read_own(
+    alloc: Global,
+    front: &Front<'_>,
+    kind: Kind,
+    own: Handle,
+) -> Result<Option<Body>, NoMemory>
+    ensures own { IfOk result (λ read. IfSome read (λ body. (left : List Bool) × AreOwn kind own body (rest front.now.main) (rest front.now.refs) left)) }
+    ensures none { result ≡ Ok None → HasOwn kind own (rest front.now.main) (rest front.now.refs) → ⊥ }
+{
+    // The laws of bodies ask that their base is a handle's number.
+    let _base = own.value();
+    let mut main = front.main;
+    let mut refs = front.refs;
+    let Some(body) = Body::read(alloc, kind, &mut main, &mut refs, own)? else {
+        return Ok(None);
+    };
+    let (left, over) = (main.left(), refs.left());
+    if left != 0 || over >= 8 {
+        return Ok(None);
+    }
+    Ok(Some(body))
+}
+
+/// Reads a body in its Plain form, behind its common part. None exactly where it has none; the only refusal is want of memory.
+fn read_plain<'a>(
+    alloc: Global,
+    body: &[u8],
+    found: &HeadAt,
+    kind: Kind,
+    front: Front<'_>,
+) -> Result<Option<Object<'a>>, NoMemory>
+    requires form { (classes : List Class) → kind ≡ kind_under classes found.now.head.number → CommonForm classes body.now found.now.head.number found.now.head.own front.common (rest front.main) (rest front.refs) }
+    ensures form { IfOk result (λ read. IfSome read (λ object. (classes : List Class) → kind ≡ kind_under classes found.now.head.number → (HasTypedForm classes body.now → ⊥) → FormOf classes body.now (value_of object))) }
+    ensures none { result ≡ Ok None → (classes : List Class) → kind ≡ kind_under classes found.now.head.number → HasPlainForm classes body.now → ⊥ }
+    ensures owned { IfOk result (λ read. IfSome read HoldsItsBytes) }
+{
+    if kind == Kind::Unknown {
+        return Ok(None);
+    }
+    let own = found.head.own;
+    let rest = take_rest(alloc, &front.main)?;
+    let mut refs = front.refs;
     let Some(refs) = read_refs_to_end(alloc, &mut refs, own)? else {
         return Ok(None);
     };
     Ok(Some(Object::Plain(Plain {
         number: found.head.number,
         handle: own,
-        common,
+        common: front.common,
         rest: BitPart::Owned(rest),
         refs,
+    })))
+}
+
+/// Reads a body in the strongest form that stands behind its common part. None exactly where it has neither; the only refusal
+/// is want of memory.
+fn read_behind<'a>(
+    alloc: Global,
+    body: &[u8],
+    found: &HeadAt,
+    kind: Kind,
+    front: Front<'_>,
+) -> Result<Option<Object<'a>>, NoMemory>
+    requires form { (classes : List Class) → kind ≡ kind_under classes found.now.head.number → CommonForm classes body.now found.now.head.number found.now.head.own front.common (rest front.main) (rest front.refs) }
+    ensures form { IfOk result (λ read. IfSome read (λ object. (classes : List Class) → kind ≡ kind_under classes found.now.head.number → FormOf classes body.now (value_of object))) }
+    ensures none { result ≡ Ok None → (classes : List Class) → kind ≡ kind_under classes found.now.head.number → (HasPlainForm classes body.now → ⊥) × (HasTypedForm classes body.now → ⊥) }
+    ensures owned { IfOk result (λ read. IfSome read HoldsItsBytes) }
+{
+    let Some(own) = read_own(alloc, &front, kind, found.head.own)? else {
+        return read_plain(alloc, body, found, kind, front);
+    };
+    Ok(Some(Object::Typed(Typed {
+        number: found.head.number,
+        handle: found.head.own,
+        common: front.common,
+        body: own,
     })))
 }
 
@@ -77,7 +158,7 @@ fn read_plain<'a>(
 /// memory.
 fn raw_object<'a>(alloc: Global, found: &HeadAt, body: &[u8]) -> Result<Object<'a>, NoMemory>
     requires head { IsHeadAt (bits body.now) (parts_of found.now.head) found.now.end }
-    ensures form { IfOk result (λ object. (classes : List Class) → (HasPlainForm classes body.now → ⊥) → FormOf classes body.now (value_of object)) }
+    ensures form { IfOk result (λ object. (classes : List Class) → (HasPlainForm classes body.now → ⊥) → (HasTypedForm classes body.now → ⊥) → FormOf classes body.now (value_of object)) }
     ensures owned { IfOk result HoldsItsBytes }
 {
     let bytes = ByteRun::from_slice(alloc, body)?;
@@ -100,14 +181,17 @@ fn read_kind<'a>(
     ensures form { IfOk result (λ object. (classes : List Class) → kind ≡ kind_under classes found.now.head.number → FormOf classes body.now (value_of object)) }
     ensures owned { IfOk result HoldsItsBytes }
 {
-    match read_plain(alloc, body, found, kind)? {
+    let Some(front) = read_front(alloc, body, found, kind)? else {
+        return raw_object(alloc, found, body);
+    };
+    match read_behind(alloc, body, found, kind, front)? {
         Some(object) => Ok(object),
         None => raw_object(alloc, found, body),
     }
 }
 
-/// Reads a body of fewer than 2^60 bytes, in the strongest form that it has under the classes of its drawing: with its common
-/// part and its references where these can be read, and else as its bytes. None exactly where the body has no head; the only
+/// Reads a body of fewer than 2^60 bytes, in the strongest form that it has under the classes of its drawing: with all its
+/// fields, or with its common part and its references, or as its bytes, whichever of these comes first. None exactly where the body has no head; the only
 /// refusal is want of memory, of which as much is taken as the body has bits.
 pub fn read_body_hinted<'a>(
     alloc: Global,

@@ -1,85 +1,123 @@
 //! Frames as they are written.
 
-ghost use Rattle.std.specs.Prelude.{◌≡◌, ◌+◌, ◌*◌, ◌/◌, ◌%◌, ◌^◌, ◌<◌, ◌≤◌, ◌++◌, drop, length};
+ghost use Rattle.std.specs.Prelude.{◌≡◌, ◌+◌, ◌*◌, ◌/◌, ◌%◌, ◌^◌, ◌<◌, ◌≤◌, drop, length};
 ghost use Rattle.dwg_base.specs.Bytes.{AreBytes};
 ghost use Rattle.dwg_bits.specs.Bits.{bits};
-ghost use Rattle.dwg_bits.specs.Sink.{Extends, padding};
+ghost use Rattle.dwg_bits.specs.Sink.{Extends};
 ghost use Rattle.dwg_bits.specs.WholeBytes.{whole_bytes};
 ghost use Rattle.dwg_check.specs.CheckWord.{FRAME_START, check_word};
+ghost use Rattle.dwg_object.specs.Forms.{common_part};
 ghost use Rattle.dwg_object.specs.Frames.{frame_bytes};
-ghost use Rattle.dwg_object.specs.Objects.{value_of};
-ghost use Rattle.dwg_object.specs.PlainInHand.{IsWholePlain, bits_of, front_of, refs_of};
-ghost use Rattle.dwg_object.specs.Written.{IsWhole, body_bytes};
+ghost use Rattle.dwg_object.specs.Objects.{is_of_entity, value_of};
+ghost use Rattle.dwg_object.specs.Written.{IsWhole, body_bytes, front_bits, object_bits, object_bytes, refs_bits};
 
+use crate::common::Common;
 use crate::head::{head_length, write_head};
-use crate::object::{Object, Plain};
+use crate::object::Object;
+use crate::own::OwnPart;
 use crate::span::{CHECK_SIZE, behind};
+use dwg_base::Handle;
 use dwg_bits::BitSink;
 use dwg_check::{FRAME_START, check};
 use dwg_codes::{ms_bytes, write_ms};
-use dwg_handles::{refs_bits, write_refs};
 
-/// How many bits a Plain object is written by.
+/// How many bits an object is written by.
 #[derive(Clone, Copy)]
-struct PlainLengths {
+struct ObjectLengths {
     /// Before the references.
     front: u64,
     /// Of the references.
     refs: u64,
 }
 
-/// How many bits a Plain object is written by, fewer than 2^32.
-fn plain_lengths(plain: &Plain<'_>) -> PlainLengths
-    requires whole { IsWholePlain plain.now }
-    requires few { length (bits_of plain.now) < 2 ^ 32 }
-    ensures front { result.front ≡ length (front_of plain.now) }
-    ensures refs { result.refs ≡ length (refs_of plain.now) }
+/// How many bits an object is written by, fewer than 2^32.
+fn object_lengths<O: OwnPart>(
+    number: u16,
+    handle: Handle,
+    common: &Common,
+    own: &O,
+) -> ObjectLengths
+    requires positive { 0 < handle }
+    requires common { (common_part (is_of_entity common.now) handle).Fits common.now }
+    requires own { O.IsOwn handle own.now }
+    requires few { length (object_bits number handle common.now (O.main handle own.now) (O.refs handle own.now)) < 2 ^ 32 }
+    ensures front { result.front ≡ length (front_bits number handle common.now (O.main handle own.now)) }
+    ensures refs { result.refs ≡ length (refs_bits handle common.now (O.refs handle own.now)) }
+    ensures few { result.front + result.refs < 2 ^ 32 }
 {
-    let own = plain.handle;
-    let common = plain.common.lengths(own);
-    PlainLengths {
-        front: head_length(plain.number, own) + common.main + plain.rest.length(),
-        refs: common.refs + refs_bits(plain.refs.as_slice(), own),
+    let shared = common.lengths(handle);
+    let owned = own.own_lengths(handle);
+    ObjectLengths {
+        front: head_length(number, handle) + shared.main + owned.main,
+        refs: shared.refs + owned.refs,
     }
 }
 
-/// Writes what stands before the references: head, common part, the bits between as they are; together as many bits as the
-/// head says.
-fn write_front(plain: &Plain<'_>, size: u32, sink: &mut BitSink)
-    requires whole { IsWholePlain plain.now }
-    requires size { size ≡ length (front_of plain.now) }
-    requires room { length (front_of plain.now) ≤ sink.old.spare }
-    ensures { Extends sink.old sink.new (front_of plain.now) }
+/// Writes what stands before the references: head, common part, its own bits; together as many bits as the head says.
+fn write_front<O: OwnPart>(
+    number: u16,
+    handle: Handle,
+    common: &Common,
+    own: &O,
+    size: u32,
+    sink: &mut BitSink,
+)
+    requires positive { 0 < handle }
+    requires common { (common_part (is_of_entity common.now) handle).Fits common.now }
+    requires own { O.IsOwn handle own.now }
+    requires size { size ≡ length (front_bits number handle common.now (O.main handle own.now)) }
+    requires room { length (front_bits number handle common.now (O.main handle own.now)) ≤ sink.old.spare }
+    ensures { Extends sink.old sink.new (front_bits number handle common.now (O.main handle own.now)) }
 {
-    let own = plain.handle;
-    write_head(plain.number, size, own, sink);
-    plain.common.write_main(own, sink);
-    sink.push_part(&plain.rest);
+    write_head(number, size, handle, sink);
+    common.write_main(handle, sink);
+    own.write_own(handle, sink);
 }
 
-/// Writes the references: those of the common part, and the others.
-fn write_names(plain: &Plain<'_>, sink: &mut BitSink)
-    requires whole { IsWholePlain plain.now }
-    requires few { length (refs_of plain.now) < 2 ^ 32 }
-    requires room { length (refs_of plain.now) ≤ sink.old.spare }
-    ensures { Extends sink.old sink.new (refs_of plain.now) }
+/// Writes the references: those of the common part, and its own.
+fn write_names<O: OwnPart>(handle: Handle, common: &Common, own: &O, sink: &mut BitSink)
+    requires common { (common_part (is_of_entity common.now) handle).Fits common.now }
+    requires own { O.IsOwn handle own.now }
+    requires few { length (refs_bits handle common.now (O.refs handle own.now)) < 2 ^ 32 }
+    requires room { length (refs_bits handle common.now (O.refs handle own.now)) ≤ sink.old.spare }
+    ensures { Extends sink.old sink.new (refs_bits handle common.now (O.refs handle own.now)) }
 {
-    let own = plain.handle;
-    plain.common.write_refs(own, sink);
-    write_refs(plain.refs.as_slice(), own, sink);
+    common.write_refs(handle, sink);
+    own.write_own_refs(handle, sink);
 }
 
-/// Writes a Plain object at a whole byte, with zero bits up to a whole byte.
-fn write_plain(plain: &Plain<'_>, sink: &mut BitSink)
-    requires whole { IsWholePlain plain.now }
-    requires few { length (bits_of plain.now) < 2 ^ 32 }
+/// How many bytes an object is written by.
+fn parts_length<O: OwnPart>(number: u16, handle: Handle, common: &Common, own: &O) -> u64
+    requires positive { 0 < handle }
+    requires common { (common_part (is_of_entity common.now) handle).Fits common.now }
+    requires own { O.IsOwn handle own.now }
+    requires few { length (object_bytes number handle common.now (O.main handle own.now) (O.refs handle own.now)) < 2 ^ 29 }
+    ensures length { result ≡ length (object_bytes number handle common.now (O.main handle own.now) (O.refs handle own.now)) }
+    ensures bytes { AreBytes (object_bytes number handle common.now (O.main handle own.now) (O.refs handle own.now)) }
+{
+    let lengths = object_lengths(number, handle, common, own);
+    (lengths.front + lengths.refs).div_ceil(8)
+}
+
+/// Writes an object at a whole byte, with zero bits up to a whole byte.
+fn write_parts<O: OwnPart>(
+    number: u16,
+    handle: Handle,
+    common: &Common,
+    own: &O,
+    sink: &mut BitSink,
+)
+    requires positive { 0 < handle }
+    requires common { (common_part (is_of_entity common.now) handle).Fits common.now }
+    requires own { O.IsOwn handle own.now }
+    requires few { length (object_bytes number handle common.now (O.main handle own.now) (O.refs handle own.now)) < 2 ^ 29 }
     requires aligned { length sink.old.written % 8 ≡ 0 }
-    requires room { length (bits_of plain.now ++ padding (bits_of plain.now)) ≤ sink.old.spare }
-    ensures { Extends sink.old sink.new (bits_of plain.now ++ padding (bits_of plain.now)) }
+    requires room { 8 * length (object_bytes number handle common.now (O.main handle own.now) (O.refs handle own.now)) ≤ sink.old.spare }
+    ensures { Extends sink.old sink.new (bits (object_bytes number handle common.now (O.main handle own.now) (O.refs handle own.now))) }
 {
-    let lengths = plain_lengths(plain);
-    write_front(plain, lengths.front as u32, sink);
-    write_names(plain, sink);
+    let lengths = object_lengths(number, handle, common, own);
+    write_front(number, handle, common, own, lengths.front as u32, sink);
+    write_names(handle, common, own, sink);
     sink.pad();
 }
 
@@ -100,10 +138,8 @@ impl Object<'_> {
         ensures bytes { AreBytes (body_bytes (value_of self.now)) }
     {
         match self {
-            Object::Plain(plain) => {
-                let lengths = plain_lengths(plain);
-                (lengths.front + lengths.refs).div_ceil(8)
-            }
+            Object::Typed(typed) => parts_length(typed.number, typed.handle, &typed.common, typed),
+            Object::Plain(plain) => parts_length(plain.number, plain.handle, &plain.common, plain),
             Object::Raw(raw) => small(raw.bytes.as_slice()).len() as u64,
         }
     }
@@ -117,7 +153,12 @@ impl Object<'_> {
         ensures { Extends sink.old sink.new (bits (body_bytes (value_of self.now))) }
     {
         match self {
-            Object::Plain(plain) => write_plain(plain, sink),
+            Object::Typed(typed) => {
+                write_parts(typed.number, typed.handle, &typed.common, typed, sink)
+            }
+            Object::Plain(plain) => {
+                write_parts(plain.number, plain.handle, &plain.common, plain, sink)
+            }
             Object::Raw(raw) => sink.push_bytes(raw.bytes.as_slice()),
         }
     }

@@ -5,6 +5,8 @@
 #[cfg(test)]
 mod common;
 #[cfg(test)]
+mod forms;
+#[cfg(test)]
 mod kinds;
 #[cfg(test)]
 mod objects;

@@ -66,7 +66,9 @@ const OF_A_CLASS: [u8; 30] = [
 
 /// The form in which an object was read, with what it keeps as it was.
 #[derive(Clone, Copy, Debug, PartialEq, Eq)]
-enum Form {
+pub(crate) enum Form {
+    /// All its fields.
+    Typed { kind: Kind },
     /// So many bits of its own, and so many references behind those of the common part.
     Plain { bits: u64, refs: usize },
     /// So many bytes.
@@ -74,7 +76,7 @@ enum Form {
 }
 
 /// What was read of a frame: the type number, the own handle, the form, and the frame's end.
-fn found(
+pub(crate) fn found(
     alloc: Global,
     bytes: &[u8],
     place: u64,
@@ -83,6 +85,12 @@ fn found(
     let found = read_frame(alloc, bytes, place, 0, classes)?;
     let own = found.object.handle().value();
     let (number, form) = match &found.object {
+        Object::Typed(typed) => (
+            typed.number,
+            Form::Typed {
+                kind: found.object.kind(),
+            },
+        ),
         Object::Plain(plain) => (
             plain.number,
             Form::Plain {

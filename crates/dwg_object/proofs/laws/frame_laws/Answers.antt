@@ -2,6 +2,7 @@ use Rattle.dwg_codes.specs.CodeLaws.{lawful_of_code}
 use Rattle.dwg_codes.specs.Grammar.{AnyLetters}
 use Rattle.dwg_object.specs.Forms.{head}
 use Rattle.dwg_object.specs.HeadLaws.{head_is_code, begins_same}
+use Rattle.dwg_object.specs.OwnLaws.{own_is_lawful, own_of_kind}
 use Rattle.dwg_object.specs.SpanLaws.{tried_span_means}
 use Rattle.dwg_object.specs.FrameLaws.{frames_same, tried_frame_means, held_frame}
 use Rattle.dwg_object.specs.FormLaws.{forms_same, form_of_head, head_of_form, form_is_valid, valid_is_form, written_frame, frame_is_bytes}
@@ -12,6 +13,8 @@ returns c =
     record {
       head_lawful = lawful_of_code AnyLetters head head_is_code;
       one_head = begins_same;
+      own_lawful = own_is_lawful;
+      own_kind = own_of_kind;
       spans = tried_span_means;
       frames = tried_frame_means;
       one_frame = frames_same;

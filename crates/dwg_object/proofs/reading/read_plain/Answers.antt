@@ -1,50 +1,15 @@
-use Rattle.std.proofs.Common.{rules, ◌≢◌, refl, sym, ◌∙◌, ap, subst, Bool, List, arith}
+use Rattle.std.proofs.Common.{rules}
 use Rattle.dwg_bits.specs.Cursor.{rest}
-use Rattle.dwg_kinds.specs.Kinds.{is_entity_kind}
-use Rattle.dwg_kinds.specs.declared.kind.Kind.TheVariants.{Unknown}
-use Rattle.dwg_object.specs.Forms.{PlainForm}
-use Rattle.dwg_object.specs.Objects.{parts_of}
-use Rattle.dwg_object.proofs.PlainReading.{cut_of_cursors, known_under, unknown_unread, size_unread_within, common_unread, refs_unread, plain_read}
+use Rattle.dwg_object.proofs.FormReading.{unknown_unread, refs_unread}
 use Rattle.dwg_object.proofs.reading.read_plain.Goals as goal
 
 pub returns-then-eq-clause-none : goal.returns-then-eq-clause-none
 returns-then-eq-clause-none c = λ none classes same form.
-    unknown_unread classes c.args.body.now (parts_of c.args.found.now.head) c.args.found.now.end c.args.kind c.requires.head (search rules) same form
-
-pub returns-then-size-found-clause-none : goal.returns-then-size-found-clause-none
-returns-then-size-found-clause-none c = λ none classes same form.
-    size_unread_within classes c.args.body.now (parts_of c.args.found.now.head) c.args.found.now.end c.requires.head
-    (λ behind within. omega (arith, behind, within, c.then-size-found.either, c.from-size.ensures)) form
+    let head = c.args.found.now.head in
+    unknown_unread classes c.args.body.now head.number head.own c.args.kind c.args.front.common (rest c.args.front.main) (rest c.args.front.refs) (search rules) same (c.requires.form classes same) form
 
 pub returns-in_default-clause-none : goal.returns-in_default-clause-none
 returns-in_default-clause-none c = λ none classes same form.
-    let parts = parts_of c.args.found.now.head in
-    let cut = cut_of_cursors c.args.body.now parts c.args.found.now.end c.from-size.result _ c.new-main.result c.new-refs.result c.requires.head
-    (omega (arith, c.if-size-found.false)) (omega (arith, c.if-end-size.false)) c.from-size.ensures refl
-    c.new-main.ensures.bytes c.new-main.ensures.place c.new-main.ensures.end c.new-refs.ensures.bytes c.new-refs.ensures.place c.new-refs.ensures.end in
-    let clauses = rw c.in_default.is at c.in_ok-common.ensures in
-    common_unread classes c.args.body.now parts c.is_entity.result (rest c.new-main.result) (rest c.new-refs.result) _ _ cut (c.is_entity.ensures ∙ ap is_entity_kind same) clauses.reads form
-
-pub returns-in_default-2-clause-none : goal.returns-in_default-2-clause-none
-returns-in_default-2-clause-none c = λ none classes same form.
-    let parts = parts_of c.args.found.now.head in
-    let cut = cut_of_cursors c.args.body.now parts c.args.found.now.end c.from-size.result _ c.new-main.result c.new-refs.result c.requires.head
-    (omega (arith, c.if-size-found.false)) (omega (arith, c.if-end-size.false)) c.from-size.ensures refl
-    c.new-main.ensures.bytes c.new-main.ensures.place c.new-main.ensures.end c.new-refs.ensures.bytes c.new-refs.ensures.place c.new-refs.ensures.end in
-    let clauses = rw c.in-Some.is at c.in_ok-common.ensures in
-    let others = rw c.in_default-2.is at c.in_ok-refs.ensures in
-    refs_unread classes c.args.body.now parts c.is_entity.result (rest c.new-main.result) (rest c.new-refs.result) _ _ _ c.in-Some.common cut (c.is_entity.ensures ∙ ap is_entity_kind same) clauses.reads
-    others.reads form
-
-pub returns-clause-form : goal.returns-clause-form
-returns-clause-form c = λ classes same.
-    let parts = parts_of c.args.found.now.head in
-    let cut = cut_of_cursors c.args.body.now parts c.args.found.now.end c.from-size.result _ c.new-main.result c.new-refs.result c.requires.head
-    (omega (arith, c.if-size-found.false)) (omega (arith, c.if-end-size.false)) c.from-size.ensures refl
-    c.new-main.ensures.bytes c.new-main.ensures.place c.new-main.ensures.end c.new-refs.ensures.bytes c.new-refs.ensures.place c.new-refs.ensures.end in
-    let known : c.args.kind ≢ Unknown = λ unknown. search rules in
-    let clauses = rw c.in-Some.is at c.in_ok-common.ensures in
-    let others = rw c.in-Some-2.is at c.in_ok-refs.ensures in
-    subst (λ (kept : List Bool). PlainForm classes c.args.body.now parts.number parts.own c.in-Some.common kept c.in-Some-2.refs) (sym c.in_ok-rest.ensures)
-    (plain_read classes c.args.body.now parts c.is_entity.result (rest c.new-main.result) (rest c.new-refs.result) _ _ _ c.in-Some.common c.in-Some-2.refs cut
-    (known_under classes c.args.kind parts.number known same) (c.is_entity.ensures ∙ ap is_entity_kind same) clauses.reads others.reads)
+    let head = c.args.found.now.head in
+    let clauses = rw c.in_default.is at c.in_ok-refs.ensures in
+    refs_unread classes c.args.body.now head.number head.own c.args.front.common (rest c.args.front.main) (rest c.args.front.refs) _ (c.requires.form classes same) clauses.reads form

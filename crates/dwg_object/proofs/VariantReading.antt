@@ -1,9 +1,9 @@
--- Reading a common part, of an entity or of another object.
+-- Reading a body as a variant of an enum.
 use Rattle.std.proofs.Common.{Bool, List, Option, None}
 use Rattle.dwg_common.specs.Bodies.{BodyGrammar, BeginsWithBody, ReadsBody}
 use Rattle.dwg_common.specs.MakingBodies.{variant}
 
--- where no part of the one sort is spelled, none is as a variant of an enum
+-- where no body is spelled, none is as a variant of an enum
 pub variant_unread : {V W : Type 0} (into : V → W) (back : W → Option V) (inner : BodyGrammar V) (main main_left references references_left : List Bool)
     → ReadsBody inner None main main_left references references_left → ReadsBody (variant into back inner) None main main_left references references_left
 variant_unread {V} {W} into back inner main main_left references references_left (none, same, references_same) = (none_begins, same, references_same)
