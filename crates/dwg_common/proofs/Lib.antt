@@ -3,3 +3,5 @@ pub mod AppWriting
 pub mod ObjectParts
 pub mod EntityReading
 pub mod GraphicParts
+pub mod PointReading
+pub mod TextReading

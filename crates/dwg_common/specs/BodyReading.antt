@@ -75,3 +75,7 @@ pub body_missing : {V : Type 0} (base : ℕ) (body : BodyGrammar V) (found : Opt
     → body.parse main references ≡ option_map (λ (one : V). (one, (main_left, references_left))) found → ReadsBody body None main main references references
 body_missing {V} base body found main main_left references references_left is same was =
     body_unread base body main references is (was ∙ ap (option_map (λ (one : V). (one, (main_left, references_left)))) same)
+
+-- what is parsed by a code has a spelling
+pub parsed_value : {V : Type 0} (code : Grammar Bool V) (value : V) (old new : List Bool) → IsCode AnyLetters code → code.parse old ≡ Some (value, new) → code.IsValue value
+parsed_value code value old new is found = let parts = is.sound old new value tt found in is.value parts.0 value parts.1

@@ -5,6 +5,9 @@ pub mod References
 pub mod ReferenceParts
 pub mod MakingBodies
 pub mod MadeBodies
+pub mod ToEndBodies
+pub mod Points
+pub mod PointLaws
 pub mod AppList
 pub mod Entities
 pub mod NonEntities

@@ -13,11 +13,15 @@ mod look;
 mod named;
 mod object;
 mod parts;
+mod points;
 mod start;
+mod tv;
 
 pub use app_data::AppData;
 pub use body::{BodyCode, Lengths, body_laws};
 pub use entity::{EntityCommon, Links};
 pub use laws::common_laws;
 pub use object::ObjectCommon;
-pub use parts::{parse_bytes, parse_code, parse_ref, parse_refs, parse_when};
+pub use parts::{parse_bytes, parse_code, parse_list, parse_ref, parse_refs, parse_when};
+pub use points::{Code2DD, Code2RD, Code3BD};
+pub use tv::{parse_tv, tv_bits, tv_fits, write_tv};

@@ -12,7 +12,7 @@ use Rattle.dwg_entities.specs.BodiesLaws.{block_main_is_code}
 use Rattle.dwg_entities.specs.declared.block.Block.{Block}
 use Rattle.dwg_entities.specs.declared.ends.EndBlk.{EndBlk}
 use Rattle.dwg_entities.specs.declared.ends.SeqEnd.{SeqEnd}
-use Rattle.dwg_entities.proofs.PointReading.{parsed_value}
+use Rattle.dwg_common.specs.BodyReading.{parsed_value}
 
 -- a begin of a block
 pub block_read : (base : ℕ) (value : Block) (old new references : List Bool) → block_main.parse old ≡ Some (value, new) → ReadsBody (block_body base) (Some value) old new references references

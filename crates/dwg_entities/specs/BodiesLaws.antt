@@ -26,8 +26,8 @@ use Rattle.dwg_entities.specs.BlockEnds.{endblk_main, endblk_body, seqend_main, 
 use Rattle.dwg_entities.specs.FlagLaws.{worth_told}
 use Rattle.dwg_entities.specs.Flags.{unless}
 use Rattle.dwg_entities.specs.InsertBody.{insert_main, attributes, insert_refs, setting_of, named_of_insert, insert_of, insert_body}
-use Rattle.dwg_entities.specs.PointLaws.{rd2_is_code, dd2_is_code}
-use Rattle.dwg_entities.specs.Points.{rd2, dd2}
+use Rattle.dwg_common.specs.PointLaws.{rd2_is_code, dd2_is_code}
+use Rattle.dwg_common.specs.Points.{rd2, dd2}
 use Rattle.dwg_entities.specs.Scale.{scale}
 use Rattle.dwg_entities.specs.ScaleLaws.{scale_is_code}
 use Rattle.dwg_entities.specs.TextBody.{text_placing, text_lettering, text_wording, flags_of, text_main, inscription_of, text_of, text_body}

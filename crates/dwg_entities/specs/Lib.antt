@@ -1,5 +1,4 @@
 pub mod Flags
-pub mod Points
 pub mod TextBody
 pub mod AttribBody
 pub mod AttdefBody
@@ -7,7 +6,6 @@ pub mod Scale
 pub mod InsertBody
 pub mod BlockBody
 pub mod BlockEnds
-pub mod PointLaws
 pub mod FlagLaws
 pub mod ScaleLaws
 pub mod BodiesLaws

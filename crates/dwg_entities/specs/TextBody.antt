@@ -14,7 +14,7 @@ use Rattle.dwg_entities.specs.declared.text.Placing.{Placing}
 use Rattle.dwg_entities.specs.declared.text.Text.{Text}
 use Rattle.dwg_entities.specs.declared.text.Wording.{Wording}
 use Rattle.dwg_entities.specs.Flags.{unless, worth_unless}
-use Rattle.dwg_entities.specs.Points.{rd2, dd2}
+use Rattle.dwg_common.specs.Points.{rd2, dd2}
 
 -- RD elevation unless 01; 2RD insertion; 2DD alignment against it unless 02; BE extrusion; BT thickness
 abbrev pub text_placing : ℕ → Grammar Bool Placing

@@ -8,10 +8,9 @@ ghost use Rattle.dwg_entities.specs.BodiesLaws.{attdef_is_body};
 
 use crate::attrib::{Attrib, attrib_of};
 use crate::label::{label_bits, label_fits, read_label, write_label};
-use crate::tv::{parse_tv, tv_bits, tv_fits, write_tv};
 use dwg_base::{ByteRun, Handle, NoMemory};
 use dwg_bits::{BitCursor, BitSink};
-use dwg_common::{BodyCode, Lengths, parse_ref};
+use dwg_common::{BodyCode, Lengths, parse_ref, parse_tv, tv_bits, tv_fits, write_tv};
 use dwg_handles::{ref_bits, write_ref};
 use std::alloc::Global;
 

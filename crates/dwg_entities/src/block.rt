@@ -6,10 +6,9 @@ ghost use Rattle.dwg_bits.specs.Cursor.{rest};
 ghost use Rattle.dwg_entities.specs.BlockBody.{block_body, block_main};
 ghost use Rattle.dwg_entities.specs.BodiesLaws.{block_is_body};
 
-use crate::tv::{parse_tv, tv_bits, tv_fits, write_tv};
 use dwg_base::{ByteRun, Handle, NoMemory};
 use dwg_bits::{BitCursor, BitSink};
-use dwg_common::{BodyCode, Lengths};
+use dwg_common::{BodyCode, Lengths, parse_tv, tv_bits, tv_fits, write_tv};
 use std::alloc::Global;
 
 /// The begin of a block (Open Design Specification, "BLOCK").

@@ -7,12 +7,11 @@ ghost use Rattle.dwg_entities.specs.BodiesLaws.{insert_is_body};
 ghost use Rattle.dwg_entities.specs.InsertBody.{insert_body, insert_main, insert_refs, setting_of};
 
 use crate::attributes::{CodeAttributes, attributes_fit_where_there};
-use crate::points::Code3BD;
 use crate::scale::CodeScale;
 use dwg_base::{Handle, NoMemory};
 use dwg_bits::{BitCursor, BitSink};
 use dwg_codes::{BitCode, CodeB, CodeBD, Point3, length_when, write_when};
-use dwg_common::{BodyCode, Lengths, parse_code, parse_ref, parse_when};
+use dwg_common::{BodyCode, Code3BD, Lengths, parse_code, parse_ref, parse_when};
 use dwg_handles::{CodeH, Ref};
 use std::alloc::Global;
 

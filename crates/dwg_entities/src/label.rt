@@ -8,11 +8,10 @@ ghost use Rattle.dwg_entities.specs.AttribBody.{attrib_main, label_of};
 
 use crate::attrib::{Attrib, Label};
 use crate::inscription::{inscription_bits, inscription_fits, read_inscription, write_inscription};
-use crate::tv::{parse_tv, tv_bits, tv_fits, write_tv};
 use dwg_base::NoMemory;
 use dwg_bits::{BitCursor, BitSink};
 use dwg_codes::{BitCode, CodeBS, CodeRC};
-use dwg_common::parse_code;
+use dwg_common::{parse_code, parse_tv, tv_bits, tv_fits, write_tv};
 use std::alloc::Global;
 
 /// Reads what the main bits of an attribute tell, as it is parsed. The only refusal is want of memory, which is taken only

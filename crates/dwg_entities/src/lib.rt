@@ -14,10 +14,8 @@ mod label;
 mod laws;
 mod lettering;
 mod placing;
-mod points;
 mod scale;
 mod text;
-mod tv;
 mod wording;
 
 pub use attdef::Attdef;

@@ -5,15 +5,14 @@ ghost use Rattle.std.specs.Option.{option_map};
 ghost use Rattle.dwg_bits.specs.Cursor.{rest};
 ghost use Rattle.dwg_bits.specs.Sink.{Extends};
 ghost use Rattle.dwg_entities.specs.Flags.{unless};
-ghost use Rattle.dwg_entities.specs.Points.{dd2};
+ghost use Rattle.dwg_common.specs.Points.{dd2};
 ghost use Rattle.dwg_entities.specs.TextBody.{text_placing};
 
 use crate::flags::{is_set, length_unless, parse_unless, word_fits, write_unless};
-use crate::points::{Code2DD, Code2RD};
 use crate::text::Placing;
 use dwg_bits::{BitCursor, BitSink};
 use dwg_codes::{BitCode, CodeBE, CodeBT, CodeRD, Point2};
-use dwg_common::parse_code;
+use dwg_common::{Code2DD, Code2RD, parse_code};
 
 /// What the flag of a text without an elevation is worth.
 pub(crate) const NO_ELEVATION: u8 = 0x01;

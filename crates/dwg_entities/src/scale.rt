@@ -115,7 +115,7 @@ fn scale_tag(point: &Point3) -> u8
 }
 
 /// How many bits are written of a scale behind a tag.
-#[tactic(auto, using(crate::specs::PointLaws::dd_at_most, dwg_codes::specs::NumberLaws::length_of_rd))]
+#[tactic(auto, using(dwg_common::specs::PointLaws::dd_at_most, dwg_codes::specs::NumberLaws::length_of_rd))]
 fn bits_behind(tag: u8, point: &Point3) -> u64
     requires tag { tag < 4 }
     requires point { IsPoint3 point.now }

@@ -8,10 +8,10 @@ ghost use Rattle.dwg_entities.specs.TextBody.{inscription_of, text_wording};
 
 use crate::flags::{length_unless, number_fits, parse_unless, write_unless};
 use crate::text::{Text, Wording};
-use crate::tv::{parse_tv, tv_bits, tv_fits, write_tv};
 use dwg_base::NoMemory;
 use dwg_bits::{BitCursor, BitSink};
 use dwg_codes::CodeBS;
+use dwg_common::{parse_tv, tv_bits, tv_fits, write_tv};
 use std::alloc::Global;
 
 /// What the flag of a text without a generation is worth.

@@ -7,7 +7,7 @@ use Rattle.dwg_bits.specs.SinkLaws.{extends_by_none, extends_by_both}
 use Rattle.dwg_codes.specs.Combinators.{IsChain, short_chain, chain}
 use Rattle.dwg_codes.specs.declared.points.Point2.{Point2}
 use Rattle.dwg_shapes.specs.LwPolylines.{vertex, vertices}
-use Rattle.dwg_shapes.specs.Words.{IsPoint2}
+use Rattle.dwg_common.specs.Points.{IsPoint2}
 use Rattle.dwg_shapes.proofs.Known.{IsKnownSoFar, all_known}
 
 -- the points that are left are values, and what is written of them, behind a point

@@ -1,10 +1,8 @@
-pub mod Words
 pub mod Lines
 pub mod Points
 pub mod Circles
 pub mod Arcs
 pub mod LwPolylines
-pub mod WordLaws
 pub mod EndLaws
 pub mod VertexLaws
 pub mod ShapeLaws

@@ -13,7 +13,7 @@ use Rattle.dwg_shapes.specs.declared.lwpolyline.Lists.{Lists}
 use Rattle.dwg_shapes.specs.declared.lwpolyline.LwPolyline.{LwPolyline}
 use Rattle.dwg_shapes.specs.declared.lwpolyline.PolylineStart.{PolylineStart}
 use Rattle.dwg_shapes.specs.declared.lwpolyline.Width.{Width}
-use Rattle.dwg_shapes.specs.Words.{rd2, dd2}
+use Rattle.dwg_common.specs.Points.{rd2, dd2}
 
 -- the bit of a flag that is worth so much is set
 abbrev pub has : ℕ → ℕ → Bool

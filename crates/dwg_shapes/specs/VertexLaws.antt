@@ -10,8 +10,8 @@ use Rattle.dwg_codes.specs.TableLaws.{bd_is_code}
 use Rattle.dwg_codes.specs.declared.points.Point2.{Point2}
 use Rattle.dwg_common.specs.Shaped.{shaped_is_code}
 use Rattle.dwg_shapes.specs.LwPolylines.{vertex, vertices, width_pair, items_where}
-use Rattle.dwg_shapes.specs.Words.{IsPoint2}
-use Rattle.dwg_shapes.specs.WordLaws.{rd2_is_code, dd2_is_code}
+use Rattle.dwg_common.specs.Points.{IsPoint2}
+use Rattle.dwg_common.specs.PointLaws.{rd2_is_code, dd2_is_code}
 
 -- the point before lies in the range of its type, where there is one
 abbrev pub IsBefore : Option Point2 → Type 0

@@ -7,11 +7,11 @@ ghost use Rattle.dwg_bits.specs.Sink.{Extends};
 ghost use Rattle.dwg_shapes.specs.Circles.{circle_body, circle_main};
 ghost use Rattle.dwg_shapes.specs.ShapeLaws.{circle_is_body};
 
-use crate::words::{CodeBD3, known_point};
+use crate::words::known_point;
 use dwg_base::{Handle, NoMemory};
 use dwg_bits::{BitCursor, BitSink};
 use dwg_codes::{BitCode, CodeBD, CodeBE, CodeBT, Point3};
-use dwg_common::{BodyCode, Lengths, parse_code};
+use dwg_common::{BodyCode, Code3BD, Lengths, parse_code};
 use std::alloc::Global;
 
 /// A circle (Open Design Specification, "CIRCLE").
@@ -43,7 +43,7 @@ pub(crate) fn circle_bits(circle: &Circle) -> u64
     ensures length { result ≡ length (circle_main.short circle.now) }
     ensures few { result < 2 ^ 34 }
 {
-    CodeBD3::length(&(), &circle.centre)
+    Code3BD::length(&(), &circle.centre)
         + CodeBD::length(&(), &circle.radius)
         + CodeBT::length(&(), &circle.thickness)
         + CodeBE::length(&(), &circle.extrusion)
@@ -55,7 +55,7 @@ pub(crate) fn write_circle(circle: &Circle, sink: &mut BitSink)
     requires room { length (circle_main.short circle.now) ≤ sink.old.spare }
     ensures { Extends sink.old sink.new (circle_main.short circle.now) }
 {
-    CodeBD3::write(&(), &circle.centre, sink);
+    Code3BD::write(&(), &circle.centre, sink);
     CodeBD::write(&(), &circle.radius, sink);
     CodeBT::write(&(), &circle.thickness, sink);
     CodeBE::write(&(), &circle.extrusion, sink);
@@ -67,7 +67,7 @@ pub(crate) fn read_circle(cursor: &mut BitCursor<'_>) -> Option<Circle>
     ensures same_bytes { cursor.new.bytes.now ≡ cursor.old.bytes.now }
     ensures same_end { cursor.new.end ≡ cursor.old.end }
 {
-    let centre = parse_code::<CodeBD3>(&(), cursor)?;
+    let centre = parse_code::<Code3BD>(&(), cursor)?;
     let radius = parse_code::<CodeBD>(&(), cursor)?;
     let thickness = parse_code::<CodeBT>(&(), cursor)?;
     let extrusion = parse_code::<CodeBE>(&(), cursor)?;

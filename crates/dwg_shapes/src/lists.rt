@@ -5,34 +5,17 @@ ghost use Rattle.std.specs.Option.{option_map};
 ghost use Rattle.dwg_bits.specs.Cursor.{rest};
 ghost use Rattle.dwg_bits.specs.Sink.{Extends};
 ghost use Rattle.dwg_codes.specs.Codes.{bl};
-ghost use Rattle.dwg_codes.specs.Combinators.{items, when};
+ghost use Rattle.dwg_codes.specs.Combinators.{when};
 ghost use Rattle.dwg_shapes.specs.LwPolylines.{items_where};
 
 use dwg_base::{Items, NoMemory};
 use dwg_bits::{BitCursor, BitSink};
-use dwg_codes::{BitCode, list_length, read_list, write_list};
+use dwg_codes::{BitCode, list_length, write_list};
+use dwg_common::parse_list;
 use std::alloc::Global;
 
 /// How many members can't be told: a count is a BL.
 pub(crate) const TOO_MANY: usize = 1 << 32;
-
-/// Reads so many values, as they are parsed. The only refusal is want of memory, which is taken only for values that are there.
-fn parse_list<C: BitCode>(
-    alloc: Global,
-    context: &C::Context,
-    count: u32,
-    cursor: &mut BitCursor<'_>,
-) -> Result<Option<Items<C::Value>>, NoMemory>
-where
-    C::Value: Drop,
-    requires { C.IsContext context.now }
-    ensures parsed { IfOk result (λ found. (items (C.grammar context.now) count).parse (rest cursor.old) ≡ option_map (λ values. (values, rest cursor.new)) found) }
-    ensures same_bytes { cursor.new.bytes.now ≡ cursor.old.bytes.now }
-    ensures same_end { cursor.new.end ≡ cursor.old.end }
-{
-    let found = read_list::<C>(alloc, context, count, cursor)?;
-    Ok(found)
-}
 
 /// Reads so many values where there is a count, as they are parsed, and no bit where there is none. The only refusal is want
 /// of memory, which is taken only for values that are there.

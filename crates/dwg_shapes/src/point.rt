@@ -6,11 +6,11 @@ ghost use Rattle.dwg_bits.specs.Cursor.{rest};
 ghost use Rattle.dwg_shapes.specs.Points.{point_body, point_main};
 ghost use Rattle.dwg_shapes.specs.ShapeLaws.{point_is_body};
 
-use crate::words::{CodeBD3, known_point};
+use crate::words::known_point;
 use dwg_base::{Handle, NoMemory};
 use dwg_bits::{BitCursor, BitSink};
 use dwg_codes::{BitCode, CodeBD, CodeBE, CodeBT, Point3};
-use dwg_common::{BodyCode, Lengths, parse_code};
+use dwg_common::{BodyCode, Code3BD, Lengths, parse_code};
 use std::alloc::Global;
 
 /// A point that is drawn (Open Design Specification, "POINT").
@@ -32,7 +32,7 @@ fn read_point(cursor: &mut BitCursor<'_>) -> Option<Point>
     ensures same_bytes { cursor.new.bytes.now ≡ cursor.old.bytes.now }
     ensures same_end { cursor.new.end ≡ cursor.old.end }
 {
-    let place = parse_code::<CodeBD3>(&(), cursor)?;
+    let place = parse_code::<Code3BD>(&(), cursor)?;
     let thickness = parse_code::<CodeBT>(&(), cursor)?;
     let extrusion = parse_code::<CodeBE>(&(), cursor)?;
     let angle = parse_code::<CodeBD>(&(), cursor)?;
@@ -73,7 +73,7 @@ impl BodyCode for Point {
     #[tactic(auto, unfolding(crate::specs::Points::point_body))]
     fn lengths(&self, _base: Handle) -> Lengths {
         Lengths {
-            main: CodeBD3::length(&(), &self.place)
+            main: Code3BD::length(&(), &self.place)
                 + CodeBT::length(&(), &self.thickness)
                 + CodeBE::length(&(), &self.extrusion)
                 + CodeBD::length(&(), &self.angle),
@@ -83,7 +83,7 @@ impl BodyCode for Point {
 
     #[tactic(auto, unfolding(crate::specs::Points::point_body))]
     fn write_main(&self, _base: Handle, sink: &mut BitSink) {
-        CodeBD3::write(&(), &self.place, sink);
+        Code3BD::write(&(), &self.place, sink);
         CodeBT::write(&(), &self.thickness, sink);
         CodeBE::write(&(), &self.extrusion, sink);
         CodeBD::write(&(), &self.angle, sink);

@@ -9,10 +9,10 @@ ghost use Rattle.dwg_codes.specs.Combinators.{when};
 ghost use Rattle.dwg_shapes.specs.LwPolylines.{has, polyline_start};
 
 use crate::lwpolyline::PolylineStart;
-use crate::words::{CodeBD3, known_point};
+use crate::words::known_point;
 use dwg_bits::{BitCursor, BitSink};
 use dwg_codes::{BitCode, CodeBD, CodeBS, Point3, length_when, write_when};
-use dwg_common::{parse_code, parse_when};
+use dwg_common::{Code3BD, parse_code, parse_when};
 
 /// The bit of the flag of a light polyline that has a width.
 const WIDTH: u16 = 4;
@@ -44,7 +44,7 @@ pub(crate) fn read_start(cursor: &mut BitCursor<'_>) -> Option<PolylineStart>
     let width = parse_when::<CodeBD>(&(), has(flag, WIDTH), cursor)?;
     let elevation = parse_when::<CodeBD>(&(), has(flag, ELEVATION), cursor)?;
     let thickness = parse_when::<CodeBD>(&(), has(flag, THICKNESS), cursor)?;
-    let normal = parse_when::<CodeBD3>(&(), has(flag, NORMAL), cursor)?;
+    let normal = parse_when::<Code3BD>(&(), has(flag, NORMAL), cursor)?;
     Some(PolylineStart {
         flag,
         width,
@@ -103,7 +103,7 @@ pub(crate) fn start_bits(start: &PolylineStart) -> u64
         + length_when::<CodeBD>(&(), has(start.flag, WIDTH), &start.width)
         + length_when::<CodeBD>(&(), has(start.flag, ELEVATION), &start.elevation)
         + length_when::<CodeBD>(&(), has(start.flag, THICKNESS), &start.thickness)
-        + length_when::<CodeBD3>(&(), has(start.flag, NORMAL), &start.normal)
+        + length_when::<Code3BD>(&(), has(start.flag, NORMAL), &start.normal)
 }
 
 /// Writes what a light polyline begins with.
@@ -116,5 +116,5 @@ pub(crate) fn write_start(start: &PolylineStart, sink: &mut BitSink)
     write_when::<CodeBD>(&(), has(start.flag, WIDTH), &start.width, sink);
     write_when::<CodeBD>(&(), has(start.flag, ELEVATION), &start.elevation, sink);
     write_when::<CodeBD>(&(), has(start.flag, THICKNESS), &start.thickness, sink);
-    write_when::<CodeBD3>(&(), has(start.flag, NORMAL), &start.normal, sink);
+    write_when::<Code3BD>(&(), has(start.flag, NORMAL), &start.normal, sink);
 }

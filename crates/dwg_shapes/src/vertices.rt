@@ -5,34 +5,20 @@ ghost use Rattle.std.specs.Option.{option_map};
 ghost use Rattle.dwg_bits.specs.Cursor.{rest};
 ghost use Rattle.dwg_bits.specs.Sink.{Extends};
 ghost use Rattle.dwg_shapes.specs.LwPolylines.{vertex, vertices};
-ghost use Rattle.dwg_shapes.specs.Words.{IsPoint2, rd2, dd2};
+ghost use Rattle.dwg_common.specs.Points.{IsPoint2};
 
 use dwg_base::{Items, NoMemory};
 use dwg_bits::{BitCursor, BitSink};
-use dwg_codes::{BitCode, CodeDD, CodeRD, Point2};
-use dwg_common::parse_code;
+use dwg_codes::{BitCode, Point2};
+use dwg_common::{Code2DD, Code2RD, parse_code};
 use std::alloc::Global;
 
-/// Reads a point by two RDs, as it is parsed.
-fn read_first(cursor: &mut BitCursor<'_>) -> Option<Point2>
-    ensures parsed { rd2.parse (rest cursor.old) ≡ option_map (λ point. (point, rest cursor.new)) result }
-    ensures same_bytes { cursor.new.bytes.now ≡ cursor.old.bytes.now }
-    ensures same_end { cursor.new.end ≡ cursor.old.end }
+/// The words of a point lie in the range of their type.
+fn known_vertex(point: &Point2)
+    ensures { IsPoint2 point.now }
 {
-    let x = parse_code::<CodeRD>(&(), cursor)?;
-    let y = parse_code::<CodeRD>(&(), cursor)?;
-    Some(Point2 { x, y })
-}
-
-/// Reads a point by two DDs against the point before it, as it is parsed.
-fn read_next(before: Point2, cursor: &mut BitCursor<'_>) -> Option<Point2>
-    ensures parsed { (dd2 before).parse (rest cursor.old) ≡ option_map (λ point. (point, rest cursor.new)) result }
-    ensures same_bytes { cursor.new.bytes.now ≡ cursor.old.bytes.now }
-    ensures same_end { cursor.new.end ≡ cursor.old.end }
-{
-    let x = parse_code::<CodeDD>(&before.x, cursor)?;
-    let y = parse_code::<CodeDD>(&before.y, cursor)?;
-    Some(Point2 { x, y })
+    let _x = point.x;
+    let _y = point.y;
 }
 
 /// Reads a point behind the one before it, as it is parsed.
@@ -42,8 +28,11 @@ fn read_vertex(before: Option<Point2>, cursor: &mut BitCursor<'_>) -> Option<Poi
     ensures same_end { cursor.new.end ≡ cursor.old.end }
 {
     match before {
-        None => read_first(cursor),
-        Some(point) => read_next(point, cursor),
+        None => parse_code::<Code2RD>(&(), cursor),
+        Some(point) => {
+            known_vertex(&point);
+            parse_code::<Code2DD>(&point, cursor)
+        }
     }
 }
 
@@ -73,15 +62,7 @@ pub(crate) fn read_vertices(
     Ok(Some(found))
 }
 
-/// The words of a point lie in the range of their type.
-fn known_vertex(point: &Point2)
-    ensures { IsPoint2 point.now }
-{
-    let _x = point.x;
-    let _y = point.y;
-}
-
-/// So do those of many points.
+/// The words of points lie in the range of their type.
 #[tactic(auto, using(crate::proofs::Known::none_known, crate::proofs::VertexLoops::vertices_known))]
 pub(crate) fn known_vertices(points: &[Point2])
     ensures { (vertices (length points.now)).IsValue points.now }
@@ -98,8 +79,11 @@ fn vertex_bits(before: Option<Point2>, point: &Point2) -> u64
     ensures few { result < 2 ^ 33 }
 {
     match before {
-        None => CodeRD::length(&(), &point.x) + CodeRD::length(&(), &point.y),
-        Some(last) => CodeDD::length(&last.x, &point.x) + CodeDD::length(&last.y, &point.y),
+        None => Code2RD::length(&(), point),
+        Some(last) => {
+            known_vertex(&last);
+            Code2DD::length(&last, point)
+        }
     }
 }
 
@@ -126,13 +110,10 @@ fn write_vertex(before: Option<Point2>, point: &Point2, sink: &mut BitSink)
     ensures { Extends sink.old sink.new ((vertex before).short point.now) }
 {
     match before {
-        None => {
-            CodeRD::write(&(), &point.x, sink);
-            CodeRD::write(&(), &point.y, sink);
-        }
+        None => Code2RD::write(&(), point, sink),
         Some(last) => {
-            CodeDD::write(&last.x, &point.x, sink);
-            CodeDD::write(&last.y, &point.y, sink);
+            known_vertex(&last);
+            Code2DD::write(&last, point, sink);
         }
     }
 }

@@ -61,7 +61,7 @@ impl BitCode for CodeWidth {
         Some(width)
     }
 
-    #[tactic(auto, using(crate::specs::WordLaws::length_of_bd))]
+    #[tactic(auto, using(dwg_common::specs::PointLaws::bd_at_most))]
     fn length(_context: &(), value: &Width) -> u64 {
         CodeBD::length(&(), &value.start) + CodeBD::length(&(), &value.end)
     }

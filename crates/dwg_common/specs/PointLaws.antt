@@ -11,16 +11,11 @@ use Rattle.dwg_codes.specs.NumberLaws.{bb_is_code, rd_is_code, length_of_rd}
 use Rattle.dwg_codes.specs.TableLaws.{bd_is_code}
 use Rattle.dwg_codes.specs.declared.points.Point2.{Point2}
 use Rattle.dwg_common.specs.Shaped.{shaped_is_code}
-use Rattle.dwg_entities.specs.Points.{rd2, dd2}
+use Rattle.dwg_common.specs.Points.{IsPoint2, rd2, dd2}
 
 -- a 2RD is a code
 pub rd2_is_code : IsCode AnyLetters rd2
 rd2_is_code = shaped_is_code _ _ _ (seq_is_code AnyLetters rd _ any_letters_closed rd_is_code (λ x fits. rd_is_code)) (λ words fits. refl) (λ point. refl)
-
--- the words of a default lie in the range of their type
-pub record IsPoint2 (point : Point2) : Type 0 where
-  pub x : point.x < 2 ^ 64
-  pub y : point.y < 2 ^ 64
 
 -- a 2DD is a code for each default of two words
 pub dd2_is_code : (default : Point2) → IsPoint2 default → IsCode AnyLetters (dd2 default)

@@ -16,10 +16,7 @@ const TOO_MANY: usize = 1 << 16;
 
 /// Reads a TV, as it is parsed. The only refusal is want of memory, which is taken only for bytes that are there.
 #[tactic(auto, using(crate::proofs::TextReading::tv_parsed))]
-pub(crate) fn parse_tv(
-    alloc: Global,
-    cursor: &mut BitCursor<'_>,
-) -> Result<Option<ByteRun>, NoMemory>
+pub fn parse_tv(alloc: Global, cursor: &mut BitCursor<'_>) -> Result<Option<ByteRun>, NoMemory>
     ensures parsed { IfOk result (λ found. tv.parse (rest cursor.old) ≡ option_map (λ run. (run, rest cursor.new)) found) }
     ensures same_bytes { cursor.new.bytes.now ≡ cursor.old.bytes.now }
     ensures same_end { cursor.new.end ≡ cursor.old.end }
@@ -29,7 +26,7 @@ pub(crate) fn parse_tv(
 
 /// Whether bytes can be told by a TV: they are at most 65,535.
 #[tactic(auto, using(dwg_base::specs::Bytes::are_bytes, dwg_codes::specs::TableLaws::tv_has, dwg_codes::specs::TableLaws::tv_bytes))]
-pub(crate) fn tv_fits(text: &[u8]) -> bool
+pub fn tv_fits(text: &[u8]) -> bool
     ensures { IsTrue result ↔ tv.IsValue text.now }
 {
     text.len() < TOO_MANY
@@ -37,7 +34,7 @@ pub(crate) fn tv_fits(text: &[u8]) -> bool
 
 /// How many bits a TV is written by.
 #[tactic(auto, using(dwg_codes::specs::TableLaws::tv_bytes))]
-pub(crate) fn tv_bits(text: &[u8]) -> u64
+pub fn tv_bits(text: &[u8]) -> u64
     requires { tv.IsValue text.now }
     ensures length { result ≡ length (tv.short text.now) }
     ensures few { result < 2 ^ 32 }
@@ -47,7 +44,7 @@ pub(crate) fn tv_bits(text: &[u8]) -> u64
 
 /// Writes a TV.
 #[tactic(auto, using(dwg_codes::specs::TableLaws::tv_bytes))]
-pub(crate) fn write_tv(text: &[u8], sink: &mut BitSink)
+pub fn write_tv(text: &[u8], sink: &mut BitSink)
     requires value { tv.IsValue text.now }
     requires room { length (tv.short text.now) ≤ sink.old.spare }
     ensures { Extends sink.old sink.new (tv.short text.now) }

@@ -3,7 +3,7 @@ use Rattle.dwg_codes.specs.Combinators.{items}
 use Rattle.dwg_codes.specs.Grammar.{AnyLetters}
 use Rattle.dwg_codes.specs.ListLaws.{items_is_code}
 use Rattle.dwg_common.specs.BodyReading.{parsed}
-use Rattle.dwg_shapes.proofs.lists.parse_list.Goals as goal
+use Rattle.dwg_common.proofs.parts.parse_list.Goals as goal
 
 pub returns-clause-parsed : goal.returns-clause-parsed
 returns-clause-parsed g c =

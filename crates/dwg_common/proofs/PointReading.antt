@@ -2,16 +2,13 @@
 use Rattle.std.proofs.Common.{◌≡◌, sym, subst, ◌^◌, ◌<◌, Bool, List, Option, Some, None}
 use Rattle.dwg_codes.specs.CodeLaws.{reads_some, reads_none}
 use Rattle.dwg_codes.specs.Codes.{bd3}
-use Rattle.dwg_codes.specs.Grammar.{Grammar, IsCode, AnyLetters, Reads}
+use Rattle.dwg_codes.specs.Grammar.{AnyLetters, Reads}
 use Rattle.dwg_codes.specs.TableLaws.{bd3_is_code}
 use Rattle.dwg_codes.specs.declared.points.Point2.{Point2}
 use Rattle.dwg_codes.specs.declared.points.Point3.{Point3}
-use Rattle.dwg_entities.specs.PointLaws.{rd2_is_code, dd2_is_code}
-use Rattle.dwg_entities.specs.Points.{rd2, dd2}
-
--- what is parsed by a code has a spelling
-pub parsed_value : {V : Type 0} (code : Grammar Bool V) (value : V) (old new : List Bool) → IsCode AnyLetters code → code.parse old ≡ Some (value, new) → code.IsValue value
-parsed_value code value old new is found = let parts = is.sound old new value tt found in is.value parts.0 value parts.1
+use Rattle.dwg_common.specs.BodyReading.{parsed_value}
+use Rattle.dwg_common.specs.PointLaws.{rd2_is_code, dd2_is_code}
+use Rattle.dwg_common.specs.Points.{rd2, dd2}
 
 -- three BDs
 pub bd3_read : (value : Point3) (old new : List Bool) → bd3.parse old ≡ Some (value, new) → Reads bd3 (Some value) old new

@@ -1,10 +1,15 @@
 -- Points of the plane as bits (Open Design Specification, "Bit codes").
-use Rattle.std.specs.Prelude.{Bool}
+use Rattle.std.specs.Prelude.{◌^◌, ◌<◌, Bool}
 use Rattle.dwg_codes.specs.Codes.{rd, dd}
 use Rattle.dwg_codes.specs.Combinators.{seq}
 use Rattle.dwg_codes.specs.Grammar.{Grammar}
 use Rattle.dwg_codes.specs.declared.points.Point2.{Point2}
 use Rattle.dwg_common.specs.Shaped.{shaped}
+
+-- the words of a point lie in the range of their type
+pub record IsPoint2 (point : Point2) : Type 0 where
+  pub x : point.x < 2 ^ 64
+  pub y : point.y < 2 ^ 64
 
 -- 2RD: x, y
 abbrev pub rd2 : Grammar Bool Point2

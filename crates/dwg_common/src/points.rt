@@ -5,12 +5,12 @@ ghost use Rattle.std.specs.Option.{option_map};
 ghost use Rattle.dwg_bits.specs.Cursor.{rest};
 ghost use Rattle.dwg_codes.specs.Codes.{bd3};
 ghost use Rattle.dwg_codes.specs.TableLaws.{bd3_is_code};
-ghost use Rattle.dwg_entities.specs.PointLaws.{IsPoint2, rd2_is_code, dd2_is_code};
-ghost use Rattle.dwg_entities.specs.Points.{rd2, dd2};
+ghost use Rattle.dwg_common.specs.PointLaws.{rd2_is_code, dd2_is_code};
+ghost use Rattle.dwg_common.specs.Points.{IsPoint2, rd2, dd2};
 
+use crate::parts::parse_code;
 use dwg_bits::{BitCursor, BitSink};
 use dwg_codes::{BitCode, CodeBD, CodeDD, CodeRD, Point2, Point3};
-use dwg_common::parse_code;
 
 /// Reads three BDs, as they are parsed.
 fn read_three(cursor: &mut BitCursor<'_>) -> Option<Point3>
@@ -25,7 +25,7 @@ fn read_three(cursor: &mut BitCursor<'_>) -> Option<Point3>
 }
 
 /// 3BD: a BD for each word of a point of space, x first.
-pub(crate) struct Code3BD;
+pub struct Code3BD;
 
 impl BitCode for Code3BD {
     type Context = ();
@@ -72,7 +72,7 @@ fn read_two(cursor: &mut BitCursor<'_>) -> Option<Point2>
 }
 
 /// 2RD: an RD for each word of a point of the plane, x first.
-pub(crate) struct Code2RD;
+pub struct Code2RD;
 
 impl BitCode for Code2RD {
     type Context = ();
@@ -116,7 +116,7 @@ fn read_two_against(default: Point2, cursor: &mut BitCursor<'_>) -> Option<Point
 }
 
 /// 2DD: a DD for each word of a point of the plane against the word of a default, x first.
-pub(crate) struct Code2DD;
+pub struct Code2DD;
 
 impl BitCode for Code2DD {
     type Context = Point2;
