@@ -199,6 +199,22 @@ def many_reactors(count):
     return in_order(*frames_and_places(2, said))
 
 
+def lines(count):
+    """Lines, each with words of its own, z words 0 and no thickness."""
+    references = reference(3, 0) + reference(5, 16)
+    word = lambda value: little(0x4050000000000000 + value, 8)
+    rest = lambda handle: "1" + word(handle) + "11" + word(handle + 1) + word(2 * handle) + "00" + "1" + "1"
+    return in_order(*frames_and_places(count, lambda handle: entity(19, handle, 0, rest(handle), references)))
+
+
+def many_points(count):
+    """One lightweight polyline of so many equal points, and another that says so and has none."""
+    references = reference(3, 0) + reference(5, 16)
+    points = little(0, 16) + "0000" * (count - 1)
+    said = lambda handle: entity(77, handle, 0, short(0) + long(count) + (points if handle == 1 else ""), references)
+    return in_order(*frames_and_places(2, said))
+
+
 def descending_map(count):
     """Small objects with a map whose handles descend: a page for each pair."""
     frames, places = frames_and_places(count, lambda handle: frame(handle, 0))
@@ -221,6 +237,8 @@ INPUTS = {
     "plain": (plain_entities, (100_000, 200_000)),
     "classes": (plain_of_classes, (100_000, 200_000)),
     "reactors": (many_reactors, (1_000_000, 2_000_000)),
+    "lines": (lines, (100_000, 200_000)),
+    "points": (many_points, (1_000_000, 2_000_000)),
     "descending": (descending_map, (150_000, 300_000)),
     "one-place": (one_place, (1_500_000, 3_000_000)),
     "repeated": (one_handle_last, (1_500_000, 3_000_000)),

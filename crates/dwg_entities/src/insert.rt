@@ -33,7 +33,7 @@ pub struct Insert {
     pub place: Point3,
     /// By how much it is scaled along each axis.
     pub scale: Point3,
-    /// How it is turned, the word of an angle.
+    /// How it is turned, the word of an angle in radians.
     pub rotation: u64,
     /// Which way is up.
     pub extrusion: Point3,

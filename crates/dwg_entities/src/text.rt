@@ -27,9 +27,9 @@ pub struct Text {
     pub extrusion: Point3,
     /// How thick it is, the word of a floating-point number.
     pub thickness: u64,
-    /// How oblique its letters are, the word of an angle.
+    /// How oblique its letters are, the word of an angle in radians.
     pub oblique: Option<u64>,
-    /// How it is turned, the word of an angle.
+    /// How it is turned, the word of an angle in radians.
     pub rotation: Option<u64>,
     /// How high its letters are, the word of a floating-point number.
     pub height: u64,
@@ -37,7 +37,7 @@ pub struct Text {
     pub width: Option<u64>,
     /// Its bytes, at most 65,535.
     pub text: ByteRun,
-    /// Whether it is mirrored.
+    /// How it is mirrored, by single bits.
     pub generation: Option<u16>,
     /// How it is aligned along its line.
     pub horizontal: Option<u16>,
@@ -80,7 +80,7 @@ pub(crate) struct Lettering {
 pub(crate) struct Wording {
     /// Their bytes.
     pub(crate) text: ByteRun,
-    /// Whether they are mirrored.
+    /// How they are mirrored, by single bits.
     pub(crate) generation: Option<u16>,
     /// How they are aligned along their line.
     pub(crate) horizontal: Option<u16>,

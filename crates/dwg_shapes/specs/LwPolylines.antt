@@ -55,7 +55,7 @@ polyline_lists counts =
     shaped (λ parts. record { points = parts.0; bulges = parts.1.0; widths = parts.1.1 }) (λ lists. (lists.points, (lists.bulges, lists.widths)))
     (seq (vertices counts.points) (λ points. seq (items_where bd counts.bulges) (λ bulges. items_where width_pair counts.widths)))
 
--- what a light polyline begins with, how many members its lists have, and these lists
+-- what a lightweight polyline begins with, how many members its lists have, and these lists
 abbrev pub start_of : LwPolyline → PolylineStart
 start_of polyline = record {
   flag = polyline.flag;
@@ -75,7 +75,7 @@ counts_of lists = record {
 abbrev pub lists_of : LwPolyline → Lists
 lists_of polyline = record { points = polyline.points; bulges = polyline.bulges; widths = polyline.widths }
 
--- a light polyline from what it begins with and its lists
+-- a lightweight polyline from what it begins with and its lists
 abbrev pub polyline_of : PolylineStart → Lists → LwPolyline
 polyline_of start lists = record {
   flag = start.flag;
@@ -94,6 +94,6 @@ lwpolyline_main =
     shaped (λ parts. polyline_of parts.0 parts.1.1) (λ polyline. (start_of polyline, (counts_of (lists_of polyline), lists_of polyline)))
     (seq polyline_start (λ start. seq (polyline_counts start.flag) (λ counts. polyline_lists counts)))
 
--- a light polyline: no references
+-- a lightweight polyline: no references
 unfoldable pub lwpolyline_body : ℕ → BodyGrammar LwPolyline
 lwpolyline_body base = main_body lwpolyline_main

@@ -53,7 +53,7 @@ arc_is_code =
     seq_is_code AnyLetters bd _ any_letters_closed bd_is_code (λ start_angle start_fits. bd_is_code)))
     (λ parts fits. refl) (λ arc. refl)
 
--- what a light polyline begins with
+-- what a lightweight polyline begins with
 pub start_is_code : IsCode AnyLetters polyline_start
 start_is_code =
     shaped_is_code _ _ _
@@ -90,7 +90,7 @@ counts_told counts lists fits =
     ∙ ap₂ (λ (bulges widths : Option ℕ). let told : Counts = record { points = counts.points; bulges = bulges; widths = widths } in told)
     (count_told bd counts.bulges lists.bulges fits.1.0) (count_told width_pair counts.widths lists.widths fits.1.1)
 
--- the main bits of a light polyline are a code
+-- the main bits of a lightweight polyline are a code
 pub lwpolyline_is_code : IsCode AnyLetters lwpolyline_main
 lwpolyline_is_code =
     shaped_is_code _ _ _

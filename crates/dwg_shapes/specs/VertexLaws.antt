@@ -1,4 +1,4 @@
--- The points of a light polyline are a code, and so are lists that are there by their counts.
+-- The points of a lightweight polyline are a code, and so are lists that are there by their counts.
 use Rattle.std.proofs.Common.{◌≡◌, refl, ◌∙◌, ap, ℕ, Bool, true, false, List, length, Option, Some, None}
 use Rattle.std.specs.Prelude.{⊤, option_map}
 use Rattle.dwg_codes.specs.Codes.{bd}

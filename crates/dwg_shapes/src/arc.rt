@@ -24,9 +24,9 @@ pub struct Arc {
     pub thickness: u64,
     /// The direction in which it is thick.
     pub extrusion: Point3,
-    /// The angle at which it starts, the word of a floating-point number.
+    /// The angle at which it starts, in radians, the word of a floating-point number.
     pub start_angle: u64,
-    /// The angle at which it ends, the word of a floating-point number.
+    /// The angle at which it ends, in radians, the word of a floating-point number.
     pub end_angle: u64,
 }
 

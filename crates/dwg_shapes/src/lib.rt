@@ -1,5 +1,5 @@
-//! Simple shapes: lines, points, circles, arcs and light polylines (Open Design Specification, "LINE", "POINT", "CIRCLE",
-//! "ARC" and "LWPOLYLINE").
+//! Simple shapes: lines, points, circles, arcs and lightweight polylines (Open Design Specification, "LINE", "POINT",
+//! "CIRCLE", "ARC" and "LWPOLYLINE").
 #![tactic(auto)]
 
 mod arc;

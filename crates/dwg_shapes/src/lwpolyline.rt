@@ -17,7 +17,7 @@ use dwg_codes::{Point2, Point3};
 use dwg_common::{BodyCode, Lengths};
 use std::alloc::Global;
 
-/// How wide a light polyline is from one point to the next (Open Design Specification, "LWPOLYLINE").
+/// How wide a lightweight polyline is from one point to the next (Open Design Specification, "LWPOLYLINE").
 #[derive(Clone, Copy, Debug, PartialEq, Eq)]
 pub struct Width {
     /// At the point, the word of a floating-point number.
@@ -26,7 +26,7 @@ pub struct Width {
     pub end: u64,
 }
 
-/// A light polyline (Open Design Specification, "LWPOLYLINE").
+/// A lightweight polyline (Open Design Specification, "LWPOLYLINE").
 #[derive(Drop)]
 pub struct LwPolyline {
     /// Bits that say which of the parts below there are: 4 a width, 8 an elevation, 2 a thickness, 1 a normal, 16 bulges, 32
@@ -48,7 +48,7 @@ pub struct LwPolyline {
     pub widths: Option<Items<Width>>,
 }
 
-/// What a light polyline begins with.
+/// What a lightweight polyline begins with.
 #[derive(Clone, Copy)]
 pub(crate) struct PolylineStart {
     /// Which parts there are.
@@ -63,7 +63,7 @@ pub(crate) struct PolylineStart {
     pub(crate) normal: Option<Point3>,
 }
 
-/// How many members the lists of a light polyline have.
+/// How many members the lists of a lightweight polyline have.
 #[derive(Clone, Copy)]
 pub(crate) struct Counts {
     /// How many points it has.
@@ -74,7 +74,7 @@ pub(crate) struct Counts {
     pub(crate) widths: Option<u32>,
 }
 
-/// The lists of a light polyline.
+/// The lists of a lightweight polyline.
 #[derive(Drop)]
 pub(crate) struct Lists {
     /// Its points.
@@ -85,7 +85,7 @@ pub(crate) struct Lists {
     pub(crate) widths: Option<Items<Width>>,
 }
 
-/// What a light polyline begins with.
+/// What a lightweight polyline begins with.
 fn start_of(polyline: &LwPolyline) -> PolylineStart
     ensures { result ≡ start_of polyline.now }
 {
@@ -98,7 +98,7 @@ fn start_of(polyline: &LwPolyline) -> PolylineStart
     }
 }
 
-/// A light polyline from what it begins with and its lists.
+/// A lightweight polyline from what it begins with and its lists.
 fn polyline_of(start: PolylineStart, lists: Lists) -> LwPolyline
     ensures { result ≡ polyline_of start lists }
 {
@@ -114,8 +114,8 @@ fn polyline_of(start: PolylineStart, lists: Lists) -> LwPolyline
     }
 }
 
-/// Reads a light polyline, as it is parsed. The only refusal is want of memory, which is taken only for members of its lists
-/// that are there.
+/// Reads a lightweight polyline, as it is parsed. The only refusal is want of memory, which is taken only for members of its
+/// lists that are there.
 fn read_lwpolyline(
     alloc: Global,
     cursor: &mut BitCursor<'_>,

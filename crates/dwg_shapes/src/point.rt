@@ -22,7 +22,7 @@ pub struct Point {
     pub thickness: u64,
     /// The direction in which it is thick.
     pub extrusion: Point3,
-    /// The angle of the x axis in which it is drawn, the word of a floating-point number.
+    /// The angle of the x axis in which it is drawn, in radians, the word of a floating-point number.
     pub angle: u64,
 }
 

@@ -1,4 +1,4 @@
-//! The lists of a light polyline and their counts, as bits (Open Design Specification, "LWPOLYLINE").
+//! The lists of a lightweight polyline and their counts, as bits (Open Design Specification, "LWPOLYLINE").
 
 ghost use Rattle.std.specs.Prelude.{◌≡◌, ◌^◌, ◌<◌, ◌≤◌, ◌↔◌, length, option_map, IfOk, IsTrue};
 ghost use Rattle.std.specs.List.{AllByRecursion};
@@ -20,13 +20,13 @@ use dwg_codes::{BitCode, CodeBD, CodeBL, length_when, write_when};
 use dwg_common::{parse_code, parse_when};
 use std::alloc::Global;
 
-/// The bit of the flag of a light polyline that has bulges.
+/// The bit of the flag of a lightweight polyline that has bulges.
 const BULGES: u16 = 16;
 
 /// Of one that has widths.
 const WIDTHS: u16 = 32;
 
-/// Reads the counts of a light polyline, as they are parsed: which there are is told by its flag.
+/// Reads the counts of a lightweight polyline, as they are parsed: which there are is told by its flag.
 pub(crate) fn read_counts(flag: u16, cursor: &mut BitCursor<'_>) -> Option<Counts>
     ensures parsed { (polyline_counts flag).parse (rest cursor.old) ≡ option_map (λ counts. (counts, rest cursor.new)) result }
     ensures same_bytes { cursor.new.bytes.now ≡ cursor.old.bytes.now }
@@ -42,7 +42,7 @@ pub(crate) fn read_counts(flag: u16, cursor: &mut BitCursor<'_>) -> Option<Count
     })
 }
 
-/// Reads the lists of a light polyline by their counts, as they are parsed. The only refusal is want of memory, which is
+/// Reads the lists of a lightweight polyline by their counts, as they are parsed. The only refusal is want of memory, which is
 /// taken only for members that are there.
 pub(crate) fn read_lists(
     alloc: Global,
@@ -69,7 +69,7 @@ pub(crate) fn read_lists(
     }))
 }
 
-/// Whether the lists of a light polyline are there exactly where its flag says so, and their counts can be told.
+/// Whether the lists of a lightweight polyline are there exactly where its flag says so, and their counts can be told.
 pub(crate) fn counts_fit(polyline: &LwPolyline) -> bool
     ensures { IsTrue result ↔ (polyline_counts polyline.now.flag).IsValue (counts_of (lists_of polyline.now)) }
 {
@@ -88,7 +88,7 @@ fn known_words(words: &[u64])
     ensures { AllByRecursion bd.IsValue words.now }
 {}
 
-/// So do the bulges of a light polyline.
+/// So do the bulges of a lightweight polyline.
 fn known_bulges(bulges: &Option<Items<u64>>)
     ensures { (items_where bd (option_map length bulges.now)).IsValue bulges.now }
 {
@@ -106,7 +106,7 @@ fn known_widths_where(widths: &Option<Items<Width>>)
     }
 }
 
-/// The members of the lists of a light polyline lie in the ranges of their types.
+/// The members of the lists of a lightweight polyline lie in the ranges of their types.
 pub(crate) fn known_lists(polyline: &LwPolyline)
     ensures { (polyline_lists (counts_of (lists_of polyline.now))).IsValue (lists_of polyline.now) }
 {
@@ -115,7 +115,7 @@ pub(crate) fn known_lists(polyline: &LwPolyline)
     known_widths_where(&polyline.widths);
 }
 
-/// How many bits the counts of a light polyline are written by.
+/// How many bits the counts of a lightweight polyline are written by.
 pub(crate) fn counts_bits(polyline: &LwPolyline) -> u64
     requires { (polyline_counts polyline.now.flag).IsValue (counts_of (lists_of polyline.now)) }
     ensures length { result ≡ length ((polyline_counts polyline.now.flag).short (counts_of (lists_of polyline.now))) }
@@ -131,7 +131,7 @@ pub(crate) fn counts_bits(polyline: &LwPolyline) -> u64
         + length_when::<CodeBL>(&(), has_widths, &widths)
 }
 
-/// Writes the counts of a light polyline.
+/// Writes the counts of a lightweight polyline.
 pub(crate) fn write_counts(polyline: &LwPolyline, sink: &mut BitSink)
     requires value { (polyline_counts polyline.now.flag).IsValue (counts_of (lists_of polyline.now)) }
     requires room { length ((polyline_counts polyline.now.flag).short (counts_of (lists_of polyline.now))) ≤ sink.old.spare }
@@ -147,7 +147,7 @@ pub(crate) fn write_counts(polyline: &LwPolyline, sink: &mut BitSink)
     write_when::<CodeBL>(&(), has_widths, &widths, sink);
 }
 
-/// How many bits the lists of a light polyline are written by.
+/// How many bits the lists of a lightweight polyline are written by.
 pub(crate) fn lists_bits(polyline: &LwPolyline) -> u64
     requires value { (polyline_lists (counts_of (lists_of polyline.now))).IsValue (lists_of polyline.now) }
     requires few { length ((polyline_lists (counts_of (lists_of polyline.now))).short (lists_of polyline.now)) < 2 ^ 62 }
@@ -158,7 +158,7 @@ pub(crate) fn lists_bits(polyline: &LwPolyline) -> u64
         + list_bits_where::<CodeWidth>(&(), &polyline.widths)
 }
 
-/// Writes the lists of a light polyline.
+/// Writes the lists of a lightweight polyline.
 pub(crate) fn write_lists(polyline: &LwPolyline, sink: &mut BitSink)
     requires value { (polyline_lists (counts_of (lists_of polyline.now))).IsValue (lists_of polyline.now) }
     requires room { length ((polyline_lists (counts_of (lists_of polyline.now))).short (lists_of polyline.now)) ≤ sink.old.spare }

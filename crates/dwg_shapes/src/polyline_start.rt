@@ -1,4 +1,4 @@
-//! What a light polyline begins with, as bits (Open Design Specification, "LWPOLYLINE").
+//! What a lightweight polyline begins with, as bits (Open Design Specification, "LWPOLYLINE").
 
 ghost use Rattle.std.specs.Prelude.{◌≡◌, ◌==◌, ◌^◌, ◌<◌, ◌≤◌, ◌↔◌, length, IfSome, IsTrue};
 ghost use Rattle.std.specs.Option.{option_map};
@@ -14,7 +14,7 @@ use dwg_bits::{BitCursor, BitSink};
 use dwg_codes::{BitCode, CodeBD, CodeBS, Point3, length_when, write_when};
 use dwg_common::{Code3BD, parse_code, parse_when};
 
-/// The bit of the flag of a light polyline that has a width.
+/// The bit of the flag of a lightweight polyline that has a width.
 const WIDTH: u16 = 4;
 
 /// Of one that has an elevation.
@@ -34,7 +34,7 @@ pub(crate) fn has(flag: u16, worth: u16) -> bool
     flag / worth % 2 == 1
 }
 
-/// Reads what a light polyline begins with, as it is parsed.
+/// Reads what a lightweight polyline begins with, as it is parsed.
 pub(crate) fn read_start(cursor: &mut BitCursor<'_>) -> Option<PolylineStart>
     ensures parsed { polyline_start.parse (rest cursor.old) ≡ option_map (λ start. (start, rest cursor.new)) result }
     ensures same_bytes { cursor.new.bytes.now ≡ cursor.old.bytes.now }
@@ -77,7 +77,7 @@ fn point_fits_when(present: bool, value: &Option<Point3>) -> bool
     }
 }
 
-/// Whether the parts that a light polyline begins with are there exactly where its flag says so.
+/// Whether the parts that a lightweight polyline begins with are there exactly where its flag says so.
 pub(crate) fn start_fits(start: &PolylineStart) -> bool
     ensures { IsTrue result ↔ polyline_start.IsValue start.now }
 {
@@ -93,7 +93,7 @@ pub(crate) fn start_fits(start: &PolylineStart) -> bool
     point_fits_when(has(start.flag, NORMAL), &start.normal)
 }
 
-/// How many bits are written of what a light polyline begins with.
+/// How many bits are written of what a lightweight polyline begins with.
 pub(crate) fn start_bits(start: &PolylineStart) -> u64
     requires { polyline_start.IsValue start.now }
     ensures length { result ≡ length (polyline_start.short start.now) }
@@ -106,7 +106,7 @@ pub(crate) fn start_bits(start: &PolylineStart) -> u64
         + length_when::<Code3BD>(&(), has(start.flag, NORMAL), &start.normal)
 }
 
-/// Writes what a light polyline begins with.
+/// Writes what a lightweight polyline begins with.
 pub(crate) fn write_start(start: &PolylineStart, sink: &mut BitSink)
     requires value { polyline_start.IsValue start.now }
     requires room { length (polyline_start.short start.now) ≤ sink.old.spare }

@@ -1,4 +1,4 @@
-//! The points of a light polyline, as bits (Open Design Specification, "LWPOLYLINE").
+//! The points of a lightweight polyline, as bits (Open Design Specification, "LWPOLYLINE").
 
 ghost use Rattle.std.specs.Prelude.{◌≡◌, ◌^◌, ◌<◌, ◌≤◌, length, IfOk};
 ghost use Rattle.std.specs.Option.{option_map};

@@ -1,4 +1,4 @@
-//! The widths of a light polyline, as bits (Open Design Specification, "LWPOLYLINE").
+//! The widths of a lightweight polyline, as bits (Open Design Specification, "LWPOLYLINE").
 
 ghost use Rattle.std.specs.Prelude.{◌≡◌, ⊤, length};
 ghost use Rattle.std.specs.List.{AllByRecursion};
