@@ -1,10 +1,7 @@
 //! Texts, attributes and their definitions, inserts, and the begin and end of blocks.
 
-use crate::again::{Rewritten, written_again};
-use dwg_base::Handle;
-use dwg_common::BodyCode;
+use crate::again::{is_kept, is_none, is_rewritten};
 use dwg_entities::{Attdef, Attrib, Block, EndBlk, Insert, SeqEnd, Text, entity_laws};
-use std::alloc::Global;
 use std::test::Fail;
 
 /// A text "A" of which nothing else is there.
@@ -81,121 +78,44 @@ const INSERT_WHOLE_OTHERWISE: [u8; 35] = [
 /// The reference to a style.
 const STYLE: [u8; 2] = [0x51, 0x11];
 
-/// What is written of a body: how many bits it was read of, how many it has, and these; none where it isn't spelled.
-fn again<B: BodyCode + Drop>(
-    alloc: Global,
-    main: &[u8],
-    refs: &[u8],
-) -> Result<Option<Rewritten>, Fail> {
-    let base = Handle::new(0x80).ok_or("no handle")?;
-    Ok(written_again::<B>(alloc, base, main, refs).or(Err("no memory"))?)
-}
-
 #[test]
 fn entities_are_read_and_written(rt: HostRuntime) -> Result<(), Fail> {
     entity_laws();
     let alloc = rt.alloc();
     let block = [0x51, 0x20].as_slice();
     let attributes = [0x51, 0x20, 0x41, 0x2E, 0x41, 0x2F, 0x31, 0x30].as_slice();
-    let cases: [(Option<Rewritten>, &[u8], (u64, u64), &[u8], (u64, u64)); 13] = [
-        (
-            again::<Text>(alloc, &PLAIN_TEXT, &STYLE)?,
-            &PLAIN_TEXT,
-            (220, 220),
-            &STYLE,
-            (16, 16),
-        ),
-        (
-            again::<Text>(alloc, &FULL_TEXT, &STYLE)?,
-            &FULL_TEXT,
-            (646, 646),
-            &STYLE,
-            (16, 16),
-        ),
-        (
-            again::<Text>(alloc, &MIXED_TEXT, &STYLE)?,
-            &MIXED_TEXT,
-            (410, 410),
-            &STYLE,
-            (16, 16),
-        ),
-        (
-            again::<Attrib>(alloc, &ATTRIB, &STYLE)?,
-            &ATTRIB,
-            (264, 264),
-            &STYLE,
-            (16, 16),
-        ),
-        (
-            again::<Attdef>(alloc, &ATTDEF, &STYLE)?,
-            &ATTDEF,
-            (322, 322),
-            &STYLE,
-            (16, 16),
-        ),
-        (
-            again::<Insert>(alloc, &INSERT_WHOLE, block)?,
-            &INSERT_WHOLE,
-            (81, 81),
-            block,
-            (16, 16),
-        ),
-        (
-            again::<Insert>(alloc, &INSERT_BESIDE_ONE, attributes)?,
-            &INSERT_BESIDE_ONE,
-            (149, 149),
-            attributes,
-            (64, 64),
-        ),
-        (
-            again::<Insert>(alloc, &INSERT_EVEN, block)?,
-            &INSERT_EVEN,
-            (145, 145),
-            block,
-            (16, 16),
-        ),
-        (
-            again::<Insert>(alloc, &INSERT_FREE, block)?,
-            &INSERT_FREE,
-            (213, 213),
-            block,
-            (16, 16),
-        ),
-        (
-            again::<Insert>(alloc, &INSERT_WHOLE_OTHERWISE, &[0x52, 0x00, 0x20])?,
-            &INSERT_WHOLE,
-            (277, 81),
-            block,
-            (24, 16),
-        ),
-        (
-            again::<Block>(alloc, &BLOCK, &[])?,
-            &BLOCK,
-            (34, 34),
-            &[],
-            (0, 0),
-        ),
-        (again::<EndBlk>(alloc, &[], &[])?, &[], (0, 0), &[], (0, 0)),
-        (again::<SeqEnd>(alloc, &[], &[])?, &[], (0, 0), &[], (0, 0)),
-    ];
-    for (case, main, main_bits, refs, ref_bits) in &cases {
-        let body = case.as_ref().ok_or("no body")?;
-        assert_eq!(rt; body.main_bits, *main_bits);
-        assert_eq!(rt; body.main.as_slice(), *main);
-        assert_eq!(rt; body.ref_bits, *ref_bits);
-        assert_eq!(rt; body.refs.as_slice(), *refs);
-    }
+    assert!(rt; is_kept::<Text>(alloc, (&PLAIN_TEXT, 220), (&STYLE, 16))?);
+    assert!(rt; is_kept::<Text>(alloc, (&FULL_TEXT, 646), (&STYLE, 16))?);
+    assert!(rt; is_kept::<Text>(alloc, (&MIXED_TEXT, 410), (&STYLE, 16))?);
+    assert!(rt; is_kept::<Attrib>(alloc, (&ATTRIB, 264), (&STYLE, 16))?);
+    assert!(rt; is_kept::<Attdef>(alloc, (&ATTDEF, 322), (&STYLE, 16))?);
+    assert!(rt; is_kept::<Insert>(alloc, (&INSERT_WHOLE, 81), (block, 16))?);
+    assert!(rt; is_kept::<Insert>(alloc, (&INSERT_BESIDE_ONE, 149), (attributes, 64))?);
+    assert!(rt; is_kept::<Insert>(alloc, (&INSERT_EVEN, 145), (block, 16))?);
+    assert!(rt; is_kept::<Insert>(alloc, (&INSERT_FREE, 213), (block, 16))?);
+    assert!(rt;
+        is_rewritten::<Insert>(
+            alloc,
+            (&INSERT_WHOLE_OTHERWISE, 277),
+            (&[0x52, 0x00, 0x20], 24),
+            (&INSERT_WHOLE, 81),
+            (block, 16)
+        )?
+    );
+    assert!(rt; is_kept::<Block>(alloc, (&BLOCK, 34), (&[], 0))?);
+    assert!(rt; is_kept::<EndBlk>(alloc, (&[], 0), (&[], 0))?);
+    assert!(rt; is_kept::<SeqEnd>(alloc, (&[], 0), (&[], 0))?);
     Ok(())
 }
 
 #[test]
 fn entities_that_are_cut_short_are_none(rt: HostRuntime) -> Result<(), Fail> {
     let alloc = rt.alloc();
-    assert!(rt; again::<Text>(alloc, &PLAIN_TEXT[..27], &STYLE)?.is_none());
-    assert!(rt; again::<Text>(alloc, &PLAIN_TEXT, &STYLE[..1])?.is_none());
-    assert!(rt; again::<Attrib>(alloc, &ATTRIB[..32], &STYLE)?.is_none());
-    assert!(rt; again::<Attdef>(alloc, &ATTDEF[..40], &STYLE)?.is_none());
-    assert!(rt; again::<Insert>(alloc, &INSERT_BESIDE_ONE, &STYLE)?.is_none());
-    assert!(rt; again::<Block>(alloc, &BLOCK[..4], &[])?.is_none());
+    assert!(rt; is_none::<Text>(alloc, &PLAIN_TEXT[..27], &STYLE)?);
+    assert!(rt; is_none::<Text>(alloc, &PLAIN_TEXT, &STYLE[..1])?);
+    assert!(rt; is_none::<Attrib>(alloc, &ATTRIB[..32], &STYLE)?);
+    assert!(rt; is_none::<Attdef>(alloc, &ATTDEF[..40], &STYLE)?);
+    assert!(rt; is_none::<Insert>(alloc, &INSERT_BESIDE_ONE, &STYLE)?);
+    assert!(rt; is_none::<Block>(alloc, &BLOCK[..4], &[])?);
     Ok(())
 }

@@ -3,6 +3,10 @@
 
 mod again;
 #[cfg(test)]
+mod dicts;
+#[cfg(test)]
 mod entities;
 #[cfg(test)]
 mod shapes;
+#[cfg(test)]
+mod tables;

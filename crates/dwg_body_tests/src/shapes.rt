@@ -1,10 +1,7 @@
 //! Lines, points, circles, arcs and lightweight polylines.
 
-use crate::again::{Rewritten, written_again};
-use dwg_base::Handle;
-use dwg_common::BodyCode;
+use crate::again::{is_kept, is_none, is_rewritten};
 use dwg_shapes::{Arc, Circle, Line, LwPolyline, Point, shape_laws};
-use std::alloc::Global;
 use std::test::Fail;
 
 /// A line from (1.0, 2.0, 0) to (1.0, 3.0, 0).
@@ -56,58 +53,40 @@ const POLYLINE: [u8; 66] = [
     0x01, 0x00,
 ];
 
-/// What is written of a body that names nothing: how many bits it was read of, how many it has, and these; none where it
-/// isn't spelled.
-fn again<B: BodyCode + Drop>(alloc: Global, bytes: &[u8]) -> Result<Option<Rewritten>, Fail> {
-    let base = Handle::new(0x80).ok_or("no handle")?;
-    Ok(written_again::<B>(alloc, base, bytes, &[]).or(Err("no memory"))?)
-}
-
 #[test]
 fn shapes_are_read_and_written(rt: HostRuntime) -> Result<(), Fail> {
     shape_laws();
     let alloc = rt.alloc();
-    let cases: [(Option<Rewritten>, &[u8], u64, u64); 9] = [
-        (again::<Line>(alloc, &FLAT_LINE)?, &FLAT_LINE, 199, 199),
-        (
-            again::<Line>(alloc, &FLAT_LINE_OTHERWISE)?,
-            &FLAT_LINE,
-            401,
-            199,
-        ),
-        (again::<Line>(alloc, &SOLID_LINE)?, &SOLID_LINE, 401, 401),
-        (again::<Point>(alloc, &POINT)?, &POINT, 138, 138),
-        (again::<Circle>(alloc, &CIRCLE)?, &CIRCLE, 146, 146),
-        (again::<Arc>(alloc, &ARC)?, &ARC, 142, 142),
-        (again::<LwPolyline>(alloc, &POLYLINE)?, &POLYLINE, 526, 526),
-        // Without points; and with one bulge alone.
-        (again::<LwPolyline>(alloc, &[0xA0])?, &[0xA0], 4, 4),
-        (
-            again::<LwPolyline>(alloc, &[0x44, 0x24, 0x05])?,
-            &[0x44, 0x24, 0x05],
-            24,
-            24,
-        ),
-    ];
-    for (case, main, read, written) in &cases {
-        let body = case.as_ref().ok_or("no shape")?;
-        assert_eq!(rt; body.main_bits, (*read, *written));
-        assert_eq!(rt; body.main.as_slice(), *main);
-        assert_eq!(rt; body.ref_bits, (0, 0));
-    }
+    assert!(rt; is_kept::<Line>(alloc, (&FLAT_LINE, 199), (&[], 0))?);
+    assert!(rt;
+        is_rewritten::<Line>(
+            alloc,
+            (&FLAT_LINE_OTHERWISE, 401),
+            (&[], 0),
+            (&FLAT_LINE, 199),
+            (&[], 0)
+        )?
+    );
+    assert!(rt; is_kept::<Line>(alloc, (&SOLID_LINE, 401), (&[], 0))?);
+    assert!(rt; is_kept::<Point>(alloc, (&POINT, 138), (&[], 0))?);
+    assert!(rt; is_kept::<Circle>(alloc, (&CIRCLE, 146), (&[], 0))?);
+    assert!(rt; is_kept::<Arc>(alloc, (&ARC, 142), (&[], 0))?);
+    assert!(rt; is_kept::<LwPolyline>(alloc, (&POLYLINE, 526), (&[], 0))?);
+    assert!(rt; is_kept::<LwPolyline>(alloc, (&[0xA0], 4), (&[], 0))?);
+    assert!(rt; is_kept::<LwPolyline>(alloc, (&[0x44, 0x24, 0x05], 24), (&[], 0))?);
     Ok(())
 }
 
 #[test]
 fn shapes_that_are_cut_short_are_none(rt: HostRuntime) -> Result<(), Fail> {
     let alloc = rt.alloc();
-    assert!(rt; again::<Line>(alloc, &FLAT_LINE[..24])?.is_none());
-    assert!(rt; again::<Point>(alloc, &POINT[..17])?.is_none());
-    assert!(rt; again::<Circle>(alloc, &CIRCLE[..18])?.is_none());
-    assert!(rt; again::<Arc>(alloc, &ARC[..17])?.is_none());
-    assert!(rt; again::<LwPolyline>(alloc, &POLYLINE[..65])?.is_none());
+    assert!(rt; is_none::<Line>(alloc, &FLAT_LINE[..24], &[])?);
+    assert!(rt; is_none::<Point>(alloc, &POINT[..17], &[])?);
+    assert!(rt; is_none::<Circle>(alloc, &CIRCLE[..18], &[])?);
+    assert!(rt; is_none::<Arc>(alloc, &ARC[..17], &[])?);
+    assert!(rt; is_none::<LwPolyline>(alloc, &POLYLINE[..65], &[])?);
     // A count of 2^32 - 1 points of which none is there.
     let hostile = [0x8F, 0xFF, 0xFF, 0xFF, 0xF0];
-    assert!(rt; again::<LwPolyline>(alloc, &hostile)?.is_none());
+    assert!(rt; is_none::<LwPolyline>(alloc, &hostile, &[])?);
     Ok(())
 }

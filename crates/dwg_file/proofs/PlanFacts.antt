@@ -4,7 +4,7 @@ use Rattle.std.specs.List.{AllByRecursion}
 use Rattle.dwg_classes.specs.declared.class.Class.{Class}
 use Rattle.dwg_classes.specs.WrittenClasses.{AreWritable, read_are_writable}
 use Rattle.dwg_object.specs.Written.{IsValidObject}
-use Rattle.dwg_object.specs.FormLaws.{valid_is_whole, length_of_frame}
+use Rattle.dwg_object.specs.FormLaws.{valid_fits, length_of_frame}
 use Rattle.dwg_object.specs.Frames.{frame_bytes}
 use Rattle.dwg_object.specs.Objects.{ObjectValue}
 use Rattle.dwg_objmap.specs.declared.pair.Pair.{Pair}
@@ -24,7 +24,7 @@ valid_writable drawing is = read_are_writable (class_content drawing.classes) dr
 objects_framed : (classes : List Class) (objects : List ObjectValue) → AllByRecursion (IsValidObject classes) objects → AllByRecursion CanBeFramed objects
 objects_framed classes [] are = tt
 objects_framed classes (object ∷ objects) are =
-    let whole = valid_is_whole classes object are.0 in ((whole.0, whole.2), objects_framed classes objects are.1)
+    let whole = valid_fits classes object are.0 in ((whole.0, whole.2), objects_framed classes objects are.1)
 
 -- so can its objects
 pub valid_framed : (drawing : Contents) → IsValid drawing → AllByRecursion CanBeFramed drawing.objects

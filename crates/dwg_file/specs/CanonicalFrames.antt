@@ -7,7 +7,7 @@ use Rattle.std.proofs.lemmas.List.Kept.{AllPairs-cons}
 use Rattle.dwg_base.specs.Bytes.{AreBytes, StandsAt}
 use Rattle.dwg_classes.specs.declared.class.Class.{Class}
 use Rattle.dwg_object.specs.Written.{IsValidObject, body_bytes}
-use Rattle.dwg_object.specs.FormLaws.{valid_handle, valid_is_form, valid_is_whole, written_frame, frame_is_bytes}
+use Rattle.dwg_object.specs.FormLaws.{valid_handle, valid_is_form, valid_fits, written_frame, frame_is_bytes}
 use Rattle.dwg_object.specs.Frames.{frame_bytes}
 use Rattle.dwg_object.specs.LengthLaws.{bytes_joined}
 use Rattle.dwg_object.specs.Objects.{ObjectValue, handle_of}
@@ -47,7 +47,7 @@ pub frames_stand : (classes : List Class) (bytes : List ℕ) (objects : List Obj
 frames_stand classes bytes [] place are stands = tt
 frames_stand classes bytes (object ∷ objects) place are stands = (
   record {
-    stands = written_frame bytes place object (valid_is_whole classes object are.0).2 (stands_first bytes place (frame_bytes object) (frames_bytes objects) stands);
+    stands = written_frame bytes place object (valid_fits classes object are.0).2 (stands_first bytes place (frame_bytes object) (frames_bytes objects) stands);
     form = valid_is_form classes object are.0;
     own = refl;
   },
@@ -102,7 +102,7 @@ pairs_ascend classes objects place are ascending below = placed_ascend classes o
 pub frames_are_bytes : (classes : List Class) (objects : List ObjectValue) → AllByRecursion (IsValidObject classes) objects → AreBytes (frames_bytes objects)
 frames_are_bytes classes [] are = tt
 frames_are_bytes classes (object ∷ objects) are =
-    let whole = valid_is_whole classes object are.0 in
+    let whole = valid_fits classes object are.0 in
     bytes_joined (frame_bytes object) (frames_bytes objects) (frame_is_bytes object whole.1 whole.2) (frames_are_bytes classes objects are.1)
 
 -- unknown sections are written in bytes

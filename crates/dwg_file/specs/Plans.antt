@@ -3,7 +3,7 @@ use Rattle.std.specs.Prelude.{◌≡◌, ℕ, ◌^◌, ◌<◌, ◌≤◌, List,
 use Rattle.dwg_base.specs.Devices.{MOST_BYTES}
 use Rattle.dwg_bits.specs.Bits.{bits}
 use Rattle.dwg_bits.specs.Sink.{Written}
-use Rattle.dwg_object.specs.Written.{IsWhole, body_bytes}
+use Rattle.dwg_object.specs.Written.{PartsFit, body_bytes}
 use Rattle.dwg_object.specs.Objects.{ObjectValue}
 use Rattle.dwg_sections.specs.declared.framed.Framed.TheVariants.{Variables, Classes}
 use Rattle.dwg_sections.specs.FileHeader.{header_bytes}
@@ -15,7 +15,7 @@ use Rattle.dwg_file.specs.Valid.{IsValid}
 
 -- an object whose frame can be written
 abbrev pub CanBeFramed : ObjectValue → Type 0
-CanBeFramed value = IsWhole value × (length (body_bytes value) < 2 ^ 29)
+CanBeFramed value = PartsFit value × (length (body_bytes value) < 2 ^ 29)
 
 -- the file that a sink holds is the canonical one of a valid drawing, and isn't too large
 pub record IsPlan (drawing : Contents) (sink : Written) : Type 0 where

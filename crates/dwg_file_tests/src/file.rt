@@ -379,8 +379,11 @@ fn the_parts_of_a_drawing_are_told(rt: HostRuntime) -> Result<(), Fail> {
     assert_eq!(rt; parts.classes.as_slice().len(), 0);
     assert_eq!(rt; parts.others.as_slice().len(), 0);
     let objects = objects_told(alloc, parts.objects.as_slice())?;
-    // A dictionary without items: their count, two numbers.
-    assert_eq!(rt; objects.as_slice(), [(12u64, Form::Plain(12))].as_slice());
+    // A dictionary without items.
+    assert_eq!(rt;
+        objects.as_slice(),
+        [(12u64, Form::Typed(Kind::Dictionary))].as_slice()
+    );
     Ok(())
 }
 
@@ -404,9 +407,10 @@ fn each_part_of_a_drawing_is_kept(rt: HostRuntime) -> Result<(), Fail> {
     assert_eq!(rt; other.bytes.as_slice(), b"ABC".as_slice());
     let objects = objects_told(alloc, parts.objects.as_slice())?;
     // In ascending order of handle, though the map names the greater first.
+    let dictionary = Form::Typed(Kind::Dictionary);
     assert_eq!(rt;
         objects.as_slice(),
-        [(5u64, Form::Plain(12)), (12, Form::Plain(12))].as_slice()
+        [(5u64, dictionary), (12, dictionary)].as_slice()
     );
     Ok(())
 }

@@ -20,7 +20,7 @@ use Rattle.dwg_object.specs.declared.body.Body.{Body}
 use Rattle.dwg_object.specs.CommonForms.{head_of_common}
 use Rattle.dwg_object.specs.Objects.{HeadParts, ObjectValue, TypedValue, PlainValue, RawValue, number_of, handle_of}
 use Rattle.dwg_object.specs.Forms.{head, HasHead, BeginsWithHead, TypedForm, HasTypedForm, PlainForm, HasPlainForm, FormOf}
-use Rattle.dwg_object.specs.Written.{own_main, own_refs, object_bits, body_bytes, IsWhole, IsValidObject}
+use Rattle.dwg_object.specs.Written.{own_main, own_refs, object_bits, body_bytes, PartsFit, IsValidObject}
 use Rattle.dwg_object.specs.Frames.{FrameAt, frame_bytes}
 use Rattle.dwg_object.specs.LengthLaws.{bytes_joined, length_is_bytes}
 use Rattle.dwg_object.specs.HeadLaws.{head_begins, begins_head, begins_same, heads_same, head_fits, head_parsed, head_unparsed}
@@ -194,19 +194,19 @@ valid_is_form classes (TypedValue number handle common value) is = typed_form_wr
 valid_is_form classes (PlainValue number handle common rest refs) is = (plain_form_written classes number handle common rest refs is.0 is.1, is.0.untyped)
 valid_is_form classes (RawValue number handle bytes) is = (record { begins = is.0.begins; same = refl }, is.0.unplain, is.0.untyped)
 
--- a valid object is whole, and its body are fewer than 2^29 bytes
-pub valid_is_whole : (classes : List Class) (value : ObjectValue) → IsValidObject classes value → IsWhole value × AreBytes (body_bytes value) × (length (body_bytes value) < 2 ^ 29)
-valid_is_whole classes (TypedValue number handle common value) is =
+-- the parts of a valid object fit, and its body are fewer than 2^29 bytes
+pub valid_fits : (classes : List Class) (value : ObjectValue) → IsValidObject classes value → PartsFit value × AreBytes (body_bytes value) × (length (body_bytes value) < 2 ^ 29)
+valid_fits classes (TypedValue number handle common value) is =
     let letters : List Bool = object_bits number handle common (own_main handle value) (own_refs handle value) in
-    (is.0.whole, whole_are_bytes (letters ++ padding letters), is.1)
-valid_is_whole classes (PlainValue number handle common rest refs) is =
+    (is.0.whole.0, whole_are_bytes (letters ++ padding letters), is.1)
+valid_fits classes (PlainValue number handle common rest refs) is =
     let letters : List Bool = object_bits number handle common rest (short_all (reference handle) refs) in
     (is.0.whole, whole_are_bytes (letters ++ padding letters), is.1)
-valid_is_whole classes (RawValue number handle bytes) is = (is.0.whole, is.0.are, is.1)
+valid_fits classes (RawValue number handle bytes) is = (is.0.whole, is.0.are, is.1)
 
 -- and its handle isn't null and below 2^63
 pub valid_handle : (classes : List Class) (value : ObjectValue) → IsValidObject classes value → (0 < handle_of value) × (handle_of value < 2 ^ 63)
-valid_handle classes (TypedValue number handle common value) is = (is.0.whole.0, is.0.handle_fits)
+valid_handle classes (TypedValue number handle common value) is = (is.0.whole.0.0, is.0.handle_fits)
 valid_handle classes (PlainValue number handle common rest refs) is = (is.0.whole.0, is.0.handle_fits)
 valid_handle classes (RawValue number handle bytes) is =
     let fits = head_fits (bits bytes) _ (head_begins (bits bytes) number handle is.0.begins) in

@@ -44,14 +44,13 @@ typed_valid classes body number handle common value is =
     let fitting = common_fits classes body number handle common is.own (is.own_refs ++ is.left) is.form in
     record {
       whole = (
-        head_fits.positive,
-        record {
-          common_fits = fitting.fits;
-          own_fits =
-              subst (λ (k : Kind). (own_body k handle).Fits value) (sym same)
-              ((own_is_body (kind_under classes number) handle head_fits.own).value value is.own is.own_refs (length is.left) is.own_spelled);
-          entity = subst (λ (k : Kind). is_of_entity common ≡ is_entity_kind k) (sym same) fitting.same;
-        },
+        (
+          head_fits.positive,
+          fitting.fits,
+          subst (λ (k : Kind). (own_body k handle).Fits value) (sym same)
+              ((own_is_body (kind_under classes number) handle head_fits.own).value value is.own is.own_refs (length is.left) is.own_spelled),
+        ),
+        subst (λ (k : Kind). is_of_entity common ≡ is_entity_kind k) (sym same) fitting.same,
       );
       number_fits = head_fits.number;
       handle_fits = head_fits.own;
@@ -68,17 +67,16 @@ typed_form_written classes number handle common value is small =
     let fill : List Bool = padding (object_bits number handle common own refs) in
     let few = (padding_fills (object_bits number handle common own refs)).1 in
     let part = own_is_body (body_kind value) handle is.handle_fits in
-    let parts = is.whole.1 in
     record {
       own = own;
       own_refs = refs;
       left = fill;
       form =
           common_form_written classes number handle common own refs
-          (record { number_fits = is.number_fits; positive = is.whole.0; handle_fits = is.handle_fits; common_fits = parts.common_fits })
-          (subst (λ (k : Kind). is_of_entity common ≡ is_entity_kind k) (sym is.kind) parts.entity) small;
+          (record { number_fits = is.number_fits; positive = is.whole.0.0; handle_fits = is.handle_fits; common_fits = is.whole.0.1 })
+          (subst (λ (k : Kind). is_of_entity common ≡ is_entity_kind k) (sym is.kind) is.whole.1) small;
       own_spelled =
           subst (λ (k : Kind). (own_body k handle).Spells value own refs (length fill)) (sym is.kind)
-          (part.canonical value (length fill) parts.own_fits (part.padded (length fill) few));
+          (part.canonical value (length fill) is.whole.0.2 (part.padded (length fill) few));
       few = few;
     }

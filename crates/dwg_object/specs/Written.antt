@@ -62,18 +62,19 @@ body_bytes (TypedValue number handle common value) = object_bytes number handle 
 body_bytes (PlainValue number handle common rest refs) = object_bytes number handle common rest (short_all (reference handle) refs)
 body_bytes (RawValue number handle bytes) = bytes
 
--- what a kind has of its own can be spelled, and its common part is an entity's where the kind is
-pub record IsWholeTyped (handle : ℕ) (common : Common) (value : Body) : Type 0 where
-  pub common_fits : (common_part (is_of_entity common) handle).Fits common
-  pub own_fits : (own_body (body_kind value) handle).Fits value
-  pub entity : is_of_entity common ≡ is_entity_kind (body_kind value)
-
--- an object whose handle isn't null and whose parts are those that its form can spell
-abbrev pub IsWhole : ObjectValue → Type 0
-IsWhole (TypedValue number handle common value) = (0 < handle) × IsWholeTyped handle common value
-IsWhole (PlainValue number handle common rest refs) =
+-- the handle of an object isn't null, and its parts are those that its form can spell
+abbrev pub PartsFit : ObjectValue → Type 0
+PartsFit (TypedValue number handle common value) =
+    (0 < handle) × (common_part (is_of_entity common) handle).Fits common × (own_body (body_kind value) handle).Fits value
+PartsFit (PlainValue number handle common rest refs) =
     (0 < handle) × (common_part (is_of_entity common) handle).Fits common × AreValues (reference handle) refs
-IsWhole (RawValue number handle bytes) = 0 < handle
+PartsFit (RawValue number handle bytes) = 0 < handle
+
+-- its parts fit, and a Typed one has an entity's common part exactly where its body's kind is one
+abbrev pub IsWhole : ObjectValue → Type 0
+IsWhole (TypedValue number handle common value) = PartsFit (TypedValue number handle common value) × (is_of_entity common ≡ is_entity_kind (body_kind value))
+IsWhole (PlainValue number handle common rest refs) = PartsFit (PlainValue number handle common rest refs)
+IsWhole (RawValue number handle bytes) = PartsFit (RawValue number handle bytes)
 
 -- a Typed object that a drawing with these classes can have: it is of the kind of its number
 pub record IsValidTyped (classes : List Class) (number handle : ℕ) (common : Common) (value : Body) : Type 0 where
@@ -82,7 +83,7 @@ pub record IsValidTyped (classes : List Class) (number handle : ℕ) (common : C
   pub handle_fits : handle < 2 ^ 63
   pub kind : kind_under classes number ≡ body_kind value
 
--- a Plain object that a drawing with these classes can have: its kind is known, and is an entity's where its common part is; as it is written it has no stronger form
+-- a Plain object that a drawing with these classes can have: its kind is known, and is an entity's exactly where its common part is; as it is written it has no stronger form
 pub record IsValidPlain (classes : List Class) (number handle : ℕ) (common : Common) (rest : List Bool) (refs : List Reference) : Type 0 where
   pub whole : IsWhole (PlainValue number handle common rest refs)
   pub number_fits : number < 2 ^ 16

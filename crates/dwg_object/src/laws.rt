@@ -9,11 +9,10 @@ ghost use Rattle.dwg_object.specs.OwnLaws.{OwnBodiesAreLawful, OwnBodiesAreOfThe
 ghost use Rattle.dwg_object.specs.SpanLaws.{SpansAreTold};
 
 /// What holds of heads, frames and forms, for all bytes: heads are told apart, and a body begins with one at the most. What a
-/// kind has of its own is told apart and is of that kind. What
-/// is tried of a span and of a frame is what stands at the place or the first line that refuses it, and nothing else; at a
-/// place there is one frame at the most. A body is read as one object exactly where it has a head; what is read of one below
-/// 2^29 bytes is valid and written no longer, what is written of a valid object is read as it, and where its frame stands
-/// its body is framed.
+/// kind has of its own is told apart, and is of that kind. What is tried of a span and of a frame is what stands at the place or
+/// the first line that refuses it, and nothing else; at a place there is one frame at the most. A body is read as one object
+/// exactly where it has a head; what is read of one below 2^29 bytes is valid and written no longer, what is written of a valid
+/// object is read as it, and where its frame stands its body is framed.
 pub fn frame_laws()
     ensures head_lawful { IsLawful head }
     ensures one_head { HeadsAreOne }

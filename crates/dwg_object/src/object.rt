@@ -11,14 +11,14 @@ use dwg_codes::BytePart;
 use dwg_handles::Ref;
 use dwg_kinds::{ClassHint, Kind, kind_of};
 
-/// An object of a kind with fields, all of which are read.
+/// An object whose kind has a body, all of which is read.
 #[derive(Drop)]
 pub struct Typed {
     /// The type number in its head.
     pub number: u16,
     /// Its own handle, positive in a drawing.
     pub handle: Handle,
-    /// What all entities have, or all other objects: an entity's exactly where the body's kind is one.
+    /// What all entities have, or all other objects; in a drawing an entity's exactly where the body's kind is one.
     pub common: Common,
     /// What it has of its own.
     pub body: Body,
@@ -53,7 +53,7 @@ pub struct Raw<'a> {
 /// An object of a drawing, in the strongest form in which it could be read.
 #[derive(Drop)]
 pub enum Object<'a> {
-    /// All its fields.
+    /// Its common part and the body of its kind.
     Typed(Typed),
     /// Its common part and its references, with its own bits as they are.
     Plain(Plain<'a>),
@@ -83,7 +83,7 @@ impl Object<'_> {
         }
     }
 
-    /// The object's kind: where its fields are read, theirs, and else by its number. From 500 on an object whose common part
+    /// The object's kind: where its body is read, the body's, and else by its number. From 500 on an object whose common part
     /// alone is read is an entity or another object as that part is, and one that is kept as its bytes is unknown.
     pub fn kind(&self) -> Kind
         ensures { result ≡ kind_of (value_of self.now) }

@@ -17,38 +17,38 @@ use dwg_handles::{refs_bits, write_refs};
 /// An object that is written by its common part and by what it has of its own.
 pub(crate) trait OwnPart {
     // What it has of its own in the object of a handle can be written.
-    ghost IsOwn: { ℕ → Self → Type 0 };
+    ghost OwnFits: { ℕ → Self → Type 0 };
 
     // Its own bits before the references, and its own references.
     ghost main: { ℕ → Self → List Bool };
 
     ghost refs: { ℕ → Self → List Bool };
 
-    /// How many bits it is written by.
+    /// How many bits what it has of its own is written by.
     fn own_lengths(&self, base: Handle) -> Lengths
-        requires fits { IsOwn base self.now }
+        requires fits { OwnFits base self.now }
         requires few { length (main base self.now) < 2 ^ 32 }
         requires refs_few { length (refs base self.now) < 2 ^ 32 }
         ensures main { result.main ≡ length (main base self.now) }
         ensures refs { result.refs ≡ length (refs base self.now) };
 
     /// Writes the bits that stand before the references.
-    fn write_own(&self, base: Handle, sink: &mut BitSink)
-        requires fits { IsOwn base self.now }
+    fn write_own_bits(&self, base: Handle, sink: &mut BitSink)
+        requires fits { OwnFits base self.now }
         requires few { length (main base self.now) < 2 ^ 32 }
         requires room { length (main base self.now) ≤ sink.old.spare }
         ensures { Extends sink.old sink.new (main base self.now) };
 
     /// Writes the references.
     fn write_own_refs(&self, base: Handle, sink: &mut BitSink)
-        requires fits { IsOwn base self.now }
+        requires fits { OwnFits base self.now }
         requires few { length (refs base self.now) < 2 ^ 32 }
         requires room { length (refs base self.now) ≤ sink.old.spare }
         ensures { Extends sink.old sink.new (refs base self.now) };
 }
 
 impl OwnPart for Typed {
-    ghost IsOwn = { λ base typed. (own_body (body_kind typed.body) base).Fits typed.body };
+    ghost OwnFits = { λ base typed. (own_body (body_kind typed.body) base).Fits typed.body };
 
     ghost main = { λ base typed. own_main base typed.body };
 
@@ -58,7 +58,7 @@ impl OwnPart for Typed {
         self.body.lengths(base)
     }
 
-    fn write_own(&self, base: Handle, sink: &mut BitSink) {
+    fn write_own_bits(&self, base: Handle, sink: &mut BitSink) {
         self.body.write_main(base, sink);
     }
 
@@ -68,7 +68,7 @@ impl OwnPart for Typed {
 }
 
 impl OwnPart for Plain<'_> {
-    ghost IsOwn = { λ base plain. AreValues (reference base) plain.refs };
+    ghost OwnFits = { λ base plain. AreValues (reference base) plain.refs };
 
     ghost main = { λ base plain. part_bits plain.rest };
 
@@ -81,7 +81,7 @@ impl OwnPart for Plain<'_> {
         }
     }
 
-    fn write_own(&self, _base: Handle, sink: &mut BitSink) {
+    fn write_own_bits(&self, _base: Handle, sink: &mut BitSink) {
         sink.push_part(&self.rest);
     }
 

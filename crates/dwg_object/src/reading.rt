@@ -75,7 +75,7 @@ fn read_front<'a>(
 
 /// Reads what a kind has of its own behind the common part of a body. None exactly where own bits and own references are not
 /// those of the kind, but for fewer than eight bits; the only refusal is want of memory.
-fn read_own(
+fn read_value(
     alloc: Global,
     front: &Front<'_>,
     kind: Kind,
@@ -143,14 +143,14 @@ fn read_behind<'a>(
     ensures none { result ≡ Ok None → (classes : List Class) → kind ≡ kind_under classes found.now.head.number → (HasPlainForm classes body.now → ⊥) × (HasTypedForm classes body.now → ⊥) }
     ensures owned { IfOk result (λ read. IfSome read HoldsItsBytes) }
 {
-    let Some(own) = read_own(alloc, &front, kind, found.head.own)? else {
+    let Some(value) = read_value(alloc, &front, kind, found.head.own)? else {
         return read_plain(alloc, body, found, kind, front);
     };
     Ok(Some(Object::Typed(Typed {
         number: found.head.number,
         handle: found.head.own,
         common: front.common,
-        body: own,
+        body: value,
     })))
 }
 
@@ -190,9 +190,9 @@ fn read_kind<'a>(
     }
 }
 
-/// Reads a body of fewer than 2^60 bytes, in the strongest form that it has under the classes of its drawing: with all its
-/// fields, or with its common part and its references, or as its bytes, whichever of these comes first. None exactly where the body has no head; the only
-/// refusal is want of memory, of which as much is taken as the body has bits.
+/// Reads a body of fewer than 2^60 bytes, in the strongest form that it has under the classes of its drawing: with its
+/// common part and the body of its kind, or with its common part and its references, or as its bytes, whichever of these comes
+/// first. None exactly where the body has no head; the only refusal is want of memory.
 pub fn read_body_hinted<'a>(
     alloc: Global,
     body: &'a [u8],

@@ -9,7 +9,7 @@ ghost use Rattle.dwg_check.specs.CheckWord.{FRAME_START, check_word};
 ghost use Rattle.dwg_object.specs.Forms.{common_part};
 ghost use Rattle.dwg_object.specs.Frames.{frame_bytes};
 ghost use Rattle.dwg_object.specs.Objects.{is_of_entity, value_of};
-ghost use Rattle.dwg_object.specs.Written.{IsWhole, body_bytes, front_bits, object_bits, object_bytes, refs_bits};
+ghost use Rattle.dwg_object.specs.Written.{PartsFit, body_bytes, front_bits, object_bits, object_bytes, refs_bits};
 
 use crate::common::Common;
 use crate::head::{head_length, write_head};
@@ -39,7 +39,7 @@ fn object_lengths<O: OwnPart>(
 ) -> ObjectLengths
     requires positive { 0 < handle }
     requires common { (common_part (is_of_entity common.now) handle).Fits common.now }
-    requires own { O.IsOwn handle own.now }
+    requires own { O.OwnFits handle own.now }
     requires few { length (object_bits number handle common.now (O.main handle own.now) (O.refs handle own.now)) < 2 ^ 32 }
     ensures front { result.front ≡ length (front_bits number handle common.now (O.main handle own.now)) }
     ensures refs { result.refs ≡ length (refs_bits handle common.now (O.refs handle own.now)) }
@@ -64,20 +64,20 @@ fn write_front<O: OwnPart>(
 )
     requires positive { 0 < handle }
     requires common { (common_part (is_of_entity common.now) handle).Fits common.now }
-    requires own { O.IsOwn handle own.now }
+    requires own { O.OwnFits handle own.now }
     requires size { size ≡ length (front_bits number handle common.now (O.main handle own.now)) }
     requires room { length (front_bits number handle common.now (O.main handle own.now)) ≤ sink.old.spare }
     ensures { Extends sink.old sink.new (front_bits number handle common.now (O.main handle own.now)) }
 {
     write_head(number, size, handle, sink);
     common.write_main(handle, sink);
-    own.write_own(handle, sink);
+    own.write_own_bits(handle, sink);
 }
 
 /// Writes the references: those of the common part, and its own.
-fn write_names<O: OwnPart>(handle: Handle, common: &Common, own: &O, sink: &mut BitSink)
+fn write_references<O: OwnPart>(handle: Handle, common: &Common, own: &O, sink: &mut BitSink)
     requires common { (common_part (is_of_entity common.now) handle).Fits common.now }
-    requires own { O.IsOwn handle own.now }
+    requires own { O.OwnFits handle own.now }
     requires few { length (refs_bits handle common.now (O.refs handle own.now)) < 2 ^ 32 }
     requires room { length (refs_bits handle common.now (O.refs handle own.now)) ≤ sink.old.spare }
     ensures { Extends sink.old sink.new (refs_bits handle common.now (O.refs handle own.now)) }
@@ -90,7 +90,7 @@ fn write_names<O: OwnPart>(handle: Handle, common: &Common, own: &O, sink: &mut 
 fn parts_length<O: OwnPart>(number: u16, handle: Handle, common: &Common, own: &O) -> u64
     requires positive { 0 < handle }
     requires common { (common_part (is_of_entity common.now) handle).Fits common.now }
-    requires own { O.IsOwn handle own.now }
+    requires own { O.OwnFits handle own.now }
     requires few { length (object_bytes number handle common.now (O.main handle own.now) (O.refs handle own.now)) < 2 ^ 29 }
     ensures length { result ≡ length (object_bytes number handle common.now (O.main handle own.now) (O.refs handle own.now)) }
     ensures bytes { AreBytes (object_bytes number handle common.now (O.main handle own.now) (O.refs handle own.now)) }
@@ -109,7 +109,7 @@ fn write_parts<O: OwnPart>(
 )
     requires positive { 0 < handle }
     requires common { (common_part (is_of_entity common.now) handle).Fits common.now }
-    requires own { O.IsOwn handle own.now }
+    requires own { O.OwnFits handle own.now }
     requires few { length (object_bytes number handle common.now (O.main handle own.now) (O.refs handle own.now)) < 2 ^ 29 }
     requires aligned { length sink.old.written % 8 ≡ 0 }
     requires room { 8 * length (object_bytes number handle common.now (O.main handle own.now) (O.refs handle own.now)) ≤ sink.old.spare }
@@ -117,7 +117,7 @@ fn write_parts<O: OwnPart>(
 {
     let lengths = object_lengths(number, handle, common, own);
     write_front(number, handle, common, own, lengths.front as u32, sink);
-    write_names(handle, common, own, sink);
+    write_references(handle, common, own, sink);
     sink.pad();
 }
 
@@ -132,7 +132,7 @@ fn small(bytes: &[u8]) -> &[u8]
 impl Object<'_> {
     /// How many bytes the body is written by.
     fn body_length(&self) -> u64
-        requires whole { IsWhole (value_of self.now) }
+        requires fits { PartsFit (value_of self.now) }
         requires few { length (body_bytes (value_of self.now)) < 2 ^ 29 }
         ensures length { result ≡ length (body_bytes (value_of self.now)) }
         ensures bytes { AreBytes (body_bytes (value_of self.now)) }
@@ -146,7 +146,7 @@ impl Object<'_> {
 
     /// Writes the body at a whole byte.
     fn write_body(&self, sink: &mut BitSink)
-        requires whole { IsWhole (value_of self.now) }
+        requires fits { PartsFit (value_of self.now) }
         requires few { length (body_bytes (value_of self.now)) < 2 ^ 29 }
         requires aligned { length sink.old.written % 8 ≡ 0 }
         requires room { 8 * length (body_bytes (value_of self.now)) ≤ sink.old.spare }
@@ -167,7 +167,7 @@ impl Object<'_> {
 /// How many bytes the frame of an object is written by: a length in the fewest units, the body, a check word.
 #[tactic(auto, using(crate::specs::FormLaws::length_of_frame))]
 pub fn frame_length(object: &Object<'_>) -> u64
-    requires whole { IsWhole (value_of object.now) }
+    requires fits { PartsFit (value_of object.now) }
     requires few { length (body_bytes (value_of object.now)) < 2 ^ 29 }
     ensures length { result ≡ length (frame_bytes (value_of object.now)) }
     ensures few { result < 2 ^ 30 }
@@ -187,7 +187,7 @@ fn word_behind(sink: &BitSink, from: u64) -> u16
 
 /// Writes the frame of an object at a whole byte: a length in the fewest units, the body, a check word.
 pub fn write_frame(object: &Object<'_>, sink: &mut BitSink)
-    requires whole { IsWhole (value_of object.now) }
+    requires fits { PartsFit (value_of object.now) }
     requires few { length (body_bytes (value_of object.now)) < 2 ^ 29 }
     requires aligned { length sink.old.written % 8 ≡ 0 }
     requires room { 8 * length (frame_bytes (value_of object.now)) ≤ sink.old.spare }

@@ -10,3 +10,5 @@ mod forms;
 mod kinds;
 #[cfg(test)]
 mod objects;
+#[cfg(test)]
+mod others;

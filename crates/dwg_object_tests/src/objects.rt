@@ -112,7 +112,9 @@ pub(crate) fn found(
 fn a_frame_is_read_where_it_stands(rt: HostRuntime) -> Result<(), Fail> {
     frame_laws();
     let alloc = rt.alloc();
-    let form = Form::Plain { bits: 12, refs: 0 };
+    let form = Form::Typed {
+        kind: Kind::Dictionary,
+    };
     assert_eq!(rt; found(alloc, &FRAME, 0, &[]), Ok((42, 12, form, 16)));
     let mut bytes = Vec::from_slice(alloc, &[0xFF, 0x00, 0x0C])?;
     bytes.extend_from_slice(&FRAME)?;

@@ -1,6 +1,6 @@
 use Rattle.std.proofs.Common.{arith}
 use Rattle.dwg_object.proofs.FrameWriting.{refs_long, refs_written}
-use Rattle.dwg_object.proofs.writing.write_names.Goals as goal
+use Rattle.dwg_object.proofs.writing.write_references.Goals as goal
 
 pub write_refs-requires-clause-few : goal.write_refs-requires-clause-few
 write_refs-requires-clause-few g c = omega (arith, c.requires.few, refs_long c.args.handle c.args.common.now (g.O.OwnPart.refs c.args.handle c.args.own.now))

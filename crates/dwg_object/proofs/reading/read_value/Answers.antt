@@ -2,7 +2,7 @@ use Rattle.std.proofs.Common.{arith}
 use Rattle.dwg_bits.specs.BitLaws.{length_of_bits_between}
 use Rattle.dwg_bits.specs.Cursor.{rest}
 use Rattle.dwg_object.proofs.FormReading.{own_unread, own_left_unread, own_read}
-use Rattle.dwg_object.proofs.reading.read_own.Goals as goal
+use Rattle.dwg_object.proofs.reading.read_value.Goals as goal
 
 pub returns-in_default-clause-none : goal.returns-in_default-clause-none
 returns-in_default-clause-none c = λ none has.

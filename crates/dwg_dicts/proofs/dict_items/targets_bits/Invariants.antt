@@ -1,0 +1,9 @@
+use Rattle.std.proofs.Common.{drop}
+use Rattle.dwg_handles.specs.ReferenceCodes.{reference}
+use Rattle.dwg_dicts.specs.declared.dictionary.DictItem.{DictItem}
+use Rattle.dwg_dicts.proofs.PartWriting.{AreCounted}
+use Rattle.dwg_dicts.proofs.dict_items.targets_bits.Given as goal
+
+-- what is counted so far and the items that are left give the whole
+abbrev pub invariant-along : goal.invariant-along
+invariant-along l = AreCounted (reference l.base) (λ (item : DictItem). item.target) l.items (drop l.item-index l.items) l.bits

@@ -1,0 +1,9 @@
+use Rattle.std.proofs.Common.{drop}
+use Rattle.dwg_handles.specs.ReferenceCodes.{reference}
+use Rattle.dwg_dicts.specs.declared.dictionary.DictItem.{DictItem}
+use Rattle.dwg_dicts.proofs.PartWriting.{AreWrittenSoFar}
+use Rattle.dwg_dicts.proofs.dict_items.write_targets.Given as goal
+
+-- what is written so far and the items that are left give the whole
+abbrev pub invariant-along : goal.invariant-along
+invariant-along l = AreWrittenSoFar (reference l.base) (λ (item : DictItem). item.target) l.items (drop l.item-index l.items) l.fn.sink l.sink

@@ -1,0 +1,58 @@
+-- Dictionaries: names of objects (Open Design Specification, "DICTIONARY").
+use Rattle.std.specs.Prelude.{ℕ, Bool, List, [], ◌∷◌, length, map}
+use Rattle.dwg_codes.specs.Codes.{bl, bs, rc, tv}
+use Rattle.dwg_codes.specs.Combinators.{seq, items}
+use Rattle.dwg_codes.specs.Grammar.{Grammar}
+use Rattle.dwg_codes.specs.ToEnd.{AreValues}
+use Rattle.dwg_common.specs.Bodies.{BodyGrammar}
+use Rattle.dwg_common.specs.MakingBodies.{body}
+use Rattle.dwg_common.specs.References.{some_refs}
+use Rattle.dwg_handles.specs.Reference.{Reference}
+use Rattle.dwg_handles.specs.ReferenceCodes.{reference}
+use Rattle.dwg_dicts.specs.declared.dictionary.DictItem.{DictItem}
+use Rattle.dwg_dicts.specs.declared.dictionary.Dictionary.{Dictionary}
+
+-- BL count of items; BS cloning; RC hard_owner
+abbrev pub dictionary_start : Grammar Bool (ℕ × (ℕ × ℕ))
+dictionary_start = seq bl (λ count. seq bs (λ cloning. rc))
+
+-- these; TV per name
+abbrev pub dictionary_main : Grammar Bool ((ℕ × (ℕ × ℕ)) × List (List ℕ))
+dictionary_main = seq dictionary_start (λ start. items tv start.0)
+
+-- the names of items, and their targets
+abbrev pub names_of : List DictItem → List (List ℕ)
+names_of listed = map (λ item. item.name) listed
+
+abbrev pub targets_of : List DictItem → List Reference
+targets_of listed = map (λ item. item.target) listed
+
+-- an item of each name and of the target that stands in its place
+abbrev pub named_items : List (List ℕ) → List Reference → List DictItem
+named_items [] targets = []
+named_items (name ∷ names) [] = []
+named_items (name ∷ names) (target ∷ targets) = record { name = name; target = target } ∷ named_items names targets
+
+-- so many items by themselves: TV per name; target per item
+abbrev pub items_alone : ℕ → ℕ → BodyGrammar (List DictItem)
+items_alone base count = body (items tv count) (λ names. some_refs base count) named_items names_of targets_of
+
+-- an item has a spelling: its name is a TV, and the code of its reference reaches its target
+abbrev pub IsItem : ℕ → DictItem → Type 0
+IsItem base item = tv.IsValue item.name × (reference base).IsValue item.target
+
+-- each of the items has one
+abbrev pub AreItems : ℕ → List DictItem → Type 0
+AreItems base listed = AreValues tv (names_of listed) × AreValues (reference base) (targets_of listed)
+
+-- what a dictionary begins with
+abbrev pub start_of : Dictionary → ℕ × (ℕ × ℕ)
+start_of dictionary = (length dictionary.items, (dictionary.cloning, dictionary.hard_owner))
+
+-- the main bits; target per item
+unfoldable pub dictionary_body : ℕ → BodyGrammar Dictionary
+dictionary_body base =
+    body dictionary_main (λ told. some_refs base told.0.0)
+    (λ told named. record { cloning = told.0.1.0; hard_owner = told.0.1.1; items = named_items told.1 named })
+    (λ dictionary. (start_of dictionary, names_of dictionary.items))
+    (λ dictionary. targets_of dictionary.items)

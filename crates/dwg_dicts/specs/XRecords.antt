@@ -1,0 +1,24 @@
+-- Records: bytes of an application, and objects that they name (Open Design Specification, "XRECORD"). That the references go to the end of the object, while a byte is left, is a rule of this project.
+use Rattle.std.specs.Prelude.{ℕ, suc, Bool, List, length, Option}
+use Rattle.dwg_codes.specs.Codes.{bl, bs, rc}
+use Rattle.dwg_codes.specs.Combinators.{seq, counted}
+use Rattle.dwg_codes.specs.Grammar.{Grammar}
+use Rattle.dwg_common.specs.Bodies.{BodyGrammar}
+use Rattle.dwg_common.specs.ToEndBodies.{parse_to_end, to_end}
+use Rattle.dwg_handles.specs.Reference.{Reference}
+use Rattle.dwg_handles.specs.ReferenceCodes.{reference}
+use Rattle.dwg_dicts.specs.declared.xrecord.XRecord.{XRecord}
+
+-- BL size and the bytes; BS cloning
+abbrev pub xrecord_main : Grammar Bool (List ℕ × ℕ)
+xrecord_main = seq (counted bl rc) (λ bytes. bs)
+
+-- the references that bits hold until fewer than eight are left, and these
+abbrev pub all_targets : ℕ → List Bool → Option (List Reference × List Bool)
+all_targets base letters = parse_to_end 8 (reference base) (suc (length letters)) letters
+
+-- the main bits; all references until fewer than eight bits are left
+unfoldable pub xrecord_body : ℕ → BodyGrammar XRecord
+xrecord_body base =
+    to_end base xrecord_main (λ told targets. record { bytes = told.0; cloning = told.1; targets = targets })
+    (λ xrecord. (xrecord.bytes, xrecord.cloning)) (λ xrecord. xrecord.targets)

@@ -1,0 +1,138 @@
+//! Dictionaries: names of objects.
+
+ghost use Rattle.std.specs.Prelude.{◌≡◌, IfOk};
+ghost use Rattle.std.specs.Option.{option_map};
+ghost use Rattle.dwg_bits.specs.Cursor.{rest};
+ghost use Rattle.dwg_dicts.specs.DictLaws.{dictionary_is_body};
+ghost use Rattle.dwg_dicts.specs.Dictionaries.{dictionary_body, dictionary_start};
+
+use crate::counts::{count_bits, count_fits, write_count};
+use crate::dict_items::{
+    items_fit, names_bits, read_items, targets_bits, write_names, write_targets,
+};
+use dwg_base::{ByteRun, Handle, Items, NoMemory};
+use dwg_bits::{BitCursor, BitSink};
+use dwg_codes::{BitCode, CodeBL, CodeBS, CodeRC};
+use dwg_common::{BodyCode, Lengths, parse_code};
+use dwg_handles::Ref;
+use std::alloc::Global;
+
+/// An object and its name in a dictionary (Open Design Specification, "DICTIONARY").
+#[derive(Drop)]
+pub struct DictItem {
+    /// The name, at most 65,535 bytes.
+    pub name: ByteRun,
+    /// The object.
+    pub target: Ref,
+}
+
+/// A dictionary (Open Design Specification, "DICTIONARY").
+#[derive(Drop)]
+pub struct Dictionary {
+    /// What becomes of an item whose name is there already when dictionaries are merged.
+    pub cloning: u16,
+    /// Not 0 where it owns its objects.
+    pub hard_owner: u8,
+    /// Its items, fewer than 2^32.
+    pub items: Items<DictItem>,
+}
+
+/// Reads what a dictionary begins with, as it is parsed: how many items it has, and its two flags.
+fn read_start(cursor: &mut BitCursor<'_>) -> Option<(u32, (u16, u8))>
+    ensures parsed { dictionary_start.parse (rest cursor.old) ≡ option_map (λ start. (start, rest cursor.new)) result }
+    ensures same_bytes { cursor.new.bytes.now ≡ cursor.old.bytes.now }
+    ensures same_end { cursor.new.end ≡ cursor.old.end }
+{
+    let count = parse_code::<CodeBL>(&(), cursor)?;
+    let cloning = parse_code::<CodeBS>(&(), cursor)?;
+    let hard_owner = parse_code::<CodeRC>(&(), cursor)?;
+    Some((count, (cloning, hard_owner)))
+}
+
+/// Reads a dictionary, as it is parsed. The only refusal is want of memory, which is taken only for items that are there.
+fn read_dictionary(
+    alloc: Global,
+    main: &mut BitCursor<'_>,
+    refs: &mut BitCursor<'_>,
+    base: Handle,
+) -> Result<Option<Dictionary>, NoMemory>
+    ensures parsed { IfOk result (λ found. (dictionary_body base).parse (rest main.old) (rest refs.old) ≡ option_map (λ dictionary. (dictionary, (rest main.new, rest refs.new))) found) }
+    ensures same_bytes { main.new.bytes.now ≡ main.old.bytes.now }
+    ensures same_end { main.new.end ≡ main.old.end }
+    ensures refs_same_bytes { refs.new.bytes.now ≡ refs.old.bytes.now }
+    ensures refs_same_end { refs.new.end ≡ refs.old.end }
+{
+    let Some(start) = read_start(main) else {
+        return Ok(None);
+    };
+    let Some(items) = read_items(alloc, start.0, main, refs, base)? else {
+        return Ok(None);
+    };
+    Ok(Some(Dictionary {
+        cloning: start.1.0,
+        hard_owner: start.1.1,
+        items,
+    }))
+}
+
+impl BodyCode for Dictionary {
+    ghost grammar = { dictionary_body };
+
+    fn read(
+        alloc: Global,
+        main: &mut BitCursor<'_>,
+        refs: &mut BitCursor<'_>,
+        base: Handle,
+    ) -> Result<Option<Dictionary>, NoMemory> {
+        // The laws of bodies ask that their base is a handle's number.
+        let _base = base.value();
+        let mut ahead = *main;
+        let mut refs_ahead = *refs;
+        let Some(dictionary) = read_dictionary(alloc, &mut ahead, &mut refs_ahead, base)? else {
+            return Ok(None);
+        };
+        *main = ahead;
+        *refs = refs_ahead;
+        Ok(Some(dictionary))
+    }
+
+    #[tactic(auto, unfolding(crate::specs::Dictionaries::dictionary_body, dwg_codes::specs::Combinators::chain), using(crate::specs::DictionaryLaws::names_counted, crate::specs::DictionaryLaws::targets_counted))]
+    fn fits(&self, base: Handle) -> bool {
+        // Each number of their types can be told.
+        let _cloning = self.cloning;
+        let _hard_owner = self.hard_owner;
+        let items = self.items.as_slice();
+        if !count_fits(items) {
+            return false;
+        }
+        items_fit(items, base)
+    }
+
+    #[tactic(auto, unfolding(crate::specs::Dictionaries::dictionary_body, dwg_codes::specs::Combinators::chain))]
+    fn lengths(&self, base: Handle) -> Lengths {
+        let items = self.items.as_slice();
+        Lengths {
+            main: count_bits(items)
+                + CodeBS::length(&(), &self.cloning)
+                + CodeRC::length(&(), &self.hard_owner)
+                + names_bits(items),
+            refs: targets_bits(items, base),
+        }
+    }
+
+    #[tactic(auto, unfolding(crate::specs::Dictionaries::dictionary_body, dwg_codes::specs::Combinators::chain))]
+    fn write_main(&self, _base: Handle, sink: &mut BitSink) {
+        let items = self.items.as_slice();
+        write_count(items, sink);
+        CodeBS::write(&(), &self.cloning, sink);
+        CodeRC::write(&(), &self.hard_owner, sink);
+        write_names(items, sink);
+    }
+
+    #[tactic(auto, unfolding(crate::specs::Dictionaries::dictionary_body, dwg_codes::specs::Combinators::chain))]
+    fn write_refs(&self, base: Handle, sink: &mut BitSink) {
+        write_targets(self.items.as_slice(), base, sink);
+    }
+
+    ghost laws = { λ base small. dictionary_is_body base small };
+}

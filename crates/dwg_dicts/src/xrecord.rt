@@ -1,0 +1,139 @@
+//! Records: bytes of an application, and objects that they name.
+
+ghost use Rattle.std.specs.Prelude.{◌≡◌, ◌^◌, ◌<◌, IfOk};
+ghost use Rattle.std.specs.Option.{option_map};
+ghost use Rattle.dwg_bits.specs.Cursor.{rest};
+ghost use Rattle.dwg_dicts.specs.DictLaws.{xrecord_is_body};
+ghost use Rattle.dwg_dicts.specs.XRecords.{all_targets, xrecord_body, xrecord_main};
+
+use crate::sized::{read_sized, sized_bits, sized_fits, write_sized};
+use dwg_base::{ByteRun, Handle, Items, NoMemory};
+use dwg_bits::{BitCursor, BitSink};
+use dwg_codes::{BitCode, CodeBS};
+use dwg_common::{BodyCode, Lengths, parse_code};
+use dwg_handles::{Ref, read_refs_to_end, refs_bits, refs_fit, write_refs};
+use std::alloc::Global;
+
+/// A record of an application (Open Design Specification, "XRECORD").
+#[derive(Drop)]
+pub struct XRecord {
+    /// Its bytes, fewer than 2^32, kept without meaning.
+    pub bytes: ByteRun,
+    /// What becomes of it where one of its name is there already when dictionaries are merged.
+    pub cloning: u16,
+    /// The objects that it names: as many as the object has references left.
+    pub targets: Items<Ref>,
+}
+
+/// Reads what the main bits of a record tell, as it is parsed. The only refusal is want of memory, which is taken only for
+/// bytes that are there.
+fn read_told(alloc: Global, cursor: &mut BitCursor<'_>) -> Result<Option<(ByteRun, u16)>, NoMemory>
+    ensures parsed { IfOk result (λ found. xrecord_main.parse (rest cursor.old) ≡ option_map (λ told. (told, rest cursor.new)) found) }
+    ensures same_bytes { cursor.new.bytes.now ≡ cursor.old.bytes.now }
+    ensures same_end { cursor.new.end ≡ cursor.old.end }
+{
+    let Some(bytes) = read_sized(alloc, cursor)? else {
+        return Ok(None);
+    };
+    let Some(cloning) = parse_code::<CodeBS>(&(), cursor) else {
+        return Ok(None);
+    };
+    Ok(Some((bytes, cloning)))
+}
+
+/// Reads references until fewer than eight bits are left, as they are parsed. The only refusal is want of memory, which is
+/// taken only for references that are there.
+#[tactic(auto, using(crate::proofs::EndReading::all_parsed))]
+fn read_targets(
+    alloc: Global,
+    cursor: &mut BitCursor<'_>,
+    base: Handle,
+) -> Result<Option<Items<Ref>>, NoMemory>
+    ensures parsed { IfOk result (λ found. all_targets base (rest cursor.old) ≡ option_map (λ targets. (targets, rest cursor.new)) found) }
+    ensures same_bytes { cursor.new.bytes.now ≡ cursor.old.bytes.now }
+    ensures same_end { cursor.new.end ≡ cursor.old.end }
+{
+    // The laws of references ask that their base is a handle's number.
+    let _base = base.value();
+    read_refs_to_end(alloc, cursor, base)
+}
+
+/// Reads a record, as it is parsed. The only refusal is want of memory, which is taken only for what is there.
+#[tactic(auto, unfolding(crate::specs::XRecords::xrecord_body))]
+fn read_xrecord(
+    alloc: Global,
+    main: &mut BitCursor<'_>,
+    refs: &mut BitCursor<'_>,
+    base: Handle,
+) -> Result<Option<XRecord>, NoMemory>
+    ensures parsed { IfOk result (λ found. (xrecord_body base).parse (rest main.old) (rest refs.old) ≡ option_map (λ xrecord. (xrecord, (rest main.new, rest refs.new))) found) }
+    ensures same_bytes { main.new.bytes.now ≡ main.old.bytes.now }
+    ensures same_end { main.new.end ≡ main.old.end }
+    ensures refs_same_bytes { refs.new.bytes.now ≡ refs.old.bytes.now }
+    ensures refs_same_end { refs.new.end ≡ refs.old.end }
+{
+    let Some(told) = read_told(alloc, main)? else {
+        return Ok(None);
+    };
+    let Some(targets) = read_targets(alloc, refs, base)? else {
+        return Ok(None);
+    };
+    Ok(Some(XRecord {
+        bytes: told.0,
+        cloning: told.1,
+        targets,
+    }))
+}
+
+impl BodyCode for XRecord {
+    ghost grammar = { xrecord_body };
+
+    fn read(
+        alloc: Global,
+        main: &mut BitCursor<'_>,
+        refs: &mut BitCursor<'_>,
+        base: Handle,
+    ) -> Result<Option<XRecord>, NoMemory> {
+        // The laws of bodies ask that their base is a handle's number.
+        let _base = base.value();
+        let mut ahead = *main;
+        let mut refs_ahead = *refs;
+        let Some(xrecord) = read_xrecord(alloc, &mut ahead, &mut refs_ahead, base)? else {
+            return Ok(None);
+        };
+        *main = ahead;
+        *refs = refs_ahead;
+        Ok(Some(xrecord))
+    }
+
+    #[tactic(auto, unfolding(crate::specs::XRecords::xrecord_body))]
+    fn fits(&self, base: Handle) -> bool {
+        // Each number of its type can be told.
+        let _cloning = self.cloning;
+        if !sized_fits(self.bytes.as_slice()) {
+            return false;
+        }
+        refs_fit(self.targets.as_slice(), base)
+    }
+
+    #[tactic(auto, unfolding(crate::specs::XRecords::xrecord_body))]
+    fn lengths(&self, base: Handle) -> Lengths {
+        Lengths {
+            main: sized_bits(self.bytes.as_slice()) + CodeBS::length(&(), &self.cloning),
+            refs: refs_bits(self.targets.as_slice(), base),
+        }
+    }
+
+    #[tactic(auto, unfolding(crate::specs::XRecords::xrecord_body))]
+    fn write_main(&self, _base: Handle, sink: &mut BitSink) {
+        write_sized(self.bytes.as_slice(), sink);
+        CodeBS::write(&(), &self.cloning, sink);
+    }
+
+    #[tactic(auto, unfolding(crate::specs::XRecords::xrecord_body))]
+    fn write_refs(&self, base: Handle, sink: &mut BitSink) {
+        write_refs(self.targets.as_slice(), base, sink);
+    }
+
+    ghost laws = { λ base small. xrecord_is_body base small };
+}

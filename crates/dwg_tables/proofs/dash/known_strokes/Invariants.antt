@@ -1,0 +1,8 @@
+use Rattle.std.proofs.Common.{drop}
+use Rattle.dwg_tables.specs.LtypeBody.{stroke, stroke_of}
+use Rattle.dwg_tables.proofs.MemberLoops.{AreTried}
+use Rattle.dwg_tables.proofs.dash.known_strokes.Given as goal
+
+-- the dashes so far are known
+abbrev pub invariant-along : goal.invariant-along
+invariant-along l = AreTried stroke stroke_of l.dashes (drop l.dash-index l.dashes)

@@ -1,0 +1,8 @@
+use Rattle.std.proofs.Common.{drop}
+use Rattle.dwg_handles.specs.ReferenceCodes.{reference}
+use Rattle.dwg_tables.proofs.MemberLoops.{AreTried}
+use Rattle.dwg_tables.proofs.members.names_fit.Given as goal
+
+-- the members so far have a spelling
+abbrev pub invariant-along : goal.invariant-along
+invariant-along g l = AreTried (reference l.base) g.V.Part.part l.members (drop l.member-index l.members)

@@ -1,0 +1,21 @@
+use Rattle.std.proofs.Common.{◌∙◌, length}
+use Rattle.dwg_handles.specs.ReferenceCodes.{reference}
+use Rattle.dwg_tables.proofs.NameReading.{one_begun, one_missing, all_begun}
+use Rattle.dwg_tables.proofs.members.read_names.Goals as goal
+
+pub returns-in_default-clause-parsed : goal.returns-in_default-clause-parsed
+returns-in_default-clause-parsed g c =
+    one_missing (reference c.args.base) (length c.args.told.now) _ c.along.names c.parse_ref.result _ _ _
+    c.along-test.true c.in_default.is c.parse_ref.ensures.parsed c.along.invariant.so_far
+
+pub along-preserved : goal.along-preserved
+along-preserved g c = record {
+  so_far = one_begun (reference c.args.base) (length c.args.told.now) _ c.along.names _ c.parse_ref.result c.in-Some.name _ _ _
+      c.along-test.true c.in-Ok.ensures.ok c.in-Some.is c.parse_ref.ensures.parsed c.along.invariant.so_far;
+  bytes = c.parse_ref.ensures.same_bytes ∙ c.along.invariant.bytes;
+  end = c.parse_ref.ensures.same_end ∙ c.along.invariant.end;
+}
+
+pub returns-clause-parsed : goal.returns-clause-parsed
+returns-clause-parsed g c =
+    all_begun (reference c.args.base) (length c.args.told.now) _ c.along.names _ _ c.along-test.false c.along.invariant.so_far

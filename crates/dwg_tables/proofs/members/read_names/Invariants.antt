@@ -1,0 +1,13 @@
+use Rattle.std.proofs.Common.{◌≡◌, length}
+use Rattle.dwg_bits.specs.Cursor.{rest}
+use Rattle.dwg_handles.specs.ReferenceCodes.{reference}
+use Rattle.dwg_tables.proofs.NameReading.{IsBegun}
+use Rattle.dwg_tables.proofs.members.read_names.Given as goal
+
+-- as many references as turns are read
+abbrev pub invariant-along : goal.invariant-along
+invariant-along g l = record {
+  so_far : IsBegun (reference l.base) (length l.told) l.counter l.names (rest l.fn.cursor) (rest l.cursor);
+  bytes : l.cursor.bytes.now ≡ l.fn.cursor.bytes.now;
+  end : l.cursor.end ≡ l.fn.cursor.end;
+}

@@ -1,0 +1,34 @@
+-- The counts of marks are a code.
+use Rattle.std.proofs.Common.{refl, ℕ, ◌≤◌, arith}
+use Rattle.std.specs.Prelude.{◌==◌, ◌≢◌}
+use Rattle.std.proofs.lemmas.Bool.Decides.{nat_tests}
+use Rattle.dwg_codes.specs.Codes.{rc}
+use Rattle.dwg_codes.specs.Combinators.{always}
+use Rattle.dwg_codes.specs.CombinatorLaws.{any_letters_closed, always_is_code}
+use Rattle.dwg_codes.specs.Grammar.{IsCode, AnyLetters}
+use Rattle.dwg_codes.specs.ListLaws.{until_is_code}
+use Rattle.dwg_codes.specs.NumberLaws.{rc_is_code}
+use Rattle.dwg_tables.specs.InsertMarks.{IsMarkCount, mark_counts}
+
+-- a number that isn't 0 is at least 1
+some_of : (count : ℕ) → count ≢ 0 → 1 ≤ count
+some_of count other = grind (arith, other)
+
+-- and one that is at least 1 isn't 0
+nonzero : (count : ℕ) → 1 ≤ count → count ≢ 0
+nonzero count some none = omega (arith, some, none)
+
+-- the counts are a code
+pub mark_counts_is_code : IsCode AnyLetters mark_counts
+unfolding mark_counts
+mark_counts_is_code =
+    until_is_code AnyLetters rc 0 (λ count. count == 0) (λ count. always count) (λ count. count) IsMarkCount any_letters_closed record {
+      tag_is_code = rc_is_code;
+      item_is_code = λ tag fits other. always_is_code AnyLetters tag;
+      mark_is_tag = omega arith;
+      mark_passes = refl;
+      only_mark_passes = λ tag fits passed. grind (arith, nat_tests);
+      some_letters = λ tag front spelled. omega (arith, spelled.0);
+      value_is_item = λ tag count fits other same. (record { some = omega (arith, some_of tag other, same); few = omega (arith, fits, same) }, same);
+      item_is_value = λ count is. (is.few, nonzero count is.some, refl);
+    }

@@ -1,0 +1,12 @@
+pub mod Entries
+pub mod Members
+pub mod MemberLaws
+pub mod AppIdBody
+pub mod LayerBody
+pub mod StyleBody
+pub mod LtypeBody
+pub mod InsertMarks
+pub mod InsertMarkLaws
+pub mod BlockHeaderBody
+pub mod TableLaws
+pub mod BlockHeaderLaws

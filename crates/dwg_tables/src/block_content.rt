@@ -1,0 +1,107 @@
+//! What the main bits of the header of a block tell behind its flags (Open Design Specification, "BLOCK HEADER").
+
+ghost use Rattle.std.specs.Prelude.{◌≡◌, ◌^◌, ◌<◌, ◌≤◌, ◌↔◌, length, IfOk, IsTrue};
+ghost use Rattle.std.specs.Option.{option_map};
+ghost use Rattle.dwg_bits.specs.Cursor.{rest};
+ghost use Rattle.dwg_bits.specs.Sink.{Extends};
+ghost use Rattle.dwg_codes.specs.Codes.{IsPoint3};
+ghost use Rattle.dwg_tables.specs.BlockHeaderBody.{block_content, content_of};
+
+use crate::block_header::{BlockContent, BlockHeader};
+use crate::marks::{counts_bits, counts_fit, read_counts, write_counts};
+use crate::preview::{preview_bits, preview_fits, read_preview, write_preview};
+use dwg_base::NoMemory;
+use dwg_bits::{BitCursor, BitSink};
+use dwg_codes::{BitCode, Point3};
+use dwg_common::{Code3BD, parse_code, parse_tv, tv_bits, tv_fits, write_tv};
+use std::alloc::Global;
+
+/// Reads the content of a header, as it is parsed. The only refusal is want of memory, which is taken only for what is there.
+#[tactic(auto, unfolding(crate::specs::BlockHeaderBody::block_content))]
+pub(crate) fn read_content(
+    alloc: Global,
+    cursor: &mut BitCursor<'_>,
+) -> Result<Option<BlockContent>, NoMemory>
+    ensures parsed { IfOk result (λ found. block_content.parse (rest cursor.old) ≡ option_map (λ content. (content, rest cursor.new)) found) }
+    ensures same_bytes { cursor.new.bytes.now ≡ cursor.old.bytes.now }
+    ensures same_end { cursor.new.end ≡ cursor.old.end }
+{
+    let Some(base) = parse_code::<Code3BD>(&(), cursor) else {
+        return Ok(None);
+    };
+    let Some(path) = parse_tv(alloc, cursor)? else {
+        return Ok(None);
+    };
+    let Some(counts) = read_counts(alloc, cursor)? else {
+        return Ok(None);
+    };
+    let Some(description) = parse_tv(alloc, cursor)? else {
+        return Ok(None);
+    };
+    let Some(preview) = read_preview(alloc, cursor)? else {
+        return Ok(None);
+    };
+    Ok(Some(BlockContent {
+        base,
+        path,
+        counts,
+        description,
+        preview,
+    }))
+}
+
+/// The words of a point lie in the range of their type.
+fn known_point(point: &Point3)
+    ensures { IsPoint3 point.now }
+{
+    let _x = point.x;
+    let _y = point.y;
+    let _z = point.z;
+}
+
+/// Whether the content of a header can be told: its path and its description have at most 65,535 bytes each, no mark has
+/// count 0, and its preview has fewer than 2^32 bytes.
+#[tactic(auto, unfolding(crate::specs::BlockHeaderBody::block_content))]
+pub(crate) fn content_fits(header: &BlockHeader) -> bool
+    ensures { IsTrue result ↔ block_content.IsValue (content_of header.now) }
+{
+    known_point(&header.base);
+    if !tv_fits(header.path.as_slice()) {
+        return false;
+    }
+    if !counts_fit(header.inserts.as_slice()) {
+        return false;
+    }
+    if !tv_fits(header.description.as_slice()) {
+        return false;
+    }
+    preview_fits(header.preview.as_slice())
+}
+
+/// How many bits the content of a header is written by.
+#[tactic(auto, unfolding(crate::specs::BlockHeaderBody::block_content))]
+pub(crate) fn content_bits(header: &BlockHeader) -> u64
+    requires value { block_content.IsValue (content_of header.now) }
+    requires few { length (block_content.short (content_of header.now)) < 2 ^ 62 }
+    ensures { result ≡ length (block_content.short (content_of header.now)) }
+{
+    Code3BD::length(&(), &header.base)
+        + tv_bits(header.path.as_slice())
+        + counts_bits(header.inserts.as_slice())
+        + tv_bits(header.description.as_slice())
+        + preview_bits(header.preview.as_slice())
+}
+
+/// Writes the content of a header.
+#[tactic(auto, unfolding(crate::specs::BlockHeaderBody::block_content))]
+pub(crate) fn write_content(header: &BlockHeader, sink: &mut BitSink)
+    requires value { block_content.IsValue (content_of header.now) }
+    requires room { length (block_content.short (content_of header.now)) ≤ sink.old.spare }
+    ensures { Extends sink.old sink.new (block_content.short (content_of header.now)) }
+{
+    Code3BD::write(&(), &header.base, sink);
+    write_tv(header.path.as_slice(), sink);
+    write_counts(header.inserts.as_slice(), sink);
+    write_tv(header.description.as_slice(), sink);
+    write_preview(header.preview.as_slice(), sink);
+}

@@ -1,0 +1,256 @@
+//! Headers of blocks.
+
+ghost use Rattle.std.specs.Prelude.{◌≡◌, length, IfOk};
+ghost use Rattle.std.specs.Option.{option_map};
+ghost use Rattle.dwg_bits.specs.Cursor.{rest};
+ghost use Rattle.dwg_tables.specs.BlockHeaderBody.{block_header_body, flags_of, header_of};
+ghost use Rattle.dwg_tables.specs.BlockHeaderLaws.{block_header_is_body};
+
+use crate::block_content::{content_bits, content_fits, read_content, write_content};
+use crate::block_flags::{flags_bits, known_flags, read_flags, write_flags};
+use crate::block_names::{block_names_bits, block_names_fit, read_block_names, write_block_names};
+use crate::entry::{Entry, Title, entry_of};
+use crate::members::join_all;
+use crate::title::{read_title, title_bits, title_fits, write_title};
+use dwg_base::{ByteRun, Handle, Items, NoMemory};
+use dwg_bits::{BitCursor, BitSink};
+use dwg_codes::Point3;
+use dwg_common::{BodyCode, Lengths};
+use dwg_handles::Ref;
+use std::alloc::Global;
+
+/// The mark of an insert of a block (Open Design Specification, "BLOCK HEADER").
+#[derive(Clone, Copy, Debug, PartialEq, Eq)]
+pub struct InsertMark {
+    /// Its byte among the main bits, which is never 0.
+    pub count: u8,
+    /// The insert.
+    pub target: Ref,
+}
+
+/// The entities of a block, which stand one behind the other (Open Design Specification, "BLOCK HEADER").
+#[derive(Clone, Copy, Debug, PartialEq, Eq)]
+pub struct Ends {
+    /// The first of them.
+    pub first: Ref,
+    /// The last of them.
+    pub last: Ref,
+}
+
+/// The header of a block (Open Design Specification, "BLOCK HEADER").
+#[derive(Drop)]
+pub struct BlockHeader {
+    /// Its name, and where it is from.
+    pub entry: Entry,
+    /// Whether its name was made up.
+    pub anonymous: bool,
+    /// Whether definitions of attributes are among its entities.
+    pub has_attributes: bool,
+    /// Whether it stands for another drawing.
+    pub is_xref: bool,
+    /// Whether it is laid over this drawing alone, and not over those that take it in.
+    pub overlaid: bool,
+    /// Not set where the other drawing is loaded, as the specification has it.
+    pub loaded: bool,
+    /// The point of it that stands at the place of an insert.
+    pub base: Point3,
+    /// The path of the other drawing, at most 65,535 bytes.
+    pub path: ByteRun,
+    /// The marks of its inserts.
+    pub inserts: Items<InsertMark>,
+    /// What it is, in words, at most 65,535 bytes.
+    pub description: ByteRun,
+    /// A picture of it, below 2^32 bytes, kept without meaning.
+    pub preview: ByteRun,
+    /// Its begin.
+    pub block: Ref,
+    /// Its entities, there exactly where neither `is_xref` nor `overlaid` is set.
+    pub ends: Option<Ends>,
+    /// Its end.
+    pub endblk: Ref,
+    /// Its layout.
+    pub layout: Ref,
+}
+
+/// What single bits of a header tell.
+#[derive(Clone, Copy)]
+pub(crate) struct BlockFlags {
+    /// Whether its name was made up.
+    pub(crate) anonymous: bool,
+    /// Whether definitions of attributes are among its entities.
+    pub(crate) has_attributes: bool,
+    /// Whether it stands for another drawing.
+    pub(crate) is_xref: bool,
+    /// Whether it is laid over this drawing alone.
+    pub(crate) overlaid: bool,
+    /// Not set where the other drawing is loaded.
+    pub(crate) loaded: bool,
+}
+
+/// What the main bits of a header tell behind these.
+#[derive(Drop)]
+pub(crate) struct BlockContent {
+    /// The point of it that stands at the place of an insert.
+    pub(crate) base: Point3,
+    /// The path of the other drawing.
+    pub(crate) path: ByteRun,
+    /// The count of each of its marks.
+    pub(crate) counts: Items<u8>,
+    /// What it is, in words.
+    pub(crate) description: ByteRun,
+    /// A picture of it.
+    pub(crate) preview: ByteRun,
+}
+
+/// What a header names.
+#[derive(Drop)]
+pub(crate) struct BlockNames {
+    /// The block of the external reference that it is of.
+    pub(crate) xref: Ref,
+    /// Its begin.
+    pub(crate) block: Ref,
+    /// Its entities.
+    pub(crate) ends: Option<Ends>,
+    /// Its end.
+    pub(crate) endblk: Ref,
+    /// The insert of each of its marks.
+    pub(crate) targets: Items<Ref>,
+    /// Its layout.
+    pub(crate) layout: Ref,
+}
+
+/// What single bits of a header tell.
+fn flags_of(header: &BlockHeader) -> BlockFlags
+    ensures { result ≡ flags_of header.now }
+{
+    BlockFlags {
+        anonymous: header.anonymous,
+        has_attributes: header.has_attributes,
+        is_xref: header.is_xref,
+        overlaid: header.overlaid,
+        loaded: header.loaded,
+    }
+}
+
+/// A header from what its main bits tell and from what it names. The only refusal is want of memory.
+fn header_of(
+    alloc: Global,
+    title: Title,
+    flags: BlockFlags,
+    content: BlockContent,
+    names: BlockNames,
+) -> Result<BlockHeader, NoMemory>
+    requires { length names.targets ≡ length content.counts }
+    ensures { IfOk result (λ header. header ≡ header_of (title, (flags, content)) names) }
+{
+    let inserts = join_all::<u8, InsertMark>(
+        alloc,
+        content.counts.as_slice(),
+        names.targets.as_slice(),
+    )?;
+    Ok(BlockHeader {
+        entry: entry_of(title, names.xref),
+        anonymous: flags.anonymous,
+        has_attributes: flags.has_attributes,
+        is_xref: flags.is_xref,
+        overlaid: flags.overlaid,
+        loaded: flags.loaded,
+        base: content.base,
+        path: content.path,
+        inserts,
+        description: content.description,
+        preview: content.preview,
+        block: names.block,
+        ends: names.ends,
+        endblk: names.endblk,
+        layout: names.layout,
+    })
+}
+
+/// Reads a header, as it is parsed. The only refusal is want of memory, which is taken only for what is there.
+#[tactic(auto, unfolding(crate::specs::BlockHeaderBody::block_header_body))]
+fn read_parts(
+    alloc: Global,
+    main: &mut BitCursor<'_>,
+    refs: &mut BitCursor<'_>,
+    base: Handle,
+) -> Result<Option<BlockHeader>, NoMemory>
+    ensures parsed { IfOk result (λ found. (block_header_body base).parse (rest main.old) (rest refs.old) ≡ option_map (λ header. (header, (rest main.new, rest refs.new))) found) }
+    ensures same_bytes { main.new.bytes.now ≡ main.old.bytes.now }
+    ensures same_end { main.new.end ≡ main.old.end }
+    ensures refs_same_bytes { refs.new.bytes.now ≡ refs.old.bytes.now }
+    ensures refs_same_end { refs.new.end ≡ refs.old.end }
+{
+    let Some(title) = read_title(alloc, main)? else {
+        return Ok(None);
+    };
+    let Some(flags) = read_flags(main) else {
+        return Ok(None);
+    };
+    let Some(content) = read_content(alloc, main)? else {
+        return Ok(None);
+    };
+    let Some(names) = read_block_names(alloc, flags, &content, refs, base)? else {
+        return Ok(None);
+    };
+    let header = header_of(alloc, title, flags, content, names)?;
+    Ok(Some(header))
+}
+
+impl BodyCode for BlockHeader {
+    ghost grammar = { block_header_body };
+
+    fn read(
+        alloc: Global,
+        main: &mut BitCursor<'_>,
+        refs: &mut BitCursor<'_>,
+        base: Handle,
+    ) -> Result<Option<BlockHeader>, NoMemory> {
+        // The laws of bodies ask that their base is a handle's number.
+        let _base = base.value();
+        let mut ahead = *main;
+        let mut refs_ahead = *refs;
+        let Some(body) = read_parts(alloc, &mut ahead, &mut refs_ahead, base)? else {
+            return Ok(None);
+        };
+        *main = ahead;
+        *refs = refs_ahead;
+        Ok(Some(body))
+    }
+
+    #[tactic(auto, unfolding(crate::specs::BlockHeaderBody::block_header_body))]
+    fn fits(&self, base: Handle) -> bool {
+        let flags = flags_of(self);
+        known_flags(flags);
+        if !title_fits(&self.entry) {
+            return false;
+        }
+        if !content_fits(self) {
+            return false;
+        }
+        block_names_fit(self, flags, base)
+    }
+
+    #[tactic(auto, unfolding(crate::specs::BlockHeaderBody::block_header_body))]
+    fn lengths(&self, base: Handle) -> Lengths {
+        let flags = flags_of(self);
+        Lengths {
+            main: title_bits(&self.entry) + flags_bits(flags) + content_bits(self),
+            refs: block_names_bits(self, flags, base),
+        }
+    }
+
+    #[tactic(auto, unfolding(crate::specs::BlockHeaderBody::block_header_body))]
+    fn write_main(&self, _base: Handle, sink: &mut BitSink) {
+        write_title(&self.entry, sink);
+        write_flags(flags_of(self), sink);
+        write_content(self, sink);
+    }
+
+    #[tactic(auto, unfolding(crate::specs::BlockHeaderBody::block_header_body))]
+    fn write_refs(&self, base: Handle, sink: &mut BitSink) {
+        write_block_names(self, flags_of(self), base, sink);
+    }
+
+    ghost laws = { λ base small. block_header_is_body base small };
+}

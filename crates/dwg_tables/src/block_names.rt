@@ -1,0 +1,130 @@
+//! What the header of a block names, as bits (Open Design Specification, "BLOCK HEADER").
+
+ghost use Rattle.std.specs.Prelude.{◌≡◌, ◌^◌, ◌<◌, ◌≤◌, ◌↔◌, length, IfOk, IfSome, IsTrue};
+ghost use Rattle.std.specs.Option.{option_map};
+ghost use Rattle.dwg_bits.specs.Cursor.{rest};
+ghost use Rattle.dwg_bits.specs.Sink.{Extends};
+ghost use Rattle.dwg_tables.specs.BlockHeaderBody.{block_refs, content_of, has_ends, names_of};
+
+use crate::block_header::{BlockContent, BlockFlags, BlockHeader, BlockNames};
+use crate::ends::{CodeEnds, ends_fit_when};
+use crate::marks::{targets_bits, targets_fit, write_targets};
+use crate::members::read_names;
+use dwg_base::{Handle, NoMemory};
+use dwg_bits::{BitCursor, BitSink};
+use dwg_codes::{BitCode, length_when, write_when};
+use dwg_common::{parse_code, parse_when};
+use dwg_handles::CodeH;
+use std::alloc::Global;
+
+/// Whether the entities of a block are in this drawing: it is no external reference and no overlaid one.
+fn has_ends(flags: BlockFlags) -> bool
+    ensures { result ≡ has_ends flags }
+{
+    !flags.is_xref && !flags.overlaid
+}
+
+/// Reads what the header of the handle `base` names, as it is parsed: its entities where they are in this drawing, and an
+/// insert for each of its marks. The only refusal is want of memory, which is taken only for references that are there.
+pub(crate) fn read_block_names(
+    alloc: Global,
+    flags: BlockFlags,
+    content: &BlockContent,
+    cursor: &mut BitCursor<'_>,
+    base: Handle,
+) -> Result<Option<BlockNames>, NoMemory>
+    ensures parsed { IfOk result (λ found. (block_refs base flags content.now).grammar.parse (rest cursor.old) ≡ option_map (λ names. (names, rest cursor.new)) found) }
+    ensures as_many { IfOk result (λ found. IfSome found (λ names. length names.targets ≡ length content.now.counts)) }
+    ensures same_bytes { cursor.new.bytes.now ≡ cursor.old.bytes.now }
+    ensures same_end { cursor.new.end ≡ cursor.old.end }
+{
+    // The laws of references ask that their base is a handle's number.
+    let _base = base.value();
+    let Some(xref) = parse_code::<CodeH>(&base, cursor) else {
+        return Ok(None);
+    };
+    let Some(block) = parse_code::<CodeH>(&base, cursor) else {
+        return Ok(None);
+    };
+    let Some(ends) = parse_when::<CodeEnds>(&base, has_ends(flags), cursor) else {
+        return Ok(None);
+    };
+    let Some(endblk) = parse_code::<CodeH>(&base, cursor) else {
+        return Ok(None);
+    };
+    let Some(targets) = read_names(alloc, content.counts.as_slice(), cursor, base)? else {
+        return Ok(None);
+    };
+    let Some(layout) = parse_code::<CodeH>(&base, cursor) else {
+        return Ok(None);
+    };
+    Ok(Some(BlockNames {
+        xref,
+        block,
+        ends,
+        endblk,
+        targets,
+        layout,
+    }))
+}
+
+/// Whether what a header names can be told from it: its entities are there exactly where it is no external reference and no
+/// overlaid one, and each reference reaches its target.
+#[tactic(auto, unfolding(dwg_handles::specs::ReferenceCodes::reference))]
+pub(crate) fn block_names_fit(header: &BlockHeader, flags: BlockFlags, base: Handle) -> bool
+    ensures { IsTrue result ↔ (block_refs base flags (content_of header.now)).grammar.IsValue (names_of header.now) }
+{
+    if !header.entry.xref.fits(base) {
+        return false;
+    }
+    if !header.block.fits(base) {
+        return false;
+    }
+    if !ends_fit_when(has_ends(flags), &header.ends, base) {
+        return false;
+    }
+    if !header.endblk.fits(base) {
+        return false;
+    }
+    if !targets_fit(&header.inserts, base) {
+        return false;
+    }
+    header.layout.fits(base)
+}
+
+/// How many bits what a header names is written by.
+pub(crate) fn block_names_bits(header: &BlockHeader, flags: BlockFlags, base: Handle) -> u64
+    requires value { (block_refs base flags (content_of header.now)).grammar.IsValue (names_of header.now) }
+    requires few { length ((block_refs base flags (content_of header.now)).grammar.short (names_of header.now)) < 2 ^ 62 }
+    ensures { result ≡ length ((block_refs base flags (content_of header.now)).grammar.short (names_of header.now)) }
+{
+    // The laws of references ask that their base is a handle's number.
+    let _base = base.value();
+    CodeH::length(&base, &header.entry.xref)
+        + CodeH::length(&base, &header.block)
+        + length_when::<CodeEnds>(&base, has_ends(flags), &header.ends)
+        + CodeH::length(&base, &header.endblk)
+        + targets_bits(header.inserts.as_slice(), base)
+        + CodeH::length(&base, &header.layout)
+}
+
+/// Writes what a header names.
+pub(crate) fn write_block_names(
+    header: &BlockHeader,
+    flags: BlockFlags,
+    base: Handle,
+    sink: &mut BitSink,
+)
+    requires value { (block_refs base flags (content_of header.now)).grammar.IsValue (names_of header.now) }
+    requires room { length ((block_refs base flags (content_of header.now)).grammar.short (names_of header.now)) ≤ sink.old.spare }
+    ensures { Extends sink.old sink.new ((block_refs base flags (content_of header.now)).grammar.short (names_of header.now)) }
+{
+    // The laws of references ask that their base is a handle's number.
+    let _base = base.value();
+    CodeH::write(&base, &header.entry.xref, sink);
+    CodeH::write(&base, &header.block, sink);
+    write_when::<CodeEnds>(&base, has_ends(flags), &header.ends, sink);
+    CodeH::write(&base, &header.endblk, sink);
+    write_targets(header.inserts.as_slice(), base, sink);
+    CodeH::write(&base, &header.layout, sink);
+}

@@ -1,0 +1,150 @@
+//! What the main bits of a dash tell, as a code (Open Design Specification, "LTYPE").
+
+ghost use Rattle.std.specs.Prelude.{◌≡◌, ⊤, map};
+ghost use Rattle.std.specs.Option.{option_map};
+ghost use Rattle.dwg_bits.specs.Cursor.{rest};
+ghost use Rattle.dwg_codes.specs.ToEnd.{AreValues};
+ghost use Rattle.dwg_tables.specs.LtypeBody.{dash_of, stroke, stroke_of, style_of};
+ghost use Rattle.dwg_tables.specs.TableLaws.{stroke_is_code};
+
+use crate::ltype::{Dash, Stroke};
+use crate::members::{Joined, Part};
+use dwg_bits::{BitCursor, BitSink};
+use dwg_codes::{BitCode, CodeBD, CodeBS, CodeRD};
+use dwg_common::parse_code;
+use dwg_handles::Ref;
+
+impl Part<Stroke> for Dash {
+    ghost part = { stroke_of };
+
+    fn part(&self) -> Stroke {
+        Stroke {
+            length: self.length,
+            code: self.code,
+            x: self.x,
+            y: self.y,
+            scale: self.scale,
+            rotation: self.rotation,
+            flag: self.flag,
+        }
+    }
+}
+
+impl Part<Ref> for Dash {
+    ghost part = { style_of };
+
+    fn part(&self) -> Ref {
+        self.style
+    }
+}
+
+impl Joined<Stroke> for Dash {
+    ghost join = { dash_of };
+
+    fn joined(told: &Stroke, name: Ref) -> Dash {
+        Dash {
+            length: told.length,
+            code: told.code,
+            x: told.x,
+            y: told.y,
+            scale: told.scale,
+            rotation: told.rotation,
+            flag: told.flag,
+            style: name,
+        }
+    }
+}
+
+/// Reads what the main bits of a dash tell, as it is parsed.
+#[tactic(auto, unfolding(crate::specs::LtypeBody::stroke))]
+fn read_stroke(cursor: &mut BitCursor<'_>) -> Option<Stroke>
+    ensures parsed { stroke.parse (rest cursor.old) ≡ option_map (λ told. (told, rest cursor.new)) result }
+    ensures same_bytes { cursor.new.bytes.now ≡ cursor.old.bytes.now }
+    ensures same_end { cursor.new.end ≡ cursor.old.end }
+{
+    let length = parse_code::<CodeBD>(&(), cursor)?;
+    let code = parse_code::<CodeBS>(&(), cursor)?;
+    let x = parse_code::<CodeRD>(&(), cursor)?;
+    let y = parse_code::<CodeRD>(&(), cursor)?;
+    let scale = parse_code::<CodeBD>(&(), cursor)?;
+    let rotation = parse_code::<CodeBD>(&(), cursor)?;
+    let flag = parse_code::<CodeBS>(&(), cursor)?;
+    Some(Stroke {
+        length,
+        code,
+        x,
+        y,
+        scale,
+        rotation,
+        flag,
+    })
+}
+
+/// What the main bits of a dash tell lies in the ranges of its types.
+#[tactic(auto, unfolding(crate::specs::LtypeBody::stroke))]
+fn known_stroke(dash: &Dash)
+    ensures { stroke.IsValue (stroke_of dash.now) }
+{
+    let _length = dash.length;
+    let _code = dash.code;
+    let _x = dash.x;
+    let _y = dash.y;
+    let _scale = dash.scale;
+    let _rotation = dash.rotation;
+    let _flag = dash.flag;
+}
+
+/// So it is with those of many dashes.
+#[tactic(auto, using(crate::proofs::MemberLoops::none_tried, crate::proofs::MemberLoops::all_tried))]
+pub(crate) fn known_strokes(dashes: &[Dash])
+    ensures { AreValues stroke (map stroke_of dashes.now) }
+{
+    'along: for dash in dashes {
+        known_stroke(dash);
+    }
+}
+
+/// What the main bits of a dash tell: BD length, BS code, RD x, RD y, BD scale, BD rotation and BS flag.
+pub(crate) struct CodeStroke;
+
+impl BitCode for CodeStroke {
+    type Context = ();
+
+    type Value = Stroke;
+
+    ghost grammar = { λ context. stroke };
+
+    ghost IsContext = { λ context. ⊤ };
+
+    #[tactic(auto, using(crate::proofs::PartReading::stroke_read, crate::proofs::PartReading::stroke_unread, crate::proofs::PartReading::stroke_value))]
+    fn read(_context: &(), cursor: &mut BitCursor<'_>) -> Option<Stroke> {
+        let mut ahead = *cursor;
+        let told = read_stroke(&mut ahead)?;
+        *cursor = ahead;
+        Some(told)
+    }
+
+    #[tactic(auto, unfolding(crate::specs::LtypeBody::stroke), using(crate::proofs::WordLaws::length_of_bd, crate::proofs::WordLaws::length_of_bs, dwg_codes::specs::NumberLaws::length_of_rd))]
+    fn length(_context: &(), value: &Stroke) -> u64 {
+        CodeBD::length(&(), &value.length)
+            + CodeBS::length(&(), &value.code)
+            + CodeRD::length(&(), &value.x)
+            + CodeRD::length(&(), &value.y)
+            + CodeBD::length(&(), &value.scale)
+            + CodeBD::length(&(), &value.rotation)
+            + CodeBS::length(&(), &value.flag)
+    }
+
+    #[tactic(auto, unfolding(crate::specs::LtypeBody::stroke))]
+    fn write(_context: &(), value: &Stroke, sink: &mut BitSink) {
+        CodeBD::write(&(), &value.length, sink);
+        CodeBS::write(&(), &value.code, sink);
+        CodeRD::write(&(), &value.x, sink);
+        CodeRD::write(&(), &value.y, sink);
+        CodeBD::write(&(), &value.scale, sink);
+        CodeBD::write(&(), &value.rotation, sink);
+        CodeBS::write(&(), &value.flag, sink);
+    }
+
+    ghost laws = { λ context is. stroke_is_code };
+}

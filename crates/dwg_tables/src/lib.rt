@@ -1,0 +1,30 @@
+//! Entries of tables: layers, text styles, linetypes, applications and the headers of blocks, each with what it has beside
+//! the common part of objects (Open Design Specification, "LAYER", "SHAPEFILE", "LTYPE", "APPID" and "BLOCK HEADER").
+#![tactic(auto)]
+
+mod app_id;
+mod block_content;
+mod block_flags;
+mod block_header;
+mod block_names;
+mod dash;
+mod ends;
+mod entry;
+mod form;
+mod laws;
+mod layer;
+mod ltype;
+mod marks;
+mod members;
+mod pattern;
+mod preview;
+mod style;
+mod title;
+
+pub use app_id::AppId;
+pub use block_header::{BlockHeader, Ends, InsertMark};
+pub use entry::Entry;
+pub use laws::table_laws;
+pub use layer::Layer;
+pub use ltype::{Dash, Ltype};
+pub use style::Style;

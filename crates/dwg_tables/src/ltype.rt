@@ -1,0 +1,245 @@
+//! Linetypes.
+
+ghost use Rattle.std.specs.Prelude.{◌≡◌, ◌^◌, ◌<◌, ◌≤◌, ◌↔◌, length, map, IfOk, IfSome, IsTrue};
+ghost use Rattle.std.specs.Option.{option_map};
+ghost use Rattle.dwg_bits.specs.Cursor.{rest};
+ghost use Rattle.dwg_bits.specs.Sink.{Extends};
+ghost use Rattle.dwg_codes.specs.Combinators.{items};
+ghost use Rattle.dwg_handles.specs.ReferenceCodes.{reference};
+ghost use Rattle.dwg_tables.specs.LtypeBody.{ltype_body, ltype_of, ltype_refs, stroke_of, style_of};
+ghost use Rattle.dwg_tables.specs.TableLaws.{ltype_is_body};
+
+use crate::entry::{Entry, Title, entry_of};
+use crate::members::{join_all, names_fit, parts_bits, read_names, write_parts};
+use crate::pattern::{pattern_bits, pattern_fits, read_pattern, write_pattern};
+use dwg_base::{ByteRun, Handle, Items, NoMemory};
+use dwg_bits::{BitCursor, BitSink};
+use dwg_common::{BodyCode, Lengths, parse_ref};
+use dwg_handles::{CodeH, Ref, ref_bits, write_ref};
+use std::alloc::Global;
+
+/// A dash of a linetype, a gap or a sign in it (Open Design Specification, "LTYPE").
+#[derive(Clone, Copy, Debug, PartialEq, Eq)]
+pub struct Dash {
+    /// How long it is, the word of a floating-point number: a gap where this is below 0.0, a point where it is 0.0.
+    pub length: u64,
+    /// Which sign of the file of shapes it is, where it is one.
+    pub code: u16,
+    /// How far its sign stands from it along the line, the word of a floating-point number.
+    pub x: u64,
+    /// How far across the line.
+    pub y: u64,
+    /// By how much its sign is scaled, the word of a floating-point number.
+    pub scale: u64,
+    /// How its sign is turned, the word of an angle.
+    pub rotation: u64,
+    /// What is told of its sign by single bits.
+    pub flag: u16,
+    /// The text style of its sign.
+    pub style: Ref,
+}
+
+/// A linetype (Open Design Specification, "LTYPE").
+#[derive(Drop)]
+pub struct Ltype {
+    /// Its name, and where it is from.
+    pub entry: Entry,
+    /// What it looks like, in words, at most 65,535 bytes.
+    pub description: ByteRun,
+    /// How long its pattern is, the word of a floating-point number.
+    pub length: u64,
+    /// How it is aligned; always the letter A.
+    pub alignment: u8,
+    /// The dashes of its pattern, at most 255.
+    pub dashes: Items<Dash>,
+    /// The texts of its dashes: 256 bytes.
+    pub texts: ByteRun,
+}
+
+/// What the main bits of a dash tell.
+#[derive(Clone, Copy)]
+pub(crate) struct Stroke {
+    /// How long it is.
+    pub(crate) length: u64,
+    /// Which sign it is.
+    pub(crate) code: u16,
+    /// How far its sign stands from it along the line.
+    pub(crate) x: u64,
+    /// How far across the line.
+    pub(crate) y: u64,
+    /// By how much its sign is scaled.
+    pub(crate) scale: u64,
+    /// How its sign is turned.
+    pub(crate) rotation: u64,
+    /// What is told of its sign by single bits.
+    pub(crate) flag: u16,
+}
+
+/// What the main bits of a linetype tell.
+#[derive(Drop)]
+pub(crate) struct Pattern {
+    /// What those of its entry tell.
+    pub(crate) title: Title,
+    /// What it looks like, in words.
+    pub(crate) description: ByteRun,
+    /// How long its pattern is.
+    pub(crate) length: u64,
+    /// How it is aligned.
+    pub(crate) alignment: u8,
+    /// What those of its dashes tell.
+    pub(crate) strokes: Items<Stroke>,
+    /// The texts of its dashes.
+    pub(crate) texts: ByteRun,
+}
+
+/// Reads what a linetype names, as it is parsed: a style for each dash. The only refusal is want of memory, which is taken
+/// only for references that are there.
+fn read_named(
+    alloc: Global,
+    told: &Pattern,
+    refs: &mut BitCursor<'_>,
+    base: Handle,
+) -> Result<Option<(Ref, Items<Ref>)>, NoMemory>
+    ensures parsed { IfOk result (λ found. (ltype_refs base told.now).grammar.parse (rest refs.old) ≡ option_map (λ named. (named, rest refs.new)) found) }
+    ensures as_many { IfOk result (λ found. IfSome found (λ named. length named.1 ≡ length told.now.strokes)) }
+    ensures same_bytes { refs.new.bytes.now ≡ refs.old.bytes.now }
+    ensures same_end { refs.new.end ≡ refs.old.end }
+{
+    let Some(xref) = parse_ref(refs, base) else {
+        return Ok(None);
+    };
+    let Some(styles) = read_names(alloc, told.strokes.as_slice(), refs, base)? else {
+        return Ok(None);
+    };
+    Ok(Some((xref, styles)))
+}
+
+/// A linetype from what its main bits tell and from what it names. The only refusal is want of memory.
+fn ltype_of(alloc: Global, told: Pattern, named: (Ref, Items<Ref>)) -> Result<Ltype, NoMemory>
+    requires { length named.1 ≡ length told.strokes }
+    ensures { IfOk result (λ ltype. ltype ≡ ltype_of told named) }
+{
+    let dashes = join_all::<Stroke, Dash>(alloc, told.strokes.as_slice(), named.1.as_slice())?;
+    Ok(Ltype {
+        entry: entry_of(told.title, named.0),
+        description: told.description,
+        length: told.length,
+        alignment: told.alignment,
+        dashes,
+        texts: told.texts,
+    })
+}
+
+/// Reads a linetype, as it is parsed. The only refusal is want of memory, which is taken only for what is there.
+#[tactic(auto, unfolding(crate::specs::LtypeBody::ltype_body))]
+fn read_parts(
+    alloc: Global,
+    main: &mut BitCursor<'_>,
+    refs: &mut BitCursor<'_>,
+    base: Handle,
+) -> Result<Option<Ltype>, NoMemory>
+    ensures parsed { IfOk result (λ found. (ltype_body base).parse (rest main.old) (rest refs.old) ≡ option_map (λ ltype. (ltype, (rest main.new, rest refs.new))) found) }
+    ensures same_bytes { main.new.bytes.now ≡ main.old.bytes.now }
+    ensures same_end { main.new.end ≡ main.old.end }
+    ensures refs_same_bytes { refs.new.bytes.now ≡ refs.old.bytes.now }
+    ensures refs_same_end { refs.new.end ≡ refs.old.end }
+{
+    let Some(told) = read_pattern(alloc, main)? else {
+        return Ok(None);
+    };
+    let Some(named) = read_named(alloc, &told, refs, base)? else {
+        return Ok(None);
+    };
+    let ltype = ltype_of(alloc, told, named)?;
+    Ok(Some(ltype))
+}
+
+/// Whether the style of each dash can be told from the linetype of the handle `base`.
+#[tactic(auto, unfolding(dwg_codes::specs::Combinators::chain), using(crate::specs::MemberLaws::as_many))]
+fn styles_fit(dashes: &[Dash], base: Handle) -> bool
+    ensures { IsTrue result ↔ (items (reference base) (length (map stroke_of dashes.now))).IsValue (map style_of dashes.now) }
+{
+    names_fit(dashes, base)
+}
+
+/// How many bits the styles of dashes are written by.
+#[tactic(auto, unfolding(dwg_codes::specs::Combinators::chain))]
+fn styles_bits(dashes: &[Dash], base: Handle) -> u64
+    requires value { (items (reference base) (length (map stroke_of dashes.now))).IsValue (map style_of dashes.now) }
+    requires few { length ((items (reference base) (length (map stroke_of dashes.now))).short (map style_of dashes.now)) < 2 ^ 62 }
+    ensures { result ≡ length ((items (reference base) (length (map stroke_of dashes.now))).short (map style_of dashes.now)) }
+{
+    // The laws of references ask that their base is a handle's number.
+    let _base = base.value();
+    parts_bits::<CodeH, Dash>(&base, dashes)
+}
+
+/// Writes the styles of dashes.
+#[tactic(auto, unfolding(dwg_codes::specs::Combinators::chain))]
+fn write_styles(dashes: &[Dash], base: Handle, sink: &mut BitSink)
+    requires value { (items (reference base) (length (map stroke_of dashes.now))).IsValue (map style_of dashes.now) }
+    requires room { length ((items (reference base) (length (map stroke_of dashes.now))).short (map style_of dashes.now)) ≤ sink.old.spare }
+    ensures { Extends sink.old sink.new ((items (reference base) (length (map stroke_of dashes.now))).short (map style_of dashes.now)) }
+{
+    // The laws of references ask that their base is a handle's number.
+    let _base = base.value();
+    write_parts::<CodeH, Dash>(&base, dashes, sink);
+}
+
+impl BodyCode for Ltype {
+    ghost grammar = { ltype_body };
+
+    fn read(
+        alloc: Global,
+        main: &mut BitCursor<'_>,
+        refs: &mut BitCursor<'_>,
+        base: Handle,
+    ) -> Result<Option<Ltype>, NoMemory> {
+        // The laws of bodies ask that their base is a handle's number.
+        let _base = base.value();
+        let mut ahead = *main;
+        let mut refs_ahead = *refs;
+        let Some(body) = read_parts(alloc, &mut ahead, &mut refs_ahead, base)? else {
+            return Ok(None);
+        };
+        *main = ahead;
+        *refs = refs_ahead;
+        Ok(Some(body))
+    }
+
+    #[tactic(auto, unfolding(crate::specs::LtypeBody::ltype_body, dwg_handles::specs::ReferenceCodes::reference))]
+    fn fits(&self, base: Handle) -> bool {
+        if !pattern_fits(self) {
+            return false;
+        }
+        if !self.entry.xref.fits(base) {
+            return false;
+        }
+        styles_fit(self.dashes.as_slice(), base)
+    }
+
+    #[tactic(auto, unfolding(crate::specs::LtypeBody::ltype_body, dwg_handles::specs::ReferenceCodes::reference))]
+    fn lengths(&self, base: Handle) -> Lengths {
+        // The laws of references ask that their base is a handle's number.
+        let _base = base.value();
+        Lengths {
+            main: pattern_bits(self),
+            refs: ref_bits(self.entry.xref, base) + styles_bits(self.dashes.as_slice(), base),
+        }
+    }
+
+    #[tactic(auto, unfolding(crate::specs::LtypeBody::ltype_body))]
+    fn write_main(&self, _base: Handle, sink: &mut BitSink) {
+        write_pattern(self, sink);
+    }
+
+    #[tactic(auto, unfolding(crate::specs::LtypeBody::ltype_body, dwg_handles::specs::ReferenceCodes::reference))]
+    fn write_refs(&self, base: Handle, sink: &mut BitSink) {
+        // The laws of references ask that their base is a handle's number.
+        let _base = base.value();
+        write_ref(self.entry.xref, base, sink);
+        write_styles(self.dashes.as_slice(), base, sink);
+    }
+
+    ghost laws = { λ base small. ltype_is_body base small };
+}

@@ -1,0 +1,149 @@
+//! The marks of the inserts of a block, as bits (Open Design Specification, "BLOCK HEADER").
+
+ghost use Rattle.std.specs.Prelude.{◌≡◌, ◌^◌, ◌<◌, ◌≤◌, ◌↔◌, length, map, IfOk, IsTrue};
+ghost use Rattle.std.specs.Option.{option_map};
+ghost use Rattle.dwg_bits.specs.Cursor.{rest};
+ghost use Rattle.dwg_bits.specs.Sink.{Extends};
+ghost use Rattle.dwg_codes.specs.Combinators.{items};
+ghost use Rattle.dwg_handles.specs.ReferenceCodes.{reference};
+ghost use Rattle.dwg_tables.specs.BlockHeaderBody.{count_of, mark_of, target_of};
+ghost use Rattle.dwg_tables.specs.InsertMarks.{IsMarkCount, mark_counts};
+
+use crate::block_header::InsertMark;
+use crate::members::{Joined, Part, names_fit, parts_bits, write_parts};
+use dwg_base::{Handle, Items, NoMemory};
+use dwg_bits::{BitCursor, BitSink};
+use dwg_codes::{BitCode, CodeRC};
+use dwg_common::parse_code;
+use dwg_handles::{CodeH, Ref};
+use std::alloc::Global;
+
+/// The count that no mark has, which ends the list.
+const MARK: u8 = 0;
+
+impl Part<u8> for InsertMark {
+    ghost part = { count_of };
+
+    fn part(&self) -> u8 {
+        self.count
+    }
+}
+
+impl Part<Ref> for InsertMark {
+    ghost part = { target_of };
+
+    fn part(&self) -> Ref {
+        self.target
+    }
+}
+
+impl Joined<u8> for InsertMark {
+    ghost join = { mark_of };
+
+    fn joined(told: &u8, name: Ref) -> InsertMark {
+        InsertMark {
+            count: *told,
+            target: name,
+        }
+    }
+}
+
+/// Reads counts up to their mark, as they are parsed. The only refusal is want of memory, which is taken only for counts that
+/// are there.
+#[tactic(auto, using(crate::proofs::MarkReading::none_begun))]
+pub(crate) fn read_counts(
+    alloc: Global,
+    cursor: &mut BitCursor<'_>,
+) -> Result<Option<Items<u8>>, NoMemory>
+    ensures parsed { IfOk result (λ found. mark_counts.parse (rest cursor.old) ≡ option_map (λ counts. (counts, rest cursor.new)) found) }
+    ensures same_bytes { cursor.new.bytes.now ≡ cursor.old.bytes.now }
+    ensures same_end { cursor.new.end ≡ cursor.old.end }
+{
+    let mut counts = Items::new(alloc);
+    'along: loop {
+        let Some(count) = parse_code::<CodeRC>(&(), cursor) else {
+            return Ok(None);
+        };
+        if count == MARK {
+            return Ok(Some(counts));
+        }
+        match counts.push(count) {
+            Ok(()) => {}
+            Err(_) => return Err(NoMemory),
+        }
+    }
+}
+
+/// Whether a count is one that a mark may have.
+fn count_fits(mark: &InsertMark) -> bool
+    ensures { IsTrue result ↔ IsMarkCount (count_of mark.now) }
+{
+    let count = mark.count;
+    0 < count
+}
+
+/// Whether the counts of marks can be told: none is 0.
+#[tactic(auto, using(crate::proofs::MarkParts::none_tried, crate::proofs::MarkParts::one_fails, crate::proofs::MarkParts::all_tried))]
+pub(crate) fn counts_fit(marks: &[InsertMark]) -> bool
+    ensures { IsTrue result ↔ mark_counts.IsValue (map count_of marks.now) }
+{
+    'along: for mark in marks {
+        if !count_fits(mark) {
+            return false;
+        }
+    }
+    true
+}
+
+/// How many bits the counts of marks are written by.
+#[tactic(auto, using(crate::proofs::MarkParts::counts_told, crate::proofs::MarkParts::counts_length))]
+pub(crate) fn counts_bits(marks: &[InsertMark]) -> u64
+    requires value { mark_counts.IsValue (map count_of marks.now) }
+    requires few { length (mark_counts.short (map count_of marks.now)) < 2 ^ 62 }
+    ensures { result ≡ length (mark_counts.short (map count_of marks.now)) }
+{
+    parts_bits::<CodeRC, InsertMark>(&(), marks) + CodeRC::length(&(), &MARK)
+}
+
+/// Writes the counts of marks, and the mark behind them.
+#[tactic(auto, using(crate::proofs::MarkParts::counts_told, crate::proofs::MarkParts::counts_length))]
+pub(crate) fn write_counts(marks: &[InsertMark], sink: &mut BitSink)
+    requires value { mark_counts.IsValue (map count_of marks.now) }
+    requires room { length (mark_counts.short (map count_of marks.now)) ≤ sink.old.spare }
+    ensures { Extends sink.old sink.new (mark_counts.short (map count_of marks.now)) }
+{
+    write_parts::<CodeRC, InsertMark>(&(), marks, sink);
+    CodeRC::write(&(), &MARK, sink);
+}
+
+/// Whether the insert of each mark can be told from the header of the handle `base`.
+#[tactic(auto, unfolding(dwg_codes::specs::Combinators::chain), using(crate::specs::MemberLaws::as_many))]
+pub(crate) fn targets_fit(marks: &Items<InsertMark>, base: Handle) -> bool
+    ensures { IsTrue result ↔ (items (reference base) (length (map count_of marks.now))).IsValue (map target_of marks.now) }
+{
+    names_fit(marks.as_slice(), base)
+}
+
+/// How many bits the inserts of marks are written by.
+#[tactic(auto, unfolding(dwg_codes::specs::Combinators::chain))]
+pub(crate) fn targets_bits(marks: &[InsertMark], base: Handle) -> u64
+    requires value { (items (reference base) (length (map count_of marks.now))).IsValue (map target_of marks.now) }
+    requires few { length ((items (reference base) (length (map count_of marks.now))).short (map target_of marks.now)) < 2 ^ 62 }
+    ensures { result ≡ length ((items (reference base) (length (map count_of marks.now))).short (map target_of marks.now)) }
+{
+    // The laws of references ask that their base is a handle's number.
+    let _base = base.value();
+    parts_bits::<CodeH, InsertMark>(&base, marks)
+}
+
+/// Writes the inserts of marks.
+#[tactic(auto, unfolding(dwg_codes::specs::Combinators::chain))]
+pub(crate) fn write_targets(marks: &[InsertMark], base: Handle, sink: &mut BitSink)
+    requires value { (items (reference base) (length (map count_of marks.now))).IsValue (map target_of marks.now) }
+    requires room { length ((items (reference base) (length (map count_of marks.now))).short (map target_of marks.now)) ≤ sink.old.spare }
+    ensures { Extends sink.old sink.new ((items (reference base) (length (map count_of marks.now))).short (map target_of marks.now)) }
+{
+    // The laws of references ask that their base is a handle's number.
+    let _base = base.value();
+    write_parts::<CodeH, InsertMark>(&base, marks, sink);
+}

@@ -1,0 +1,135 @@
+//! Members of lists, of which the main bits tell one part each and the references name another. A rule of this project.
+
+ghost use Rattle.std.specs.Prelude.{◌≡◌, ◌^◌, ◌<◌, ◌≤◌, ◌↔◌, length, map, IfOk, IfSome, IsTrue};
+ghost use Rattle.std.specs.Option.{option_map};
+ghost use Rattle.dwg_bits.specs.Cursor.{rest};
+ghost use Rattle.dwg_bits.specs.Sink.{Extends};
+ghost use Rattle.dwg_codes.specs.Combinators.{items};
+ghost use Rattle.dwg_codes.specs.ToEnd.{AreValues, short_all};
+ghost use Rattle.dwg_handles.specs.Reference.{Reference};
+ghost use Rattle.dwg_handles.specs.ReferenceCodes.{reference};
+ghost use Rattle.dwg_tables.specs.Members.{joined};
+
+use dwg_base::{Handle, Items, NoMemory};
+use dwg_bits::{BitCursor, BitSink};
+use dwg_codes::BitCode;
+use dwg_common::parse_ref;
+use dwg_handles::Ref;
+use std::alloc::Global;
+
+/// What has a part of a type.
+pub(crate) trait Part<P> {
+    // Its part.
+    ghost part: { Self → P };
+
+    /// Its part.
+    fn part(&self) -> P
+        ensures { result ≡ part self.now };
+}
+
+/// What is made of a part of a type and of a reference.
+pub(crate) trait Joined<P>: Sized {
+    // What is made of both.
+    ghost join: { P → Reference → Self };
+
+    /// What is made of both.
+    fn joined(told: &P, name: Ref) -> Self
+        ensures { result ≡ join told.now name };
+}
+
+/// Reads a reference of the object of the handle `base` for each of the members that are told of, as they are parsed. The only
+/// refusal is want of memory, which is taken only for references that are there.
+#[tactic(auto, using(crate::proofs::NameReading::none_begun))]
+pub(crate) fn read_names<P>(
+    alloc: Global,
+    told: &[P],
+    cursor: &mut BitCursor<'_>,
+    base: Handle,
+) -> Result<Option<Items<Ref>>, NoMemory>
+    ensures parsed { IfOk result (λ found. (items (reference base) (length told.now)).parse (rest cursor.old) ≡ option_map (λ names. (names, rest cursor.new)) found) }
+    ensures as_many { IfOk result (λ found. IfSome found (λ names. length names ≡ length told.now)) }
+    ensures same_bytes { cursor.new.bytes.now ≡ cursor.old.bytes.now }
+    ensures same_end { cursor.new.end ≡ cursor.old.end }
+{
+    let mut names = Items::new(alloc);
+    'along: for _ in 0..told.len() {
+        let Some(name) = parse_ref(cursor, base) else {
+            return Ok(None);
+        };
+        match names.push(name) {
+            Ok(()) => {}
+            Err(_) => return Err(NoMemory),
+        }
+    }
+    Ok(Some(names))
+}
+
+/// Makes members of what is told of each and of what is named of each. The only refusal is want of memory.
+pub(crate) fn join_all<P, V: Joined<P> + Drop>(
+    alloc: Global,
+    told: &[P],
+    names: &[Ref],
+) -> Result<Items<V>, NoMemory>
+    requires { length names.now ≡ length told.now }
+    ensures { IfOk result (λ members. members ≡ joined V.join told.now names.now) }
+{
+    let mut members = Items::new(alloc);
+    'along: for (place, part) in told.iter().enumerate() {
+        match members.push(V::joined(part, names[place])) {
+            Ok(()) => {}
+            Err(_) => return Err(NoMemory),
+        }
+    }
+    Ok(members)
+}
+
+/// Whether what is named of each member can be told from the object of the handle `base`.
+#[tactic(auto, using(crate::proofs::MemberLoops::none_tried, crate::proofs::MemberLoops::one_fails, crate::proofs::MemberLoops::all_tried), unfolding(dwg_handles::specs::ReferenceCodes::reference))]
+pub(crate) fn names_fit<V: Part<Ref>>(members: &[V], base: Handle) -> bool
+    ensures { IsTrue result ↔ AreValues (reference base) (map V.part members.now) }
+{
+    'along: for member in members {
+        if !member.part().fits(base) {
+            return false;
+        }
+    }
+    true
+}
+
+/// How many bits are written of a part of each member, fewer than 2^62.
+#[tactic(auto, using(crate::proofs::MemberLoops::none_counted, crate::proofs::MemberLoops::all_counted))]
+pub(crate) fn parts_bits<C: BitCode, V: Part<C::Value>>(context: &C::Context, members: &[V]) -> u64
+where
+    C::Value: Drop,
+    requires context { C.IsContext context.now }
+    requires values { AreValues (C.grammar context.now) (map V.part members.now) }
+    requires few { length (short_all (C.grammar context.now) (map V.part members.now)) < 2 ^ 62 }
+    ensures { result ≡ length (short_all (C.grammar context.now) (map V.part members.now)) }
+{
+    let mut bits = 0;
+    'along: for member in members {
+        let part = member.part();
+        bits += C::length(context, &part);
+    }
+    bits
+}
+
+/// Writes a part of each member.
+#[tactic(auto, using(crate::proofs::MemberLoops::none_written, crate::proofs::MemberLoops::all_written))]
+pub(crate) fn write_parts<C: BitCode, V: Part<C::Value>>(
+    context: &C::Context,
+    members: &[V],
+    sink: &mut BitSink,
+)
+where
+    C::Value: Drop,
+    requires context { C.IsContext context.now }
+    requires values { AreValues (C.grammar context.now) (map V.part members.now) }
+    requires room { length (short_all (C.grammar context.now) (map V.part members.now)) ≤ sink.old.spare }
+    ensures { Extends sink.old sink.new (short_all (C.grammar context.now) (map V.part members.now)) }
+{
+    'along: for member in members {
+        let part = member.part();
+        C::write(context, &part, sink);
+    }
+}

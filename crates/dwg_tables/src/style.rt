@@ -1,0 +1,188 @@
+//! Text styles.
+
+ghost use Rattle.std.specs.Prelude.{◌≡◌, IfOk};
+ghost use Rattle.std.specs.Option.{option_map};
+ghost use Rattle.dwg_bits.specs.Cursor.{rest};
+ghost use Rattle.dwg_tables.specs.StyleBody.{form_of, style_body, style_of};
+ghost use Rattle.dwg_tables.specs.TableLaws.{style_is_body};
+
+use crate::entry::{Entry, Title, entry_of};
+use crate::form::{form_bits, known_form, read_form, write_form};
+use crate::title::{read_title, title_bits, title_fits, write_title};
+use dwg_base::{ByteRun, Handle, NoMemory};
+use dwg_bits::{BitCursor, BitSink};
+use dwg_common::{BodyCode, Lengths, parse_ref, parse_tv, tv_bits, tv_fits, write_tv};
+use dwg_handles::{Ref, ref_bits, write_ref};
+use std::alloc::Global;
+
+/// A text style (Open Design Specification, "SHAPEFILE").
+#[derive(Drop)]
+pub struct Style {
+    /// Its name, and where it is from.
+    pub entry: Entry,
+    /// The first of two bits that are kept without meaning.
+    pub flag_a: bool,
+    /// The second of them.
+    pub flag_b: bool,
+    /// How high its letters are, the word of a floating-point number; of 0.0 where each text says so.
+    pub height: u64,
+    /// How wide its letters are for their height, the word of a floating-point number.
+    pub width: u64,
+    /// How oblique its letters are, the word of an angle.
+    pub oblique: u64,
+    /// How its letters are mirrored.
+    pub generation: u8,
+    /// How high the last text was, the word of a floating-point number.
+    pub last_height: u64,
+    /// The name of the file of its letters, at most 65,535 bytes.
+    pub font: ByteRun,
+    /// The name of the file of its big letters, at most 65,535 bytes.
+    pub big_font: ByteRun,
+}
+
+/// The form of the letters of a text style.
+#[derive(Clone, Copy)]
+pub(crate) struct Form {
+    /// The first flag.
+    pub(crate) flag_a: bool,
+    /// The second.
+    pub(crate) flag_b: bool,
+    /// How high they are.
+    pub(crate) height: u64,
+    /// How wide they are for their height.
+    pub(crate) width: u64,
+    /// How oblique they are.
+    pub(crate) oblique: u64,
+    /// How they are mirrored.
+    pub(crate) generation: u8,
+    /// How high the last text was.
+    pub(crate) last_height: u64,
+}
+
+/// The form of the letters of a text style.
+fn form_of(style: &Style) -> Form
+    ensures { result ≡ form_of style.now }
+{
+    Form {
+        flag_a: style.flag_a,
+        flag_b: style.flag_b,
+        height: style.height,
+        width: style.width,
+        oblique: style.oblique,
+        generation: style.generation,
+        last_height: style.last_height,
+    }
+}
+
+/// A text style from what its main bits tell and from its reference.
+fn style_of(title: Title, form: Form, fonts: (ByteRun, ByteRun), xref: Ref) -> Style
+    ensures { result ≡ style_of (title, (form, (fonts.0, fonts.1))) xref }
+{
+    Style {
+        entry: entry_of(title, xref),
+        flag_a: form.flag_a,
+        flag_b: form.flag_b,
+        height: form.height,
+        width: form.width,
+        oblique: form.oblique,
+        generation: form.generation,
+        last_height: form.last_height,
+        font: fonts.0,
+        big_font: fonts.1,
+    }
+}
+
+/// Reads a text style, as it is parsed. The only refusal is want of memory, which is taken only for bytes that are there.
+#[tactic(auto, unfolding(crate::specs::StyleBody::style_body))]
+fn read_parts(
+    alloc: Global,
+    main: &mut BitCursor<'_>,
+    refs: &mut BitCursor<'_>,
+    base: Handle,
+) -> Result<Option<Style>, NoMemory>
+    ensures parsed { IfOk result (λ found. (style_body base).parse (rest main.old) (rest refs.old) ≡ option_map (λ style. (style, (rest main.new, rest refs.new))) found) }
+    ensures same_bytes { main.new.bytes.now ≡ main.old.bytes.now }
+    ensures same_end { main.new.end ≡ main.old.end }
+    ensures refs_same_bytes { refs.new.bytes.now ≡ refs.old.bytes.now }
+    ensures refs_same_end { refs.new.end ≡ refs.old.end }
+{
+    let Some(title) = read_title(alloc, main)? else {
+        return Ok(None);
+    };
+    let Some(form) = read_form(main) else {
+        return Ok(None);
+    };
+    let Some(font) = parse_tv(alloc, main)? else {
+        return Ok(None);
+    };
+    let Some(big_font) = parse_tv(alloc, main)? else {
+        return Ok(None);
+    };
+    let Some(xref) = parse_ref(refs, base) else {
+        return Ok(None);
+    };
+    Ok(Some(style_of(title, form, (font, big_font), xref)))
+}
+
+impl BodyCode for Style {
+    ghost grammar = { style_body };
+
+    fn read(
+        alloc: Global,
+        main: &mut BitCursor<'_>,
+        refs: &mut BitCursor<'_>,
+        base: Handle,
+    ) -> Result<Option<Style>, NoMemory> {
+        // The laws of bodies ask that their base is a handle's number.
+        let _base = base.value();
+        let mut ahead = *main;
+        let mut refs_ahead = *refs;
+        let Some(body) = read_parts(alloc, &mut ahead, &mut refs_ahead, base)? else {
+            return Ok(None);
+        };
+        *main = ahead;
+        *refs = refs_ahead;
+        Ok(Some(body))
+    }
+
+    #[tactic(auto, unfolding(crate::specs::StyleBody::style_body, dwg_handles::specs::ReferenceCodes::reference))]
+    fn fits(&self, base: Handle) -> bool {
+        known_form(form_of(self));
+        if !title_fits(&self.entry) {
+            return false;
+        }
+        if !tv_fits(self.font.as_slice()) {
+            return false;
+        }
+        if !tv_fits(self.big_font.as_slice()) {
+            return false;
+        }
+        self.entry.xref.fits(base)
+    }
+
+    #[tactic(auto, unfolding(crate::specs::StyleBody::style_body, dwg_handles::specs::ReferenceCodes::reference))]
+    fn lengths(&self, base: Handle) -> Lengths {
+        Lengths {
+            main: title_bits(&self.entry)
+                + form_bits(form_of(self))
+                + tv_bits(self.font.as_slice())
+                + tv_bits(self.big_font.as_slice()),
+            refs: ref_bits(self.entry.xref, base),
+        }
+    }
+
+    #[tactic(auto, unfolding(crate::specs::StyleBody::style_body))]
+    fn write_main(&self, _base: Handle, sink: &mut BitSink) {
+        write_title(&self.entry, sink);
+        write_form(form_of(self), sink);
+        write_tv(self.font.as_slice(), sink);
+        write_tv(self.big_font.as_slice(), sink);
+    }
+
+    #[tactic(auto, unfolding(crate::specs::StyleBody::style_body, dwg_handles::specs::ReferenceCodes::reference))]
+    fn write_refs(&self, base: Handle, sink: &mut BitSink) {
+        write_ref(self.entry.xref, base, sink);
+    }
+
+    ghost laws = { λ base small. style_is_body base small };
+}
