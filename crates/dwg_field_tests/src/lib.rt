@@ -2,7 +2,11 @@
 #![tactic(auto)]
 
 #[cfg(test)]
+mod dicts;
+#[cfg(test)]
 mod entities;
 mod reading;
 #[cfg(test)]
 mod shapes;
+#[cfg(test)]
+mod tables;
