@@ -139,7 +139,7 @@ const LTYPE_REFS: [u8; 4] = [0x50, 0x50, 0x51, 0x11];
 /// The same, each by a byte too many.
 const LTYPE_REFS_OTHERWISE: [u8; 7] = [0x51, 0x00, 0x51, 0x00, 0x52, 0x00, 0x11];
 
-/// The header of the block "*D1" at (0, 0, 0) with entities, and without marks.
+/// The header of a block of an anonymous name at (0, 0, 0) with entities, and without marks.
 const BLOCK: [u8; 8] = [0x40, 0xCA, 0x91, 0x0C, 0x72, 0x15, 0x40, 0x14];
 
 /// What it names: xref, block, first, last, endblk and layout.
