@@ -21,7 +21,7 @@ pub struct XRecord {
     pub bytes: ByteRun,
     /// What becomes of it where one of its name is there already when dictionaries are merged.
     pub cloning: u16,
-    /// The objects that it names: as many as the object has references left.
+    /// The objects that it names: references to the end of the object, while at least eight bits are left.
     pub targets: Items<Ref>,
 }
 

@@ -1,4 +1,4 @@
--- A linetype (Open Design Specification, "LTYPE"). That its texts have 256 bytes is a rule of this project.
+-- A linetype (Open Design Specification, "LTYPE").
 use Rattle.std.specs.Prelude.{ℕ, Bool, List, length, map}
 use Rattle.dwg_codes.specs.Codes.{rc, rd, bs, bd, tv}
 use Rattle.dwg_codes.specs.Combinators.{seq, items, counted}

@@ -22,7 +22,7 @@ use std::alloc::Global;
 /// The mark of an insert of a block (Open Design Specification, "BLOCK HEADER").
 #[derive(Clone, Copy, Debug, PartialEq, Eq)]
 pub struct InsertMark {
-    /// Its byte among the main bits, which is never 0.
+    /// Its byte among the main bits: from 1 on in what is read and in what can be written, since a 0 ends the marks.
     pub count: u8,
     /// The insert.
     pub target: Ref,
@@ -68,7 +68,7 @@ pub struct BlockHeader {
     pub ends: Option<Ends>,
     /// Its end.
     pub endblk: Ref,
-    /// Its layout.
+    /// Its layout; it may be null.
     pub layout: Ref,
 }
 

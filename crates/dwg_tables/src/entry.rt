@@ -18,7 +18,7 @@ pub struct Entry {
     pub xref_index: u16,
     /// Whether it is of another drawing.
     pub xref_dependent: bool,
-    /// The block of the external reference that it is of.
+    /// The block of the external reference that it is of; it may be null.
     pub xref: Ref,
 }
 

@@ -35,7 +35,7 @@ pub struct Dash {
     pub rotation: u64,
     /// What is told of its sign by single bits.
     pub flag: u16,
-    /// The text style of its sign.
+    /// The text style of its sign; it may be null.
     pub style: Ref,
 }
 
@@ -48,7 +48,7 @@ pub struct Ltype {
     pub description: ByteRun,
     /// How long its pattern is, the word of a floating-point number.
     pub length: u64,
-    /// How it is aligned; always the letter A.
+    /// How it is aligned: any byte is kept; the specification names the letter A alone.
     pub alignment: u8,
     /// The dashes of its pattern, at most 255.
     pub dashes: Items<Dash>,
