@@ -13,13 +13,17 @@ truth value = if value then codes "1" else codes "0"
 abbrev pub lower_digit : ℕ → ℕ
 lower_digit number = if nat_lt number 10 then 48 + number else 87 + number
 
+-- the two digits of a byte, lower-case hexadecimal ones
+abbrev pub byte_digits : ℕ → List ℕ
+byte_digits byte = lower_digit (byte / 16) ∷ lower_digit (byte % 16) ∷ []
+
 -- a byte stands between quotation marks as it is: it is visible or a space, and neither a quotation mark nor a backslash
 abbrev pub is_plain : ℕ → Bool
 is_plain byte = nat_le 32 byte && nat_le byte 126 && not (byte == 34) && not (byte == 92)
 
 -- a byte between quotation marks: as it is, or a backslash and two digits
 unfoldable pub quoted_byte : ℕ → List ℕ
-quoted_byte byte = if is_plain byte then byte ∷ [] else 92 ∷ lower_digit (byte / 16) ∷ lower_digit (byte % 16) ∷ []
+quoted_byte byte = if is_plain byte then byte ∷ [] else 92 ∷ byte_digits byte
 
 -- a text between quotation marks
 unfoldable pub quoted : List ℕ → List ℕ

@@ -8,6 +8,10 @@ use Rattle.dwg_text.specs.Lines.{line}
 unfoldable pub usage_note : List ℕ
 usage_note = line (codes "dwg: usage: sections | classes | show | rewrite | audit | recover | make N SEED | drill N")
 
+-- how many entities a made drawing may be asked for
+unfoldable pub size_note : List ℕ
+size_note = line (codes "dwg: size must be 1 to 200000")
+
 -- which part of the input is faulty, where, and why
 unfoldable pub refusal_note : Refusal → List ℕ
 refusal_note refusal =

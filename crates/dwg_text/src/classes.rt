@@ -10,14 +10,15 @@ use dwg_classes::Class;
 use std::alloc::{AllocError, Global};
 
 /// A truth value as it is printed.
-fn truth(value: bool) -> &'static str
+pub fn truth(value: bool) -> &'static str
     ensures { result.now ≡ truth value }
 {
     if value { "1" } else { "0" }
 }
 
+/// Appends what a class says, as a line. The only refusal is want of memory.
 #[tactic(auto, unfolding(crate::specs::Classes::class_line))]
-fn push_class_line(text: &mut String, class: &Class) -> Result<(), AllocError>
+pub fn push_class_line(text: &mut String, class: &Class) -> Result<(), AllocError>
     ensures { OnOk result (string_bytes text.new ≡ string_bytes text.old ++ texts.class_line class.now) }
 {
     let number = class.number;

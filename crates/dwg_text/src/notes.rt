@@ -15,6 +15,14 @@ pub fn usage_note() -> &'static [u8]
     b"dwg: usage: sections | classes | show | rewrite | audit | recover | make N SEED | drill N\n"
 }
 
+/// How many entities a made drawing may be asked for.
+#[tactic(auto, unfolding(crate::specs::Notes::size_note))]
+pub fn size_note() -> &'static [u8]
+    ensures { result.now ≡ texts.size_note }
+{
+    b"dwg: size must be 1 to 200000\n"
+}
+
 /// The input could not be read.
 #[tactic(auto, unfolding(crate::specs::Notes::read_fault_note))]
 pub fn read_fault_note() -> &'static [u8]

@@ -1,7 +1,7 @@
 //! Texts of a drawing between quotation marks.
 
-ghost use Rattle.std.specs.Prelude.{◌≡◌, ◌/◌, ◌%◌, [], ◌∷◌, ◌++◌, OnOk, string_bytes};
-ghost use Rattle.dwg_text.specs.Lines.{is_plain, lower_digit, quoted_byte, quoted};
+ghost use Rattle.std.specs.Prelude.{◌≡◌, ◌++◌, OnOk, string_bytes};
+ghost use Rattle.dwg_text.specs.Lines.{byte_digits, is_plain, quoted_byte, quoted};
 
 use std::alloc::AllocError;
 
@@ -15,7 +15,7 @@ fn is_plain(byte: u8) -> bool
 /// The two lower-case hexadecimal digits of a byte.
 #[tactic(auto, using(crate::proofs::Digits::two_digits))]
 fn digits(byte: u8) -> [u8; 2]
-    ensures { result ≡ lower_digit (byte / 16) ∷ lower_digit (byte % 16) ∷ [] }
+    ensures { result ≡ byte_digits byte }
 {
     let mut digits = [0; 2];
     match hex::encode_to_slice([byte], &mut digits) {
@@ -39,9 +39,9 @@ fn push_quoted_byte(text: &mut String, byte: u8) -> Result<(), AllocError>
 }
 
 /// Appends bytes between quotation marks: visible characters and spaces as they are, but for quotation marks and
-/// backslashes, and each other byte as a backslash and two lower-case hexadecimal digits.
+/// backslashes, and each other byte as a backslash and two lower-case hexadecimal digits. The only refusal is want of memory.
 #[tactic(auto, unfolding(crate::specs::Lines::quoted))]
-pub(crate) fn push_quoted(text: &mut String, bytes: &[u8]) -> Result<(), AllocError>
+pub fn push_quoted(text: &mut String, bytes: &[u8]) -> Result<(), AllocError>
     ensures { OnOk result (string_bytes text.new ≡ string_bytes text.old ++ quoted bytes.now) }
 {
     text.push_str("\"")?;

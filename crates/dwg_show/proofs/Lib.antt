@@ -1,0 +1,5 @@
+pub mod Telling
+pub mod Runs
+pub mod Words
+pub mod Digits
+pub mod Elements

@@ -1,0 +1,7 @@
+use Rattle.dwg_text.specs.Classes.{classes_text}
+use Rattle.dwg_show.proofs.Telling.{◌▷◌}
+use Rattle.dwg_show.proofs.drawing.tell_classes.Goals as goal
+
+pub returns : goal.returns
+unfolding classes_text
+returns g c = c.tell_made.ensures _ c.count_line.ensures ▷ c.tell_all.ensures

@@ -1,0 +1,18 @@
+use Rattle.std.proofs.Common.{ap, subst}
+use Rattle.std.specs.Prelude.{flat_map, map}
+use Rattle.dwg_file.specs.Contents.{other_value}
+use Rattle.dwg_object.specs.Objects.{value_of}
+use Rattle.dwg_text.specs.Classes.{classes_text}
+use Rattle.dwg_show.specs.DrawingText.{variables_line, other_line, objects_text, show_text}
+use Rattle.dwg_show.specs.Telling.{Tells}
+use Rattle.dwg_show.proofs.Telling.{◌▷◌}
+use Rattle.dwg_show.proofs.drawing.tell_drawing.Goals as goal
+
+pub returns : goal.returns
+unfolding show_text
+returns g c =
+    c.tell_drawing_line.ensures
+    ▷ subst (Tells _ _ _ _ _ _) (ap variables_line c.as_slice.ensures) c.tell_variables.ensures
+    ▷ subst (Tells _ _ _ _ _ _) (ap classes_text c.as_slice-2.ensures) c.tell_classes.ensures
+    ▷ subst (Tells _ _ _ _ _ _) (ap (λ others. flat_map other_line (map other_value others)) c.as_slice-3.ensures) c.tell_others.ensures
+    ▷ subst (Tells _ _ _ _ _ _) (ap (λ objects. objects_text (map value_of objects)) c.as_slice-4.ensures) c.tell_objects.ensures

@@ -1,0 +1,10 @@
+pub mod Values
+pub mod Fields
+pub mod Telling
+pub mod CommonFields
+pub mod ShapesFields
+pub mod EntitiesFields
+pub mod TablesFields
+pub mod DictsFields
+pub mod ObjectText
+pub mod DrawingText

@@ -1,0 +1,93 @@
+//! The fields of controls, dictionaries and records, in the order of their structs.
+
+ghost use Rattle.dwg_show.specs.DictsFields as fields;
+
+use crate::bytes::print_bytes;
+use crate::fields::{Print, print_member};
+use crate::page::Page;
+use dwg_base::Sink;
+use dwg_dicts::{
+    AppIdControl, BlockControl, DictItem, Dictionary, LayerControl, LtypeControl, StyleControl,
+    XRecord,
+};
+
+impl Print for BlockControl {
+    ghost lines = { fields.block_control_fields };
+
+    #[tactic(auto, using(crate::proofs::Runs::tells_3), unfolding(crate::specs::DictsFields::block_control_fields))]
+    fn print<W: Sink>(&self, path: &str, page: &mut Page, sink: &mut W) {
+        print_member(&self.entries, path, "entries", page, sink);
+        print_member(&self.model, path, "model", page, sink);
+        print_member(&self.paper, path, "paper", page, sink);
+    }
+}
+
+impl Print for LayerControl {
+    ghost lines = { fields.layer_control_fields };
+
+    #[tactic(auto, unfolding(crate::specs::DictsFields::layer_control_fields))]
+    fn print<W: Sink>(&self, path: &str, page: &mut Page, sink: &mut W) {
+        print_member(&self.entries, path, "entries", page, sink);
+    }
+}
+
+impl Print for StyleControl {
+    ghost lines = { fields.style_control_fields };
+
+    #[tactic(auto, unfolding(crate::specs::DictsFields::style_control_fields))]
+    fn print<W: Sink>(&self, path: &str, page: &mut Page, sink: &mut W) {
+        print_member(&self.entries, path, "entries", page, sink);
+    }
+}
+
+impl Print for LtypeControl {
+    ghost lines = { fields.ltype_control_fields };
+
+    #[tactic(auto, using(crate::proofs::Runs::tells_3), unfolding(crate::specs::DictsFields::ltype_control_fields))]
+    fn print<W: Sink>(&self, path: &str, page: &mut Page, sink: &mut W) {
+        print_member(&self.entries, path, "entries", page, sink);
+        print_member(&self.first, path, "first", page, sink);
+        print_member(&self.second, path, "second", page, sink);
+    }
+}
+
+impl Print for AppIdControl {
+    ghost lines = { fields.appid_control_fields };
+
+    #[tactic(auto, unfolding(crate::specs::DictsFields::appid_control_fields))]
+    fn print<W: Sink>(&self, path: &str, page: &mut Page, sink: &mut W) {
+        print_member(&self.entries, path, "entries", page, sink);
+    }
+}
+
+impl Print for DictItem {
+    ghost lines = { fields.dict_item_fields };
+
+    #[tactic(auto, using(crate::proofs::Runs::tells_2), unfolding(crate::specs::DictsFields::dict_item_fields))]
+    fn print<W: Sink>(&self, path: &str, page: &mut Page, sink: &mut W) {
+        print_member(&self.name, path, "name", page, sink);
+        print_member(&self.target, path, "target", page, sink);
+    }
+}
+
+impl Print for Dictionary {
+    ghost lines = { fields.dictionary_fields };
+
+    #[tactic(auto, using(crate::proofs::Runs::tells_3), unfolding(crate::specs::DictsFields::dictionary_fields))]
+    fn print<W: Sink>(&self, path: &str, page: &mut Page, sink: &mut W) {
+        print_member(&self.cloning, path, "cloning", page, sink);
+        print_member(&self.hard_owner, path, "hard_owner", page, sink);
+        print_member(&self.items, path, "items", page, sink);
+    }
+}
+
+impl Print for XRecord {
+    ghost lines = { fields.xrecord_fields };
+
+    #[tactic(auto, using(crate::proofs::Runs::tells_3), unfolding(crate::specs::DictsFields::xrecord_fields))]
+    fn print<W: Sink>(&self, path: &str, page: &mut Page, sink: &mut W) {
+        print_bytes(&self.bytes, path, "bytes", page, sink);
+        print_member(&self.cloning, path, "cloning", page, sink);
+        print_member(&self.targets, path, "targets", page, sink);
+    }
+}

@@ -1,0 +1,100 @@
+//! The fields of texts, attributes, inserts and the marks of blocks, in the order of their structs.
+
+ghost use Rattle.dwg_show.specs.EntitiesFields as fields;
+
+use crate::fields::{Print, print_member};
+use crate::page::Page;
+use dwg_base::Sink;
+use dwg_entities::{Attdef, Attrib, Attributes, Block, EndBlk, Insert, SeqEnd, Text};
+
+impl Print for Text {
+    ghost lines = { fields.text_fields };
+
+    #[tactic(auto, unfolding(crate::specs::EntitiesFields::text_fields))]
+    fn print<W: Sink>(&self, path: &str, page: &mut Page, sink: &mut W) {
+        print_member(&self.elevation, path, "elevation", page, sink);
+        print_member(&self.insertion, path, "insertion", page, sink);
+        print_member(&self.alignment, path, "alignment", page, sink);
+        print_member(&self.extrusion, path, "extrusion", page, sink);
+        print_member(&self.thickness, path, "thickness", page, sink);
+        print_member(&self.oblique, path, "oblique", page, sink);
+        print_member(&self.rotation, path, "rotation", page, sink);
+        print_member(&self.height, path, "height", page, sink);
+        print_member(&self.width, path, "width", page, sink);
+        print_member(&self.text, path, "text", page, sink);
+        print_member(&self.generation, path, "generation", page, sink);
+        print_member(&self.horizontal, path, "horizontal", page, sink);
+        print_member(&self.vertical, path, "vertical", page, sink);
+        print_member(&self.style, path, "style", page, sink);
+    }
+}
+
+impl Print for Attrib {
+    ghost lines = { fields.attrib_fields };
+
+    #[tactic(auto, using(crate::proofs::Runs::tells_4), unfolding(crate::specs::EntitiesFields::attrib_fields))]
+    fn print<W: Sink>(&self, path: &str, page: &mut Page, sink: &mut W) {
+        print_member(&self.text, path, "text", page, sink);
+        print_member(&self.tag, path, "tag", page, sink);
+        print_member(&self.length, path, "length", page, sink);
+        print_member(&self.flags, path, "flags", page, sink);
+    }
+}
+
+impl Print for Attdef {
+    ghost lines = { fields.attdef_fields };
+
+    #[tactic(auto, using(crate::proofs::Runs::tells_2), unfolding(crate::specs::EntitiesFields::attdef_fields))]
+    fn print<W: Sink>(&self, path: &str, page: &mut Page, sink: &mut W) {
+        print_member(&self.attrib, path, "attrib", page, sink);
+        print_member(&self.prompt, path, "prompt", page, sink);
+    }
+}
+
+impl Print for Attributes {
+    ghost lines = { fields.attributes_fields };
+
+    #[tactic(auto, using(crate::proofs::Runs::tells_3), unfolding(crate::specs::EntitiesFields::attributes_fields))]
+    fn print<W: Sink>(&self, path: &str, page: &mut Page, sink: &mut W) {
+        print_member(&self.first, path, "first", page, sink);
+        print_member(&self.last, path, "last", page, sink);
+        print_member(&self.seqend, path, "seqend", page, sink);
+    }
+}
+
+impl Print for Insert {
+    ghost lines = { fields.insert_fields };
+
+    #[tactic(auto, using(crate::proofs::Runs::tells_6), unfolding(crate::specs::EntitiesFields::insert_fields))]
+    fn print<W: Sink>(&self, path: &str, page: &mut Page, sink: &mut W) {
+        print_member(&self.place, path, "place", page, sink);
+        print_member(&self.scale, path, "scale", page, sink);
+        print_member(&self.rotation, path, "rotation", page, sink);
+        print_member(&self.extrusion, path, "extrusion", page, sink);
+        print_member(&self.block, path, "block", page, sink);
+        print_member(&self.attributes, path, "attributes", page, sink);
+    }
+}
+
+impl Print for Block {
+    ghost lines = { fields.block_fields };
+
+    #[tactic(auto, unfolding(crate::specs::EntitiesFields::block_fields))]
+    fn print<W: Sink>(&self, path: &str, page: &mut Page, sink: &mut W) {
+        print_member(&self.name, path, "name", page, sink);
+    }
+}
+
+impl Print for EndBlk {
+    ghost lines = { fields.endblk_fields };
+
+    #[tactic(auto, using(crate::proofs::Telling::tells_nothing), unfolding(crate::specs::EntitiesFields::endblk_fields))]
+    fn print<W: Sink>(&self, _path: &str, _page: &mut Page, _sink: &mut W) {}
+}
+
+impl Print for SeqEnd {
+    ghost lines = { fields.seqend_fields };
+
+    #[tactic(auto, using(crate::proofs::Telling::tells_nothing), unfolding(crate::specs::EntitiesFields::seqend_fields))]
+    fn print<W: Sink>(&self, _path: &str, _page: &mut Page, _sink: &mut W) {}
+}

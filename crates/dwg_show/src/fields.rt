@@ -1,0 +1,190 @@
+//! Fields: each on a line of two spaces, its path, a space and its value.
+
+ghost use Rattle.std.specs.Prelude.{◌≡◌, ◌++◌, OnOk, List, ℕ, string_bytes};
+ghost use Rattle.dwg_show.specs.Fields as printers;
+ghost use Rattle.dwg_show.specs.Telling.{Tells};
+
+use crate::page::{Page, ShowFault};
+use crate::values::{Count, Value};
+use dwg_base::{ByteRun, Items, Sink};
+use dwg_codes::{Point2, Point3};
+use dwg_handles::Ref;
+use std::alloc::AllocError;
+
+/// What is printed at a path: a value by one line, an option by those of what it holds, a list by those of its elements, and a
+/// struct by those of its members.
+pub(crate) trait Print {
+    /// Its lines at a path.
+    ghost lines: { List ℕ → Self → List ℕ };
+
+    /// Prints it at a path.
+    fn print<W: Sink>(&self, path: &str, page: &mut Page, sink: &mut W)
+        ensures { Tells page.old page.new (W.taken sink.old) (W.taken sink.new) (W.faults sink.old) (W.faults sink.new) (lines path.now self.now) };
+}
+
+/// Appends the line of a value at a path.
+#[tactic(auto, unfolding(crate::specs::Fields::field_line))]
+fn push_line<T: Value>(text: &mut String, path: &str, value: &T) -> Result<(), AllocError>
+    ensures { OnOk result (string_bytes text.new ≡ string_bytes text.old ++ printers.field_line path.now (T.printed value.now)) }
+{
+    text.push_str("  ")?;
+    text.push_str(path)?;
+    text.push_str(" ")?;
+    value.push(text)?;
+    text.push_str("\n")
+}
+
+/// Prints the line of a value.
+#[tactic(auto, using(crate::proofs::Telling::tells_idle, crate::proofs::Telling::tells_pushed, crate::proofs::Telling::tells_wanting))]
+fn print_line<T: Value, W: Sink>(value: &T, path: &str, page: &mut Page, sink: &mut W)
+    ensures { Tells page.old page.new (W.taken sink.old) (W.taken sink.new) (W.faults sink.old) (W.faults sink.new) (printers.field_line path.now (T.printed value.now)) }
+{
+    if page.fault.is_some() {
+        return;
+    }
+    match push_line(&mut page.piece, path, value) {
+        Ok(()) => page.send_when_full(sink),
+        Err(_) => page.fault = Some(ShowFault::NoMemory),
+    }
+}
+
+impl Print for u8 {
+    ghost lines = { printers.number };
+
+    fn print<W: Sink>(&self, path: &str, page: &mut Page, sink: &mut W) {
+        print_line(self, path, page, sink);
+    }
+}
+
+impl Print for u16 {
+    ghost lines = { printers.number };
+
+    fn print<W: Sink>(&self, path: &str, page: &mut Page, sink: &mut W) {
+        print_line(self, path, page, sink);
+    }
+}
+
+impl Print for Count {
+    ghost lines = { λ path count. printers.number path count.0 };
+
+    fn print<W: Sink>(&self, path: &str, page: &mut Page, sink: &mut W) {
+        print_line(self, path, page, sink);
+    }
+}
+
+impl Print for u64 {
+    ghost lines = { printers.word };
+
+    fn print<W: Sink>(&self, path: &str, page: &mut Page, sink: &mut W) {
+        print_line(self, path, page, sink);
+    }
+}
+
+impl Print for bool {
+    ghost lines = { printers.truth_value };
+
+    fn print<W: Sink>(&self, path: &str, page: &mut Page, sink: &mut W) {
+        print_line(self, path, page, sink);
+    }
+}
+
+impl Print for Point2 {
+    ghost lines = { printers.point2 };
+
+    fn print<W: Sink>(&self, path: &str, page: &mut Page, sink: &mut W) {
+        print_line(self, path, page, sink);
+    }
+}
+
+impl Print for Point3 {
+    ghost lines = { printers.point3 };
+
+    fn print<W: Sink>(&self, path: &str, page: &mut Page, sink: &mut W) {
+        print_line(self, path, page, sink);
+    }
+}
+
+impl Print for Ref {
+    ghost lines = { printers.reference };
+
+    fn print<W: Sink>(&self, path: &str, page: &mut Page, sink: &mut W) {
+        print_line(self, path, page, sink);
+    }
+}
+
+impl Print for ByteRun {
+    ghost lines = { printers.text };
+
+    fn print<W: Sink>(&self, path: &str, page: &mut Page, sink: &mut W) {
+        print_line(self, path, page, sink);
+    }
+}
+
+/// Prints a member of what stands at a path.
+pub(crate) fn print_member<T: Print, W: Sink>(
+    value: &T,
+    path: &str,
+    name: &str,
+    page: &mut Page,
+    sink: &mut W,
+)
+    ensures { Tells page.old page.new (W.taken sink.old) (W.taken sink.new) (W.faults sink.old) (W.faults sink.new) (printers.member path.now name.now T.lines value.now) }
+{
+    if path.is_empty() {
+        value.print(name, page, sink);
+    } else {
+        match format!(in page.alloc; "{path}.{name}") {
+            Ok(path) => value.print(&path, page, sink),
+            Err(_) => page.want(),
+        }
+    }
+}
+
+/// Prints an element of the list at a path.
+#[tactic(auto, using(crate::proofs::Telling::tells_idle))]
+fn print_element<T: Print, W: Sink>(
+    element: &T,
+    path: &str,
+    index: usize,
+    page: &mut Page,
+    sink: &mut W,
+)
+    ensures { Tells page.old page.new (W.taken sink.old) (W.taken sink.new) (W.faults sink.old) (W.faults sink.new) (T.lines (printers.element_path path.now index) element.now) }
+{
+    if page.fault.is_some() {
+        return;
+    }
+    match format!(in page.alloc; "{path}[{index}]") {
+        Ok(path) => element.print(&path, page, sink),
+        Err(_) => page.want(),
+    }
+}
+
+/// Prints the elements of the list at a path.
+fn print_elements<T: Print, W: Sink>(elements: &[T], path: &str, page: &mut Page, sink: &mut W)
+    ensures { Tells page.old page.new (W.taken sink.old) (W.taken sink.new) (W.faults sink.old) (W.faults sink.new) (printers.listed T.lines path.now elements.now) }
+{
+    'along: for index in 0..elements.len() {
+        print_element(&elements[index], path, index, page, sink);
+    }
+}
+
+impl<T: Print> Print for Items<T> {
+    ghost lines = { printers.listed T.lines };
+
+    fn print<W: Sink>(&self, path: &str, page: &mut Page, sink: &mut W) {
+        print_elements(self.as_slice(), path, page, sink);
+    }
+}
+
+impl<T: Print> Print for Option<T> {
+    ghost lines = { printers.optional T.lines };
+
+    #[tactic(auto, using(crate::proofs::Telling::tells_nothing))]
+    fn print<W: Sink>(&self, path: &str, page: &mut Page, sink: &mut W) {
+        match self {
+            Some(value) => value.print(path, page, sink),
+            None => {}
+        }
+    }
+}

@@ -1,0 +1,18 @@
+//! The text of a drawing: everything that it says, a line each.
+#![tactic(auto)]
+
+mod bytes;
+mod common;
+mod dicts;
+mod drawing;
+mod entities;
+mod fields;
+mod object;
+mod page;
+mod paragraphs;
+mod shapes;
+mod tables;
+mod values;
+
+pub use drawing::show;
+pub use page::ShowFault;

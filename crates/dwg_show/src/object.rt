@@ -1,0 +1,182 @@
+//! The text of an object.
+
+ghost use Rattle.std.specs.Prelude.{◌≡◌, ◌%◌, [], ◌++◌, codes, length, IfOk, IfSome, string_bytes};
+ghost use Rattle.dwg_bits.specs.Bits.{bits};
+ghost use Rattle.dwg_bits.specs.Parts.{part_bits};
+ghost use Rattle.dwg_bits.specs.Sink.{padding};
+ghost use Rattle.dwg_bits.specs.WholeBytes.{whole_bytes};
+ghost use Rattle.dwg_object.specs.Objects.{number_of, value_of};
+ghost use Rattle.dwg_show.specs.Fields as printers;
+ghost use Rattle.dwg_show.specs.ObjectText as texts;
+ghost use Rattle.dwg_show.specs.Telling.{Tells};
+
+use crate::bytes::print_slice;
+use crate::fields::{Print, print_member};
+use crate::page::Page;
+use crate::paragraphs::Tell;
+use crate::values::Count;
+use dwg_base::Sink;
+use dwg_bits::{BitPart, BitSink};
+use dwg_kinds::name_of;
+use dwg_object::{Body, Common, Object};
+use std::alloc::{AllocError, Global};
+
+impl Print for Common {
+    ghost lines = { texts.common_fields };
+
+    #[tactic(auto, unfolding(crate::specs::ObjectText::common_fields))]
+    fn print<W: Sink>(&self, path: &str, page: &mut Page, sink: &mut W) {
+        match self {
+            Common::Entity(common) => common.print(path, page, sink),
+            Common::Object(common) => common.print(path, page, sink),
+        }
+    }
+}
+
+impl Print for Body {
+    ghost lines = { texts.body_fields };
+
+    #[tactic(auto, unfolding(crate::specs::ObjectText::body_fields))]
+    fn print<W: Sink>(&self, path: &str, page: &mut Page, sink: &mut W) {
+        match self {
+            Body::Text(body) => body.print(path, page, sink),
+            Body::Attrib(body) => body.print(path, page, sink),
+            Body::Attdef(body) => body.print(path, page, sink),
+            Body::Block(body) => body.print(path, page, sink),
+            Body::EndBlk(body) => body.print(path, page, sink),
+            Body::SeqEnd(body) => body.print(path, page, sink),
+            Body::Insert(body) => body.print(path, page, sink),
+            Body::Arc(body) => body.print(path, page, sink),
+            Body::Circle(body) => body.print(path, page, sink),
+            Body::Line(body) => body.print(path, page, sink),
+            Body::Point(body) => body.print(path, page, sink),
+            Body::LwPolyline(body) => body.print(path, page, sink),
+            Body::Dictionary(body) => body.print(path, page, sink),
+            Body::BlockControl(body) => body.print(path, page, sink),
+            Body::BlockHeader(body) => body.print(path, page, sink),
+            Body::LayerControl(body) => body.print(path, page, sink),
+            Body::Layer(body) => body.print(path, page, sink),
+            Body::StyleControl(body) => body.print(path, page, sink),
+            Body::Style(body) => body.print(path, page, sink),
+            Body::LtypeControl(body) => body.print(path, page, sink),
+            Body::Ltype(body) => body.print(path, page, sink),
+            Body::AppIdControl(body) => body.print(path, page, sink),
+            Body::AppId(body) => body.print(path, page, sink),
+            Body::XRecord(body) => body.print(path, page, sink),
+        }
+    }
+}
+
+/// The form of an object.
+fn form_word(object: &Object<'_>) -> &'static str
+    ensures { result.now ≡ texts.form_word (value_of object.now) }
+{
+    match object {
+        Object::Typed(_) => "typed",
+        Object::Plain(_) => "plain",
+        Object::Raw(_) => "raw",
+    }
+}
+
+/// The type number of an object.
+fn number_of(object: &Object<'_>) -> u16
+    ensures { result ≡ number_of (value_of object.now) }
+{
+    match object {
+        Object::Typed(typed) => typed.number,
+        Object::Plain(plain) => plain.number,
+        Object::Raw(raw) => raw.number,
+    }
+}
+
+/// The line that an object begins with. The only refusal is want of memory.
+#[tactic(auto, unfolding(crate::specs::ObjectText::head_line))]
+fn head_line(alloc: Global, object: &Object<'_>) -> Result<String, AllocError>
+    ensures { IfOk result (λ line. string_bytes line ≡ texts.head_line (value_of object.now)) }
+{
+    let handle = object.handle().value();
+    let number = number_of(object);
+    let mut line = format!(in alloc; "object {handle:X} ")?;
+    line.push_str(name_of(object.kind()))?;
+    line.push_str(" ")?;
+    line.push_str(form_word(object))?;
+    write!(line, " {number}")?;
+    line.push_str("\n")?;
+    Ok(line)
+}
+
+/// How many bits a sink holds at the most.
+const MOST_BITS: u64 = 1 << 61;
+
+/// Bits in a sink, with zero bits up to a whole byte. None is want of memory alone, which more bits than a sink holds are sure
+/// to meet.
+fn padded(alloc: Global, bits: &BitPart<'_>) -> Option<BitSink>
+    ensures { IfSome result (λ sink. sink.written ≡ part_bits bits.now ++ padding (part_bits bits.now)) }
+{
+    let length = bits.length();
+    let mut sink = BitSink::new(alloc);
+    if length > MOST_BITS || !sink.reserve(length + 7) {
+        return None;
+    }
+    sink.push_part(bits);
+    sink.pad();
+    Some(sink)
+}
+
+/// Bytes, which are those of their bits.
+fn whole_of(bytes: &[u8]) -> &[u8]
+    ensures { result.now ≡ whole_bytes (bits bytes.now) }
+{
+    bytes
+}
+
+/// The bytes of a sink.
+fn bytes_of(sink: &BitSink) -> &[u8]
+    requires { length sink.now.written % 8 ≡ 0 }
+    ensures { result.now ≡ whole_bytes sink.now.written }
+{
+    whole_of(sink.as_bytes())
+}
+
+/// Prints the own bits of an object.
+fn print_rest<W: Sink>(bits: &BitPart<'_>, page: &mut Page, sink: &mut W)
+    ensures { Tells page.old page.new (W.taken sink.old) (W.taken sink.new) (W.faults sink.old) (W.faults sink.new) (printers.member [] (codes "rest") printers.bytes (whole_bytes (part_bits bits.now ++ padding (part_bits bits.now)))) }
+{
+    match padded(page.alloc, bits) {
+        Some(whole) => print_slice(bytes_of(&whole), "", "rest", page, sink),
+        None => page.want(),
+    }
+}
+
+/// Prints the fields of an object.
+#[tactic(auto, using(crate::proofs::Runs::tells_2, crate::proofs::Runs::tells_4), unfolding(crate::specs::ObjectText::object_fields))]
+fn print_fields<W: Sink>(object: &Object<'_>, page: &mut Page, sink: &mut W)
+    ensures { Tells page.old page.new (W.taken sink.old) (W.taken sink.new) (W.faults sink.old) (W.faults sink.new) (texts.object_fields (value_of object.now)) }
+{
+    match object {
+        Object::Typed(typed) => {
+            typed.common.print("", page, sink);
+            typed.body.print("", page, sink);
+        }
+        Object::Plain(plain) => {
+            plain.common.print("", page, sink);
+            print_member(&Count(plain.rest.length()), "", "bits", page, sink);
+            print_rest(&plain.rest, page, sink);
+            print_member(&plain.refs, "", "refs", page, sink);
+        }
+        Object::Raw(raw) => print_slice(raw.bytes.as_slice(), "", "bytes", page, sink),
+    }
+}
+
+impl Tell for Object<'_> {
+    ghost told = { λ object. texts.object_text (value_of object) };
+
+    #[tactic(auto, using(crate::proofs::Telling::tells_idle, crate::proofs::Runs::tells_2), unfolding(crate::specs::ObjectText::object_text))]
+    fn tell<W: Sink>(&self, page: &mut Page, sink: &mut W) {
+        if page.fault.is_some() {
+            return;
+        }
+        page.tell_made(head_line(page.alloc, self), sink);
+        print_fields(self, page, sink);
+    }
+}

@@ -1,0 +1,26 @@
+//! What is printed by lines of its own: a class, an unknown section, an object.
+
+ghost use Rattle.std.specs.Prelude.{List, ℕ, flat_map};
+ghost use Rattle.dwg_show.specs.Telling.{Tells};
+
+use crate::page::Page;
+use dwg_base::Sink;
+
+/// What is printed by lines of its own.
+pub(crate) trait Tell {
+    /// Its lines.
+    ghost told: { Self → List ℕ };
+
+    /// Tells them.
+    fn tell<W: Sink>(&self, page: &mut Page, sink: &mut W)
+        ensures { Tells page.old page.new (W.taken sink.old) (W.taken sink.new) (W.faults sink.old) (W.faults sink.new) (told self.now) };
+}
+
+/// Tells some of them, one behind the other.
+pub(crate) fn tell_all<T: Tell, W: Sink>(paragraphs: &[T], page: &mut Page, sink: &mut W)
+    ensures { Tells page.old page.new (W.taken sink.old) (W.taken sink.new) (W.faults sink.old) (W.faults sink.new) (flat_map T.told paragraphs.now) }
+{
+    'along: for index in 0..paragraphs.len() {
+        paragraphs[index].tell(page, sink);
+    }
+}

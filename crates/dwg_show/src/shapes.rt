@@ -1,0 +1,84 @@
+//! The fields of shapes, in the order of their structs.
+
+ghost use Rattle.dwg_show.specs.ShapesFields as fields;
+
+use crate::fields::{Print, print_member};
+use crate::page::Page;
+use dwg_base::Sink;
+use dwg_shapes::{Arc, Circle, Line, LwPolyline, Point, Width};
+
+impl Print for Line {
+    ghost lines = { fields.line_fields };
+
+    #[tactic(auto, using(crate::proofs::Runs::tells_4), unfolding(crate::specs::ShapesFields::line_fields))]
+    fn print<W: Sink>(&self, path: &str, page: &mut Page, sink: &mut W) {
+        print_member(&self.start, path, "start", page, sink);
+        print_member(&self.end, path, "end", page, sink);
+        print_member(&self.thickness, path, "thickness", page, sink);
+        print_member(&self.extrusion, path, "extrusion", page, sink);
+    }
+}
+
+impl Print for Point {
+    ghost lines = { fields.point_fields };
+
+    #[tactic(auto, using(crate::proofs::Runs::tells_4), unfolding(crate::specs::ShapesFields::point_fields))]
+    fn print<W: Sink>(&self, path: &str, page: &mut Page, sink: &mut W) {
+        print_member(&self.place, path, "place", page, sink);
+        print_member(&self.thickness, path, "thickness", page, sink);
+        print_member(&self.extrusion, path, "extrusion", page, sink);
+        print_member(&self.angle, path, "angle", page, sink);
+    }
+}
+
+impl Print for Circle {
+    ghost lines = { fields.circle_fields };
+
+    #[tactic(auto, using(crate::proofs::Runs::tells_4), unfolding(crate::specs::ShapesFields::circle_fields))]
+    fn print<W: Sink>(&self, path: &str, page: &mut Page, sink: &mut W) {
+        print_member(&self.centre, path, "centre", page, sink);
+        print_member(&self.radius, path, "radius", page, sink);
+        print_member(&self.thickness, path, "thickness", page, sink);
+        print_member(&self.extrusion, path, "extrusion", page, sink);
+    }
+}
+
+impl Print for Arc {
+    ghost lines = { fields.arc_fields };
+
+    #[tactic(auto, using(crate::proofs::Runs::tells_6), unfolding(crate::specs::ShapesFields::arc_fields))]
+    fn print<W: Sink>(&self, path: &str, page: &mut Page, sink: &mut W) {
+        print_member(&self.centre, path, "centre", page, sink);
+        print_member(&self.radius, path, "radius", page, sink);
+        print_member(&self.thickness, path, "thickness", page, sink);
+        print_member(&self.extrusion, path, "extrusion", page, sink);
+        print_member(&self.start_angle, path, "start_angle", page, sink);
+        print_member(&self.end_angle, path, "end_angle", page, sink);
+    }
+}
+
+impl Print for Width {
+    ghost lines = { fields.width_fields };
+
+    #[tactic(auto, using(crate::proofs::Runs::tells_2), unfolding(crate::specs::ShapesFields::width_fields))]
+    fn print<W: Sink>(&self, path: &str, page: &mut Page, sink: &mut W) {
+        print_member(&self.start, path, "start", page, sink);
+        print_member(&self.end, path, "end", page, sink);
+    }
+}
+
+impl Print for LwPolyline {
+    ghost lines = { fields.lwpolyline_fields };
+
+    #[tactic(auto, using(crate::proofs::Runs::tells_8), unfolding(crate::specs::ShapesFields::lwpolyline_fields))]
+    fn print<W: Sink>(&self, path: &str, page: &mut Page, sink: &mut W) {
+        print_member(&self.flag, path, "flag", page, sink);
+        print_member(&self.width, path, "width", page, sink);
+        print_member(&self.elevation, path, "elevation", page, sink);
+        print_member(&self.thickness, path, "thickness", page, sink);
+        print_member(&self.normal, path, "normal", page, sink);
+        print_member(&self.points, path, "points", page, sink);
+        print_member(&self.bulges, path, "bulges", page, sink);
+        print_member(&self.widths, path, "widths", page, sink);
+    }
+}
