@@ -3,3 +3,4 @@ pub mod Runs
 pub mod Words
 pub mod Digits
 pub mod Elements
+pub mod FewBits

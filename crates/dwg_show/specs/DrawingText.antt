@@ -20,7 +20,7 @@ variables_line variables = line (codes "variables " ++ bytes_text variables)
 unfoldable pub other_line : OtherValue → List ℕ
 other_line other = line (codes "section " ++ decimal other.number ++ codes " " ++ bytes_text other.bytes)
 
--- the count of the objects, and these in order of handle
+-- the count of the objects, and these in their order
 unfoldable pub objects_text : List ObjectValue → List ℕ
 objects_text objects = line (codes "objects " ++ decimal (length objects)) ++ flat_map object_text objects
 

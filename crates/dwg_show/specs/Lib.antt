@@ -6,5 +6,6 @@ pub mod ShapesFields
 pub mod EntitiesFields
 pub mod TablesFields
 pub mod DictsFields
+pub mod FewBits
 pub mod ObjectText
 pub mod DrawingText

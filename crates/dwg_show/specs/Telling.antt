@@ -6,12 +6,13 @@ use Rattle.dwg_show.specs.declared.page.Page.{Page}
 use Rattle.dwg_show.specs.declared.page.ShowFault.{ShowFault}
 use Rattle.dwg_show.specs.declared.page.ShowFault.TheVariants as causes
 
--- what a fault tells of the sink's count of faults: a write fault comes only where it rose; want of memory leaves it as it was
+-- a count of faults that rose
 pub record Rises (before now : ℕ) : Type 0 where
   pub never_falls : before ≤ now
   pub stands : before ≡ LAST_COUNT → now ≡ LAST_COUNT
   pub rose : Rose before now
 
+-- what a fault tells of the sink's count of faults: a write fault comes only where it rose; want of memory leaves it as it was
 abbrev pub IsCause : ShowFault → ℕ → ℕ → Type 0
 IsCause causes.NoMemory before now = now ≡ before
 IsCause causes.WriteFault before now = Rises before now

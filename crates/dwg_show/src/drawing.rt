@@ -1,13 +1,16 @@
 //! The text of a drawing.
 
-ghost use Rattle.std.specs.Prelude.{◌≡◌, ◌≤◌, ◌++◌, codes, decimal, length, flat_map, IsErrOf, IfOk, OnOk, map, string_bytes};
+ghost use Rattle.std.specs.Prelude.{◌≡◌, ⊤, ◌≤◌, ◌++◌, codes, decimal, length, flat_map, IsErrOf, IfOk, OnOk, map, string_bytes};
+ghost use Rattle.std.specs.List.{AllByRecursion};
 ghost use Rattle.dwg_base.specs.Devices.{LAST_COUNT, Rose, Sends};
 ghost use Rattle.dwg_codes.specs.Parts.{part_bytes};
 ghost use Rattle.dwg_file.specs.Contents.{contents_of, other_value};
+ghost use Rattle.dwg_file.specs.Valid.{IsValid};
 ghost use Rattle.dwg_object.specs.Objects.{value_of};
 ghost use Rattle.dwg_text.specs.Classes.{class_line, classes_text};
 ghost use Rattle.dwg_text.specs.Lines.{line};
 ghost use Rattle.dwg_show.specs.DrawingText as texts;
+ghost use Rattle.dwg_show.specs.FewBits.{HasFewBits};
 ghost use Rattle.dwg_show.specs.Telling.{Tells};
 
 use crate::bytes::tell_bytes;
@@ -30,6 +33,8 @@ fn class_text(alloc: Global, class: &Class) -> Result<String, AllocError>
 }
 
 impl Tell for Class {
+    ghost can_tell = { λ class. ⊤ };
+
     ghost told = { class_line };
 
     #[tactic(auto, using(crate::proofs::Telling::tells_idle))]
@@ -58,6 +63,8 @@ fn tell_other<W: Sink>(number: u8, bytes: &[u8], page: &mut Page, sink: &mut W)
 }
 
 impl Tell for Other<'_> {
+    ghost can_tell = { λ other. ⊤ };
+
     ghost told = { λ other. texts.other_line (other_value other) };
 
     fn tell<W: Sink>(&self, page: &mut Page, sink: &mut W) {
@@ -118,6 +125,7 @@ fn tell_others<W: Sink>(others: &[Other<'_>], page: &mut Page, sink: &mut W)
 
 /// Tells the objects.
 fn tell_objects<W: Sink>(objects: &[Object<'_>], page: &mut Page, sink: &mut W)
+    requires { AllByRecursion HasFewBits (map value_of objects.now) }
     ensures { Tells page.old page.new (W.taken sink.old) (W.taken sink.new) (W.faults sink.old) (W.faults sink.new) (texts.objects_text (map value_of objects.now)) }
 {
     page.tell_made(count_line(page.alloc, "objects", objects.len()), sink);
@@ -126,6 +134,7 @@ fn tell_objects<W: Sink>(objects: &[Object<'_>], page: &mut Page, sink: &mut W)
 
 /// Tells a drawing.
 fn tell_drawing<W: Sink>(parts: &Parts<'_>, page: &mut Page, sink: &mut W)
+    requires { IsValid (contents_of parts.now) }
     ensures { Tells page.old page.new (W.taken sink.old) (W.taken sink.new) (W.faults sink.old) (W.faults sink.new) (texts.show_text (contents_of parts.now)) }
 {
     tell_drawing_line(parts, page, sink);

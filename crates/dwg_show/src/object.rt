@@ -1,12 +1,13 @@
 //! The text of an object.
 
-ghost use Rattle.std.specs.Prelude.{◌≡◌, ◌%◌, [], ◌++◌, codes, length, IfOk, IfSome, string_bytes};
+ghost use Rattle.std.specs.Prelude.{◌≡◌, ◌%◌, ◌^◌, ◌<◌, [], ◌++◌, codes, length, IfOk, IfSome, string_bytes};
 ghost use Rattle.dwg_bits.specs.Bits.{bits};
 ghost use Rattle.dwg_bits.specs.Parts.{part_bits};
 ghost use Rattle.dwg_bits.specs.Sink.{padding};
 ghost use Rattle.dwg_bits.specs.WholeBytes.{whole_bytes};
 ghost use Rattle.dwg_object.specs.Objects.{number_of, value_of};
 ghost use Rattle.dwg_show.specs.Fields as printers;
+ghost use Rattle.dwg_show.specs.FewBits.{HasFewBits};
 ghost use Rattle.dwg_show.specs.ObjectText as texts;
 ghost use Rattle.dwg_show.specs.Telling.{Tells};
 
@@ -105,17 +106,13 @@ fn head_line(alloc: Global, object: &Object<'_>) -> Result<String, AllocError>
     Ok(line)
 }
 
-/// How many bits a sink holds at the most.
-const MOST_BITS: u64 = 1 << 61;
-
-/// Bits in a sink, with zero bits up to a whole byte. None is want of memory alone, which more bits than a sink holds are sure
-/// to meet.
+/// Bits in a sink, with zero bits up to a whole byte. None is want of memory alone.
 fn padded(alloc: Global, bits: &BitPart<'_>) -> Option<BitSink>
+    requires { length (part_bits bits.now) < 2 ^ 32 }
     ensures { IfSome result (λ sink. sink.written ≡ part_bits bits.now ++ padding (part_bits bits.now)) }
 {
-    let length = bits.length();
     let mut sink = BitSink::new(alloc);
-    if length > MOST_BITS || !sink.reserve(length + 7) {
+    if !sink.reserve(bits.length() + 7) {
         return None;
     }
     sink.push_part(bits);
@@ -123,7 +120,7 @@ fn padded(alloc: Global, bits: &BitPart<'_>) -> Option<BitSink>
     Some(sink)
 }
 
-/// Bytes, which are those of their bits.
+/// Bytes as they are: a parameter's are known to be bytes, so that they follow from their bits.
 fn whole_of(bytes: &[u8]) -> &[u8]
     ensures { result.now ≡ whole_bytes (bits bytes.now) }
 {
@@ -140,6 +137,7 @@ fn bytes_of(sink: &BitSink) -> &[u8]
 
 /// Prints the own bits of an object.
 fn print_rest<W: Sink>(bits: &BitPart<'_>, page: &mut Page, sink: &mut W)
+    requires { length (part_bits bits.now) < 2 ^ 32 }
     ensures { Tells page.old page.new (W.taken sink.old) (W.taken sink.new) (W.faults sink.old) (W.faults sink.new) (printers.member [] (codes "rest") printers.bytes (whole_bytes (part_bits bits.now ++ padding (part_bits bits.now)))) }
 {
     match padded(page.alloc, bits) {
@@ -151,6 +149,7 @@ fn print_rest<W: Sink>(bits: &BitPart<'_>, page: &mut Page, sink: &mut W)
 /// Prints the fields of an object.
 #[tactic(auto, using(crate::proofs::Runs::tells_2, crate::proofs::Runs::tells_4), unfolding(crate::specs::ObjectText::object_fields))]
 fn print_fields<W: Sink>(object: &Object<'_>, page: &mut Page, sink: &mut W)
+    requires { HasFewBits (value_of object.now) }
     ensures { Tells page.old page.new (W.taken sink.old) (W.taken sink.new) (W.faults sink.old) (W.faults sink.new) (texts.object_fields (value_of object.now)) }
 {
     match object {
@@ -169,6 +168,8 @@ fn print_fields<W: Sink>(object: &Object<'_>, page: &mut Page, sink: &mut W)
 }
 
 impl Tell for Object<'_> {
+    ghost can_tell = { λ object. HasFewBits (value_of object) };
+
     ghost told = { λ object. texts.object_text (value_of object) };
 
     #[tactic(auto, using(crate::proofs::Telling::tells_idle, crate::proofs::Runs::tells_2), unfolding(crate::specs::ObjectText::object_text))]

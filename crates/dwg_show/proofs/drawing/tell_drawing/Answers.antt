@@ -1,4 +1,7 @@
-use Rattle.std.proofs.Common.{ap, subst}
+use Rattle.std.specs.List.{AllByRecursion}
+use Rattle.dwg_show.specs.FewBits.{HasFewBits}
+use Rattle.dwg_show.proofs.FewBits.{few_of_objects}
+use Rattle.std.proofs.Common.{ap, subst, sym}
 use Rattle.std.specs.Prelude.{flat_map, map}
 use Rattle.dwg_file.specs.Contents.{other_value}
 use Rattle.dwg_object.specs.Objects.{value_of}
@@ -16,3 +19,7 @@ returns g c =
     ▷ subst (Tells _ _ _ _ _ _) (ap classes_text c.as_slice-2.ensures) c.tell_classes.ensures
     ▷ subst (Tells _ _ _ _ _ _) (ap (λ others. flat_map other_line (map other_value others)) c.as_slice-3.ensures) c.tell_others.ensures
     ▷ subst (Tells _ _ _ _ _ _) (ap (λ objects. objects_text (map value_of objects)) c.as_slice-4.ensures) c.tell_objects.ensures
+
+pub tell_objects-requires : goal.tell_objects-requires
+tell_objects-requires g c =
+    subst (λ objects. AllByRecursion HasFewBits (map value_of objects)) (sym c.as_slice-4.ensures) (few_of_objects c.args.parts.now.classes _ c.requires.objects)

@@ -1,3 +1,5 @@
+use Rattle.dwg_show.proofs.FewBits.{all_of_seen}
+use Rattle.dwg_show.specs.FewBits.{HasFewBits}
 use Rattle.std.proofs.Common.{◌≡◌, sym, ◌∙◌, ap, ap₂, subst, ◌++◌}
 use Rattle.std.specs.Prelude.{codes, decimal, flat_map, map}
 use Rattle.std.proofs.lemmas.List.{length-map}
@@ -16,3 +18,6 @@ returns g c =
     subst (Tells _ _ _ _ _ _)
     (ap₂ (λ count text. line (codes "objects " ++ decimal count) ++ text) (sym (length-map c.args.objects.now value_of)) (told_of_seen object_text value_of c.args.objects.now))
     (c.tell_made.ensures _ c.count_line.ensures ▷ c.tell_all.ensures)
+
+pub tell_all-requires : goal.tell_all-requires
+tell_all-requires g c = all_of_seen HasFewBits value_of c.args.objects.now c.requires
