@@ -1,0 +1,179 @@
+-- How many bits each code is written by at the most, whatever the value.
+use Rattle.std.proofs.Common.{ℕ, zero, suc, ◌+◌, ◌*◌, ◌≤◌, Bool, true, false, List, [], ◌∷◌, ◌++◌, length, Some, arith}
+use Rattle.std.specs.Prelude.{◌-◌, ◌/◌, ◌%◌, ◌^◌, ◌==◌, nat_lt, find, unwrap_or, cond}
+use Rattle.std.specs.List.{AllByRecursion}
+use Rattle.std.proofs.lemmas.List.{length-append}
+use Rattle.dwg_bits.specs.Bits.{low_bits}
+use Rattle.dwg_bits.specs.BitLaws.{length_of_low_bits}
+use Rattle.dwg_codes.specs.Codes.{rc, rs, rl, rd, bs, bs_by, bl, bl_by, bd, bd_by, dd, dd_by, bt, bt_by, bd3, be, be_by, tv}
+use Rattle.dwg_codes.specs.Combinators.{never, choose, short_chain, chain, items}
+use Rattle.dwg_codes.specs.Grammar.{Grammar}
+use Rattle.dwg_codes.specs.NumberLaws.{length_of_rs, length_of_rl, length_of_rd}
+use Rattle.dwg_codes.specs.TruthCode.{b}
+use Rattle.dwg_codes.specs.declared.points.Point3.{Point3}
+use Rattle.dwg_handles.specs.Reference.{Reference}
+use Rattle.dwg_handles.specs.ReferenceCodes.{byte_count, counted_number, absolute, next_handle, handle_before, ahead, back, by_reference_code, reference}
+
+-- letters of which there are so many at the most
+pub record Few (most : ℕ) (letters : List Bool) : Type 0 where
+  pub few : length letters ≤ most
+
+-- no letters
+pub no_letters : Few 0 []
+no_letters = record { few = omega arith }
+
+-- letters behind letters
+pub both : {most more : ℕ} {front back : List Bool} → Few most front → Few more back → Few (most + more) (front ++ back)
+both {most} {more} {front} {back} few fewer = record { few = omega (arith, length-append front back, few.few, fewer.few) }
+
+-- a greater bound
+pub loosely : {most : ℕ} {letters : List Bool} (more : ℕ) → most ≤ more → Few most letters → Few more letters
+loosely {most} {letters} more less few = record { few = omega (arith, few.few) }
+
+-- the low bits of a number
+pub low_few : (count value : ℕ) → Few count (low_bits count value)
+low_few count value = record { few = omega (arith, length_of_low_bits count value) }
+
+-- RC, RS, RL, RD and B have as many bits as their names say
+pub rc_few : (value : ℕ) → Few 8 (rc.short value)
+rc_few value = low_few 8 value
+
+pub rs_few : (value : ℕ) → Few 16 (rs.short value)
+rs_few value = record { few = omega (arith, length_of_rs value) }
+
+pub rl_few : (value : ℕ) → Few 32 (rl.short value)
+rl_few value = record { few = omega (arith, length_of_rl value) }
+
+pub rd_few : (value : ℕ) → Few 64 (rd.short value)
+rd_few value = record { few = omega (arith, length_of_rd value) }
+
+pub b_few : (value : Bool) → Few 1 (b.short value)
+b_few true = low_few 1 1
+b_few false = low_few 1 0
+
+-- what stands behind each tag
+bs_line : (tag value : ℕ) → Few 16 ((bs_by tag).short value)
+bs_line zero value = rs_few value
+bs_line (suc zero) value = loosely 16 (omega arith) (rc_few value)
+bs_line (suc (suc zero)) value = loosely 16 (omega arith) no_letters
+bs_line (suc (suc (suc zero))) value = loosely 16 (omega arith) no_letters
+bs_line (suc (suc (suc (suc tag)))) value = loosely 16 (omega arith) no_letters
+
+-- so a BS has no more than 18 bits
+pub bs_few : (value : ℕ) → Few 18 (bs.short value)
+bs_few value = both (low_few 2 _) (bs_line _ value)
+
+-- a BL
+bl_line : (tag value : ℕ) → Few 32 ((bl_by tag).short value)
+bl_line zero value = rl_few value
+bl_line (suc zero) value = loosely 32 (omega arith) (rc_few value)
+bl_line (suc (suc zero)) value = loosely 32 (omega arith) no_letters
+bl_line (suc (suc (suc tag))) value = loosely 32 (omega arith) no_letters
+
+pub bl_few : (value : ℕ) → Few 34 (bl.short value)
+bl_few value = both (low_few 2 _) (bl_line _ value)
+
+-- a BD
+bd_line : (tag value : ℕ) → Few 64 ((bd_by tag).short value)
+bd_line zero value = rd_few value
+bd_line (suc zero) value = loosely 64 (omega arith) no_letters
+bd_line (suc (suc zero)) value = loosely 64 (omega arith) no_letters
+bd_line (suc (suc (suc tag))) value = loosely 64 (omega arith) no_letters
+
+pub bd_few : (value : ℕ) → Few 66 (bd.short value)
+bd_few value = both (low_few 2 _) (bd_line _ value)
+
+-- a DD, whatever its default
+dd_line : (default tag value : ℕ) → Few 64 ((dd_by default tag).short value)
+dd_line default zero value = loosely 64 (omega arith) no_letters
+dd_line default (suc zero) value = loosely 64 (omega arith) (rl_few (value % 2 ^ 32))
+dd_line default (suc (suc zero)) value =
+    loosely 64 (omega arith) (both (rc_few (value / 2 ^ 32 % 2 ^ 8)) (both (rc_few (value / 2 ^ 40 % 2 ^ 8)) (rl_few (value % 2 ^ 32))))
+dd_line default (suc (suc (suc zero))) value = rd_few value
+dd_line default (suc (suc (suc (suc tag)))) value = loosely 64 (omega arith) no_letters
+
+pub dd_few : (default value : ℕ) → Few 66 ((dd default).short value)
+dd_few default value = both (low_few 2 _) (dd_line default _ value)
+
+-- a BT
+bt_line : (tag value : ℕ) → Few 66 ((bt_by tag).short value)
+bt_line zero value = bd_few value
+bt_line (suc zero) value = loosely 66 (omega arith) no_letters
+bt_line (suc (suc tag)) value = loosely 66 (omega arith) no_letters
+
+pub bt_few : (value : ℕ) → Few 67 (bt.short value)
+bt_few value = both (low_few 1 _) (bt_line _ value)
+
+-- three BDs
+pub bd3_few : (point : Point3) → Few 198 (bd3.short point)
+bd3_few point = both (bd_few point.x) (both (bd_few point.y) (bd_few point.z))
+
+-- a BE
+be_line : (tag : ℕ) (point : Point3) → Few 198 ((be_by tag).short point)
+be_line zero point = bd3_few point
+be_line (suc zero) point = loosely 198 (omega arith) no_letters
+be_line (suc (suc tag)) point = loosely 198 (omega arith) no_letters
+
+pub be_few : (point : Point3) → Few 199 (be.short point)
+be_few point = both (low_few 1 _) (be_line _ point)
+
+-- values one behind the other, each of so many bits at the most
+pub chain_few : {S V : Type 0} (code : S → Grammar Bool V) (next : V → S) (state : S) (values : List V) (most : ℕ) → ((state : S) (value : V) → Few most ((code state).short value))
+    → Few (most * length values) (short_chain code next state values)
+chain_few code next state [] most each = record { few = omega arith }
+chain_few code next state (value ∷ values) most each = record { few = omega (arith, (both (each state value) (chain_few code next (next value) values most each)).few) }
+
+-- so many values
+pub items_few : {V : Type 0} (code : Grammar Bool V) (count : ℕ) (values : List V) (most : ℕ) → ((value : V) → Few most (code.short value)) → Few (most * length values) ((items code count).short values)
+unfolding chain
+items_few code count values most each = chain_few (λ (state : ℕ). code) (λ value. 0) 0 values most (λ state value. each value)
+
+-- a text of so many bytes
+pub tv_few : (most : ℕ) (text : List ℕ) → length text ≤ most → Few (18 + 8 * most) (tv.short text)
+unfolding tv
+tv_few most text short =
+    let all = items_few rc (length text) text 8 rc_few in
+    record { few = omega (arith, (both (bs_few (length text)) all).few, short) }
+
+-- the fewest bytes of a number are no more than eight
+found_few : (p : ℕ → Bool) (counts : List ℕ) → AllByRecursion (λ count. count ≤ 8) counts → unwrap_or (find p counts) 8 ≤ 8
+found_few p [] all = omega arith
+found_few p (count ∷ counts) all = of_test (p count) (found_few p counts all.1)
+  where
+    of_test : (test : Bool) → unwrap_or (find p counts) 8 ≤ 8 → unwrap_or (cond test (Some count) (find p counts)) 8 ≤ 8
+    of_test true others = all.0
+    of_test false others = others
+
+-- so the count that a number is written behind
+bytes_few : (number : ℕ) → byte_count number ≤ 8
+unfolding byte_count
+bytes_few number =
+    found_few (λ count. nat_lt number (2 ^ (8 * count))) (0 ∷ 1 ∷ 2 ∷ 3 ∷ 4 ∷ 5 ∷ 6 ∷ 7 ∷ [])
+    (omega arith, (omega arith, (omega arith, (omega arith, (omega arith, (omega arith, (omega arith, (omega arith, tt))))))))
+
+-- so a number behind the count of its bytes has no more than 68 bits
+pub number_few : (number : ℕ) → Few 68 (counted_number.short number)
+number_few number = record { few = omega (arith, (both (low_few 4 (byte_count number)) (low_few (8 * byte_count number) number)).few, bytes_few number) }
+
+-- what stands behind the code of a reference
+choose_few : {V : Type 0} (most : ℕ) (test : Bool) (one other : Grammar Bool V) (value : V) → Few most (one.short value) → Few most (other.short value) → Few most ((choose test one other).short value)
+choose_few most true one other value few fewer = few
+choose_few most false one other value few fewer = fewer
+
+-- so each line of the codes of references
+line_few : (base code : ℕ) (value : Reference) → Few 68 ((by_reference_code base code).short value)
+line_few base code value =
+    choose_few 68 (nat_lt code 6) (absolute base code) _ value (number_few value.target)
+    (choose_few 68 (code == 6) (next_handle base) _ value (loosely 68 (omega arith) (low_few 4 0))
+    (choose_few 68 (code == 8) (handle_before base) _ value (loosely 68 (omega arith) (low_few 4 0))
+    (choose_few 68 (code == 10) (ahead base) _ value (number_few (value.target - base))
+    (choose_few 68 (code == 12) (back base) never value (number_few (base - value.target)) (loosely 68 (omega arith) no_letters)))))
+
+-- a reference has no more than 72 bits
+pub ref_few : (base : ℕ) (value : Reference) → Few 72 ((reference base).short value)
+unfolding reference
+ref_few base value = both (low_few 4 value.code) (line_few base value.code value)
+
+-- so many references
+pub refs_few : (base count most : ℕ) (values : List Reference) → length values ≤ most → Few (72 * most) ((items (reference base) count).short values)
+refs_few base count most values short = record { few = omega (arith, (items_few (reference base) count values 72 (ref_few base)).few, short) }

@@ -1,0 +1,15 @@
+pub mod CodeSizes
+pub mod PartsMade
+pub mod ShapesMade
+pub mod TextsMade
+pub mod TablesMade
+pub mod DictsMade
+pub mod CommonsMade
+pub mod ObjectsMade
+pub mod FormsMade
+pub mod FixedObjects
+pub mod FixedBlocks
+pub mod FurtherObjects
+pub mod Ascending
+pub mod Validity
+pub mod DrawsAlong

@@ -1,0 +1,84 @@
+-- What is made is valid.
+use Rattle.std.proofs.Common.{◌≡◌, refl, ℕ, ◌^◌, ◌≤◌, ◌<◌, List, [], ◌∷◌, ◌++◌, length, arith}
+use Rattle.std.specs.Prelude.{map}
+use Rattle.std.specs.List.{AllByRecursion, range_with_len}
+use Rattle.std.proofs.lemmas.List.{length-append}
+use Rattle.std.proofs.lemmas.List.FromFn.{length-map-range_with_len}
+use Rattle.dwg_base.specs.Devices.{MOST_BYTES}
+use Rattle.dwg_bits.specs.WholeBytes.{whole_bytes}
+use Rattle.dwg_object.specs.Objects.{ObjectValue}
+use Rattle.dwg_file.specs.Canonical.{class_content, placed, objects_place, size_of}
+use Rattle.dwg_file.specs.MapSize.{map_short}
+use Rattle.dwg_file.specs.ObjectSize.{IsSmall, small_valid, frames_short, length_of_placed}
+use Rattle.dwg_file.specs.Valid.{IsValid}
+use Rattle.dwg_make.specs.Fixed.{controls, dictionaries, table_entries, model_space, paper_space, tag_block, tag_insert, fixed_objects}
+use Rattle.dwg_make.specs.Further.{further_entity}
+use Rattle.dwg_make.specs.Made.{made}
+use Rattle.dwg_make.proofs.Ascending.{all_ascend}
+use Rattle.dwg_make.proofs.FixedBlocks.{model_space_small, paper_space_small, tag_block_small, tag_insert_small}
+use Rattle.dwg_make.proofs.FixedObjects.{controls_small, dictionaries_small, entries_small}
+use Rattle.dwg_make.proofs.FurtherObjects.{all_further}
+use Rattle.dwg_make.proofs.TablesMade.{zeros_are_bytes}
+
+-- small objects behind small objects
+joined_small : (front back : List ObjectValue) → AllByRecursion (IsSmall [] MOST_BYTES) front → AllByRecursion (IsSmall [] MOST_BYTES) back → AllByRecursion (IsSmall [] MOST_BYTES) (front ++ back)
+joined_small [] back small others = others
+joined_small (object ∷ front) back small others = (small.0, joined_small front back small.1 others)
+
+-- the fixed objects, and all objects
+fixed_small : (count : ℕ) → count < 2 ^ 20 → AllByRecursion (IsSmall [] MOST_BYTES) (fixed_objects count)
+unfolding fixed_objects
+fixed_small count few =
+    joined_small _ tag_insert
+    (joined_small _ tag_block
+    (joined_small _ paper_space
+    (joined_small _ (model_space count)
+    (joined_small _ table_entries (joined_small controls dictionaries controls_small dictionaries_small) entries_small) (model_space_small count few))
+    paper_space_small) tag_block_small) tag_insert_small
+
+fixed_count : (count : ℕ) → length (fixed_objects count) ≡ 29
+unfolding fixed_objects controls dictionaries table_entries model_space paper_space tag_block tag_insert
+fixed_count count = refl
+
+-- no classes have no content
+no_content : length (class_content []) ≡ 0
+unfolding whole_bytes
+no_content = refl
+
+-- the size of what is made
+made_small : (count seed : ℕ) → count ≤ 200000 → AllByRecursion (IsSmall [] MOST_BYTES) (fixed_objects count ++ map (further_entity count seed) (range_with_len 1 count)) → size_of (made count seed) < 2 ^ 58
+unfolding made
+made_small count seed few small =
+    let objects : List ObjectValue = fixed_objects count ++ map (further_entity count seed) (range_with_len 1 count) in
+    let pairs = placed (objects_place (made count seed)) objects in
+    omega (
+      arith,
+      length-append (fixed_objects count) (map (further_entity count seed) (range_with_len 1 count)),
+      fixed_count count,
+      length-map-range_with_len (further_entity count seed) 1 count,
+      no_content,
+      frames_short [] objects small,
+      map_short pairs,
+      length_of_placed (objects_place (made count seed)) objects,
+    )
+
+-- so it is valid
+pub made_is_valid : (count seed : ℕ) → 0 < count → count ≤ 200000 → seed < 2 ^ 32 → IsValid (made count seed)
+unfolding made
+made_is_valid count seed some few low =
+    let objects : List ObjectValue = fixed_objects count ++ map (further_entity count seed) (range_with_len 1 count) in
+    let small : AllByRecursion (IsSmall [] MOST_BYTES) objects =
+    joined_small (fixed_objects count) _ (fixed_small count (omega arith)) (all_further count seed 1 count low (omega arith)) in
+    record {
+      lead = (refl, zeros_are_bytes 7);
+      mark = (refl, zeros_are_bytes 2);
+      code_page = omega arith;
+      variables = tt;
+      classes = tt;
+      few = omega arith;
+      others = tt;
+      distinct = λ i j d less within. absurd (omega arith);
+      objects = small_valid [] MOST_BYTES objects small;
+      ascending = all_ascend count seed;
+      size = made_small count seed few small;
+    }

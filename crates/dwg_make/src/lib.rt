@@ -1,0 +1,20 @@
+//! Test drawings that are made of two numbers.
+#![tactic(auto)]
+
+mod blocks;
+mod controls;
+mod dictionaries;
+mod drawing;
+mod further;
+mod laws;
+mod lists;
+mod making;
+mod objects;
+mod random;
+mod references;
+mod tables;
+mod tag;
+mod texts;
+
+pub use drawing::{MakeFault, make};
+pub use laws::make_laws;
