@@ -1,9 +1,15 @@
 -- What an answer that was sent left on output and notes.
-use Rattle.std.proofs.Common.{◌≡◌, subst, sym, ℕ, List, inl, inr}
-use Rattle.std.specs.Prelude.{Option}
+use Rattle.std.proofs.Common.{◌≡◌, ◌∙◌, ap, subst, sym, ℕ, ◌<◌, ◌≤◌, true, false, List, inl, inr, arith}
+use Rattle.std.proofs.lemmas.Bool.Decides.{nat_tests}
+use Rattle.std.specs.Prelude.{Option, nat_lt, if◌then◌else◌}
+use Rattle.dwg_base.specs.Devices.{MOST_BYTES}
 use Rattle.dwg_cli.specs.declared.status.Status.{Status}
 use Rattle.dwg_cli.specs.declared.status.Status.TheVariants.{Done, Usage, Refused, ReadFault, WriteFault, NoMemory, TooLong, TooLarge}
 use Rattle.dwg_cli.specs.declared.answer.Answer.{Answer}
+use Rattle.dwg_cli.specs.Outcome.{noted, printed, written}
+use Rattle.dwg_file.specs.Canonical.{size_of, canonical}
+use Rattle.dwg_file.specs.Contents.{Contents}
+use Rattle.dwg_text.specs.Notes.{too_large_note}
 use Rattle.dwg_cli.specs.Run.{IsSettled, IsStopped, IsCut, Sent}
 
 -- a status that is settled isn't one at which the run stopped
@@ -26,3 +32,30 @@ stopped_is_cut answer told status output output' notes notes' faults faults' not
       | inl whole ↦ absurd (settled_goes_on status (subst IsSettled (sym whole.0) settled) stopped)
       | inr broken ↦ subst (λ (one : Answer). IsCut one output output' notes notes') is broken.1
     ]
+
+-- the file of a drawing that is within the limit, and of one that isn't
+pub sent_within : (drawing other : Contents) (status : Status) (output output' notes notes' : Option (List ℕ)) (faults faults' note_faults note_faults' : ℕ)
+    → size_of drawing ≤ MOST_BYTES → other ≡ drawing → Sent (printed (canonical other)) status output output' notes notes' faults faults' note_faults note_faults'
+    → Sent (written drawing) status output output' notes notes' faults faults' note_faults note_faults'
+unfolding written
+sent_within drawing other status output output' notes notes' faults faults' note_faults note_faults' few same sent =
+    let within : nat_lt MOST_BYTES (size_of drawing) ≡ false = grind (arith, nat_tests) in
+    subst (λ (answer : Answer). Sent answer status output output' notes notes' faults faults' note_faults note_faults')
+    (ap (λ one. printed (canonical one)) same
+    ∙ sym (ap (λ test. if test then noted (too_large_note (size_of drawing)) (TooLarge (size_of drawing)) else printed (canonical drawing)) within)) sent
+
+pub sent_too_large : (drawing : Contents) (size : ℕ) (status : Status) (output output' notes notes' : Option (List ℕ)) (faults faults' note_faults note_faults' : ℕ)
+    → MOST_BYTES < size_of drawing → size ≡ size_of drawing → Sent (noted (too_large_note size) (TooLarge size)) status output output' notes notes' faults faults' note_faults note_faults'
+    → Sent (written drawing) status output output' notes notes' faults faults' note_faults note_faults'
+unfolding written
+sent_too_large drawing size status output output' notes notes' faults faults' note_faults note_faults' many same sent =
+    let over : nat_lt MOST_BYTES (size_of drawing) ≡ true = grind (arith, nat_tests) in
+    subst (λ (answer : Answer). Sent answer status output output' notes notes' faults faults' note_faults note_faults')
+    (ap (λ one. noted (too_large_note one) (TooLarge one)) same
+    ∙ sym (ap (λ test. if test then noted (too_large_note (size_of drawing)) (TooLarge (size_of drawing)) else printed (canonical drawing)) over)) sent
+
+-- an answer that is another
+pub sent_same : (answer told : Answer) (status : Status) (output output' notes notes' : Option (List ℕ)) (faults faults' note_faults note_faults' : ℕ)
+    → answer ≡ told → Sent answer status output output' notes notes' faults faults' note_faults note_faults' → Sent told status output output' notes notes' faults faults' note_faults note_faults'
+sent_same answer told status output output' notes notes' faults faults' note_faults note_faults' is sent =
+    subst (λ (one : Answer). Sent one status output output' notes notes' faults faults' note_faults note_faults') is sent

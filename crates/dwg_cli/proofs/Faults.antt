@@ -1,12 +1,13 @@
 -- A fault that tells the first refusal of the lines of a command gives the command's answer.
-use Rattle.std.proofs.Common.{◌≡◌, ◌∙◌, refl, sym, ap, ℕ, List, [], ◌∷◌, ◌++◌, Option, Some, None}
+use Rattle.std.proofs.Common.{◌≡◌, ◌∙◌, sym, ap, ℕ, List, [], ◌∷◌, ◌++◌, Option, Some, None}
+use Rattle.std.specs.Prelude.{Result, Ok, Err, IfOk}
 use Rattle.std.specs.Option.{option_or}
 use Rattle.dwg_base.specs.Refusals.{RefusalRow, first_fault, Tells}
 use Rattle.dwg_base.specs.declared.refusal.Refusal.{Refusal}
 use Rattle.dwg_base.specs.declared.refusal.Fault.{Fault}
 use Rattle.dwg_base.specs.declared.refusal.Fault.TheVariants.{NoMemory, Refused}
 use Rattle.dwg_sections.specs.HeaderLines.{HEADER_LINES}
-use Rattle.dwg_cli.specs.declared.words.Command.TheVariants.{Sections, Classes, Rewrite}
+use Rattle.dwg_cli.specs.declared.words.Command.TheVariants.{Sections, Classes, Show, Rewrite}
 use Rattle.dwg_cli.specs.declared.answer.Answer.{Answer}
 use Rattle.dwg_file.specs.FileLines.{classes_section_row, classes_row, ALL_LINES}
 use Rattle.dwg_cli.specs.Lines.{CLASSES_LINES}
@@ -48,7 +49,18 @@ pub header_refused : (answer : Answer) (fault : Fault) (bytes : List ℕ) → An
 header_refused answer fault bytes answers tells =
     classes_refused answer fault bytes answers (told_by_more fault HEADER_LINES (classes_section_row ∷ classes_row ∷ []) bytes tells)
 
--- a fault of any line is what `rewrite` answers
+-- a fault of any line is what `show` answers
+pub show_refused : (answer : Answer) (fault : Fault) (bytes : List ℕ) → AnswersFault answer fault → Tells fault (first_fault ALL_LINES bytes) → answer ≡ outcome_within Show bytes
+unfolding outcome_within
+show_refused answer fault bytes answers tells = told answer fault (first_fault ALL_LINES bytes) _ tells answers
+
+-- and what `rewrite` answers
 pub rewrite_refused : (answer : Answer) (fault : Fault) (bytes : List ℕ) → AnswersFault answer fault → Tells fault (first_fault ALL_LINES bytes) → answer ≡ outcome_within Rewrite bytes
 unfolding outcome_within
 rewrite_refused answer fault bytes answers tells = told answer fault (first_fault ALL_LINES bytes) _ tells answers
+
+-- so where there was memory for an answer, it is the command's
+pub answered : {E : Type 0} (result : Result Answer E) (fault : Fault) (told : Answer) → IfOk result (λ answer. AnswersFault answer fault)
+    → ((answer : Answer) → AnswersFault answer fault → answer ≡ told) → IfOk result (λ answer. answer ≡ told)
+answered {E} (Ok answer) fault told answers is = is answer answers
+answered {E} (Err wanted) fault told answers is = tt

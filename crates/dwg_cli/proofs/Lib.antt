@@ -1,4 +1,6 @@
 pub mod Outcomes
 pub mod Faults
 pub mod Deliveries
-pub mod Rewriting
+pub mod Drawings
+pub mod Makings
+pub mod Numerals

@@ -83,7 +83,7 @@ pub record AnswersTo (words : List (List ℕ)) (came : List ℕ) (status : Statu
   pub ends : status ≡ (outcome words came).status
   pub sends : Delivers (outcome words came) output output' notes notes'
 
--- how an answer that was sent ends: its status, where both sinks took it; else a write fault, where one of them failed
+-- how an answer that is sent ends: its status, where both sinks took it; else at a write fault, where one of them failed, or at want of memory
 abbrev pub Sent : Answer → Status → Option (List ℕ) → Option (List ℕ) → Option (List ℕ) → Option (List ℕ) → ℕ → ℕ → ℕ → ℕ → Type 0
 Sent answer status output output' notes notes' faults faults' note_faults note_faults' =
     IsWhole ⊎ IsBroken
@@ -92,4 +92,4 @@ Sent answer status output output' notes notes' faults faults' note_faults note_f
     IsWhole = (status ≡ answer.status) × Delivers answer output output' notes notes' × (faults' ≡ faults) × (note_faults' ≡ note_faults)
 
     IsBroken : Type 0
-    IsBroken = (status ≡ WriteFault) × IsCut answer output output' notes notes' × (Rose faults faults' ⊎ Rose note_faults note_faults')
+    IsBroken = IsStopped status × IsCut answer output output' notes notes' × (status ≡ WriteFault → Rose faults faults' ⊎ Rose note_faults note_faults')

@@ -1,9 +1,12 @@
-//! The program `dwg`: it reads a drawing on standard input and says what the words of its command line ask for.
+//! The program `dwg`: it says of a drawing on standard input what the words of its command line ask for, or makes one.
 #![tactic(auto)]
 
 mod adapters;
 mod answer;
+mod answering;
+mod request;
 mod run;
+mod sending;
 mod status;
 #[cfg(test)]
 mod tests;

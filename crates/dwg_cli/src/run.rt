@@ -1,34 +1,19 @@
 //! The top call.
 
-ghost use Rattle.std.specs.Prelude.{◌≡◌, ◌<◌, ◌⊎◌, ℕ, ◌≤◌, length, List, [], Some, None, IfSome};
+ghost use Rattle.std.specs.Prelude.{◌≡◌, ◌<◌, ◌⊎◌, ℕ, ◌≤◌, length, List, [], Some, IfSome};
 ghost use Rattle.std.specs.Io.KnownBytes.{Appends};
 ghost use Rattle.dwg_base.specs.Devices.{Rose, AppendsFront, MOST_BYTES};
 ghost use Rattle.dwg_text.specs.Notes as texts;
-ghost use Rattle.dwg_cli.specs.Words.{texts as words_of, command_of, IsReading};
+ghost use Rattle.dwg_cli.specs.Words.{texts as words_of, command_of, IsReading, IsUsage};
 ghost use Rattle.dwg_cli.specs.Outcome.{outcome};
-ghost use Rattle.dwg_cli.specs.Run.{Feeds, Came, AnswersTo, IsSettled, IsStopped, IsFailed, IsDrained, Delivers, IsCut, StopsAtFault, Sent};
+ghost use Rattle.dwg_cli.specs.Run.{Feeds, Came, AnswersTo, IsSettled, IsStopped, IsFailed, IsDrained, Delivers, IsCut, StopsAtFault};
 
-use crate::answer::{Answer, Stop, answer_for};
+use crate::answering::answer;
+use crate::request::{Stop, request_for};
 use crate::status::Status;
 use dwg_base::{Sink, Source, put_all};
 use dwg_text::read_fault_note;
 use std::alloc::Global;
-
-/// Sends an answer: first all of its output, and then its note.
-fn deliver<W: Sink, N: Sink>(answer: &Answer, output: &mut W, notes: &mut N) -> Status
-    ensures never_fall { (W.faults output.old ≤ W.faults output.new) × (N.faults notes.old ≤ N.faults notes.new) }
-    ensures sent { Sent answer.now result (W.taken output.old) (W.taken output.new) (N.taken notes.old) (N.taken notes.new)
-        (W.faults output.old) (W.faults output.new) (N.faults notes.old) (N.faults notes.new) }
-{
-    match put_all(output, answer.output.as_slice()) {
-        Ok(()) => {}
-        Err(_) => return Status::WriteFault,
-    }
-    match put_all(notes, answer.note.as_slice()) {
-        Ok(()) => answer.status,
-        Err(_) => Status::WriteFault,
-    }
-}
 
 /// Notes that the input failed.
 fn tell_read_fault<N: Sink>(notes: &mut N) -> Status
@@ -59,9 +44,10 @@ pub fn run<R: Source, W: Sink, N: Sink>(
     ensures came { IsSettled result → Came (R.left input.old) (R.left input.new) (λ came.
         AnswersTo (words_of words.now) came result (W.taken output.old) (W.taken output.new) (N.taken notes.old) (N.taken notes.new)) }
 
-    // Usage comes exactly where the words stand in no line of the command table, whatever the devices tell.
-    ensures usage { result ≡ Status.Usage → command_of (words_of words.now) ≡ None }
-    ensures usage_told { command_of (words_of words.now) ≡ None → (result ≡ Status.Usage) ⊎ IsStopped result }
+    // Usage comes only where the words stand in no line of the command table, or ask for a made drawing of no size that it has; and
+    // there it comes, unless the run stopped. That is so whatever the devices tell.
+    ensures usage { result ≡ Status.Usage → IsUsage (command_of (words_of words.now)) }
+    ensures usage_told { IsUsage (command_of (words_of words.now)) → (result ≡ Status.Usage) ⊎ IsStopped result }
 
     // A read fault comes only where the command reads and the input's faults rose, and no more than the limit came before
     // it: nothing went to the output.
@@ -86,7 +72,7 @@ pub fn run<R: Source, W: Sink, N: Sink>(
     ensures heeded_output { W.faults output.old < W.faults output.new → IsStopped result }
     ensures heeded_notes { N.faults notes.old < N.faults notes.new → IsStopped result }
 
-    // Counts of faults never fall, and stay where no device failed.
+    // Counts of faults never fall. They stay where neither a device nor memory failed, and those of the sinks where the input failed.
     ensures quiet { IsSettled result → (R.faults input.new ≡ R.faults input.old) × (W.faults output.new ≡ W.faults output.old) × (N.faults notes.new ≡ N.faults notes.old) }
     ensures quiet_sinks { result ≡ Status.ReadFault → (W.faults output.new ≡ W.faults output.old) × (N.faults notes.new ≡ N.faults notes.old) }
     ensures never_fall { (R.faults input.old ≤ R.faults input.new) × (W.faults output.old ≤ W.faults output.new) × (N.faults notes.old ≤ N.faults notes.new) }
@@ -100,8 +86,8 @@ pub fn run<R: Source, W: Sink, N: Sink>(
         (bytes : List ℕ) → Feeds (command_of (words_of words.now)) (R.left input.old) bytes →
         (result ≡ (outcome (words_of words.now) bytes).status) ⊎ (result ≡ Status.NoMemory) }
 {
-    match answer_for(alloc, words, input) {
-        Ok(answer) => deliver(&answer, output, notes),
+    match request_for(alloc, words, input) {
+        Ok(request) => answer(alloc, &request, output, notes),
         Err(Stop::ReadFault) => tell_read_fault(notes),
         Err(Stop::NoMemory) => Status::NoMemory,
     }

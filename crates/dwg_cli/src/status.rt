@@ -9,7 +9,7 @@ use dwg_base::Refusal;
 pub enum Status {
     /// All went well.
     Done,
-    /// The words stand in no line of the command table.
+    /// The words stand in no line of the command table, or ask for a made drawing of no size that it has.
     Usage,
     /// The input fails this line of the table of refusals.
     Refused(Refusal),

@@ -92,6 +92,93 @@ const FIVE_SECTIONS: [u8; 88] = [
     0x5E, 0x41, 0xE0, 0x5F, 0x9D, 0x3A, 0x4D, 0x00,
 ];
 
+/// The frame of an object of handle 1 that has no meaning, that of an entity of handle 2 of which no more is told, with five own
+/// bits and a reference of its own, and a map of both.
+const PLAIN_AND_RAW: [u8; 51] = [
+    0x0A, 0x00, 0x72, 0x00, 0x00, 0x00, 0x00, 0x00, 0x40, 0x40, 0x2A, 0x00, 0xB2, 0x0C, 0x14, 0x00,
+    0x48, 0xD8, 0x40, 0x00, 0x00, 0x00, 0x40, 0xA4, 0x80, 0xF4, 0x21, 0xDA, 0xA0, 0x82, 0x98, 0x28,
+    0x88, 0x50, 0x81, 0x80, 0x8F, 0x8E, 0x00, 0x07, 0x01, 0xB7, 0x01, 0x01, 0x0E, 0x9B, 0x0B, 0x00,
+    0x02, 0x01, 0xD0,
+];
+
+/// What the header of the smallest file says else, where these stand in it.
+const OF_PLAIN_AND_RAW: [(usize, u8); 4] = [(44, 0xDD), (48, 0x0D), (52, 0x54), (53, 0x6A)];
+
+/// Their text.
+const TEXT_OF_PLAIN_AND_RAW: &str = "\
+drawing AC1015 codepage 0 lead 00000000000000 mark 0000
+variables -
+classes 0
+objects 2
+object 1 UNKNOWN raw 200
+  bytes 72000000000040402a00
+object 2 ENTITY plain 35
+  mode 2
+  reactors[0] 4.5
+  xdict 3.0
+  colour 256
+  linetype_scale 3FF0000000000000
+  linetype_flag 0
+  plotstyle_flag 0
+  invisible 0
+  lineweight 29
+  layer 5.10
+  bits 5
+  rest a8
+  refs[0] A.5
+";
+
+/// The text of the dictionary of handle C.
+const TEXT_OF_ONE_OBJECT: &str = "\
+drawing AC1015 codepage 0 lead 00000000000000 mark 0000
+variables -
+classes 0
+objects 1
+object C DICTIONARY typed 42
+  owner 4.0
+  xdict 3.0
+  cloning 0
+  hard_owner 0
+";
+
+/// The text of the drawing with one class.
+const TEXT_OF_ONE_CLASS: &str = "\
+drawing AC1015 codepage 0 lead 00000000000000 mark 0000
+variables -
+classes 1
+class 500 version 0 proxy 0 item 498 app \"A\" cpp \"B\" dxf \"C\"
+objects 0
+";
+
+/// The text of the drawing with an unknown section.
+const TEXT_OF_FOUR_SECTIONS: &str = "\
+drawing AC1015 codepage 0 lead 00000000000000 mark 0000
+variables -
+classes 0
+section 7 414243
+objects 0
+";
+
+/// The last object of the drawing that is made of 1 and 7.
+const TEXT_OF_THE_LAST: &str = "
+object 31 LINE typed 19
+  mode 2
+  xdict 3.0
+  links.previous 4.30
+  links.next 4.0
+  colour 256
+  linetype_scale 3FF0000000000000
+  linetype_flag 0
+  plotstyle_flag 0
+  invisible 0
+  lineweight 29
+  layer 5.10
+  start 4050E9DAB1D10000 40509CCC40FC0000 0000000000000000
+  end 4050ED4EA82B0000 40500CA19F8E0000 0000000000000000
+  thickness 0000000000000000
+  extrusion 0000000000000000 0000000000000000 3FF0000000000000
+";
+
 const SECTIONS: &str =
     "version AC1015\ncodepage 0\npreview 146\nsection 0 at 70 size 38\nsection 1 at 108 size 38\nsection 2 at 183 size 4\n";
 
@@ -243,7 +330,7 @@ fn names_the_first_fault_of_the_header(rt: HostRuntime) -> Result<(), Fail> {
             "dwg: refused: header 0 at 69: short\n",
         ),
     ] {
-        for command in [&["sections"], &["classes"], &["rewrite"]] {
+        for command in [&["sections"], &["classes"], &["show"], &["rewrite"]] {
             answers(
                 &rt,
                 alloc,
@@ -311,6 +398,91 @@ fn rewrites_drawings(rt: HostRuntime) -> Result<(), Fail> {
         &one_object,
         b"",
     )
+}
+
+#[test]
+fn shows_drawings(rt: HostRuntime) -> Result<(), Fail> {
+    let alloc = rt.alloc();
+    let one_object = with_frames(alloc, &OF_ONE_OBJECT, &ONE_OBJECT, &[])?;
+    let sections = joined(alloc, &[&FOUR_SECTIONS, &SMALLEST[70..], b"ABC"])?;
+    let plain_and_raw = with_frames(alloc, &OF_PLAIN_AND_RAW, &PLAIN_AND_RAW, &[])?;
+    for (input, text) in [
+        (one_object.as_slice(), TEXT_OF_ONE_OBJECT),
+        (&ONE_CLASS, TEXT_OF_ONE_CLASS),
+        (&sections, TEXT_OF_FOUR_SECTIONS),
+        (&plain_and_raw, TEXT_OF_PLAIN_AND_RAW),
+    ] {
+        answers(
+            &rt,
+            alloc,
+            &["show"],
+            input,
+            Status::Done,
+            text.as_bytes(),
+            b"",
+        )?;
+    }
+    Ok(())
+}
+
+/// What a command that must end well writes, with so much room for it.
+fn output_of(
+    rt: &impl Abort,
+    alloc: Global,
+    named: &[&str],
+    bytes: &[u8],
+    room: usize,
+) -> Result<ByteRun, Fail> {
+    let words = words(alloc, named)?;
+    let mut input = source(alloc, bytes, PLENTY, &[])?;
+    let mut output = MemSink::new(alloc, room, PLENTY, calls(alloc, &[])?).or(Err("no memory"))?;
+    let mut notes = sink(alloc, PLENTY, &[])?;
+    let ended = run(alloc, &words, &mut input, &mut output, &mut notes);
+    assert_eq!(rt; ended, Status::Done);
+    assert_eq!(rt; notes.bytes(), b"".as_slice());
+    Ok(output.into_bytes())
+}
+
+#[test]
+fn makes_rewrites_and_shows(rt: HostRuntime) -> Result<(), Fail> {
+    let alloc = rt.alloc();
+    let made = output_of(&rt, alloc, &["make", "1", "7"], b"", PLENTY)?;
+    let made = made.as_slice();
+    answers(&rt, alloc, &["rewrite"], made, Status::Done, made, b"")?;
+    let text = output_of(&rt, alloc, &["show"], made, PLENTY)?;
+    answers(
+        &rt,
+        alloc,
+        &["show"],
+        made,
+        Status::Done,
+        text.as_slice(),
+        b"",
+    )?;
+    let begins =
+        "drawing AC1015 codepage 30 lead 00000000000000 mark 0000\nvariables -\nclasses 0\nobjects 30\nobject 1 BLOCK CONTROL typed 48\n";
+    assert!(rt; text.as_slice().starts_with(begins.as_bytes()));
+    assert!(rt; text.as_slice().ends_with(TEXT_OF_THE_LAST.as_bytes()));
+    Ok(())
+}
+
+#[test]
+fn makes_the_largest_drawing_and_refuses_other_sizes(rt: HostRuntime) -> Result<(), Fail> {
+    let alloc = rt.alloc();
+    let many = output_of(&rt, alloc, &["make", "200000", "1"], b"", LIMIT as usize)?;
+    assert!(rt; many.as_slice().starts_with(b"AC1015"));
+    for size in ["0", "200001", "4294967295"] {
+        answers(
+            &rt,
+            alloc,
+            &["make", size, "1"],
+            &SMALLEST,
+            Status::Usage,
+            b"",
+            b"dwg: size must be 1 to 200000\n",
+        )?;
+    }
+    Ok(())
 }
 
 #[test]
@@ -413,6 +585,13 @@ fn tells_how_it_is_used(rt: HostRuntime) -> Result<(), Fail> {
         ["audit", "extra"].as_slice(),
         &["sections", "extra"],
         &["classes", "classes"],
+        &["show", "show", "show"],
+        &["make", "1"],
+        &["make", "01", "1"],
+        &["make", "1", "-1"],
+        &["make", "1", ""],
+        &["make", "1", "4294967296"],
+        &["make", "1", "1", "1"],
         &["--help"],
         &[],
     ] {
@@ -462,14 +641,20 @@ fn tells_a_failing_input(rt: HostRuntime) -> Result<(), Fail> {
 #[test]
 fn stops_at_a_failing_output(rt: HostRuntime) -> Result<(), Fail> {
     let alloc = rt.alloc();
-    let words = words(alloc, &["sections"])?;
-    let mut input = source(alloc, &SMALLEST, PLENTY, &[])?;
-    let mut output = sink(alloc, 10, &[3])?;
-    let mut notes = sink(alloc, PLENTY, &[])?;
-    let status = run(alloc, &words, &mut input, &mut output, &mut notes);
-    assert_eq!(rt; status, Status::WriteFault);
-    assert_eq!(rt; output.bytes(), b"version AC1015\ncodep".as_slice());
-    assert_eq!(rt; notes.bytes(), b"".as_slice());
+    for (command, front) in [
+        ("sections", b"version AC1015\ncodep".as_slice()),
+        ("show", b"drawing AC1015 codep"),
+        ("rewrite", &SMALLEST[..20]),
+    ] {
+        let words = words(alloc, &[command])?;
+        let mut input = source(alloc, &SMALLEST, PLENTY, &[])?;
+        let mut output = sink(alloc, 10, &[3])?;
+        let mut notes = sink(alloc, PLENTY, &[])?;
+        let status = run(alloc, &words, &mut input, &mut output, &mut notes);
+        assert_eq!(rt; status, Status::WriteFault);
+        assert_eq!(rt; output.bytes(), front);
+        assert_eq!(rt; notes.bytes(), b"".as_slice());
+    }
     Ok(())
 }
 

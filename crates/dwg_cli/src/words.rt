@@ -1,7 +1,10 @@
 //! The words of the command line.
 
-ghost use Rattle.std.specs.Prelude.{◌≡◌};
-ghost use Rattle.dwg_cli.specs.Words.{texts, command_of};
+ghost use Rattle.std.specs.Prelude.{◌≡◌, ℕ, ◌<◌, ◌^◌, None, IfSome};
+ghost use Rattle.std.specs.Fmt.{decimal};
+ghost use Rattle.std.specs.List.{list_all};
+ghost use Rattle.std.specs.Char.{is_ascii_digit};
+ghost use Rattle.dwg_cli.specs.Words.{texts, is_numeral, number_of, make_of, command_of};
 
 /// What the program is asked for.
 #[derive(Clone, Copy, Debug, PartialEq, Eq)]
@@ -10,8 +13,66 @@ pub enum Command {
     Sections,
     /// The text of the file's classes.
     Classes,
+    /// The text of the drawing.
+    Show,
     /// The canonical file of the drawing.
     Rewrite,
+    /// The canonical file of a made drawing.
+    Make {
+        /// How many entities follow its fixed objects.
+        n: u32,
+        /// The seed of its random numbers.
+        seed: u32,
+    },
+}
+
+/// Whether every byte is a decimal digit.
+fn are_digits(word: &[u8]) -> bool
+    ensures { result ≡ list_all is_ascii_digit word.now }
+{
+    word.iter().all(u8::is_ascii_digit)
+}
+
+/// Whether a word is one to ten decimal digits, without a zero before others.
+#[tactic(auto, unfolding(crate::specs::Words::is_numeral))]
+fn is_numeral(word: &[u8]) -> bool
+    ensures { result ≡ is_numeral word.now }
+{
+    if word.is_empty() {
+        return false;
+    }
+    if word.len() > 10 {
+        return false;
+    }
+    if !are_digits(word) {
+        return false;
+    }
+    if word[0] == b'0' {
+        return word.len() == 1;
+    }
+    true
+}
+
+/// The number that a word spells. None exactly where it isn't one to ten decimal digits, has a zero before others, or is 2^32 or
+/// more.
+fn read_number(word: &str) -> Option<u32>
+    ensures computed { result ≡ number_of word.now }
+    ensures value { IfSome result (λ value. word.now ≡ decimal value) }
+    ensures none { result ≡ None → (value : ℕ) → value < 2 ^ 32 → word.now ≡ decimal value → ⊥ }
+{
+    if !is_numeral(word.as_bytes()) {
+        return None;
+    }
+    word.parse().ok()
+}
+
+/// The command that makes a drawing.
+fn read_make(n: &str, seed: &str) -> Option<Command>
+    ensures { result ≡ make_of (number_of n.now) (number_of seed.now) }
+{
+    let n = read_number(n)?;
+    let seed = read_number(seed)?;
+    Some(Command::Make { n, seed })
 }
 
 /// The command that the words name. None exactly where they stand in no line of the command table. It takes no memory.
@@ -25,8 +86,17 @@ pub fn read_words(words: &[String]) -> Option<Command>
                 Some(Command::Sections)
             } else if word.as_str() == "classes" {
                 Some(Command::Classes)
+            } else if word.as_str() == "show" {
+                Some(Command::Show)
             } else if word.as_str() == "rewrite" {
                 Some(Command::Rewrite)
+            } else {
+                None
+            }
+        }
+        [word, n, seed] => {
+            if word.as_str() == "make" {
+                read_make(n.as_str(), seed.as_str())
             } else {
                 None
             }

@@ -1,0 +1,147 @@
+//! Answering what the program is asked.
+
+ghost use Rattle.std.specs.Prelude.{◌≡◌, ◌≤◌, IfOk, length};
+ghost use Rattle.dwg_base.specs.Devices.{MOST_BYTES};
+ghost use Rattle.dwg_cli.specs.Outcome.{made_answer, outcome_within};
+ghost use Rattle.dwg_cli.specs.Requests.{asked, IsWithin};
+ghost use Rattle.dwg_cli.specs.Run.{Sent};
+
+use crate::answer::{Answer, fault_answer, printed_answer};
+use crate::request::Request;
+use crate::sending::{send_answer, send_drawing_text, send_file, send_note};
+use crate::status::Status;
+use crate::words::Command;
+use dwg_base::{NoMemory, Sink};
+use dwg_file::{classes_of_file, drawing_laws, read_drawing};
+use dwg_make::{MakeFault, make};
+use dwg_sections::read_file_header;
+use dwg_text::{classes_text, sections_text, size_note, too_long_note, usage_note};
+use std::alloc::Global;
+
+/// What `sections` answers to an input within the limit.
+#[tactic(auto, using(crate::proofs::Faults::sections_refused), unfolding(crate::specs::Outcome::outcome_within))]
+fn sections_answer(alloc: Global, bytes: &[u8]) -> Result<Answer, NoMemory>
+    ensures { IfOk result (λ answer. answer ≡ outcome_within Command.Sections bytes.now) }
+{
+    match read_file_header(alloc, bytes) {
+        Ok(header) => printed_answer(alloc, sections_text(alloc, &header)?),
+        Err(fault) => fault_answer(alloc, fault),
+    }
+}
+
+/// What `classes` answers to an input within the limit.
+#[tactic(auto, using(crate::proofs::Faults::classes_refused, crate::proofs::Faults::header_refused), unfolding(crate::specs::Outcome::outcome_within))]
+fn classes_answer(alloc: Global, bytes: &[u8]) -> Result<Answer, NoMemory>
+    requires { length bytes.now ≤ MOST_BYTES }
+    ensures { IfOk result (λ answer. answer ≡ outcome_within Command.Classes bytes.now) }
+{
+    let header = match read_file_header(alloc, bytes) {
+        Ok(header) => header,
+        Err(fault) => return fault_answer(alloc, fault),
+    };
+    match classes_of_file(alloc, bytes, &header) {
+        Ok(classes) => printed_answer(alloc, classes_text(alloc, classes.as_slice())?),
+        Err(fault) => fault_answer(alloc, fault),
+    }
+}
+
+/// Answers `show` over an input within the limit.
+fn answer_show<W: Sink, N: Sink>(
+    alloc: Global,
+    bytes: &[u8],
+    output: &mut W,
+    notes: &mut N,
+) -> Status
+    requires { length bytes.now ≤ MOST_BYTES }
+    ensures never_fall { (W.faults output.old ≤ W.faults output.new) × (N.faults notes.old ≤ N.faults notes.new) }
+    ensures sent { Sent (outcome_within Command.Show bytes.now) result (W.taken output.old) (W.taken output.new) (N.taken notes.old) (N.taken notes.new)
+        (W.faults output.old) (W.faults output.new) (N.faults notes.old) (N.faults notes.new) }
+{
+    drawing_laws();
+    match read_drawing(alloc, bytes) {
+        Ok(drawing) => send_drawing_text(alloc, &drawing, output),
+        Err(fault) => send_answer(fault_answer(alloc, fault), output, notes),
+    }
+}
+
+/// Answers `rewrite` over an input within the limit.
+fn answer_rewrite<W: Sink, N: Sink>(
+    alloc: Global,
+    bytes: &[u8],
+    output: &mut W,
+    notes: &mut N,
+) -> Status
+    requires { length bytes.now ≤ MOST_BYTES }
+    ensures never_fall { (W.faults output.old ≤ W.faults output.new) × (N.faults notes.old ≤ N.faults notes.new) }
+    ensures sent { Sent (outcome_within Command.Rewrite bytes.now) result (W.taken output.old) (W.taken output.new) (N.taken notes.old) (N.taken notes.new)
+        (W.faults output.old) (W.faults output.new) (N.faults notes.old) (N.faults notes.new) }
+{
+    drawing_laws();
+    match read_drawing(alloc, bytes) {
+        Ok(drawing) => send_file(alloc, &drawing, output, notes),
+        Err(fault) => send_answer(fault_answer(alloc, fault), output, notes),
+    }
+}
+
+/// Answers `make`.
+fn answer_make<W: Sink, N: Sink>(
+    alloc: Global,
+    n: u32,
+    seed: u32,
+    output: &mut W,
+    notes: &mut N,
+) -> Status
+    ensures never_fall { (W.faults output.old ≤ W.faults output.new) × (N.faults notes.old ≤ N.faults notes.new) }
+    ensures sent { Sent (made_answer n seed) result (W.taken output.old) (W.taken output.new) (N.taken notes.old) (N.taken notes.new)
+        (W.faults output.old) (W.faults output.new) (N.faults notes.old) (N.faults notes.new) }
+{
+    match make(alloc, n, seed) {
+        Ok(drawing) => send_file(alloc, &drawing, output, notes),
+        Err(MakeFault::Size) => send_note(size_note(), Status::Usage, output, notes),
+        Err(MakeFault::NoMemory) => Status::NoMemory,
+    }
+}
+
+/// Answers a command over an input within the limit.
+fn answer_within<W: Sink, N: Sink>(
+    alloc: Global,
+    command: Command,
+    bytes: &[u8],
+    output: &mut W,
+    notes: &mut N,
+) -> Status
+    requires { length bytes.now ≤ MOST_BYTES }
+    ensures never_fall { (W.faults output.old ≤ W.faults output.new) × (N.faults notes.old ≤ N.faults notes.new) }
+    ensures sent { Sent (outcome_within command bytes.now) result (W.taken output.old) (W.taken output.new) (N.taken notes.old) (N.taken notes.new)
+        (W.faults output.old) (W.faults output.new) (N.faults notes.old) (N.faults notes.new) }
+{
+    match command {
+        Command::Sections => send_answer(sections_answer(alloc, bytes), output, notes),
+        Command::Classes => send_answer(classes_answer(alloc, bytes), output, notes),
+        Command::Show => answer_show(alloc, bytes, output, notes),
+        Command::Rewrite => answer_rewrite(alloc, bytes, output, notes),
+        Command::Make { n, seed } => answer_make(alloc, n, seed, output, notes),
+    }
+}
+
+/// Answers what the program is asked.
+pub(crate) fn answer<W: Sink, N: Sink>(
+    alloc: Global,
+    request: &Request,
+    output: &mut W,
+    notes: &mut N,
+) -> Status
+    requires { IsWithin request.now }
+    ensures never_fall { (W.faults output.old ≤ W.faults output.new) × (N.faults notes.old ≤ N.faults notes.new) }
+    ensures sent { Sent (asked request.now) result (W.taken output.old) (W.taken output.new) (N.taken notes.old) (N.taken notes.new)
+        (W.faults output.old) (W.faults output.new) (N.faults notes.old) (N.faults notes.new) }
+{
+    match request {
+        Request::Usage => send_note(usage_note(), Status::Usage, output, notes),
+        Request::TooLong => send_note(too_long_note(), Status::TooLong, output, notes),
+        Request::Make { n, seed } => answer_make(alloc, *n, *seed, output, notes),
+        Request::Read { command, bytes } => {
+            answer_within(alloc, *command, bytes.as_slice(), output, notes)
+        }
+    }
+}
