@@ -4,3 +4,4 @@ pub mod Deliveries
 pub mod Drawings
 pub mod Makings
 pub mod Numerals
+pub mod MakeWords

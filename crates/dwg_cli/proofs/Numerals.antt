@@ -80,7 +80,7 @@ unfolding number_of
 number_of_none word test = rw test
 
 -- the text of a number spells it
-number_of_decimal : (value : ℕ) → value < 2 ^ 32 → number_of (decimal value) ≡ Some value
+pub number_of_decimal : (value : ℕ) → value < 2 ^ 32 → number_of (decimal value) ≡ Some value
 number_of_decimal value small =
     let same : digits_value 10 (decimal value) ≡ value = digits_value-decimal digits value (omega arith) in
     number_of_small (decimal value) (numeral_of_decimal value small) (omega (arith, same)) ∙ ap (λ n. Some n) same

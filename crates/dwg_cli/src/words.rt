@@ -1,6 +1,6 @@
 //! The words of the command line.
 
-ghost use Rattle.std.specs.Prelude.{◌≡◌, ℕ, ◌<◌, ◌^◌, None, IfSome};
+ghost use Rattle.std.specs.Prelude.{◌≡◌, ℕ, ◌<◌, ◌^◌, [], ◌∷◌, Some, None, codes, IfSome};
 ghost use Rattle.std.specs.Fmt.{decimal};
 ghost use Rattle.std.specs.List.{list_all};
 ghost use Rattle.std.specs.Char.{is_ascii_digit};
@@ -75,9 +75,9 @@ fn read_make(n: &str, seed: &str) -> Option<Command>
     Some(Command::Make { n, seed })
 }
 
-/// The command that the words name. None exactly where they stand in no line of the command table. It takes no memory.
+/// The command that the words name, by the table of commands.
 #[tactic(auto, unfolding(crate::specs::Words::command_of))]
-pub fn read_words(words: &[String]) -> Option<Command>
+fn command_named(words: &[String]) -> Option<Command>
     ensures { result ≡ command_of (texts words.now) }
 {
     match words {
@@ -103,4 +103,15 @@ pub fn read_words(words: &[String]) -> Option<Command>
         }
         _ => None,
     }
+}
+
+/// The command that the words name. None exactly where they stand in no line of the command table. The numbers of `make` are the
+/// decimal texts of those below 2^32. It takes no memory.
+#[tactic(auto, using(crate::proofs::MakeWords::make_named, crate::proofs::MakeWords::make_numbers))]
+pub fn read_words(words: &[String]) -> Option<Command>
+    ensures named { result ≡ command_of (texts words.now) }
+    ensures numbers { (n seed : ℕ) → result ≡ Some (Command.Make n seed) → texts words.now ≡ codes "make" ∷ decimal n ∷ decimal seed ∷ [] }
+    ensures makes { (n seed : ℕ) → n < 2 ^ 32 → seed < 2 ^ 32 → texts words.now ≡ codes "make" ∷ decimal n ∷ decimal seed ∷ [] → result ≡ Some (Command.Make n seed) }
+{
+    command_named(words)
 }
