@@ -1,2 +1,3 @@
 pub mod KindTables
 pub mod KindNames
+pub mod SameKinds

@@ -112,3 +112,37 @@ kind_name XRecord = codes "XRECORD"
 kind_name PlainEntity = codes "ENTITY"
 kind_name PlainObject = codes "OBJECT"
 kind_name Unknown = codes "UNKNOWN"
+
+-- the place of a kind among all kinds, as they are declared
+unfoldable pub place_of_kind : Kind → ℕ
+place_of_kind Text = 0
+place_of_kind Attrib = 1
+place_of_kind Attdef = 2
+place_of_kind Block = 3
+place_of_kind EndBlk = 4
+place_of_kind SeqEnd = 5
+place_of_kind Insert = 6
+place_of_kind Arc = 7
+place_of_kind Circle = 8
+place_of_kind Line = 9
+place_of_kind Point = 10
+place_of_kind LwPolyline = 11
+place_of_kind Dictionary = 12
+place_of_kind BlockControl = 13
+place_of_kind BlockHeader = 14
+place_of_kind LayerControl = 15
+place_of_kind Layer = 16
+place_of_kind StyleControl = 17
+place_of_kind Style = 18
+place_of_kind LtypeControl = 19
+place_of_kind Ltype = 20
+place_of_kind AppIdControl = 21
+place_of_kind AppId = 22
+place_of_kind XRecord = 23
+place_of_kind PlainEntity = 24
+place_of_kind PlainObject = 25
+place_of_kind Unknown = 26
+
+-- whether two kinds are one
+unfoldable pub same_kind : Kind → Kind → Bool
+same_kind kind other = place_of_kind kind == place_of_kind other

@@ -1,7 +1,7 @@
 //! Kinds as values: which are entities, and the names that are printed of them.
 
-ghost use Rattle.std.specs.Prelude.{◌≡◌};
-ghost use Rattle.dwg_kinds.specs.Kinds.{is_entity_kind, kind_name};
+ghost use Rattle.std.specs.Prelude.{◌≡◌, ◌↔◌, IsTrue};
+ghost use Rattle.dwg_kinds.specs.Kinds.{is_entity_kind, kind_name, place_of_kind, same_kind};
 
 /// What an object is (Open Design Specification, "R13 to R2000 file layout, object data"). The last three are a rule of this
 /// project: objects of which no more is told than whether they are entities, or not even that.
@@ -111,4 +111,48 @@ pub fn name_of(kind: Kind) -> &'static str
         Kind::PlainObject => "OBJECT",
         Kind::Unknown => "UNKNOWN",
     }
+}
+
+/// The place of a kind among all kinds.
+#[tactic(auto, unfolding(crate::specs::Kinds::place_of_kind))]
+fn place(kind: Kind) -> u8
+    ensures { result ≡ place_of_kind kind }
+{
+    match kind {
+        Kind::Text => 0,
+        Kind::Attrib => 1,
+        Kind::Attdef => 2,
+        Kind::Block => 3,
+        Kind::EndBlk => 4,
+        Kind::SeqEnd => 5,
+        Kind::Insert => 6,
+        Kind::Arc => 7,
+        Kind::Circle => 8,
+        Kind::Line => 9,
+        Kind::Point => 10,
+        Kind::LwPolyline => 11,
+        Kind::Dictionary => 12,
+        Kind::BlockControl => 13,
+        Kind::BlockHeader => 14,
+        Kind::LayerControl => 15,
+        Kind::Layer => 16,
+        Kind::StyleControl => 17,
+        Kind::Style => 18,
+        Kind::LtypeControl => 19,
+        Kind::Ltype => 20,
+        Kind::AppIdControl => 21,
+        Kind::AppId => 22,
+        Kind::XRecord => 23,
+        Kind::PlainEntity => 24,
+        Kind::PlainObject => 25,
+        Kind::Unknown => 26,
+    }
+}
+
+/// Whether two kinds are one.
+#[tactic(auto, unfolding(crate::specs::Kinds::same_kind))]
+pub fn is_same(kind: Kind, other: Kind) -> bool
+    ensures { result ≡ same_kind kind other }
+{
+    place(kind) == place(other)
 }

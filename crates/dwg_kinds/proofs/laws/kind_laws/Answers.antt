@@ -1,5 +1,6 @@
 use Rattle.dwg_kinds.proofs.KindTables.{no_other, in_plain_entities, entities_listed}
 use Rattle.dwg_kinds.proofs.KindNames.{names_differ}
+use Rattle.dwg_kinds.proofs.SameKinds.{same_kinds}
 use Rattle.dwg_kinds.proofs.laws.kind_laws.Goals as goal
 
 pub returns-clause-plain_entities : goal.returns-clause-plain_entities
@@ -13,3 +14,6 @@ returns-clause-names c = names_differ
 
 pub returns-clause-entities : goal.returns-clause-entities
 returns-clause-entities c = entities_listed
+
+pub returns-clause-same : goal.returns-clause-same
+returns-clause-same c = same_kinds
