@@ -1,0 +1,4 @@
+pub mod Marking
+pub mod RankWalks
+pub mod Rests
+pub mod ChainWalks

@@ -1,0 +1,13 @@
+pub mod Paths
+pub mod Ways
+pub mod Tables
+pub mod MemberLaws
+pub mod RankLaws
+pub mod WayLaws
+pub mod PathLaws
+pub mod TestLaws
+pub mod ChainLaws
+pub mod PlaceLaws
+pub mod Marks
+pub mod RankMarks
+pub mod ChainMarks
