@@ -1,0 +1,192 @@
+//! Who owns an object, and what follows it in a block.
+
+ghost use Rattle.std.specs.Prelude.{◌≡◌, List, [], length, map};
+ghost use Rattle.std.specs.List.{cons_option};
+ghost use Rattle.dwg_paths.specs.Paths.{first_of};
+ghost use Rattle.dwg_graph.specs.Owners.{block_controls, common_next, common_owner, entity_owner, handle_behind, model_space, next_of, owner_of, paper_space, spaces, told_spaces};
+ghost use Rattle.dwg_object.specs.Objects.{value_of};
+
+use dwg_base::Handle;
+use dwg_common::EntityCommon;
+use dwg_object::{Body, Common, Object};
+
+/// The table of blocks of a drawing, and its two spaces.
+#[derive(Clone, Copy, Debug, PartialEq, Eq)]
+pub struct SpaceHandles {
+    /// The table of blocks.
+    pub control: Handle,
+    /// The model space.
+    pub model: Handle,
+    /// The paper space.
+    pub paper: Handle,
+}
+
+/// The null handle.
+fn null() -> Handle
+    ensures { result ≡ 0 }
+{
+    match Handle::new(0) {
+        Some(handle) => handle,
+        None => unreachable!(),
+    }
+}
+
+/// The handle behind another, null where there is none.
+fn behind(handle: Handle) -> Handle
+    ensures { result ≡ handle_behind handle }
+{
+    match Handle::new(handle.value() + 1) {
+        Some(next) => next,
+        None => null(),
+    }
+}
+
+/// The model space, null where there is none.
+fn model(spaces: Option<SpaceHandles>) -> Handle
+    ensures { result ≡ model_space spaces }
+{
+    match spaces {
+        Some(known) => known.model,
+        None => null(),
+    }
+}
+
+/// The paper space, null where there is none.
+fn paper(spaces: Option<SpaceHandles>) -> Handle
+    ensures { result ≡ paper_space spaces }
+{
+    match spaces {
+        Some(known) => known.paper,
+        None => null(),
+    }
+}
+
+/// The owner of an entity: the one that it names, by mode 2 the model space, by mode 1 the paper space.
+#[tactic(auto, unfolding(crate::specs::Owners::entity_owner))]
+fn owner_of_entity(common: &EntityCommon, spaces: Option<SpaceHandles>) -> Handle
+    ensures { result ≡ entity_owner spaces common.now }
+{
+    if let Some(owner) = common.owner {
+        return owner.target;
+    }
+    match common.mode {
+        2 => model(spaces),
+        1 => paper(spaces),
+        _ => null(),
+    }
+}
+
+/// The owner by a common part.
+#[tactic(auto, unfolding(crate::specs::Owners::common_owner))]
+fn owner_by(common: &Common, spaces: Option<SpaceHandles>) -> Handle
+    ensures { result ≡ common_owner spaces common.now }
+{
+    match common {
+        Common::Entity(common) => owner_of_entity(common, spaces),
+        Common::Object(common) => common.owner.target,
+    }
+}
+
+/// The owner of an object (Open Design Specification, "Common entity data"): the one that it names, and of an entity of the model or
+/// the paper space that space, null where the drawing has no sole table of blocks. A Raw object names none, which is null too.
+#[tactic(auto, unfolding(crate::specs::Owners::owner_of))]
+pub fn owner_of(object: &Object<'_>, spaces: Option<SpaceHandles>) -> Handle
+    ensures { result ≡ owner_of spaces (value_of object.now) }
+{
+    match object {
+        Object::Typed(typed) => owner_by(&typed.common, spaces),
+        Object::Plain(plain) => owner_by(&plain.common, spaces),
+        Object::Raw(_) => null(),
+    }
+}
+
+/// What follows the object of a handle in a block, by its common part.
+#[tactic(auto, unfolding(crate::specs::Owners::common_next))]
+fn next_by(handle: Handle, common: &Common) -> Handle
+    ensures { result ≡ common_next handle common.now }
+{
+    match common {
+        Common::Entity(common) => match common.links {
+            Some(links) => links.next.target,
+            None => behind(handle),
+        },
+        Common::Object(_) => behind(handle),
+    }
+}
+
+/// What follows an object in a block (Open Design Specification, "Common entity data"): the entity that its links name, and without
+/// links the object of the handle behind its own, null where there is no such handle.
+#[tactic(auto, unfolding(crate::specs::Owners::next_of))]
+pub fn next_of(object: &Object<'_>) -> Handle
+    ensures { result ≡ next_of (value_of object.now) }
+{
+    match object {
+        Object::Typed(typed) => next_by(typed.handle, &typed.common),
+        Object::Plain(plain) => next_by(plain.handle, &plain.common),
+        Object::Raw(raw) => behind(raw.handle),
+    }
+}
+
+/// The spaces that an object tells, which is a Typed table of blocks.
+fn spaces_in(object: &Object<'_>) -> Option<SpaceHandles>
+    ensures { result ≡ told_spaces (value_of object.now) }
+{
+    match object {
+        Object::Typed(typed) => match &typed.body {
+            Body::BlockControl(body) => Some(SpaceHandles {
+                control: typed.handle,
+                model: body.model.target,
+                paper: body.paper.target,
+            }),
+            _ => None,
+        },
+        _ => None,
+    }
+}
+
+/// One where something is told, and nothing else.
+fn one_if(told: Option<SpaceHandles>) -> u64
+    ensures { result ≡ length (cons_option told []) }
+{
+    match told {
+        Some(_) => 1,
+        None => 0,
+    }
+}
+
+/// How many Typed tables of blocks there are among objects.
+#[tactic(auto, unfolding(crate::specs::Owners::block_controls), using(crate::proofs::SoleSpaces::one_more))]
+pub fn control_count(objects: &[Object<'_>]) -> u64
+    ensures { result ≡ length (block_controls (map value_of objects.now)) }
+{
+    let mut count: u64 = 0;
+    'along: for object in objects {
+        count += one_if(spaces_in(object));
+    }
+    count
+}
+
+/// The spaces that the first Typed table of blocks among objects tells.
+#[tactic(auto, unfolding(crate::specs::Owners::block_controls))]
+fn first_spaces(objects: &[Object<'_>]) -> Option<SpaceHandles>
+    ensures { result ≡ first_of (block_controls (map value_of objects.now)) }
+{
+    'along: for object in objects {
+        if let Some(told) = spaces_in(object) {
+            return Some(told);
+        }
+    }
+    None
+}
+
+/// The spaces of a drawing: those of its table of blocks, `None` exactly where there isn't exactly one that is Typed.
+#[tactic(auto, unfolding(crate::specs::Owners::spaces), using(crate::proofs::SoleSpaces::sole_is_first))]
+pub fn spaces(objects: &[Object<'_>]) -> Option<SpaceHandles>
+    ensures { result ≡ spaces (map value_of objects.now) }
+{
+    if control_count(objects) == 1 {
+        first_spaces(objects)
+    } else {
+        None
+    }
+}
