@@ -1,0 +1,245 @@
+-- The holders are counted one behind the other, and all of them give the claims on each object.
+use Rattle.std.proofs.Common.{◌≡◌, refl, sym, ◌∙◌, ap, ◌<◌, ◌≤◌, ◌+◌, ◌^◌, ℕ, suc, List, [], ◌∷◌, ◌++◌, length, map, take, get_or, replicate, Option, Some, Bool, true, false, arith}
+use Rattle.std.specs.Prelude.{◌==◌, ◌&&◌, if◌then◌else◌}
+use Rattle.std.specs.List.{slice_get, filter, flat_map, sum_by, count_by}
+use Rattle.std.proofs.lemmas.List.{take_more, take_all, length-map, get_or-replicate, length-replicate}
+use Rattle.std.proofs.lemmas.List.Concat.{length-flat_map}
+use Rattle.std.proofs.lemmas.List.Elements.{filter-append}
+use Rattle.std.proofs.lemmas.List.Sums.{sum_by-cons, sum_by_push, count_by-le-length, length-filter, sum_by_more_le_part, get_or-le-sum_by}
+use Rattle.std.proofs.lemmas.Option.{slice_get_within, get_or_from_slice_get}
+use Rattle.dwg_audit.specs.Claimed.{Adds, IsOpen, claiming, leads_to, leads_down, claims_held, claim_counts, own_counts, reference_count}
+use Rattle.dwg_audit.proofs.Counting.{stands_there}
+use Rattle.dwg_graph.specs.declared.owner.SpaceHandles.{SpaceHandles}
+use Rattle.dwg_graph.specs.declared.slot.Slot.{Slot}
+use Rattle.dwg_graph.specs.Graph.{Claim, claims, claims_of, claims_by, is_claim}
+use Rattle.dwg_graph.specs.Owners.{owner_of}
+use Rattle.dwg_graph.specs.Slots.{slots}
+use Rattle.dwg_object.specs.Objects.{ObjectValue, handle_of, kind_of}
+
+-- how many claims a holder has on an object
+pub all_of : ObjectValue → ObjectValue → ℕ
+all_of x holder = length (claims_of (handle_of x) holder)
+
+-- how many of them, where it owns it
+pub own_of : Option SpaceHandles → ObjectValue → ObjectValue → ℕ
+own_of known x holder = length (claims_held (owner_of known x) (claims_of (handle_of x) holder))
+
+-- a count for each object, of what these holders have
+pub record AreCounts (objects front : List ObjectValue) (one : ObjectValue → ObjectValue → ℕ) (counts : List ℕ) : Type 0 where
+  pub long : length counts ≡ length objects
+  pub each : (place : ℕ) (x : ObjectValue) → slice_get objects place ≡ Some x → get_or counts place 0 ≡ sum_by (one x) front
+
+-- no holder is counted
+pub counts_begin : (objects : List ObjectValue) (one : ObjectValue → ObjectValue → ℕ) → AreCounts objects (take 0 objects) one (replicate (length objects) 0)
+counts_begin objects one = record {
+  long = length-replicate (length objects) 0;
+  each = λ place x stands. get_or-replicate (length objects) place 0 0 (slice_get_within objects place x stands);
+}
+
+-- a test that holds counts one more
+count_yes : {A : Type 0} (test : A → Bool) (x : A) (more : List A) → test x ≡ true → count_by test (x ∷ more) ≡ 1 + count_by test more
+count_yes {A} test x more is =
+    let one : ◌≡◌ {A = ℕ} (if test x then 1 else 0) 1 = ap (λ b. if b then 1 else 0) is in
+    omega (arith, sum_by-cons (λ y. if test y then 1 else 0) x more, one)
+
+-- a test that fails counts none
+count_no : {A : Type 0} (test : A → Bool) (x : A) (more : List A) → test x ≡ false → count_by test (x ∷ more) ≡ count_by test more
+count_no {A} test x more is =
+    let none : ◌≡◌ {A = ℕ} (if test x then 1 else 0) 0 = ap (λ b. if b then 1 else 0) is in
+    omega (arith, sum_by-cons (λ y. if test y then 1 else 0) x more, none)
+
+-- a test that holds lets the thing pass
+filter_yes : {A : Type 0} (test : A → Bool) (x : A) (more : List A) → test x ≡ true → filter test (x ∷ more) ≡ x ∷ filter test more
+filter_yes {A} test x more is = rw is refl
+
+-- a test that fails doesn't
+filter_no : {A : Type 0} (test : A → Bool) (x : A) (more : List A) → test x ≡ false → filter test (x ∷ more) ≡ filter test more
+filter_no {A} test x more is = rw is refl
+
+-- things of which a test counts those that pass another
+count_passing : {A : Type 0} (one other : A → Bool) (things : List A) → count_by other (filter one things) ≡ length (filter (λ x. one x && other x) things)
+count_passing {A} one other [] = refl
+count_passing {A} one other (x ∷ more) = go (one x) refl (other x) refl (count_passing one other more)
+  where
+    both : A → Bool
+    both y = one y && other y
+
+    go : (first : Bool) → one x ≡ first → (second : Bool) → other x ≡ second → count_by other (filter one more) ≡ length (filter both more)
+        → count_by other (filter one (x ∷ more)) ≡ length (filter both (x ∷ more))
+    go false is second also rest =
+        let fails : both x ≡ false = ap (λ b. b && other x) is in
+        ap (count_by other) (filter_no one x more is) ∙ (rest ∙ ap length (sym (filter_no both x more fails)))
+    go true is false also rest =
+        let fails : both x ≡ false = ap (λ b. b && other x) is ∙ also in
+        ap (count_by other) (filter_yes one x more is) ∙ (count_no other x (filter one more) also ∙ (rest ∙ ap length (sym (filter_no both x more fails))))
+    go true is true also rest =
+        let holds : both x ≡ true = ap (λ b. b && other x) is ∙ also in
+        let left : count_by other (filter one (x ∷ more)) ≡ 1 + count_by other (filter one more) = ap (count_by other) (filter_yes one x more is) ∙ count_yes other x (filter one more) also in
+        let right : length (filter both (x ∷ more)) ≡ 1 + length (filter both more) = ap length (filter_yes both x more holds) ∙ omega arith in
+        omega (arith, left, right, rest)
+
+-- all things that are seen pass
+all_pass : {A B : Type 0} (test : B → Bool) (view : A → B) (things : List A) → ((x : A) → test (view x) ≡ true) → length (filter test (map view things)) ≡ length things
+all_pass {A} {B} test view [] passes = refl
+all_pass {A} {B} test view (x ∷ more) passes =
+    let rest : length (filter test (map view more)) ≡ length more = all_pass test view more passes in
+    ap length (filter_yes test (view x) (map view more) (passes x)) ∙ omega (arith, rest)
+
+-- none pass
+none_pass : {A B : Type 0} (test : B → Bool) (view : A → B) (things : List A) → ((x : A) → test (view x) ≡ false) → length (filter test (map view things)) ≡ 0
+none_pass {A} {B} test view [] fails = refl
+none_pass {A} {B} test view (x ∷ more) fails = ap length (filter_no test (view x) (map view more) (fails x)) ∙ none_pass test view more fails
+
+-- nothing passes a test that never holds
+count_never : {A : Type 0} (things : List A) → count_by (λ x. false) things ≡ 0
+count_never {A} [] = refl
+count_never {A} (x ∷ more) = count_no (λ y. false) x more refl ∙ count_never more
+
+-- a claim of a holder
+abbrev made : ℕ → Slot → Claim
+made holder slot = record { holder = holder; slot = slot }
+
+-- the slots by which a holder claims an object
+abbrev claimed_by : ObjectValue → ObjectValue → List Slot
+claimed_by x holder = filter (is_claim (kind_of holder) (handle_of x)) (slots holder)
+
+-- the claims of a holder are as many as those slots
+all_length : (x holder : ObjectValue) → all_of x holder ≡ length (claimed_by x holder)
+unfolding all_of claims_of
+all_length x holder = length-map (claimed_by x holder) (made (handle_of holder))
+
+-- the slots that claim and lead to an object
+claiming_length : (x holder : ObjectValue) → count_by (leads_to x) (claiming (kind_of holder) (slots holder)) ≡ length (claimed_by x holder)
+unfolding claiming
+claiming_length x holder = count_passing (λ (slot : Slot). claims_by (kind_of holder) slot.field) (leads_to x) (slots holder)
+
+-- the slots that lead to an object are the claims on it
+all_counted : (x holder : ObjectValue) → count_by (leads_to x) (claiming (kind_of holder) (slots holder)) ≡ all_of x holder
+all_counted x holder = claiming_length x holder ∙ sym (all_length x holder)
+
+-- and so are those of its owner
+own_counted : (known : Option SpaceHandles) (x holder : ObjectValue) → count_by (leads_down known (handle_of holder) x) (claiming (kind_of holder) (slots holder)) ≡ own_of known x holder
+unfolding own_of claims_of
+own_counted known x holder = go (handle_of holder == owner_of known x) refl
+  where
+    test : Claim → Bool
+    test claim = claim.holder == owner_of known x
+
+    held : List Slot
+    held = claiming (kind_of holder) (slots holder)
+
+    go : (owns : Bool) → (handle_of holder == owner_of known x) ≡ owns → count_by (leads_down known (handle_of holder) x) held ≡ length (filter test (map (made (handle_of holder)) (claimed_by x holder)))
+    go true is =
+        ap (λ (b : Bool). count_by (λ slot. b && leads_to x slot) held) is
+        ∙ (claiming_length x holder ∙ sym (all_pass test (made (handle_of holder)) (claimed_by x holder) (λ slot. is)))
+    go false is =
+        ap (λ (b : Bool). count_by (λ slot. b && leads_to x slot) held) is
+        ∙ (count_never held ∙ sym (none_pass test (made (handle_of holder)) (claimed_by x holder) (λ slot. is)))
+
+-- a holder has no more claims on an object than slots
+all_few : (x holder : ObjectValue) → all_of x holder ≤ length (slots holder)
+all_few x holder =
+    omega (arith, all_length x holder, length-filter (is_claim (kind_of holder) (handle_of x)) (slots holder), count_by-le-length (is_claim (kind_of holder) (handle_of x)) (slots holder))
+
+-- nor where it owns it
+own_few : (known : Option SpaceHandles) (x holder : ObjectValue) → own_of known x holder ≤ length (slots holder)
+unfolding own_of all_of
+own_few known x holder =
+    let test : Claim → Bool = λ (claim : Claim). claim.holder == owner_of known x in
+    let all : List Claim = claims_of (handle_of x) holder in
+    omega (arith, length-filter test all, count_by-le-length test all, all_few x holder)
+
+-- one more holder is counted
+counts_more : (objects : List ObjectValue) (one : ObjectValue → ObjectValue → ℕ) (test : ObjectValue → Slot → Bool) (counted : List Slot) (i : ℕ) (holder : ObjectValue) (before after : List ℕ)
+    → slice_get objects i ≡ Some holder → ((x : ObjectValue) → count_by (test x) counted ≡ one x holder) → AreCounts objects (take i objects) one before
+    → Adds objects test counted before after → AreCounts objects (take (i + 1) objects) one after
+counts_more objects one test counted i holder before after at same are adds = record {
+  long = adds.long ∙ are.long;
+  each = λ place x stands.
+      let more : take (i + 1) objects ≡ take i objects ++ holder ∷ [] =
+      take_more objects i holder (slice_get_within objects i holder at) ∙ ap (λ (y : ObjectValue). take i objects ++ y ∷ []) (get_or_from_slice_get objects i holder holder at) in
+      let sum : sum_by (one x) (take (i + 1) objects) ≡ sum_by (one x) (take i objects) + one x holder = ap (sum_by (one x)) more ∙ sum_by_push (one x) (take i objects) holder in
+      omega (arith, sum, adds.each place x stands, are.each place x stands, same x);
+}
+
+pub counts_more_all : (objects : List ObjectValue) (i : ℕ) (holder : ObjectValue) (before after : List ℕ) → slice_get objects i ≡ Some holder → AreCounts objects (take i objects) all_of before
+    → Adds objects leads_to (claiming (kind_of holder) (slots holder)) before after → AreCounts objects (take (i + 1) objects) all_of after
+counts_more_all objects i holder before after at are adds =
+    counts_more objects all_of leads_to (claiming (kind_of holder) (slots holder)) i holder before after at (λ x. all_counted x holder) are adds
+
+pub counts_more_own : (objects : List ObjectValue) (known : Option SpaceHandles) (i : ℕ) (holder : ObjectValue) (before after : List ℕ) → slice_get objects i ≡ Some holder
+    → AreCounts objects (take i objects) (own_of known) before → Adds objects (leads_down known (handle_of holder)) (claiming (kind_of holder) (slots holder)) before after
+    → AreCounts objects (take (i + 1) objects) (own_of known) after
+counts_more_own objects known i holder before after at are adds =
+    counts_more objects (own_of known) (leads_down known (handle_of holder)) (claiming (kind_of holder) (slots holder)) i holder before after at (λ x. own_counted known x holder) are adds
+
+-- the slots of one holder are no more than all
+pub slots_few : (objects : List ObjectValue) (i : ℕ) (holder : ObjectValue) → slice_get objects i ≡ Some holder → reference_count objects < 2 ^ 58 → length (slots holder) < 2 ^ 58
+unfolding reference_count
+slots_few objects i holder at few =
+    let least : length (slots (get_or objects i holder)) ≤ sum_by (λ (x : ObjectValue). length (slots x)) objects =
+    get_or-le-sum_by (λ (x : ObjectValue). length (slots x)) objects i holder (slice_get_within objects i holder at) in
+    let same : length (slots (get_or objects i holder)) ≡ length (slots holder) = ap (λ (x : ObjectValue). length (slots x)) (get_or_from_slice_get objects i holder holder at) in
+    omega (arith, least, same, few)
+
+-- there is room for a holder's slots
+counts_room : (objects : List ObjectValue) (one : ObjectValue → ObjectValue → ℕ) (i : ℕ) (holder : ObjectValue) (counts : List ℕ) → ((x y : ObjectValue) → one x y ≤ length (slots y))
+    → slice_get objects i ≡ Some holder → reference_count objects < 2 ^ 58 → AreCounts objects (take i objects) one counts → IsOpen objects (length (slots holder)) counts
+unfolding reference_count
+counts_room objects one i holder counts least at few are = record {
+  long = are.long;
+  room = λ place inside.
+      let there = stands_there objects place inside in
+      let sum : sum_by (one there.0) (take i objects) + length (slots (get_or objects i holder)) ≤ sum_by (λ (x : ObjectValue). length (slots x)) objects =
+      sum_by_more_le_part (one there.0) (λ (x : ObjectValue). length (slots x)) objects i holder (slice_get_within objects i holder at) (least there.0) in
+      let same : length (slots (get_or objects i holder)) ≡ length (slots holder) = ap (λ (x : ObjectValue). length (slots x)) (get_or_from_slice_get objects i holder holder at) in
+      omega (arith, sum, same, few, are.each place there.0 there.1);
+}
+
+pub room_all : (objects : List ObjectValue) (i : ℕ) (holder : ObjectValue) (counts : List ℕ) → slice_get objects i ≡ Some holder → reference_count objects < 2 ^ 58
+    → AreCounts objects (take i objects) all_of counts → IsOpen objects (length (slots holder)) counts
+room_all objects i holder counts at few are = counts_room objects all_of i holder counts all_few at few are
+
+pub room_own : (objects : List ObjectValue) (known : Option SpaceHandles) (i : ℕ) (holder : ObjectValue) (counts : List ℕ) → slice_get objects i ≡ Some holder → reference_count objects < 2 ^ 58
+    → AreCounts objects (take i objects) (own_of known) counts → IsOpen objects (length (slots holder)) counts
+room_own objects known i holder counts at few are = counts_room objects (own_of known) i holder counts (own_few known) at few are
+
+-- a list of numbers, of which each is what is said of a thing
+tabled : {A : Type 0} (f : A → ℕ) (things : List A) (counts : List ℕ) → length counts ≡ length things
+    → ((place : ℕ) (x : A) → slice_get things place ≡ Some x → get_or counts place 0 ≡ f x) → counts ≡ map f things
+tabled {A} f [] [] long each = refl
+tabled {A} f [] (count ∷ counts) long each = absurd (omega (arith, long))
+tabled {A} f (x ∷ more) [] long each = absurd (omega (arith, long))
+tabled {A} f (x ∷ more) (count ∷ counts) long each =
+    let first : count ≡ f x = each 0 x refl in
+    let rest : counts ≡ map f more = tabled f more counts (omega (arith, long)) (λ place y stands. each (suc place) y stands) in
+    cc (first, rest)
+
+-- those that pass, of lists that stand one behind the other
+filter_flat : {A B : Type 0} (test : B → Bool) (f : A → List B) (things : List A) → filter test (flat_map f things) ≡ flat_map (λ x. filter test (f x)) things
+filter_flat {A} {B} test f [] = refl
+filter_flat {A} {B} test f (x ∷ more) = filter-append test (f x) (flat_map f more) ∙ ap (λ (rest : List B). filter test (f x) ++ rest) (filter_flat test f more)
+
+-- all holders give all claims on an object
+all_sum : (objects : List ObjectValue) (x : ObjectValue) → sum_by (all_of x) objects ≡ length (claims objects (handle_of x))
+unfolding all_of claims
+all_sum objects x = sym (length-flat_map (claims_of (handle_of x)) objects)
+
+-- and those of its owner
+own_sum : (objects : List ObjectValue) (known : Option SpaceHandles) (x : ObjectValue) → sum_by (own_of known x) objects ≡ length (claims_held (owner_of known x) (claims objects (handle_of x)))
+unfolding own_of claims
+own_sum objects known x =
+    let test : Claim → Bool = λ (claim : Claim). claim.holder == owner_of known x in
+    sym (ap length (filter_flat test (claims_of (handle_of x)) objects) ∙ length-flat_map (λ holder. filter test (claims_of (handle_of x) holder)) objects)
+
+-- where all holders are counted, the counts are those of the claims
+pub counts_all : (objects : List ObjectValue) (i : ℕ) (counts : List ℕ) → length objects ≤ i → AreCounts objects (take i objects) all_of counts → counts ≡ claim_counts objects
+counts_all objects i counts most are =
+    tabled (λ (x : ObjectValue). length (claims objects (handle_of x))) objects counts are.long
+    (λ place x stands. are.each place x stands ∙ (ap (sum_by (all_of x)) (take_all i objects most) ∙ all_sum objects x))
+
+pub counts_own : (objects : List ObjectValue) (known : Option SpaceHandles) (i : ℕ) (counts : List ℕ) → length objects ≤ i → AreCounts objects (take i objects) (own_of known) counts
+    → counts ≡ own_counts objects known
+counts_own objects known i counts most are =
+    tabled (λ (x : ObjectValue). length (claims_held (owner_of known x) (claims objects (handle_of x)))) objects counts are.long
+    (λ place x stands. are.each place x stands ∙ (ap (sum_by (own_of known x)) (take_all i objects most) ∙ own_sum objects known x))

@@ -1,0 +1,94 @@
+-- Findings of one object, in the order of rules, and of all objects, one after the other.
+use Rattle.std.proofs.Common.{◌≡◌, sym, ap, ◌∙◌, subst, ℕ, zero, suc, ◌<◌, ◌≤◌, false, List, [], ◌∷◌, ◌++◌, length, map, drop, Some}
+use Rattle.std.specs.Prelude.{IsTrue, flat_map, if◌then◌else◌, Option, slice_index_or}
+use Rattle.std.specs.List.{AllByRecursion, slice_get, sum_by}
+use Rattle.std.specs.Option.{option_map}
+use Rattle.std.proofs.lemmas.List.{append_assoc, append-nil}
+use Rattle.std.proofs.Math.ListN.{drop_of_length-le}
+use Rattle.std.proofs.lemmas.List.Sums.{get_or-le-sum_by}
+use Rattle.std.proofs.lemmas.Option.{same_Some, slice_get-map, slice_get_within, slice_get-get_or}
+use Rattle.dwg_audit.proofs.Choosing.{drop_at_place}
+use Rattle.dwg_audit.specs.Claimed.{reference_count}
+use Rattle.dwg_audit.specs.Findings.{control_findings, findings, resolve_findings, claim_findings, chain_findings, path_findings, findings_of}
+use Rattle.dwg_audit.specs.Held.{HoldsFields}
+use Rattle.dwg_audit.specs.declared.finding.Finding.{Finding}
+use Rattle.dwg_graph.specs.declared.owner.SpaceHandles.{SpaceHandles}
+use Rattle.dwg_graph.specs.Graph.{is_typed}
+use Rattle.dwg_graph.specs.Owners.{spaces}
+use Rattle.dwg_graph.specs.SlotLaws.{SlotsAreHeld, OwnersAreHeld}
+use Rattle.dwg_graph.specs.Slots.{slots}
+use Rattle.dwg_object.specs.Objects.{ObjectValue, TypedValue, PlainValue, RawValue}
+use Rattle.dwg_object.specs.Written.{IsWhole}
+
+-- what is found of a Typed object by each rule
+pub found_by_rules : (objects : List ObjectValue) (known : Option SpaceHandles) (x : ObjectValue) (none one two three four : List Finding) → IsTrue (is_typed x)
+    → one ≡ none ++ resolve_findings objects known x → two ≡ one ++ claim_findings objects known x → three ≡ two ++ chain_findings objects known x → four ≡ three ++ path_findings objects known x
+    → known ≡ spaces objects → four ≡ none ++ findings_of objects (spaces objects) x
+unfolding findings_of
+found_by_rules objects known x none one two three four typed first second third fourth is_known =
+    let a : List Finding = resolve_findings objects known x in
+    let b : List Finding = claim_findings objects known x in
+    let c : List Finding = chain_findings objects known x in
+    let d : List Finding = path_findings objects known x in
+    fourth
+    ∙ ap (λ f. f ++ d) (third ∙ ap (λ f. f ++ c) (second ∙ ap (λ f. f ++ b) first))
+    ∙ append_assoc ((none ++ a) ++ b) c d
+    ∙ append_assoc (none ++ a) b (c ++ d)
+    ∙ append_assoc none a (b ++ (c ++ d))
+    ∙ ap (λ t. none ++ (if t then a ++ (b ++ (c ++ d)) else [])) (sym typed)
+    ∙ ap (λ k. none ++ findings_of objects k x) is_known
+
+-- nothing is found of an object that isn't Typed
+pub found_nothing : (objects : List ObjectValue) (known : Option SpaceHandles) (x : ObjectValue) (found : List Finding) → is_typed x ≡ false → found ≡ found ++ findings_of objects known x
+unfolding findings_of
+found_nothing objects known x found untyped =
+    sym (append-nil found)
+    ∙ ap (λ t. found ++ (if t then resolve_findings objects known x ++ (claim_findings objects known x ++ (chain_findings objects known x ++ path_findings objects known x)) else [])) (sym untyped)
+
+-- a Typed object that is whole holds the fields of its references
+pub holds_fields : SlotsAreHeld → OwnersAreHeld → (x : ObjectValue) → IsWhole x → IsTrue (is_typed x) → HoldsFields x
+holds_fields held owned (TypedValue number handle common body) whole typed = record {
+  slots = λ slot stands. held (TypedValue number handle common body) slot whole stands;
+  owner = owned number handle common body;
+}
+holds_fields held owned (PlainValue number handle common rest refs) whole typed = absurd (cc typed)
+holds_fields held owned (RawValue number handle bytes) whole typed = absurd (cc typed)
+
+-- one of all objects has what all have
+pub one_of_all : (P : ObjectValue → Type 0) (objects : List ObjectValue) (place : ℕ) (x : ObjectValue) → AllByRecursion P objects → slice_get objects place ≡ Some x → P x
+one_of_all P [] place x all at = absurd (cc at)
+one_of_all P (first ∷ more) zero x all at = subst P (same_Some first x at) all.0
+one_of_all P (first ∷ more) (suc place) x all at = one_of_all P more place x all.1 at
+
+-- one object has no more slots than all have
+pub slots_of_one : (objects : List ObjectValue) (place : ℕ) (x : ObjectValue) → slice_get objects place ≡ Some x → length (slots x) ≤ reference_count objects
+unfolding reference_count
+slots_of_one objects place x at =
+    let within : place < length objects = slice_get_within objects place x at in
+    let stands : slice_index_or objects place x ≡ x = same_Some (slice_index_or objects place x) x (sym (slice_get-get_or objects place x within) ∙ at) in
+    subst (λ y. length (slots y) ≤ sum_by (λ y. length (slots y)) objects) stands (get_or-le-sum_by (λ y. length (slots y)) objects place x within)
+
+-- one object further
+pub one_further : {A B : Type 0} (f : A → List B) (all : List A) (place next : ℕ) (x : A) (before after whole : List B) → slice_get all place ≡ Some x → next ≡ suc place
+    → before ++ flat_map f (drop place all) ≡ whole → after ≡ before ++ f x → after ++ flat_map f (drop next all) ≡ whole
+one_further {A} {B} f all place next x before after whole at further is new =
+    ap (λ n. after ++ flat_map f (drop n all)) further
+    ∙ ap (λ front. front ++ flat_map f (drop (suc place) all)) new
+    ∙ append_assoc before (f x) (flat_map f (drop (suc place) all))
+    ∙ ap (λ rest. before ++ flat_map f rest) (sym (drop_at_place all place x at))
+    ∙ is
+
+-- the object at a place, as the plain value of the one in hand
+pub value_at : {A B : Type 0} (f : A → B) (all : List A) (place : ℕ) (x : A) → place < length all → x ≡ slice_index_or all place x → slice_get (map f all) place ≡ Some (f x)
+value_at {A} {B} f all place x within is =
+    slice_get-map f all place ∙ ap (option_map f) (slice_get-get_or all place x within ∙ ap (λ (y : A). Some y) (sym is))
+
+-- findings begin with that on the table of blocks, and go on with those of all objects
+pub findings_begin : (objects : List ObjectValue) (none found : List Finding) → none ≡ [] → found ≡ none ++ control_findings objects
+    → found ++ flat_map (findings_of objects (spaces objects)) (drop 0 objects) ≡ findings objects
+unfolding findings
+findings_begin objects none found empty first = ap (λ front. front ++ flat_map (findings_of objects (spaces objects)) objects) (first ∙ ap (λ front. front ++ control_findings objects) empty)
+
+-- behind all objects nothing is left to find
+pub all_found : {A B : Type 0} (f : A → List B) (all : List A) (place : ℕ) (found whole : List B) → length all ≤ place → found ++ flat_map f (drop place all) ≡ whole → found ≡ whole
+all_found {A} {B} f all place found whole behind is = sym (append-nil found) ∙ ap (λ rest. found ++ flat_map f rest) (sym (drop_of_length-le all behind)) ∙ is

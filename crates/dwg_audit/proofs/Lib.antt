@@ -1,0 +1,12 @@
+pub mod PlacedObjects
+pub mod PlacedPaths
+pub mod PlacedChains
+pub mod Placing
+pub mod Homes
+pub mod Choosing
+pub mod Sufficing
+pub mod Counting
+pub mod SlotLoops
+pub mod HolderLoops
+pub mod Standings
+pub mod Judging

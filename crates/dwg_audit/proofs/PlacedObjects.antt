@@ -1,0 +1,84 @@
+-- The object of a handle, found by its place.
+use Rattle.std.proofs.Common.{◌≡◌, refl, sym, ap, ◌∙◌, subst, ℕ, zero, suc, Bool, true, false, List, [], ◌∷◌, Option, Some, None, inl, inr, arith}
+use Rattle.std.specs.Prelude.{◌==◌, ◌<◌, ◌⊎◌, find, if◌then◌else◌}
+use Rattle.std.specs.List.{slice_get, slice_index_or}
+use Rattle.std.specs.Option.{option_map, option_and_then}
+use Rattle.std.proofs.lemmas.Bool.{cases_order}
+use Rattle.std.proofs.lemmas.Bool.Decides.{nat_tests}
+use Rattle.std.proofs.lemmas.Option.{same_Some, slice_get-map, slice_get_within, slice_get-get_or}
+use Rattle.dwg_audit.specs.Placed.{place_in}
+use Rattle.dwg_graph.specs.Graph.{object_at}
+use Rattle.dwg_graph.specs.Places.{Ascend, handles_of}
+use Rattle.dwg_object.specs.Objects.{ObjectValue, handle_of}
+
+-- what stands at a place of all but the first
+behind : {A : Type 0} (x : A) (more : List A) (place : Option ℕ) → option_and_then (slice_get (x ∷ more)) (option_map suc place) ≡ option_and_then (slice_get more) place
+behind {A} x more None = refl
+behind {A} x more (Some n) = refl
+
+-- the object of a handle stands at the place of that handle
+pub object_placed : (objects : List ObjectValue) (handle : ℕ) → option_and_then (slice_get objects) (place_in (handles_of objects) handle) ≡ object_at objects handle
+unfolding object_at place_in
+object_placed [] handle = refl
+object_placed (x ∷ more) handle = go (object_placed more handle) (handle_of x == handle) refl
+  where
+    go : option_and_then (slice_get more) (place_in (handles_of more) handle) ≡ object_at more handle → (test : Bool) → (handle_of x == handle) ≡ test
+        → option_and_then (slice_get (x ∷ more)) (place_in (handles_of (x ∷ more)) handle) ≡ find (λ y. handle_of y == handle) (x ∷ more)
+    go same true is = rw is refl
+    go same false is = rw is (behind x more (place_in (handles_of more) handle) ∙ same)
+
+-- a place that was found has the handle
+pub at_place : (handles : List ℕ) (handle place : ℕ) → place_in handles handle ≡ Some place → slice_get handles place ≡ Some handle
+unfolding place_in
+at_place [] handle place found = absurd (cc found)
+at_place (first ∷ more) handle place found = go (λ n. at_place more handle n) (first == handle) refl (place_in more handle) refl
+  where
+    go : ((n : ℕ) → place_in more handle ≡ Some n → slice_get more n ≡ Some handle) → (test : Bool) → (first == handle) ≡ test → (rest : Option ℕ) → place_in more handle ≡ rest
+        → slice_get (first ∷ more) place ≡ Some handle
+    go further true is rest same =
+        let here : 0 ≡ place = same_Some 0 place (sym (ap (λ t. if t then Some 0 else option_map suc (place_in more handle)) is) ∙ found) in
+        subst (λ m. slice_get (first ∷ more) m ≡ Some handle) here (ap Some (let one : first ≡ handle = grind (arith, nat_tests, is) in one))
+    go further false is None same =
+        absurd (cc (sym (ap (λ t. if t then Some 0 else option_map suc (place_in more handle)) is ∙ ap (option_map suc) same) ∙ found))
+    go further false is (Some n) same =
+        let here : suc n ≡ place =
+        same_Some (suc n) place (sym (ap (λ t. if t then Some 0 else option_map suc (place_in more handle)) is ∙ ap (option_map suc) same) ∙ found) in
+        subst (λ m. slice_get (first ∷ more) m ≡ Some handle) here (further n same)
+
+-- a handle that stands somewhere is found
+pub is_found : (handles : List ℕ) (handle place : ℕ) → slice_get handles place ≡ Some handle → (found : ℕ) × (place_in handles handle ≡ Some found)
+unfolding place_in
+is_found [] handle place stands = absurd (cc stands)
+is_found (first ∷ more) handle zero stands =
+    let one : first ≡ handle = same_Some first handle stands in
+    let test : (first == handle) ≡ true = grind (arith, nat_tests, one) in
+    (0, ap (λ t. if t then Some 0 else option_map suc (place_in more handle)) test)
+is_found (first ∷ more) handle (suc place) stands = go (is_found more handle place stands) (first == handle) refl
+  where
+    go : (found : ℕ) × (place_in more handle ≡ Some found) → (test : Bool) → (first == handle) ≡ test → (found : ℕ) × (place_in (first ∷ more) handle ≡ Some found)
+    go further true is = (0, ap (λ t. if t then Some 0 else option_map suc (place_in more handle)) is)
+    go further false is = (suc further.0, ap (λ t. if t then Some 0 else option_map suc (place_in more handle)) is ∙ ap (option_map suc) further.1)
+
+-- handles that ascend stand at one place each
+pub one_place : (handles : List ℕ) (handle i j : ℕ) → Ascend handles → slice_get handles i ≡ Some handle → slice_get handles j ≡ Some handle → i ≡ j
+one_place handles handle i j ascend at also = go (cases_order i j)
+  where
+    value : (n : ℕ) → slice_get handles n ≡ Some handle → slice_index_or handles n 0 ≡ handle
+    value n stands = same_Some (slice_index_or handles n 0) handle (sym (slice_get-get_or handles n 0 (slice_get_within handles n handle stands)) ∙ stands)
+
+    go : (i ≡ j) ⊎ ((i < j) ⊎ (j < i)) → i ≡ j
+    go (inl same) = same
+    go (inr (inl before)) = absurd (omega (arith, ascend i j 0 before (slice_get_within handles j handle also), value i at, value j also))
+    go (inr (inr after)) = absurd (omega (arith, ascend j i 0 after (slice_get_within handles i handle at), value i at, value j also))
+
+-- the handle at a place is found there
+pub found_there : (handles : List ℕ) (handle place : ℕ) → Ascend handles → slice_get handles place ≡ Some handle → place_in handles handle ≡ Some place
+found_there handles handle place ascend stands =
+    let found = is_found handles handle place stands in
+    found.1 ∙ ap Some (one_place handles handle found.0 place ascend (at_place handles handle found.0 found.1) stands)
+
+-- and so is the object at a place
+pub object_there : (objects : List ObjectValue) (x : ObjectValue) (place : ℕ) → Ascend (handles_of objects) → slice_get objects place ≡ Some x → object_at objects (handle_of x) ≡ Some x
+object_there objects x place ascend stands =
+    let handle : slice_get (handles_of objects) place ≡ Some (handle_of x) = slice_get-map handle_of objects place ∙ ap (option_map handle_of) stands in
+    sym (object_placed objects (handle_of x)) ∙ ap (option_and_then (slice_get objects)) (found_there (handles_of objects) (handle_of x) place ascend handle) ∙ stands

@@ -1,0 +1,14 @@
+use Rattle.std.proofs.Common.{◌≡◌, sym, ap, ◌∙◌, ℕ}
+use Rattle.std.specs.Prelude.{◌==◌}
+use Rattle.std.proofs.lemmas.Option.{same_Some}
+use Rattle.dwg_graph.specs.Owners.{owner_of}
+use Rattle.dwg_object.specs.Objects.{value_of}
+use Rattle.dwg_audit.proofs.Counting.{value_there}
+use Rattle.dwg_audit.proofs.claims.is_owned.Goals as goal
+
+pub returns : goal.returns
+returns c x stands =
+    let object = c.index-objects-place.result in
+    let same : value_of object ≡ x = same_Some (value_of object) x (sym (value_there c.args.objects.now c.args.place object c.requires.within c.index-objects-place.is) ∙ stands) in
+    let owner : c.owner_of.result ≡ owner_of c.args.known.now x = c.owner_of.ensures ∙ ap (owner_of c.args.known.now) same in
+    c.eq.ensures ∙ (ap (λ (o : ℕ). o == c.handle.result) owner ∙ ap (λ (h : ℕ). owner_of c.args.known.now x == h) c.handle.ensures)

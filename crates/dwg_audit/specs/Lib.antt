@@ -1,0 +1,15 @@
+pub mod Findings
+pub mod Failures
+pub mod Placed
+pub mod SameKinds
+pub mod ListLaws
+pub mod FindingTests
+pub mod FindingLaws
+pub mod SlotFields
+pub mod FindingOrder
+pub mod EndsPlaced
+pub mod Held
+pub mod Counts
+pub mod Claimed
+pub mod Tabled
+pub mod Standing

@@ -1,0 +1,17 @@
+//! The audit: whether the references of a drawing hold together, with every failure.
+#![tactic(auto)]
+
+mod auditing;
+mod claims;
+mod finding;
+mod laws;
+mod needs;
+mod places;
+mod resolving;
+mod rules;
+mod standing;
+mod tables;
+
+pub use auditing::audit;
+pub use finding::{Finding, Rule};
+pub use laws::finding_laws;
