@@ -1,0 +1,3 @@
+pub mod Auditable
+pub mod Reading
+pub mod Drills
