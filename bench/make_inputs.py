@@ -232,6 +232,30 @@ def one_handle_last(count):
     return drawing(frame(1, 0), lambda start: pages([(h, start) for h in range(1, count + 1)] + [(1, start)], 65533))
 
 
+def dictionary(handle, owner, items):
+    """A DICTIONARY with its owner and what its items, all of one name, lead to."""
+    own = reference(0, handle)
+    name = short(1) + little(65, 1)
+    main = short(0) + long(0) + long(len(items)) + short(0) + little(0, 1) + name * len(items)
+    references = reference(4, owner) + reference(3, 0) + "".join(reference(2, item) for item in items)
+    size = len(short(42)) + 32 + len(own) + len(main)
+    return framed_body(packed(short(42) + little(size, 4) + own + main + references))
+
+
+def owner_path(count):
+    """DICTIONARYs, each owned by the next and its only item; the last is a root."""
+    def said(handle):
+        owner = handle + 1 if handle < count else 0
+        return dictionary(handle, owner, [handle - 1] if handle > 1 else [])
+    return in_order(*frames_and_places(count, said))
+
+
+def many_claims(count):
+    """One DICTIONARY of so many items that all lead to another, which is its own."""
+    said = lambda handle: dictionary(handle, 0 if handle == 1 else 1, [2] * count if handle == 1 else [])
+    return in_order(*frames_and_places(2, said))
+
+
 INPUTS = {
     "objects": (many_objects, (100_000, 200_000)),
     "plain": (plain_entities, (100_000, 200_000)),
@@ -240,6 +264,8 @@ INPUTS = {
     "lines": (lines, (100_000, 200_000)),
     "points": (many_points, (1_000_000, 2_000_000)),
     "descending": (descending_map, (150_000, 300_000)),
+    "owner-path": (owner_path, (100_000, 200_000)),
+    "claims": (many_claims, (100_000, 200_000)),
     "one-place": (one_place, (1_500_000, 3_000_000)),
     "repeated": (one_handle_last, (1_500_000, 3_000_000)),
 }

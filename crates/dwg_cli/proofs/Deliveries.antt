@@ -1,10 +1,10 @@
 -- What an answer that was sent left on output and notes.
 use Rattle.std.proofs.Common.{◌≡◌, ◌∙◌, ap, subst, sym, ℕ, ◌<◌, ◌≤◌, true, false, List, inl, inr, arith}
 use Rattle.std.proofs.lemmas.Bool.Decides.{nat_tests}
-use Rattle.std.specs.Prelude.{Option, nat_lt, if◌then◌else◌}
+use Rattle.std.specs.Prelude.{Option, Result, Ok, Err, IfOk, nat_lt, if◌then◌else◌}
 use Rattle.dwg_base.specs.Devices.{MOST_BYTES}
 use Rattle.dwg_cli.specs.declared.status.Status.{Status}
-use Rattle.dwg_cli.specs.declared.status.Status.TheVariants.{Done, Usage, Refused, ReadFault, WriteFault, NoMemory, TooLong, TooLarge}
+use Rattle.dwg_cli.specs.declared.status.Status.TheVariants.{Done, Found, Usage, Refused, ReadFault, WriteFault, NoMemory, TooLong, TooLarge}
 use Rattle.dwg_cli.specs.declared.answer.Answer.{Answer}
 use Rattle.dwg_cli.specs.Outcome.{noted, printed, written}
 use Rattle.dwg_file.specs.Canonical.{size_of, canonical}
@@ -15,6 +15,7 @@ use Rattle.dwg_cli.specs.Run.{IsSettled, IsStopped, IsCut, Sent}
 -- a status that is settled isn't one at which the run stopped
 settled_goes_on : (status : Status) → IsSettled status → IsStopped status → ⊥
 settled_goes_on Done settled stopped = stopped
+settled_goes_on Found settled stopped = stopped
 settled_goes_on Usage settled stopped = stopped
 settled_goes_on (Refused refusal) settled stopped = stopped
 settled_goes_on ReadFault settled stopped = settled
@@ -59,3 +60,8 @@ pub sent_same : (answer told : Answer) (status : Status) (output output' notes n
     → answer ≡ told → Sent answer status output output' notes notes' faults faults' note_faults note_faults' → Sent told status output output' notes notes' faults faults' note_faults note_faults'
 sent_same answer told status output output' notes notes' faults faults' note_faults note_faults' is sent =
     subst (λ (one : Answer). Sent one status output output' notes notes' faults faults' note_faults note_faults') is sent
+
+-- an answer that was made, where it is another
+pub told_same : {E : Type 0} (result : Result Answer E) (answer told : Answer) → answer ≡ told → IfOk result (λ one. one ≡ answer) → IfOk result (λ one. one ≡ told)
+told_same {E} (Ok one) answer told is made = made ∙ is
+told_same {E} (Err wanted) answer told is made = tt

@@ -7,9 +7,9 @@ use Rattle.dwg_file.specs.Contents.{Contents}
 use Rattle.dwg_file.specs.DrawingAt.{drawing_at}
 use Rattle.dwg_file.specs.FileLines.{ALL_LINES}
 use Rattle.dwg_file.specs.Spelled.{Spelled}
-use Rattle.dwg_cli.specs.declared.words.Command.TheVariants.{Show, Rewrite}
+use Rattle.dwg_cli.specs.declared.words.Command.TheVariants.{Show, Rewrite, Audit}
 use Rattle.dwg_cli.specs.declared.answer.Answer.{Answer}
-use Rattle.dwg_cli.specs.Outcome.{refused_or, printed, written, outcome_within}
+use Rattle.dwg_cli.specs.Outcome.{refused_or, printed, written, audited, outcome_within}
 use Rattle.dwg_show.specs.DrawingText.{show_text}
 
 -- an input spells one drawing at the most, and the one at its places where no line fails
@@ -35,3 +35,9 @@ pub shown : (bytes : List ℕ) (drawing : Contents) → SpellsOne bytes → Spel
     → printed (show_text drawing) ≡ outcome_within Show bytes
 unfolding outcome_within
 shown bytes drawing spells spelled holds = of_drawing (λ one. printed (show_text one)) bytes drawing spells spelled holds
+
+-- its findings answer `audit`
+pub audited_is : (bytes : List ℕ) (drawing : Contents) → SpellsOne bytes → Spelled drawing bytes → first_fault ALL_LINES bytes ≡ None
+    → audited drawing ≡ outcome_within Audit bytes
+unfolding outcome_within
+audited_is bytes drawing spells spelled holds = of_drawing audited bytes drawing spells spelled holds

@@ -7,7 +7,7 @@ use Rattle.dwg_base.specs.declared.refusal.Refusal.{Refusal}
 use Rattle.dwg_base.specs.declared.refusal.Fault.{Fault}
 use Rattle.dwg_base.specs.declared.refusal.Fault.TheVariants.{NoMemory, Refused}
 use Rattle.dwg_sections.specs.HeaderLines.{HEADER_LINES}
-use Rattle.dwg_cli.specs.declared.words.Command.TheVariants.{Sections, Classes, Show, Rewrite}
+use Rattle.dwg_cli.specs.declared.words.Command.TheVariants.{Sections, Classes, Show, Rewrite, Audit}
 use Rattle.dwg_cli.specs.declared.answer.Answer.{Answer}
 use Rattle.dwg_file.specs.FileLines.{classes_section_row, classes_row, ALL_LINES}
 use Rattle.dwg_cli.specs.Lines.{CLASSES_LINES}
@@ -58,6 +58,11 @@ show_refused answer fault bytes answers tells = told answer fault (first_fault A
 pub rewrite_refused : (answer : Answer) (fault : Fault) (bytes : List ℕ) → AnswersFault answer fault → Tells fault (first_fault ALL_LINES bytes) → answer ≡ outcome_within Rewrite bytes
 unfolding outcome_within
 rewrite_refused answer fault bytes answers tells = told answer fault (first_fault ALL_LINES bytes) _ tells answers
+
+-- and what `audit` answers
+pub audit_refused : (answer : Answer) (fault : Fault) (bytes : List ℕ) → AnswersFault answer fault → Tells fault (first_fault ALL_LINES bytes) → answer ≡ outcome_within Audit bytes
+unfolding outcome_within
+audit_refused answer fault bytes answers tells = told answer fault (first_fault ALL_LINES bytes) _ tells answers
 
 -- so where there was memory for an answer, it is the command's
 pub answered : {E : Type 0} (result : Result Answer E) (fault : Fault) (told : Answer) → IfOk result (λ answer. AnswersFault answer fault)

@@ -5,3 +5,5 @@ pub mod Drawings
 pub mod Makings
 pub mod Numerals
 pub mod MakeWords
+pub mod DrillWords
+pub mod Drills

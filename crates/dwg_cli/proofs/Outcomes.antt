@@ -1,15 +1,17 @@
 -- What the defined outcomes are, by their causes.
-use Rattle.std.proofs.Common.{◌≡◌, refl, ℕ, ◌+◌, ◌≤◌, ◌<◌, List, ◌++◌, length, Some, None, sym, ap, ◌∙◌, subst, arith, true, false, append-nil, length-append}
+use Rattle.std.proofs.Common.{◌≡◌, refl, ℕ, ◌+◌, ◌≤◌, ◌<◌, List, [], ◌∷◌, ◌++◌, length, Some, None, sym, ap, ◌∙◌, subst, arith, true, false, append-nil, length-append}
 use Rattle.std.proofs.lemmas.Bool.Decides.{nat_tests}
 use Rattle.std.specs.Prelude.{Bool, Option, Result, Ok, Err, IfOk, nat_lt, if◌then◌else◌}
 use Rattle.std.specs.Io.KnownBytes.{Consumes, IsAtEnd}
+use Rattle.dwg_audit.specs.declared.finding.Finding.{Finding}
+use Rattle.dwg_audit.specs.Findings.{findings}
 use Rattle.dwg_base.specs.Devices.{MOST_BYTES}
 use Rattle.dwg_base.specs.declared.refusal.Refusal.{Refusal}
 use Rattle.dwg_base.specs.Refusals.{first_fault}
 use Rattle.dwg_sections.specs.HeaderLines.{HEADER_LINES}
 use Rattle.dwg_text.specs.Notes.{usage_note, too_long_note, too_large_note}
 use Rattle.dwg_cli.specs.declared.words.Command.{Command}
-use Rattle.dwg_cli.specs.declared.words.Command.TheVariants.{Sections, Classes, Show, Rewrite, Make}
+use Rattle.dwg_cli.specs.declared.words.Command.TheVariants.{Sections, Classes, Show, Rewrite, Audit, Make, Drill}
 use Rattle.dwg_cli.specs.declared.status.Status.TheVariants.{Usage, TooLong, TooLarge}
 use Rattle.dwg_cli.specs.declared.answer.Answer.{Answer}
 use Rattle.dwg_cli.specs.declared.request.Request.{Request}
@@ -18,7 +20,7 @@ use Rattle.dwg_file.specs.FileLines.{ALL_LINES}
 use Rattle.dwg_file.specs.DrawingAt.{drawing_at}
 use Rattle.dwg_file.specs.Canonical.{size_of, canonical}
 use Rattle.dwg_cli.specs.Lines.{CLASSES_LINES}
-use Rattle.dwg_cli.specs.Outcome.{noted, printed, refused_or, written, made_answer, outcome_within, outcome_of_input, outcome_of}
+use Rattle.dwg_cli.specs.Outcome.{noted, printed, refused_or, written, made_answer, drill_answer, audited, verdict_status, outcome_within, outcome_of_input, outcome_of}
 use Rattle.dwg_cli.specs.Words.{IsReading}
 use Rattle.dwg_cli.specs.Requests.{asked}
 use Rattle.dwg_cli.specs.Run.{Feeds, Came, IsDrained}
@@ -37,6 +39,15 @@ written_is_drained drawing = of_test (nat_lt MOST_BYTES (size_of drawing))
     of_test true = tt
     of_test false = tt
 
+-- and what an audit says
+audited_is_drained : (drawing : Contents) → IsDrained (audited drawing).status
+unfolding audited
+audited_is_drained drawing = of_findings (findings drawing.objects)
+  where
+    of_findings : (found : List Finding) → IsDrained (verdict_status found)
+    of_findings [] = tt
+    of_findings (finding ∷ more) = tt
+
 -- what a command that reads answers to an input within the limit comes of one that was read to its end
 pub command_is_drained : (command : Command) (bytes : List ℕ) → IsReading (Some command) → IsDrained (outcome_within command bytes).status
 unfolding outcome_within
@@ -44,7 +55,9 @@ command_is_drained Sections bytes reads = refused_or_is_drained (first_fault HEA
 command_is_drained Classes bytes reads = refused_or_is_drained (first_fault CLASSES_LINES bytes) _ tt
 command_is_drained Show bytes reads = refused_or_is_drained (first_fault ALL_LINES bytes) _ tt
 command_is_drained Rewrite bytes reads = refused_or_is_drained (first_fault ALL_LINES bytes) _ (written_is_drained (drawing_at bytes))
+command_is_drained Audit bytes reads = refused_or_is_drained (first_fault ALL_LINES bytes) _ (audited_is_drained (drawing_at bytes))
 command_is_drained (Make n seed) bytes reads = absurd reads
+command_is_drained (Drill n) bytes reads = absurd reads
 
 -- a source that told its bytes and is at its end gave them all
 told_whole : (old new : Option (List ℕ)) (run bytes : List ℕ) → Consumes old new run → IsAtEnd new → old ≡ Some bytes → bytes ≡ run
@@ -99,7 +112,9 @@ by_command Sections bytes reads = refl
 by_command Classes bytes reads = refl
 by_command Show bytes reads = refl
 by_command Rewrite bytes reads = refl
+by_command Audit bytes reads = refl
 by_command (Make n seed) bytes reads = absurd reads
+by_command (Drill n) bytes reads = absurd reads
 
 pub outcome_of_reading : (named : Option Command) (command : Command) (bytes : List ℕ) → named ≡ Some command → IsReading (Some command)
     → outcome_of_input command bytes ≡ outcome_of named bytes
@@ -109,6 +124,10 @@ outcome_of_reading named command bytes names reads = by_command command bytes re
 pub outcome_of_making : (named : Option Command) (n seed : ℕ) (bytes : List ℕ) → named ≡ Some (Make n seed) → made_answer n seed ≡ outcome_of named bytes
 unfolding outcome_of
 outcome_of_making named n seed bytes names = rw names refl
+
+pub outcome_of_drilling : (named : Option Command) (n : ℕ) (bytes : List ℕ) → named ≡ Some (Drill n) → drill_answer n ≡ outcome_of named bytes
+unfolding outcome_of
+outcome_of_drilling named n bytes names = rw names refl
 
 -- what a request asks of any input that its command gets, it asks of the words that name the command
 pub answered_by : {E : Type 0} (named : Option Command) (command : Command) (result : Result Request E) (left : Option (List ℕ)) → named ≡ Some command → IsReading (Some command)

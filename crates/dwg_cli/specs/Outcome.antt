@@ -1,20 +1,25 @@
 -- What the program answers to its words and its input. A rule of this project.
-use Rattle.std.specs.Prelude.{◌≡◌, ℕ, ◌==◌, ◌||◌, List, [], Option, Some, None, length, nat_lt, if◌then◌else◌}
+use Rattle.std.specs.Prelude.{◌≡◌, ℕ, ◌==◌, ◌||◌, List, [], ◌∷◌, Option, Some, None, length, nat_lt, if◌then◌else◌}
 use Rattle.dwg_base.specs.Devices.{MOST_BYTES}
 use Rattle.dwg_base.specs.Refusals.{first_fault}
 use Rattle.dwg_base.specs.declared.refusal.Refusal.{Refusal}
 use Rattle.dwg_base.specs.declared.refusal.Fault.{Fault}
 use Rattle.dwg_base.specs.declared.refusal.Fault.TheVariants as faults
 use Rattle.dwg_sections.specs.HeaderLines.{HEADER_LINES, header_at}
+use Rattle.dwg_audit.specs.declared.finding.Finding.{Finding}
+use Rattle.dwg_audit.specs.Findings.{findings}
+use Rattle.dwg_drill.specs.Drilled.{DRILL_SEED, drilled}
 use Rattle.dwg_make.specs.Made.{MOST_ENTITIES, made}
+use Rattle.dwg_report.specs.AuditText.{audit_text}
+use Rattle.dwg_report.specs.DrillText.{drill_text}
 use Rattle.dwg_show.specs.DrawingText.{show_text}
 use Rattle.dwg_text.specs.Notes.{usage_note, size_note, refusal_note, too_long_note, too_large_note}
 use Rattle.dwg_text.specs.Sections.{sections_text}
 use Rattle.dwg_text.specs.Classes.{classes_text}
 use Rattle.dwg_cli.specs.declared.words.Command.{Command}
-use Rattle.dwg_cli.specs.declared.words.Command.TheVariants.{Sections, Classes, Show, Rewrite, Make}
+use Rattle.dwg_cli.specs.declared.words.Command.TheVariants.{Sections, Classes, Show, Rewrite, Audit, Make, Drill}
 use Rattle.dwg_cli.specs.declared.status.Status.{Status}
-use Rattle.dwg_cli.specs.declared.status.Status.TheVariants.{Done, Usage, Refused, TooLong, TooLarge}
+use Rattle.dwg_cli.specs.declared.status.Status.TheVariants.{Done, Found, Usage, Refused, TooLong, TooLarge}
 use Rattle.dwg_cli.specs.declared.answer.Answer.{Answer}
 use Rattle.dwg_cli.specs.Words.{command_of}
 use Rattle.dwg_file.specs.Contents.{Contents}
@@ -41,15 +46,37 @@ abbrev pub AnswersFault : Answer → Fault → Type 0
 AnswersFault answer faults.NoMemory = ⊥
 AnswersFault answer (faults.Refused refusal) = answer ≡ noted (refusal_note refusal) (Refused refusal)
 
--- the canonical file of a drawing, unless it would be longer than the limit
-unfoldable pub written : Contents → Answer
-written drawing =
-    if nat_lt MOST_BYTES (size_of drawing) then noted (too_large_note (size_of drawing)) (TooLarge (size_of drawing))
-    else printed (canonical drawing)
+-- an answer over the canonical file of a drawing, unless that would be longer than the limit
+abbrev pub unless_large : Contents → Answer → Answer
+unless_large drawing answer = if nat_lt MOST_BYTES (size_of drawing) then noted (too_large_note (size_of drawing)) (TooLarge (size_of drawing)) else answer
 
--- the drawing that two numbers make, unless the first is no size that it has
+-- the canonical file of a drawing
+unfoldable pub written : Contents → Answer
+written drawing = unless_large drawing (printed (canonical drawing))
+
+-- an answer over a made drawing, unless it is asked for a size that no such drawing has
+abbrev pub unless_no_size : ℕ → Answer → Answer
+unless_no_size n answer = if n == 0 || nat_lt MOST_ENTITIES n then noted size_note Usage else answer
+
+-- the canonical file of the drawing that two numbers make
 unfoldable pub made_answer : ℕ → ℕ → Answer
-made_answer n seed = if n == 0 || nat_lt MOST_ENTITIES n then noted size_note Usage else written (made n seed)
+made_answer n seed = unless_no_size n (written (made n seed))
+
+-- what a drill over the drawing of a number finds out
+unfoldable pub drilled_answer : ℕ → Answer
+drilled_answer n = unless_large (made n DRILL_SEED) (printed (drill_text (drilled n)))
+
+unfoldable pub drill_answer : ℕ → Answer
+drill_answer n = unless_no_size n (drilled_answer n)
+
+-- how an audit ends
+abbrev pub verdict_status : List Finding → Status
+verdict_status [] = Done
+verdict_status (finding ∷ more) = Found
+
+-- the findings of a drawing and the verdict
+unfoldable pub audited : Contents → Answer
+audited drawing = record { output = audit_text (findings drawing.objects); note = []; status = verdict_status (findings drawing.objects) }
 
 -- what a command answers to an input within the limit
 unfoldable pub outcome_within : Command → List ℕ → Answer
@@ -57,7 +84,9 @@ outcome_within Sections bytes = refused_or (first_fault HEADER_LINES bytes) (pri
 outcome_within Classes bytes = refused_or (first_fault CLASSES_LINES bytes) (printed (classes_text (classes_at bytes)))
 outcome_within Show bytes = refused_or (first_fault ALL_LINES bytes) (printed (show_text (drawing_at bytes)))
 outcome_within Rewrite bytes = refused_or (first_fault ALL_LINES bytes) (written (drawing_at bytes))
+outcome_within Audit bytes = refused_or (first_fault ALL_LINES bytes) (audited (drawing_at bytes))
 outcome_within (Make n seed) bytes = made_answer n seed
+outcome_within (Drill n) bytes = drill_answer n
 
 -- what a command that reads answers to any input
 unfoldable pub outcome_of_input : Command → List ℕ → Answer
@@ -70,7 +99,9 @@ outcome_of (Some Sections) bytes = outcome_of_input Sections bytes
 outcome_of (Some Classes) bytes = outcome_of_input Classes bytes
 outcome_of (Some Show) bytes = outcome_of_input Show bytes
 outcome_of (Some Rewrite) bytes = outcome_of_input Rewrite bytes
+outcome_of (Some Audit) bytes = outcome_of_input Audit bytes
 outcome_of (Some (Make n seed)) bytes = made_answer n seed
+outcome_of (Some (Drill n)) bytes = drill_answer n
 
 -- what the program answers: output bytes, note bytes and status
 abbrev pub outcome : List (List ℕ) → List ℕ → Answer

@@ -5,7 +5,7 @@ use Rattle.dwg_base.specs.Devices.{Rose, AppendsFront, MOST_BYTES}
 use Rattle.dwg_text.specs.Notes.{read_fault_note}
 use Rattle.dwg_cli.specs.declared.words.Command.{Command}
 use Rattle.dwg_cli.specs.declared.status.Status.{Status}
-use Rattle.dwg_cli.specs.declared.status.Status.TheVariants.{Done, Usage, Refused, ReadFault, WriteFault, NoMemory, TooLong, TooLarge}
+use Rattle.dwg_cli.specs.declared.status.Status.TheVariants.{Done, Found, Usage, Refused, ReadFault, WriteFault, NoMemory, TooLong, TooLarge}
 use Rattle.dwg_cli.specs.declared.answer.Answer.{Answer}
 use Rattle.dwg_cli.specs.Words.{IsReading}
 use Rattle.dwg_cli.specs.Outcome.{outcome}
@@ -21,6 +21,7 @@ Came left left' Holds = (came : List ℕ) × Consumes left left' came × Holds c
 -- neither a device nor memory failed
 abbrev pub IsSettled : Status → Type 0
 IsSettled Done = ⊤
+IsSettled Found = ⊤
 IsSettled Usage = ⊤
 IsSettled (Refused refusal) = ⊤
 IsSettled ReadFault = ⊥
@@ -32,6 +33,7 @@ IsSettled (TooLarge size) = ⊤
 -- a write failed, or memory was wanted
 abbrev pub IsStopped : Status → Type 0
 IsStopped Done = ⊥
+IsStopped Found = ⊥
 IsStopped Usage = ⊥
 IsStopped (Refused refusal) = ⊥
 IsStopped ReadFault = ⊥
@@ -47,6 +49,7 @@ IsFailed status = (status ≡ ReadFault) ⊎ IsStopped status
 -- a command that reads has read its input to the end
 abbrev pub IsDrained : Status → Type 0
 IsDrained Done = ⊤
+IsDrained Found = ⊤
 IsDrained Usage = ⊥
 IsDrained (Refused refusal) = ⊤
 IsDrained ReadFault = ⊥

@@ -4,7 +4,7 @@ use Rattle.std.specs.Char.{is_ascii_digit}
 use Rattle.std.specs.List.{list_all}
 use Rattle.std.specs.Str.Parse.{digits_value}
 use Rattle.dwg_cli.specs.declared.words.Command.{Command}
-use Rattle.dwg_cli.specs.declared.words.Command.TheVariants.{Sections, Classes, Show, Rewrite, Make}
+use Rattle.dwg_cli.specs.declared.words.Command.TheVariants.{Sections, Classes, Show, Rewrite, Audit, Make, Drill}
 use Rattle.dwg_make.specs.Made.{MOST_ENTITIES}
 
 -- the words as lists of bytes
@@ -25,6 +25,11 @@ make_of (Some n) (Some seed) = Some (Make n seed)
 make_of (Some n) None = None
 make_of None seed = None
 
+-- the command that makes a drawing of a number, and drills with it
+abbrev pub drill_of : Option ℕ → Option Command
+drill_of (Some n) = Some (Drill n)
+drill_of None = None
+
 -- the command that the words name, if they stand in a line of the command table
 unfoldable pub command_of : List (List ℕ) → Option Command
 command_of [] = None
@@ -32,8 +37,9 @@ command_of (word ∷ []) =
     if bytes_eq word (codes "sections") then Some Sections
     else (if bytes_eq word (codes "classes") then Some Classes
     else (if bytes_eq word (codes "show") then Some Show
-    else (if bytes_eq word (codes "rewrite") then Some Rewrite else None)))
-command_of (word ∷ one ∷ []) = None
+    else (if bytes_eq word (codes "rewrite") then Some Rewrite
+    else (if bytes_eq word (codes "audit") then Some Audit else None))))
+command_of (word ∷ one ∷ []) = if bytes_eq word (codes "drill") then drill_of (number_of one) else None
 command_of (word ∷ one ∷ other ∷ []) = if bytes_eq word (codes "make") then make_of (number_of one) (number_of other) else None
 command_of (word ∷ one ∷ other ∷ more ∷ rest) = None
 
@@ -44,13 +50,17 @@ IsReading (Some Sections) = ⊤
 IsReading (Some Classes) = ⊤
 IsReading (Some Show) = ⊤
 IsReading (Some Rewrite) = ⊤
+IsReading (Some Audit) = ⊤
 IsReading (Some (Make n seed)) = ⊥
+IsReading (Some (Drill n)) = ⊥
 
--- the words can't be heeded: they name no command, or the one that makes a drawing, with a size that no such drawing has
+-- the words can't be heeded: they name no command, or one that makes a drawing, with a size that no such drawing has
 abbrev pub IsUsage : Option Command → Type 0
 IsUsage None = ⊤
 IsUsage (Some Sections) = ⊥
 IsUsage (Some Classes) = ⊥
 IsUsage (Some Show) = ⊥
 IsUsage (Some Rewrite) = ⊥
+IsUsage (Some Audit) = ⊥
 IsUsage (Some (Make n seed)) = (n ≡ 0) ⊎ (MOST_ENTITIES < n)
+IsUsage (Some (Drill n)) = (n ≡ 0) ⊎ (MOST_ENTITIES < n)

@@ -1,19 +1,24 @@
 //! Answering what the program is asked.
 
-ghost use Rattle.std.specs.Prelude.{◌≡◌, ◌≤◌, IfOk, length};
+ghost use Rattle.std.specs.Prelude.{◌≡◌, ◌≤◌, IfOk, IfSome, length};
 ghost use Rattle.dwg_base.specs.Devices.{MOST_BYTES};
-ghost use Rattle.dwg_cli.specs.Outcome.{made_answer, outcome_within};
+ghost use Rattle.dwg_cli.specs.Outcome.{audited, drill_answer, made_answer, outcome_within, printed, verdict_status};
+ghost use Rattle.dwg_base.specs.Refusals.{IsOfTable};
+ghost use Rattle.dwg_report.specs.DrillText.{drill_text as drill_report_text};
 ghost use Rattle.dwg_cli.specs.Requests.{asked, IsWithin};
 ghost use Rattle.dwg_cli.specs.Run.{Sent};
 
 use crate::answer::{Answer, fault_answer, printed_answer};
 use crate::request::Request;
-use crate::sending::{send_answer, send_drawing_text, send_file, send_note};
+use crate::sending::{send_answer, send_drawing_text, send_file, send_note, send_too_large};
 use crate::status::Status;
 use crate::words::Command;
-use dwg_base::{NoMemory, Sink};
-use dwg_file::{classes_of_file, drawing_laws, read_drawing};
+use dwg_audit::Finding;
+use dwg_base::{ByteRun, NoMemory, Sink};
+use dwg_drill::{DrillFault, audit_drawing, drill};
+use dwg_file::{Drawing, classes_of_file, drawing_laws, read_drawing};
 use dwg_make::{MakeFault, make};
+use dwg_report::{DrillReport, audit_text, drill_text};
 use dwg_sections::read_file_header;
 use dwg_text::{classes_text, sections_text, size_note, too_long_note, usage_note};
 use std::alloc::Global;
@@ -83,6 +88,72 @@ fn answer_rewrite<W: Sink, N: Sink>(
     }
 }
 
+/// How an audit with these findings ends.
+fn status_of(found: &[Finding]) -> Status
+    ensures { result ≡ verdict_status found.now }
+{
+    if found.is_empty() {
+        Status::Done
+    } else {
+        Status::Found
+    }
+}
+
+/// What `audit` answers to a drawing.
+#[tactic(auto, unfolding(crate::specs::Outcome::audited))]
+fn audit_answer(alloc: Global, drawing: &Drawing<'_>) -> Result<Answer, NoMemory>
+    ensures { IfOk result (λ answer. answer ≡ audited drawing.now) }
+{
+    let found = audit_drawing(alloc, drawing)?;
+    let status = status_of(found.as_slice());
+    Ok(Answer {
+        output: audit_text(alloc, found.as_slice())?,
+        note: ByteRun::from_slice(alloc, &[])?,
+        status,
+    })
+}
+
+/// Answers `audit` over an input within the limit.
+fn answer_audit<W: Sink, N: Sink>(
+    alloc: Global,
+    bytes: &[u8],
+    output: &mut W,
+    notes: &mut N,
+) -> Status
+    requires { length bytes.now ≤ MOST_BYTES }
+    ensures never_fall { (W.faults output.old ≤ W.faults output.new) × (N.faults notes.old ≤ N.faults notes.new) }
+    ensures sent { Sent (outcome_within Command.Audit bytes.now) result (W.taken output.old) (W.taken output.new) (N.taken notes.old) (N.taken notes.new)
+        (W.faults output.old) (W.faults output.new) (N.faults notes.old) (N.faults notes.new) }
+{
+    drawing_laws();
+    match read_drawing(alloc, bytes) {
+        Ok(drawing) => send_answer(audit_answer(alloc, &drawing), output, notes),
+        Err(fault) => send_answer(fault_answer(alloc, fault), output, notes),
+    }
+}
+
+/// What `drill` answers where it found out these things.
+fn report_answer(alloc: Global, report: &DrillReport) -> Result<Answer, NoMemory>
+    requires { IfSome report.now.fault IsOfTable }
+    ensures { IfOk result (λ answer. answer ≡ printed (drill_report_text report.now)) }
+{
+    printed_answer(alloc, drill_text(alloc, report)?)
+}
+
+/// Answers `drill`.
+fn answer_drill<W: Sink, N: Sink>(alloc: Global, n: u32, output: &mut W, notes: &mut N) -> Status
+    ensures never_fall { (W.faults output.old ≤ W.faults output.new) × (N.faults notes.old ≤ N.faults notes.new) }
+    ensures sent { Sent (drill_answer n) result (W.taken output.old) (W.taken output.new) (N.taken notes.old) (N.taken notes.new)
+        (W.faults output.old) (W.faults output.new) (N.faults notes.old) (N.faults notes.new) }
+{
+    match drill(alloc, n) {
+        Ok(report) => send_answer(report_answer(alloc, &report), output, notes),
+        Err(DrillFault::Size) => send_note(size_note(), Status::Usage, output, notes),
+        Err(DrillFault::TooLarge { size }) => send_too_large(alloc, size, output, notes),
+        Err(DrillFault::NoMemory) => Status::NoMemory,
+    }
+}
+
 /// Answers `make`.
 fn answer_make<W: Sink, N: Sink>(
     alloc: Global,
@@ -120,7 +191,9 @@ fn answer_within<W: Sink, N: Sink>(
         Command::Classes => send_answer(classes_answer(alloc, bytes), output, notes),
         Command::Show => answer_show(alloc, bytes, output, notes),
         Command::Rewrite => answer_rewrite(alloc, bytes, output, notes),
+        Command::Audit => answer_audit(alloc, bytes, output, notes),
         Command::Make { n, seed } => answer_make(alloc, n, seed, output, notes),
+        Command::Drill { n } => answer_drill(alloc, n, output, notes),
     }
 }
 
@@ -140,6 +213,7 @@ pub(crate) fn answer<W: Sink, N: Sink>(
         Request::Usage => send_note(usage_note(), Status::Usage, output, notes),
         Request::TooLong => send_note(too_long_note(), Status::TooLong, output, notes),
         Request::Make { n, seed } => answer_make(alloc, *n, *seed, output, notes),
+        Request::Drill { n } => answer_drill(alloc, *n, output, notes),
         Request::Read { command, bytes } => {
             answer_within(alloc, *command, bytes.as_slice(), output, notes)
         }

@@ -4,6 +4,12 @@
 mod adapters;
 mod answer;
 mod answering;
+#[cfg(test)]
+mod audit_tests;
+#[cfg(test)]
+mod drill_tests;
+#[cfg(test)]
+mod reference_tests;
 mod request;
 mod run;
 mod sending;

@@ -26,6 +26,11 @@ pub enum Request {
         /// The seed of its random numbers.
         seed: u32,
     },
+    /// A drill with a drawing that is made of a number.
+    Drill {
+        /// How many entities follow its fixed objects.
+        n: u32,
+    },
     /// What a command that reads says to an input within the limit.
     Read {
         /// The command.
@@ -92,9 +97,11 @@ pub fn request_for<R: Source>(
     match read_words(words) {
         None => Ok(Request::Usage),
         Some(Command::Make { n, seed }) => Ok(Request::Make { n, seed }),
+        Some(Command::Drill { n }) => Ok(Request::Drill { n }),
         Some(Command::Sections) => request_from(alloc, Command::Sections, input),
         Some(Command::Classes) => request_from(alloc, Command::Classes, input),
         Some(Command::Show) => request_from(alloc, Command::Show, input),
         Some(Command::Rewrite) => request_from(alloc, Command::Rewrite, input),
+        Some(Command::Audit) => request_from(alloc, Command::Audit, input),
     }
 }

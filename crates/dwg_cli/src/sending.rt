@@ -104,7 +104,7 @@ fn send_plan<W: Sink>(plan: &mut Plan<'_, '_>, output: &mut W) -> Status
 }
 
 /// Sends a note on a file that would have so many bytes, too many.
-fn send_too_large<W: Sink, N: Sink>(
+pub(crate) fn send_too_large<W: Sink, N: Sink>(
     alloc: Global,
     size: u64,
     output: &mut W,

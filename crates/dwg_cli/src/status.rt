@@ -9,6 +9,8 @@ use dwg_base::Refusal;
 pub enum Status {
     /// All went well.
     Done,
+    /// All went well, and the audit has findings.
+    Found,
     /// The words stand in no line of the command table, or ask for a made drawing of no size that it has.
     Usage,
     /// The input fails this line of the table of refusals.
@@ -37,6 +39,7 @@ impl Status {
     {
         match self {
             Status::Done => 0,
+            Status::Found => 1,
             Status::Usage => 2,
             Status::Refused(_) => 3,
             Status::ReadFault => 4,

@@ -9,7 +9,7 @@ use std::test::Fail;
 
 /// The smallest canonical file: a header with three locators, empty header variables, no classes, a preview section
 /// without a picture, and a map without pairs.
-const SMALLEST: [u8; 187] = [
+pub(crate) const SMALLEST: [u8; 187] = [
     0x41, 0x43, 0x31, 0x30, 0x31, 0x35, 0x00, 0x00, 0x00, 0x00, 0x00, 0x00, 0x00, 0x92, 0x00, 0x00,
     0x00, 0x00, 0x00, 0x00, 0x00, 0x03, 0x00, 0x00, 0x00, 0x00, 0x46, 0x00, 0x00, 0x00, 0x26, 0x00,
     0x00, 0x00, 0x01, 0x6C, 0x00, 0x00, 0x00, 0x26, 0x00, 0x00, 0x00, 0x02, 0xB7, 0x00, 0x00, 0x00,
@@ -182,11 +182,11 @@ object 31 LINE typed 19
 const SECTIONS: &str =
     "version AC1015\ncodepage 0\npreview 146\nsection 0 at 70 size 38\nsection 1 at 108 size 38\nsection 2 at 183 size 4\n";
 
-const USAGE: &str =
+pub(crate) const USAGE: &str =
     "dwg: usage: sections | classes | show | rewrite | audit | recover | make N SEED | drill N\n";
 
 /// How much a call of a device gives or takes at the most, where it isn't held back.
-const PLENTY: usize = 1_000_000;
+pub(crate) const PLENTY: usize = 1_000_000;
 
 /// The numbers of calls that fail.
 fn calls(alloc: Global, numbers: &[u64]) -> Result<Items<u64>, Fail> {
@@ -198,18 +198,23 @@ fn calls(alloc: Global, numbers: &[u64]) -> Result<Items<u64>, Fail> {
 }
 
 /// A source of the bytes that gives at most `most` bytes a call.
-fn source(alloc: Global, bytes: &[u8], most: usize, fails: &[u64]) -> Result<MemSource, Fail> {
+pub(crate) fn source(
+    alloc: Global,
+    bytes: &[u8],
+    most: usize,
+    fails: &[u64],
+) -> Result<MemSource, Fail> {
     let bytes = ByteRun::from_slice(alloc, bytes).or(Err("no memory"))?;
     Ok(MemSource::new(bytes, most.max(1), calls(alloc, fails)?))
 }
 
 /// A sink that takes at most `most` bytes a call.
-fn sink(alloc: Global, most: usize, fails: &[u64]) -> Result<MemSink, Fail> {
+pub(crate) fn sink(alloc: Global, most: usize, fails: &[u64]) -> Result<MemSink, Fail> {
     Ok(MemSink::new(alloc, PLENTY, most.max(1), calls(alloc, fails)?).or(Err("no memory"))?)
 }
 
 /// The words as the program gets them.
-fn words(alloc: Global, words: &[&str]) -> Result<Vec<String>, Fail> {
+pub(crate) fn words(alloc: Global, words: &[&str]) -> Result<Vec<String>, Fail> {
     let mut list = Vec::new(alloc);
     for word in words {
         list.push(String::from_str(alloc, word)?)?;
@@ -218,7 +223,11 @@ fn words(alloc: Global, words: &[&str]) -> Result<Vec<String>, Fail> {
 }
 
 /// The bytes with some of them changed, each at its place.
-fn changed(alloc: Global, bytes: &[u8], changes: &[(usize, u8)]) -> Result<Vec<u8>, Fail> {
+pub(crate) fn changed(
+    alloc: Global,
+    bytes: &[u8],
+    changes: &[(usize, u8)],
+) -> Result<Vec<u8>, Fail> {
     let mut list = Vec::from_slice(alloc, bytes)?;
     for (place, byte) in changes {
         if let Some(there) = list.get_mut(*place) {
@@ -250,7 +259,7 @@ fn with_frames(
 
 /// Runs the program on words and an input that comes in pieces of one byte, of ten, and whole: it must end with this
 /// status, having written this output and this note.
-fn answers(
+pub(crate) fn answers(
     rt: &impl Abort,
     alloc: Global,
     named: &[&str],
@@ -273,7 +282,7 @@ fn answers(
 }
 
 /// A refusal by a line.
-fn refused(line: u8, index: u64, place: u64) -> Status {
+pub(crate) fn refused(line: u8, index: u64, place: u64) -> Status {
     Status::Refused(Refusal { line, index, place })
 }
 
@@ -426,7 +435,7 @@ fn shows_drawings(rt: HostRuntime) -> Result<(), Fail> {
 }
 
 /// What a command that must end well writes, with so much room for it.
-fn output_of(
+pub(crate) fn output_of(
     rt: &impl Abort,
     alloc: Global,
     named: &[&str],

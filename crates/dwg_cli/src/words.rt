@@ -4,7 +4,7 @@ ghost use Rattle.std.specs.Prelude.{◌≡◌, ℕ, ◌<◌, ◌^◌, [], ◌∷
 ghost use Rattle.std.specs.Fmt.{decimal};
 ghost use Rattle.std.specs.List.{list_all};
 ghost use Rattle.std.specs.Char.{is_ascii_digit};
-ghost use Rattle.dwg_cli.specs.Words.{texts, is_numeral, number_of, make_of, command_of};
+ghost use Rattle.dwg_cli.specs.Words.{texts, is_numeral, number_of, make_of, drill_of, command_of};
 
 /// What the program is asked for.
 #[derive(Clone, Copy, Debug, PartialEq, Eq)]
@@ -17,12 +17,19 @@ pub enum Command {
     Show,
     /// The canonical file of the drawing.
     Rewrite,
+    /// What the references of the drawing fail.
+    Audit,
     /// The canonical file of a made drawing.
     Make {
         /// How many entities follow its fixed objects.
         n: u32,
         /// The seed of its random numbers.
         seed: u32,
+    },
+    /// What is found out by a made drawing that is written, read again, audited, and read once more with a changed byte.
+    Drill {
+        /// How many entities follow its fixed objects.
+        n: u32,
     },
 }
 
@@ -75,21 +82,44 @@ fn read_make(n: &str, seed: &str) -> Option<Command>
     Some(Command::Make { n, seed })
 }
 
+/// The command that drills with a made drawing.
+fn read_drill(n: &str) -> Option<Command>
+    ensures { result ≡ drill_of (number_of n.now) }
+{
+    let n = read_number(n)?;
+    Some(Command::Drill { n })
+}
+
+/// The command of one word.
+#[tactic(auto, unfolding(crate::specs::Words::command_of))]
+fn command_word(word: &str) -> Option<Command>
+    ensures { result ≡ command_of (word.now ∷ []) }
+{
+    if word == "sections" {
+        Some(Command::Sections)
+    } else if word == "classes" {
+        Some(Command::Classes)
+    } else if word == "show" {
+        Some(Command::Show)
+    } else if word == "rewrite" {
+        Some(Command::Rewrite)
+    } else if word == "audit" {
+        Some(Command::Audit)
+    } else {
+        None
+    }
+}
+
 /// The command that the words name, by the table of commands.
 #[tactic(auto, unfolding(crate::specs::Words::command_of))]
 fn command_named(words: &[String]) -> Option<Command>
     ensures { result ≡ command_of (texts words.now) }
 {
     match words {
-        [word] => {
-            if word.as_str() == "sections" {
-                Some(Command::Sections)
-            } else if word.as_str() == "classes" {
-                Some(Command::Classes)
-            } else if word.as_str() == "show" {
-                Some(Command::Show)
-            } else if word.as_str() == "rewrite" {
-                Some(Command::Rewrite)
+        [word] => command_word(word.as_str()),
+        [word, n] => {
+            if word.as_str() == "drill" {
+                read_drill(n.as_str())
             } else {
                 None
             }
@@ -105,13 +135,15 @@ fn command_named(words: &[String]) -> Option<Command>
     }
 }
 
-/// The command that the words name. None exactly where they stand in no line of the command table. The numbers of `make` are the
-/// decimal texts of those below 2^32. It takes no memory.
-#[tactic(auto, using(crate::proofs::MakeWords::make_named, crate::proofs::MakeWords::make_numbers))]
+/// The command that the words name. None exactly where they stand in no line of the command table. The numbers of `make` and `drill`
+/// are the decimal texts of those below 2^32. It takes no memory.
+#[tactic(auto, using(crate::proofs::MakeWords::make_named, crate::proofs::MakeWords::make_numbers, crate::proofs::DrillWords::drill_named, crate::proofs::DrillWords::drill_number))]
 pub fn read_words(words: &[String]) -> Option<Command>
     ensures named { result ≡ command_of (texts words.now) }
     ensures numbers { (n seed : ℕ) → result ≡ Some (Command.Make n seed) → texts words.now ≡ codes "make" ∷ decimal n ∷ decimal seed ∷ [] }
     ensures makes { (n seed : ℕ) → n < 2 ^ 32 → seed < 2 ^ 32 → texts words.now ≡ codes "make" ∷ decimal n ∷ decimal seed ∷ [] → result ≡ Some (Command.Make n seed) }
+    ensures number { (n : ℕ) → result ≡ Some (Command.Drill n) → texts words.now ≡ codes "drill" ∷ decimal n ∷ [] }
+    ensures drills { (n : ℕ) → n < 2 ^ 32 → texts words.now ≡ codes "drill" ∷ decimal n ∷ [] → result ≡ Some (Command.Drill n) }
 {
     command_named(words)
 }

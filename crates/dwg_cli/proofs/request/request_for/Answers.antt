@@ -1,8 +1,9 @@
 use Rattle.std.proofs.Common.{[], arith, ◌∙◌, ap, sym, subst, Some}
 use Rattle.std.proofs.KnownBytes.{Consumes-nil}
 use Rattle.dwg_cli.specs.Words.{IsUsage}
+use Rattle.dwg_cli.proofs.Drills.{drill_settled, drill_usage, drill_usage_told}
 use Rattle.dwg_cli.proofs.Makings.{made_settled, made_usage, made_usage_told}
-use Rattle.dwg_cli.proofs.Outcomes.{outcome_of_no_command, outcome_of_making, answered_by, came_by}
+use Rattle.dwg_cli.proofs.Outcomes.{outcome_of_no_command, outcome_of_making, outcome_of_drilling, answered_by, came_by}
 use Rattle.dwg_cli.proofs.request.request_for.Goals as goal
 
 pub returns-in-None-clause-answered : goal.returns-in-None-clause-answered
@@ -27,6 +28,22 @@ returns-in-Some-Make-clause-usage g c = λ ends. subst IsUsage (sym (sym c.in-So
 pub returns-in-Some-Make-clause-usage_told : goal.returns-in-Some-Make-clause-usage_told
 returns-in-Some-Make-clause-usage_told g c = λ usage. made_usage_told c.in-Some-Make.n c.in-Some-Make.seed (subst IsUsage (sym c.in-Some-Make.ensures.named ∙ ap Some c.in-Some-Make.field-0-is) usage)
 
+pub returns-in-Some-Drill-clause-answered : goal.returns-in-Some-Drill-clause-answered
+returns-in-Some-Drill-clause-answered g c = λ bytes fed. outcome_of_drilling _ c.in-Some-Drill.n bytes (sym c.in-Some-Drill.ensures.named ∙ ap Some c.in-Some-Drill.field-0-is)
+
+pub returns-in-Some-Drill-clause-came : goal.returns-in-Some-Drill-clause-came
+returns-in-Some-Drill-clause-came g c =
+    ([], Consumes-nil _, (omega arith, outcome_of_drilling _ c.in-Some-Drill.n [] (sym c.in-Some-Drill.ensures.named ∙ ap Some c.in-Some-Drill.field-0-is)))
+
+pub returns-in-Some-Drill-clause-settled : goal.returns-in-Some-Drill-clause-settled
+returns-in-Some-Drill-clause-settled g c = drill_settled c.in-Some-Drill.n
+
+pub returns-in-Some-Drill-clause-usage : goal.returns-in-Some-Drill-clause-usage
+returns-in-Some-Drill-clause-usage g c = λ ends. subst IsUsage (sym (sym c.in-Some-Drill.ensures.named ∙ ap Some c.in-Some-Drill.field-0-is)) (drill_usage c.in-Some-Drill.n ends)
+
+pub returns-in-Some-Drill-clause-usage_told : goal.returns-in-Some-Drill-clause-usage_told
+returns-in-Some-Drill-clause-usage_told g c = λ usage. drill_usage_told c.in-Some-Drill.n (subst IsUsage (sym c.in-Some-Drill.ensures.named ∙ ap Some c.in-Some-Drill.field-0-is) usage)
+
 pub returns-in-Some-Sections-clause-answered : goal.returns-in-Some-Sections-clause-answered
 returns-in-Some-Sections-clause-answered g c = answered_by _ _ c.request_from.result _ (sym c.in-Some-Sections.ensures.named ∙ ap Some c.in-Some-Sections.field-0-is) tt c.request_from.ensures.answered
 
@@ -50,3 +67,9 @@ returns-in-Some-Rewrite-clause-answered g c = answered_by _ _ c.request_from-in-
 
 pub returns-in-Some-Rewrite-clause-came : goal.returns-in-Some-Rewrite-clause-came
 returns-in-Some-Rewrite-clause-came g c = came_by _ _ c.request_from-in-Some-Rewrite.result _ _ (sym c.in-Some-Rewrite.ensures.named ∙ ap Some c.in-Some-Rewrite.field-0-is) tt c.request_from-in-Some-Rewrite.ensures.came
+
+pub returns-in-Some-Audit-clause-answered : goal.returns-in-Some-Audit-clause-answered
+returns-in-Some-Audit-clause-answered g c = answered_by _ _ c.request_from-in-Some-Audit.result _ (sym c.in-Some-Audit.ensures.named ∙ ap Some c.in-Some-Audit.field-0-is) tt c.request_from-in-Some-Audit.ensures.answered
+
+pub returns-in-Some-Audit-clause-came : goal.returns-in-Some-Audit-clause-came
+returns-in-Some-Audit-clause-came g c = came_by _ _ c.request_from-in-Some-Audit.result _ _ (sym c.in-Some-Audit.ensures.named ∙ ap Some c.in-Some-Audit.field-0-is) tt c.request_from-in-Some-Audit.ensures.came
