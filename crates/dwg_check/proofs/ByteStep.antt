@@ -81,13 +81,10 @@ check_word_of_byte word byte h =
     byte_shifts word byte h ∙ shifts_by_bytes mixed ∙ ap₂ bit_xor high (sym low)
 
 -- the word after the byte at an index gives with the bytes behind it what the word before gave with the byte
-pub one_byte_less : (word : ℕ) (bytes : List ℕ) (i : ℕ) → i < length bytes → get_or bytes i 0 < 2 ^ 8
-    → check_word (bit_xor (word / 2 ^ 8) (slice_index TABLE (bit_and (bit_xor word (get_or bytes i 0)) 255))) (drop (i + 1) bytes)
-    ≡ check_word word (drop i bytes)
-one_byte_less word bytes i inside h =
-    sym (ap (check_word word) (next bytes i inside)
-    ∙ check_word_cons word (get_or bytes i 0) (drop (i + 1) bytes)
-    ∙ ap (λ w. check_word w (drop (i + 1) bytes)) (check_word_of_byte word (get_or bytes i 0) h))
+pub one_byte_less : (word : ℕ) (bytes : List ℕ) (i : ℕ) → i < length bytes
+    → check_word (check_word word (get_or bytes i 0 ∷ [])) (drop (i + 1) bytes) ≡ check_word word (drop i bytes)
+one_byte_less word bytes i inside =
+    sym (ap (check_word word) (next bytes i inside) ∙ check_word_cons word (get_or bytes i 0) (drop (i + 1) bytes))
   where
     next : (xs : List ℕ) (k : ℕ) → k < length xs → drop k xs ≡ get_or xs k 0 ∷ drop (k + 1) xs
     next xs k within = rw (add-one, drop-cons xs k 0)

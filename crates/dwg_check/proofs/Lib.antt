@@ -1,1 +1,4 @@
 pub mod ByteStep
+pub mod Linear
+pub mod Powers
+pub mod Periods

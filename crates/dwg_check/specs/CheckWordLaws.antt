@@ -181,6 +181,10 @@ CheckWordOfByte =
     → check_word start (byte ∷ [])
     ≡ turn (turn (turn (turn (turn (turn (turn (turn start (bit_at byte 0)) (bit_at byte 1)) (bit_at byte 2)) (bit_at byte 3)) (bit_at byte 4)) (bit_at byte 5)) (bit_at byte 6)) (bit_at byte 7)
 
+-- 32,767 bytes 0 leave every word of 16 bits as it was
+abbrev pub CheckWordIsPeriodic : Type 0
+CheckWordIsPeriodic = (word : ℕ) → word < 2 ^ 16 → check_word word (replicate 32767 0) ≡ word
+
 -- check words have 16 bits
 abbrev pub CheckWordFits : Type 0
 CheckWordFits = (start : ℕ) (bytes : List ℕ) → start < 2 ^ 16 → check_word start bytes < 2 ^ 16

@@ -1,2 +1,4 @@
 pub mod CheckWord
 pub mod CheckWordLaws
+pub mod Zeros
+pub mod Spans

@@ -5,9 +5,14 @@ ghost use Rattle.std.specs.Prelude.{◌≡◌, ◌≤◌};
 ghost use Rattle.dwg_check.specs.CheckWord.{check_word, header_check_word};
 
 mod laws;
+mod spans;
 mod table;
+mod zeros;
 
 pub use laws::check_word_laws;
+pub use spans::SpanChecks;
+use table::after_byte;
+pub use zeros::shift;
 
 /// What the check words of framed sections, map pages and object frames begin as (Open Design Specification, "CRC").
 pub const FRAME_START: u16 = 0xC0C1;
@@ -21,8 +26,7 @@ pub fn check(start: u16, bytes: &[u8]) -> u16
 {
     let mut word = start;
     'along: for byte in bytes {
-        let low = (word ^ u16::from(*byte)) & 0xFF;
-        word = (word >> 8) ^ table::entry(usize::from(low));
+        word = after_byte(word, *byte);
     }
     word
 }

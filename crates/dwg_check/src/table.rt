@@ -1,6 +1,7 @@
 //! The check word's table: what becomes of each low byte of a word as eight bits turn it.
 
-ghost use Rattle.std.specs.Prelude.{◌≡◌, ◌<◌, slice_index};
+ghost use Rattle.std.specs.Prelude.{◌≡◌, ◌<◌, [], ◌∷◌, slice_index};
+ghost use Rattle.dwg_check.specs.CheckWord.{check_word};
 
 /// At each index, that number after eight shifts by one to the right, each xored with 0xA001 where the bit that left was 1 (Open Design Specification, "CRC").
 const TABLE: [u16; 256] = [
@@ -29,9 +30,18 @@ const TABLE: [u16; 256] = [
 ];
 
 /// The entry of the table at a low byte.
-pub fn entry(low: usize) -> u16
+fn entry(low: usize) -> u16
     requires { low < 256 }
     ensures { result ≡ slice_index TABLE low }
 {
     TABLE[low]
+}
+
+/// The word after one byte.
+#[tactic(auto, using(crate::proofs::ByteStep::check_word_of_byte))]
+pub fn after_byte(word: u16, byte: u8) -> u16
+    ensures { result ≡ check_word word (byte ∷ []) }
+{
+    let low = (word ^ u16::from(byte)) & 0xFF;
+    (word >> 8) ^ entry(usize::from(low))
 }
