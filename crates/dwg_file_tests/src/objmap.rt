@@ -3,7 +3,10 @@
 ghost use Rattle.std.specs.Prelude.{◌≡◌, ◌^◌, ◌<◌, IfOk};
 
 use dwg_base::{Fault, Handle, Items, MemSink, Refusal, WriteFault};
-use dwg_objmap::{PageWriter, Pair, map_laws, map_length, map_writing_laws, read_map, read_page};
+use dwg_objmap::{
+    PageWriter, Pair, map_laws, map_length, map_writing_laws, page_holds, page_laws, page_pairs,
+    page_size, read_map, read_page,
+};
 use std::alloc::Global;
 use std::test::Fail;
 
@@ -22,6 +25,15 @@ fn pair(handle: u64, place: u64) -> Result<Pair, Fail>
     }
 }
 
+/// Pairs as numbers.
+fn numbers(alloc: Global, pairs: &[Pair]) -> Result<Vec<(u64, u64)>, Fail> {
+    let mut numbers = Vec::new(alloc);
+    for pair in pairs {
+        numbers.push((pair.handle.value(), pair.place))?;
+    }
+    Ok(numbers)
+}
+
 /// What a map at a place gives: its pairs as numbers, or its refusal.
 fn told(alloc: Global, bytes: &[u8], place: u64) -> Result<Result<Vec<(u64, u64)>, Refusal>, Fail> {
     let pairs = match read_map(alloc, bytes, place) {
@@ -29,11 +41,7 @@ fn told(alloc: Global, bytes: &[u8], place: u64) -> Result<Result<Vec<(u64, u64)
         Err(Fault::Refused(refusal)) => return Ok(Err(refusal)),
         Err(Fault::NoMemory) => Err("no memory")?,
     };
-    let mut numbers = Vec::new(alloc);
-    for pair in pairs.as_slice() {
-        numbers.push((pair.handle.value(), pair.place))?;
-    }
-    Ok(Ok(numbers))
+    Ok(Ok(numbers(alloc, pairs.as_slice())?))
 }
 
 #[test]
@@ -260,6 +268,78 @@ fn pages_that_were_filled_are_read(rt: HostRuntime) -> Result<(), Fail> {
         }
         Err(refusal) => assert_eq!(rt; refusal.line, 0),
     }
+    Ok(())
+}
+
+/// What recovery reads of a page at a place: its size, whether its check word is right, and its pairs as numbers.
+fn page_past_faults(
+    alloc: Global,
+    bytes: &[u8],
+    place: u64,
+) -> Result<Option<(u16, bool, Vec<(u64, u64)>)>, Fail> {
+    let Some(size) = page_size(bytes, place) else {
+        return Ok(None);
+    };
+    match page_pairs(alloc, bytes, place) {
+        Ok(pairs) => Ok(Some((
+            size,
+            page_holds(bytes, place),
+            numbers(alloc, pairs.as_slice())?,
+        ))),
+        Err(_) => Err("no memory")?,
+    }
+}
+
+#[test]
+fn pages_are_read_past_their_faults(rt: HostRuntime) -> Result<(), Fail> {
+    page_laws();
+    let cases: [(&[u8], u16, bool, &[(u64, u64)]); 6] = [
+        (&ONE_PAIR, 5, true, &[(0xC, 183)]),
+        // Its check word is wrong.
+        (
+            &[0x00, 0x05, 0x0C, 0xB7, 0x01, 0x2E, 0x76],
+            5,
+            false,
+            &[(0xC, 183)],
+        ),
+        // The handle is repeated.
+        (
+            &[0x00, 0x07, 0x0C, 0xB7, 0x01, 0x00, 0x10, 0xC2, 0xA7],
+            7,
+            true,
+            &[(0xC, 183), (0xC, 199)],
+        ),
+        // The null handle.
+        (
+            &[0x00, 0x05, 0x00, 0xB7, 0x01, 0x2D, 0xB7],
+            5,
+            true,
+            &[(0, 183)],
+        ),
+        // The place of the second pair is before the begin of the file.
+        (
+            &[0x00, 0x08, 0x0C, 0xB7, 0x01, 0x01, 0xC8, 0x41, 0x4A, 0xB7],
+            8,
+            true,
+            &[(0xC, 183)],
+        ),
+        // The page that ends the map.
+        (&[0x00, 0x02, 0x01, 0xD0], 2, true, &[]),
+    ];
+    for (bytes, size, holds, pairs) in cases {
+        match page_past_faults(rt.alloc(), bytes, 0)? {
+            Some((told_size, told_holds, told_pairs)) => {
+                assert_eq!(rt; told_size, size);
+                assert_eq!(rt; told_holds, holds);
+                assert_eq!(rt; told_pairs.as_slice(), pairs);
+            }
+            None => Err("no page")?,
+        }
+    }
+    // A size of 1, a page that is cut by a byte, and a place past the end.
+    assert_eq!(rt; page_size(&[0x00, 0x01, 0x01, 0xD0], 0), None);
+    assert_eq!(rt; page_size(&ONE_PAIR[..6], 0), None);
+    assert_eq!(rt; page_size(&ONE_PAIR, u64::MAX), None);
     Ok(())
 }
 

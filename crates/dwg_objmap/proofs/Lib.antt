@@ -1,5 +1,6 @@
 pub mod PairReading
 pub mod StepReading
+pub mod FrontReading
 pub mod Answered
 pub mod PairWriting
 pub mod PageFilling

@@ -16,3 +16,5 @@ pub mod MapLength
 pub mod MapLengthLaw
 pub mod Gathered
 pub mod Reading
+pub mod Walking
+pub mod WalkingLaws

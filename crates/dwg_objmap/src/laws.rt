@@ -8,6 +8,7 @@ ghost use Rattle.dwg_objmap.specs.Pages.{PageAt, AreHandles, handles_of, MapOf};
 ghost use Rattle.dwg_objmap.specs.MapLines.{page_end, tried_page, tried_map, RefusesPage, RefusesMap};
 ghost use Rattle.dwg_objmap.specs.Pairs.{IsPair, pair_behind};
 ghost use Rattle.dwg_codes.specs.CodeLaws.{IsLawful};
+ghost use Rattle.dwg_objmap.specs.Walking.{LongestIsComputed, LongestIsUnique, WholeIsInFront, PageGivesItsPairs, SizeIsThere};
 ghost use Rattle.dwg_objmap.specs.Writing.{OpenPage, FRESH, given, filled, closing, map_behind, map_bytes, Ascend, IsFilling};
 
 /// What holds of every map and of every page: a map has the pairs that trying it gives, and is refused by the one refusal
@@ -33,4 +34,15 @@ pub fn map_writing_laws()
     ensures begins { (pairs : List Pair) → map_bytes pairs ≡ map_behind FRESH pairs }
     ensures goes_on { (page : OpenPage) (pair : Pair) (pairs : List Pair) → map_behind page (pair ∷ pairs) ≡ given page pair ++ map_behind (filled page pair) pairs }
     ensures ends { (page : OpenPage) → map_behind page [] ≡ closing page }
+{}
+
+/// What holds of pages as recovery reads them: bytes have one longest list of pairs in front, and it is the one that is
+/// computed; where the bytes are whole pairs, it is these. A page that stands at a place has its size and its check word, and
+/// gives its own pairs; and a page has a size exactly where it lies in the input.
+pub fn page_laws()
+    ensures longest { LongestIsComputed }
+    ensures unique { LongestIsUnique }
+    ensures whole { WholeIsInFront }
+    ensures page { PageGivesItsPairs }
+    ensures size { SizeIsThere }
 {}

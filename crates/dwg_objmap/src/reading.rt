@@ -1,18 +1,17 @@
 //! Reading the map: its pages one behind the other, and the pairs of each.
 
-ghost use Rattle.std.specs.Prelude.{◌≡◌, ℕ, ◌+◌, ◌-◌, ◌*◌, ◌^◌, ◌<◌, ◌≤◌, ◌↔◌, List, [], drop, length, Ok, Err, IsTrue, IfOk, OnOk, IfErr, IfSome, IfNone};
+ghost use Rattle.std.specs.Prelude.{◌≡◌, ℕ, ◌+◌, ◌-◌, ◌*◌, ◌^◌, ◌<◌, ◌≤◌, List, [], drop, length, Ok, Err, IfOk, OnOk, IfErr, IfSome, IfNone};
 ghost use Rattle.dwg_base.specs.Refusals.{Answers, IfRefused, IsFaultOfTable};
 ghost use Rattle.dwg_objmap.specs.declared.pair.Pair.{Pair};
 ghost use Rattle.dwg_objmap.specs.Pairs.{ORIGIN};
 ghost use Rattle.dwg_objmap.specs.Pages.{PageAt, AreHandles, handles_of, MapOf};
-ghost use Rattle.dwg_objmap.specs.MapLines.{map_refusal, word_at, sized_at, body_at, page_end, pairs_behind, page_behind, pages_behind, tried_page, tried_map, HasPage, HasCheckWord, RefusesPage, RefusesMap};
+ghost use Rattle.dwg_objmap.specs.MapLines.{map_refusal, word_at, page_end, pairs_behind, page_behind, pages_behind, tried_page, tried_map, HasPage, HasCheckWord, RefusesPage, RefusesMap};
 ghost use Rattle.dwg_objmap.specs.Reading.{GoesOn, AnswersPage};
 
 use crate::gathered::Gathered;
-use crate::page::Page;
+use crate::page::{Page, body, is_right, word_at};
 use crate::pair::{Pair, behind, origin, read_pair};
 use dwg_base::{Fault, Items, NoMemory, Refusal};
-use dwg_check::{FRAME_START, check};
 use std::alloc::Global;
 
 /// The size of the page that ends the map: no more than its own two bytes.
@@ -23,33 +22,6 @@ fn refusal(line: u8, index: u64, place: u64) -> Refusal
     ensures { result ≡ map_refusal line index place }
 {
     Refusal { line, index, place }
-}
-
-/// The two bytes at a place as a number, the most significant byte first.
-fn word_at(bytes: &[u8], place: usize) -> u64
-    requires { place + 2 ≤ length bytes.now }
-    ensures word { result ≡ word_at bytes.now place }
-    ensures bound { result < 65536 }
-{
-    256 * u64::from(bytes[place]) + u64::from(bytes[place + 1])
-}
-
-/// The size and the pairs of a page, over which its check word is.
-fn sized(bytes: &[u8], place: usize, size: usize) -> &[u8]
-    requires within { place + size ≤ length bytes.now }
-    requires size { size ≡ word_at bytes.now place }
-    ensures { result.now ≡ sized_at bytes.now place }
-{
-    &bytes[place..place + size]
-}
-
-/// Whether the check word of a page is right.
-fn is_right(bytes: &[u8], place: usize, size: usize) -> bool
-    requires within { place + size + 2 ≤ length bytes.now }
-    requires size { size ≡ word_at bytes.now place }
-    ensures { IsTrue result ↔ HasCheckWord bytes.now place }
-{
-    word_at(bytes, place + size) == u64::from(check(FRAME_START, sized(bytes, place, size)))
 }
 
 /// Why the page at a place is refused, whatever its pairs: it is short, its size is below 2, or its check word is wrong.
@@ -142,15 +114,6 @@ fn next_place(bytes: &[u8], place: u64) -> u64
     ensures { result ≡ page_end bytes.now place }
 {
     place + word_at(bytes, place as usize) + 2
-}
-
-/// The pairs of a page, as bytes.
-fn body(bytes: &[u8], place: u64) -> &[u8]
-    requires { HasPage bytes.now place }
-    ensures { result.now ≡ body_at bytes.now place }
-{
-    let size = word_at(bytes, place as usize);
-    behind(sized(bytes, place as usize, size as usize), 2)
 }
 
 /// Reads the page at a place behind the pairs that were read before.

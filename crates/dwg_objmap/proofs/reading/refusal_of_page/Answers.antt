@@ -17,5 +17,5 @@ returns-then-length-place-clause-refused c = λ seen.
 
 pub returns-then-not-is_right-clause-refused : goal.returns-then-not-is_right-clause-refused
 returns-then-not-is_right-clause-refused c = λ seen.
-    refused_word seen c.args.place c.args.index _ c.args.bytes.now _ (omega arith, omega arith) (not_so _ _ c.is_right.ensures.1 c.if-not-is_right.true) c.word_at-size.ensures.word
+    refused_word seen c.args.place c.args.index _ c.args.bytes.now _ (omega arith, omega arith) (not_so _ _ c.is_right.ensures.right.1 c.if-not-is_right.true) c.word_at-size.ensures.word
     c.refusal-then-not-is_right.ensures

@@ -1,0 +1,40 @@
+-- Pairs read one by one in front of a page's bytes, said of what is left.
+use Rattle.std.proofs.Common.{◌≡◌, sym, ◌∙◌, ap, ap₂, subst, ℕ, ◌+◌, List, [], ◌∷◌, ◌++◌, length, drop, get_or, Some, None, ◌<◌, add-one}
+use Rattle.std.specs.Prelude.{Result, Ok, Err, IfOk}
+use Rattle.std.proofs.lemmas.List.{drop-drop}
+use Rattle.dwg_base.specs.Bytes.{are_bytes}
+use Rattle.dwg_objmap.specs.declared.pair.Pair.{Pair}
+use Rattle.dwg_objmap.specs.Pairs.{ORIGIN, pair_behind}
+use Rattle.dwg_objmap.specs.MapLines.{body_at}
+use Rattle.dwg_objmap.specs.PagePlaces.{body_is_bytes}
+use Rattle.dwg_objmap.specs.Walking.{AreLongest, pairs_from, pairs_in_front}
+use Rattle.dwg_objmap.specs.WalkingLaws.{from_none, from_some, from_out, longest_in_front}
+
+-- at the begin all is left
+pub front_begin : (left : ℕ) (pairs : List Pair) (last : Pair) (body : List ℕ) → left ≡ length body → pairs ≡ [] → last ≡ ORIGIN → pairs_from left pairs last body ≡ pairs_in_front body
+unfolding pairs_in_front
+front_begin left pairs last body is none origin = ap₂ (λ n (front : List Pair). pairs_from n front last body) is none ∙ ap (λ (from : Pair). pairs_from (length body) [] from body) origin
+
+-- where no pair is spelled, the pairs so far are all
+pub front_over : (left at : ℕ) (pairs all : List Pair) (last : Pair) (rest body : List ℕ) → pairs_from left pairs last (drop at body) ≡ all → rest ≡ drop at body
+    → (pair_behind last).parse rest ≡ None → pairs ≡ all
+front_over left at pairs all last rest body whole behind none = sym (from_none left pairs last (drop at body) (ap (pair_behind last).parse (sym behind) ∙ none)) ∙ whole
+
+-- and so they are after as many turns as there were bytes
+pub front_out : (left : ℕ) (pairs all : List Pair) (last : Pair) (rest : List ℕ) → pairs_from left pairs last rest ≡ all → left ≡ 0 → pairs ≡ all
+front_out left pairs all last rest whole none = sym (from_out pairs last rest) ∙ ap (λ n. pairs_from n pairs last rest) (sym none) ∙ whole
+
+-- with one more pair, what is left gives the whole
+pub front_on : (left less at used : ℕ) (pairs more all : List Pair) (last pair : Pair) (rest body : List ℕ) → left ≡ less + 1 → pairs_from left pairs last (drop at body) ≡ all → rest ≡ drop at body
+    → (pair_behind last).parse rest ≡ Some (pair, drop used rest) → more ≡ pairs ++ pair ∷ [] → pairs_from less more pair (drop (at + used) body) ≡ all
+front_on left less at used pairs more all last pair rest body is whole behind found added =
+    ap₂ (λ (front : List Pair) (bytes : List ℕ). pairs_from less front pair bytes) added (sym (ap (drop used) behind ∙ drop-drop used at body))
+    ∙ sym (from_some less pairs last pair rest (drop used rest) found)
+    ∙ ap₂ (λ n bytes. pairs_from n pairs last bytes) (sym (add-one less) ∙ sym is) behind ∙ whole
+
+-- the pairs that are computed of a page are the longest
+pub longest_of_page : {E : Type 0} (result : Result (List Pair) E) (bytes body : List ℕ) (place : ℕ) → ((i : ℕ) → get_or bytes i 0 < 256) → body ≡ body_at bytes place
+    → IfOk result (λ pairs. pairs ≡ pairs_in_front body) → IfOk result (λ pairs. AreLongest (body_at bytes place) pairs)
+longest_of_page (Ok pairs) bytes body place small same read =
+    subst (AreLongest (body_at bytes place)) (sym (read ∙ ap pairs_in_front same)) (longest_in_front (body_at bytes place) (body_is_bytes bytes place (are_bytes bytes small)))
+longest_of_page (Err refused) bytes body place small same read = tt
