@@ -1,5 +1,5 @@
 -- Objects sorted by their handles, which are distinct, ascend.
-use Rattle.std.proofs.Common.{◌≡◌, ◌≢◌, sym, ◌∙◌, ap, subst, ℕ, ◌<◌, ◌≤◌, List, [], ◌∷◌, length, map, get_or, ◌==◌, arith}
+use Rattle.std.proofs.Common.{◌≡◌, ◌≢◌, refl, sym, ◌∙◌, ap, subst, ℕ, ◌<◌, ◌≤◌, List, [], ◌∷◌, length, map, get_or, ◌==◌, arith}
 use Rattle.std.specs.Prelude.{AllPairs, Ok, Err}
 use Rattle.std.specs.List.Sorted.{IsPermutation, IsNonDecreasingBy}
 use Rattle.std.proofs.lemmas.Bool.Decides.{Decides-eqb, nat_tests}
@@ -16,7 +16,9 @@ use Rattle.dwg_object.specs.Objects.{ObjectValue, value_of, handle_of}
 use Rattle.dwg_objmap.specs.Pages.{AreHandles}
 use Rattle.dwg_file.specs.declared.frames.Frames.{Frames}
 use Rattle.dwg_file.specs.FileLines.{FoundFrame}
-use Rattle.dwg_file.specs.FrameReading.{values_of, AnswersFrames, AreObjectsOf, AnswersObjects}
+use Rattle.dwg_file.specs.FrameReading.{values_of, AnswersFrames, AnswersObjects}
+use Rattle.dwg_file.specs.ObjectOrder.{order_once}
+use Rattle.dwg_file.specs.SortedObjects.{sorted, sorted_same, sorted_ascends, distinct_objects}
 use Rattle.dwg_file.specs.Spelled.{AreAscending}
 
 -- handles no two of which are the same
@@ -57,20 +59,30 @@ ascending_objects objects ordered handles are own same ascend i j d before withi
     let differ : get_or (map handle_of (values_of ordered)) i 0 ≢ get_or (map handle_of (values_of ordered)) j 0 = apart_ordered handles (map handle_of (values_of ordered)) are moved i j 0 before there in
     omega (arith, one, other, differ, not_falling ordered ascend i j d before within)
 
--- objects of frames that were read, sorted, are those of the frames
-pub objects_answered : (classes : List Class) (bytes : List ℕ) (tried : Tried (List FoundFrame)) (frames : Frames) (ordered list : List Object) (handles : List ℕ) → AreHandles handles
-    → AnswersFrames classes bytes tried (Ok frames) → map handle_of (values_of frames.objects.items) ≡ handles → IsPermutation frames.objects.items ordered
-    → IsNonDecreasingBy (λ object. handle_of (value_of object)) ordered → list ≡ ordered → AnswersObjects classes bytes tried (Ok list)
-objects_answered classes bytes tried frames ordered list handles are answers own same ascend is = (
-  answers.0,
-  answers.1,
-  subst (λ (all : List Object). AreObjectsOf classes bytes answers.0 (values_of all)) (sym is) (record {
-    values = values_of frames.objects.items;
-    forms = answers.2;
-    same = IsPermutation-map value_of frames.objects.items ordered same;
-    ascending = ascending_objects frames.objects.items ordered handles are own same ascend;
-  }),
-)
+-- objects in an order
+pub record AreOrdered (objects list : List Object) : Type 0 where
+  pub same : IsPermutation (values_of objects) (values_of list)
+  pub ascending : AreAscending (values_of list)
+  pub is_sorted : values_of list ≡ sorted (values_of objects)
+
+-- objects that do not fall, with distinct handles, are those that are put in their places
+pub objects_ordered : (objects ordered list : List Object) → AreHandles (map handle_of (values_of objects)) → IsPermutation objects ordered
+    → IsNonDecreasingBy (λ object. handle_of (value_of object)) ordered → list ≡ ordered → AreOrdered objects list
+objects_ordered objects ordered list are same ascend is =
+    let values : List ObjectValue = values_of objects in
+    let moved : IsPermutation values (values_of ordered) = IsPermutation-map value_of objects ordered same in
+    let up : AreAscending (values_of ordered) = ascending_objects objects ordered (map handle_of values) are refl same ascend in
+    subst (AreOrdered objects) (sym is) (record {
+      same = moved;
+      ascending = up;
+      is_sorted = order_once values (values_of ordered) (sorted values) moved (sorted_same values) up (sorted_ascends values (distinct_objects values are.distinct));
+    })
+
+-- objects of frames that were read, in order, are those of the frames
+pub objects_answered : (classes : List Class) (bytes : List ℕ) (tried : Tried (List FoundFrame)) (frames : Frames) (list : List Object) → AnswersFrames classes bytes tried (Ok frames)
+    → IsPermutation (values_of frames.objects.items) (values_of list) → AreAscending (values_of list) → AnswersObjects classes bytes tried (Ok list)
+objects_answered classes bytes tried frames list answers same ascend =
+    (answers.0, answers.1, record { values = values_of frames.objects.items; forms = answers.2; same = same; ascending = ascend })
 
 -- a fault of reading frames is one of reading objects
 pub objects_refused : (classes : List Class) (bytes : List ℕ) (tried : Tried (List FoundFrame)) (fault : Fault) → AnswersFrames classes bytes tried (Err fault) → AnswersObjects classes bytes tried (Err fault)

@@ -1,13 +1,13 @@
 -- Unknown sections, locator by locator: what is left gives the whole.
 use Rattle.std.proofs.Common.{◌≡◌, refl, sym, ◌∙◌, ap, ap₂, ℕ, ◌+◌, ◌<◌, ◌≤◌, Bool, true, false, List, [], ◌∷◌, ◌++◌, length, take, drop, get_or, append_assoc, Option, Some, None, add-one}
-use Rattle.std.specs.Prelude.{nat_lt, if◌then◌else◌}
+use Rattle.std.specs.Prelude.{nat_lt, not, cond, if◌then◌else◌}
 use Rattle.std.proofs.Math.Seq.{drop-cons}
 use Rattle.std.proofs.lemmas.List.{drop_all}
 use Rattle.dwg_base.specs.declared.refusal.Refusal.{Refusal}
 use Rattle.dwg_sections.specs.declared.header.Locator.{Locator}
 use Rattle.dwg_file.specs.Contents.{OtherValue}
 use Rattle.dwg_file.specs.FileLines.{is_cut, first_cut}
-use Rattle.dwg_file.specs.ReadAs.{sections_at}
+use Rattle.dwg_file.specs.ReadAs.{sections_at, whole_locators}
 
 -- the locators left behind so many, by the next of them
 left_of : (locators : List Locator) (index : ℕ) (locator none : Locator) → index < length locators → locator ≡ get_or locators index none → drop index locators ≡ locator ∷ drop (index + 1) locators
@@ -38,14 +38,22 @@ pub none_cut : (bytes : List ℕ) (index : ℕ) (locators : List Locator) (whole
 unfolding first_cut
 none_cut bytes index locators whole past left = sym (ap (first_cut bytes index) (drop_all index locators past)) ∙ left
 
--- where no section is refused, the next isn't cut
-pub next_uncut : (bytes : List ℕ) (index : ℕ) (locators : List Locator) (locator none : Locator) → index < length locators → locator ≡ get_or locators index none
-    → first_cut bytes index (drop index locators) ≡ None → is_cut bytes locator ≡ false
-next_uncut bytes index locators locator none within is left = by_test (is_cut bytes locator) refl
+-- where no section is refused, all locators stay
+all_whole : (bytes : List ℕ) (index : ℕ) (locators : List Locator) → first_cut bytes index locators ≡ None → whole_locators bytes locators ≡ locators
+unfolding first_cut
+all_whole bytes index [] none = refl
+all_whole bytes index (locator ∷ locators) none = by_test (is_cut bytes locator) none (all_whole bytes (index + 1) locators)
   where
-    by_test : (cut : Bool) → is_cut bytes locator ≡ cut → cut ≡ false
-    by_test false test = refl
-    by_test true test = let both : ◌≡◌ {A = Option Refusal} (Some (record { line = 33; index = index; place = locator.place })) None = cut_here bytes index locators locator none None within is test left in absurd (cc)
+    by_test : (cut : Bool) → (if cut then Some (record { line = 33; index = index; place = locator.place }) else first_cut bytes (index + 1) locators) ≡ None
+        → (first_cut bytes (index + 1) locators ≡ None → whole_locators bytes locators ≡ locators)
+        → cond (not cut) (locator ∷ whole_locators bytes locators) (whole_locators bytes locators) ≡ locator ∷ locators
+    by_test true refused others = absurd cc
+    by_test false none others = ap (λ rest. locator ∷ rest) (others none)
+
+-- so the sections that are whole are all
+pub uncut_sections : (bytes : List ℕ) (locators : List Locator) (others : List OtherValue) → first_cut bytes 0 locators ≡ None
+    → others ≡ sections_at bytes (whole_locators bytes locators) → others ≡ sections_at bytes locators
+uncut_sections bytes locators others none whole = whole ∙ ap (sections_at bytes) (all_whole bytes 0 locators none)
 
 -- the section of one locator, and those of the locators behind it
 section_first : (bytes : List ℕ) (locator : Locator) (locators : List Locator) → sections_at bytes (locator ∷ locators) ≡ sections_at bytes (locator ∷ []) ++ sections_at bytes locators
@@ -56,18 +64,35 @@ section_first bytes locator locators = by_test (nat_lt locator.number 3)
     by_test true = refl
     by_test false = refl
 
+-- the same of the sections that are whole
+whole_first : (bytes : List ℕ) (locator : Locator) (locators : List Locator)
+    → sections_at bytes (whole_locators bytes (locator ∷ locators)) ≡ sections_at bytes (whole_locators bytes (locator ∷ [])) ++ sections_at bytes (whole_locators bytes locators)
+whole_first bytes locator locators = by_test (is_cut bytes locator)
+  where
+    rest : List Locator
+    rest = whole_locators bytes locators
+
+    by_test : (cut : Bool) → sections_at bytes (cond (not cut) (locator ∷ rest) rest) ≡ sections_at bytes (cond (not cut) (locator ∷ []) []) ++ sections_at bytes rest
+    by_test true = refl
+    by_test false = section_first bytes locator rest
+
 -- with the section of the next locator, what is left gives the whole
 pub sections_on : (bytes : List ℕ) (index : ℕ) (locators : List Locator) (locator none : Locator) (others more : List OtherValue) (whole : List OtherValue) → index < length locators
-    → locator ≡ get_or locators index none → more ≡ others ++ sections_at bytes (locator ∷ []) → others ++ sections_at bytes (drop index locators) ≡ whole
-    → more ++ sections_at bytes (drop (index + 1) locators) ≡ whole
+    → locator ≡ get_or locators index none → more ≡ others ++ sections_at bytes (whole_locators bytes (locator ∷ []))
+    → others ++ sections_at bytes (whole_locators bytes (drop index locators)) ≡ whole
+    → more ++ sections_at bytes (whole_locators bytes (drop (index + 1) locators)) ≡ whole
 sections_on bytes index locators locator none others more whole within is added left =
-    let rest : List OtherValue = sections_at bytes (drop (index + 1) locators) in
-    ap (λ all. all ++ rest) added ∙ append_assoc others (sections_at bytes (locator ∷ [])) rest
-    ∙ ap (λ all. others ++ all) (sym (section_first bytes locator (drop (index + 1) locators)) ∙ sym (ap (sections_at bytes) (left_of locators index locator none within is))) ∙ left
+    let rest : List OtherValue = sections_at bytes (whole_locators bytes (drop (index + 1) locators)) in
+    ap (λ all. all ++ rest) added ∙ append_assoc others (sections_at bytes (whole_locators bytes (locator ∷ []))) rest
+    ∙ ap (λ all. others ++ all)
+    (sym (whole_first bytes locator (drop (index + 1) locators)) ∙ sym (ap (λ all. sections_at bytes (whole_locators bytes all)) (left_of locators index locator none within is)))
+    ∙ left
 
 -- behind the last, those so far are all
-pub sections_over : (bytes : List ℕ) (index : ℕ) (locators : List Locator) (others whole : List OtherValue) → length locators ≤ index → others ++ sections_at bytes (drop index locators) ≡ whole → others ≡ whole
-sections_over bytes index locators others whole past left = sym (ap (λ all. others ++ sections_at bytes all) (drop_all index locators past) ∙ append_none others) ∙ left
+pub sections_over : (bytes : List ℕ) (index : ℕ) (locators : List Locator) (others whole : List OtherValue) → length locators ≤ index
+    → others ++ sections_at bytes (whole_locators bytes (drop index locators)) ≡ whole → others ≡ whole
+sections_over bytes index locators others whole past left =
+    sym (ap (λ all. others ++ sections_at bytes (whole_locators bytes all)) (drop_all index locators past) ∙ append_none others) ∙ left
   where
     append_none : (all : List OtherValue) → all ++ [] ≡ all
     append_none [] = refl

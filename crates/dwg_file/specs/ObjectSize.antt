@@ -20,6 +20,7 @@ use Rattle.dwg_codes.specs.ModularCodes.{ms}
 use Rattle.dwg_codes.specs.ToEnd.{short_all}
 use Rattle.dwg_object.specs.Objects.{ObjectValue}
 use Rattle.dwg_object.specs.Written.{IsValidObject, body_bytes}
+use Rattle.dwg_object.specs.Forms.{FormOf}
 use Rattle.dwg_object.specs.FormLaws.{form_is_valid, length_of_frame}
 use Rattle.dwg_object.specs.Frames.{frame_bytes, FrameAt}
 use Rattle.dwg_object.specs.LengthLaws.{length_of_one, length_of_two}
@@ -47,22 +48,42 @@ body_within bytes place body end are is =
     let stands = stands_next bytes place is.size body (stands_first bytes place (is.size ++ body) word is.stands) in
     (stands_bytes bytes (place + length is.size) body are stands, omega (arith, stands_within bytes (place + length is.size) body stands))
 
--- the objects of frames are small
-objects_small : (classes : List Class) (bytes : List ℕ) (frames : List PairFrame) → AreBytes bytes → length bytes ≤ MOST_BYTES → AllByRecursion (IsFrameOfPair classes bytes) frames
-    → AllByRecursion (IsSmall classes MOST_BYTES) (map (λ (frame : PairFrame). frame.object) frames)
-objects_small classes bytes [] are few stand = tt
-objects_small classes bytes (frame ∷ frames) are few stand =
-    let body = body_within bytes frame.pair.place frame.body frame.end are stand.0.stands in
-    let is = form_is_valid classes frame.body frame.object body.0 (omega (arith, body.1)) stand.0.form in
-    (record { valid = is.0; few = omega (arith, is.1, body.1) }, objects_small classes bytes frames are few stand.1)
+-- an object is read, under classes, of a body that is bytes, and no more than an input may have
+pub record IsReadOf (classes : List Class) (object : ObjectValue) : Type 0 where
+  pub body : List ℕ
+  pub are : AreBytes body
+  pub few : length body ≤ MOST_BYTES
+  pub form : FormOf classes body object
 
--- so are they in any order
-pub ordered_small : (classes : List Class) (bytes : List ℕ) (frames : List PairFrame) (objects : List ObjectValue) → AreBytes bytes → length bytes ≤ MOST_BYTES
-    → AllByRecursion (IsFrameOfPair classes bytes) frames → IsPermutation (map (λ (frame : PairFrame). frame.object) frames) objects → AllByRecursion (IsSmall classes MOST_BYTES) objects
-ordered_small classes bytes frames objects are few stand same =
+-- the object of a frame in an input is read so
+pub frame_is_read : (classes : List Class) (bytes : List ℕ) (place : ℕ) (body : List ℕ) (end : ℕ) (object : ObjectValue) → AreBytes bytes → length bytes ≤ MOST_BYTES
+    → FrameAt bytes place body end → FormOf classes body object → IsReadOf classes object
+frame_is_read classes bytes place body end object are few stands form =
+    let within = body_within bytes place body end are stands in record { body = body; are = within.0; few = omega (arith, few, within.1); form = form }
+
+-- so are the objects of frames
+objects_are_read : (classes : List Class) (bytes : List ℕ) (frames : List PairFrame) → AreBytes bytes → length bytes ≤ MOST_BYTES → AllByRecursion (IsFrameOfPair classes bytes) frames
+    → AllByRecursion (IsReadOf classes) (map (λ (frame : PairFrame). frame.object) frames)
+objects_are_read classes bytes [] are few stand = tt
+objects_are_read classes bytes (frame ∷ frames) are few stand = (
+  frame_is_read classes bytes frame.pair.place frame.body frame.end frame.object are few stand.0.stands stand.0.form,
+  objects_are_read classes bytes frames are few stand.1,
+)
+
+-- in any order
+pub ordered_are_read : (classes : List Class) (bytes : List ℕ) (frames : List PairFrame) (objects : List ObjectValue) → AreBytes bytes → length bytes ≤ MOST_BYTES
+    → AllByRecursion (IsFrameOfPair classes bytes) frames → IsPermutation (map (λ (frame : PairFrame). frame.object) frames) objects → AllByRecursion (IsReadOf classes) objects
+ordered_are_read classes bytes frames objects are few stand same =
     let values : List ObjectValue = map (λ (frame : PairFrame). frame.object) frames in
-    let small = IsSmall classes MOST_BYTES in
-    recursion_from_All small objects (All-permutation small values objects same (All-from_recursion small values (objects_small classes bytes frames are few stand)))
+    let read = IsReadOf classes in
+    recursion_from_All read objects (All-permutation read values objects same (All-from_recursion read values (objects_are_read classes bytes frames are few stand)))
+
+-- objects that are read so are small
+pub read_small : (classes : List Class) (objects : List ObjectValue) → AllByRecursion (IsReadOf classes) objects → AllByRecursion (IsSmall classes MOST_BYTES) objects
+read_small classes [] read = tt
+read_small classes (object ∷ objects) read =
+    let is = form_is_valid classes read.0.body object read.0.are (omega (arith, read.0.few)) read.0.form in
+    (record { valid = is.0; few = omega (arith, is.1, read.0.few) }, read_small classes objects read.1)
 
 -- small objects are valid
 pub small_valid : (classes : List Class) (most : ℕ) (objects : List ObjectValue) → AllByRecursion (IsSmall classes most) objects → AllByRecursion (IsValidObject classes) objects

@@ -1,5 +1,6 @@
 -- What is read of an input in which no line fails: its parts, by their places. A rule of this project.
-use Rattle.std.specs.Prelude.{◌≡◌, ℕ, List, [], ◌∷◌, take, drop, nat_lt, None, Ok, if◌then◌else◌}
+use Rattle.std.specs.Prelude.{◌≡◌, ℕ, not, List, [], ◌∷◌, take, drop, nat_lt, None, Ok, if◌then◌else◌}
+use Rattle.std.specs.List.{filter}
 use Rattle.std.specs.List.Sorted.{IsPermutation}
 use Rattle.dwg_base.specs.Refusals.{first_fault}
 use Rattle.dwg_classes.specs.declared.class.Class.{Class}
@@ -10,7 +11,7 @@ use Rattle.dwg_sections.specs.declared.header.Locator.{Locator}
 use Rattle.dwg_sections.specs.HeaderLines.{header_at}
 use Rattle.dwg_sections.specs.FramedLines.{content_at}
 use Rattle.dwg_file.specs.Contents.{OtherValue, Contents}
-use Rattle.dwg_file.specs.FileLines.{ALL_LINES, FoundFrame, section_place, classes_tried, frames_tried}
+use Rattle.dwg_file.specs.FileLines.{ALL_LINES, FoundFrame, section_place, classes_tried, frames_tried, is_cut}
 use Rattle.dwg_file.specs.Spelled.{AreAscending}
 
 -- the unknown sections of locators, by their places
@@ -19,6 +20,10 @@ sections_at bytes [] = []
 sections_at bytes (locator ∷ locators) =
     if nat_lt locator.number 3 then sections_at bytes locators
     else record { number = locator.number; bytes = take locator.size (drop locator.place bytes) } ∷ sections_at bytes locators
+
+-- the locators whose unknown sections don't pass the end of the input
+abbrev pub whole_locators : List ℕ → List Locator → List Locator
+whole_locators bytes locators = filter (λ (locator : Locator). not (is_cut bytes locator)) locators
 
 -- each body that was found is read as an object under the classes
 abbrev pub AreFormsOf : List Class → List ℕ → List FoundFrame → List ObjectValue → Type 0

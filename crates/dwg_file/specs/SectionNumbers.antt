@@ -1,7 +1,7 @@
 -- The unknown sections by their places: at most three, with distinct numbers from 3 on, and bytes of the input. A rule of this project.
-use Rattle.std.proofs.Common.{◌≡◌, refl, ℕ, suc, ◌+◌, ◌^◌, ◌<◌, ◌≤◌, Bool, true, false, List, [], ◌∷◌, length, take, drop, arith}
-use Rattle.std.specs.Prelude.{◌≢◌, ◌==◌, nat_lt, slice_index, AllPairs, Contains, if◌then◌else◌}
-use Rattle.std.specs.List.{AllByRecursion}
+use Rattle.std.proofs.Common.{◌≡◌, refl, sym, subst, ℕ, suc, ◌+◌, ◌^◌, ◌<◌, ◌≤◌, Bool, true, false, List, [], ◌∷◌, length, take, drop, arith}
+use Rattle.std.specs.Prelude.{◌≢◌, ◌==◌, cond, nat_lt, slice_index, AllPairs, Contains, if◌then◌else◌}
+use Rattle.std.specs.List.{AllByRecursion, filter}
 use Rattle.std.proofs.lemmas.Bool.Decides.{nat_tests}
 use Rattle.std.proofs.lemmas.List.{length-take, length-drop, length-map}
 use Rattle.std.proofs.lemmas.List.Elements.{All-from_recursion, recursion_from_All, All-take, All-drop}
@@ -137,3 +137,71 @@ distinct_sections bytes (locator ∷ locators) distinct =
 pub sections_distinct : (bytes : List ℕ) (locators : List Locator) → LocateSections locators → AllPairs Differ (sections_at bytes locators)
 sections_distinct bytes locators locate =
     distinct_sections bytes locators (λ i j before within. locate.distinct i j before (omega (arith, length-map locators (λ (locator : Locator). locator.number))))
+
+-- what holds of the sections of locators holds of those of the locators that stay
+pub sections_filtered : (bytes : List ℕ) (stay : Locator → Bool) (Holds : OtherValue → Type 0) (locators : List Locator) → AllByRecursion Holds (sections_at bytes locators)
+    → AllByRecursion Holds (sections_at bytes (filter stay locators))
+sections_filtered bytes stay Holds [] all = tt
+sections_filtered bytes stay Holds (locator ∷ locators) all = of_tests (stay locator) (nat_lt locator.number 3) refl all (sections_filtered bytes stay Holds locators)
+  where
+    Kept : Bool → Type 0
+    Kept stays = AllByRecursion Holds (sections_at bytes (cond stays (locator ∷ filter stay locators) (filter stay locators)))
+
+    of_tests : (stays low : Bool) → nat_lt locator.number 3 ≡ low → AllByRecursion Holds (if low then sections_at bytes locators else section_here bytes locator ∷ sections_at bytes locators)
+        → (AllByRecursion Holds (sections_at bytes locators) → AllByRecursion Holds (sections_at bytes (filter stay locators))) → Kept stays
+    of_tests false true is all others = others all
+    of_tests false false is all others = others all.1
+    of_tests true true is all others =
+        subst (λ (known : Bool). AllByRecursion Holds (if known then sections_at bytes (filter stay locators) else section_here bytes locator ∷ sections_at bytes (filter stay locators))) (sym is)
+        (others all)
+    of_tests true false is all others =
+        subst (λ (known : Bool). AllByRecursion Holds (if known then sections_at bytes (filter stay locators) else section_here bytes locator ∷ sections_at bytes (filter stay locators))) (sym is)
+        (all.0, others all.1)
+
+-- they are no more
+pub sections_filtered_few : (bytes : List ℕ) (stay : Locator → Bool) (locators : List Locator) → length (sections_at bytes (filter stay locators)) ≤ length (sections_at bytes locators)
+sections_filtered_few bytes stay [] = omega arith
+sections_filtered_few bytes stay (locator ∷ locators) = of_tests (stay locator) (nat_lt locator.number 3) refl (sections_filtered_few bytes stay locators)
+  where
+    of_tests : (stays low : Bool) → nat_lt locator.number 3 ≡ low → length (sections_at bytes (filter stay locators)) ≤ length (sections_at bytes locators)
+        → length (sections_at bytes (cond stays (locator ∷ filter stay locators) (filter stay locators)))
+        ≤ length (if low then sections_at bytes locators else section_here bytes locator ∷ sections_at bytes locators)
+    of_tests false true is few = few
+    of_tests false false is few = omega (arith, few)
+    of_tests true true is few =
+        subst
+        (λ (known : Bool). length (if known then sections_at bytes (filter stay locators) else section_here bytes locator ∷ sections_at bytes (filter stay locators)) ≤ length (sections_at bytes locators)) (sym is) few
+    of_tests true false is few =
+        subst
+        (λ (known : Bool). length (if known then sections_at bytes (filter stay locators) else section_here bytes locator ∷ sections_at bytes (filter stay locators))
+        ≤ length (section_here bytes locator ∷ sections_at bytes locators)) (sym is)
+        (omega (arith, few))
+
+-- the first of pairwise different sections differs from those behind it, and these differ
+differ_behind : (first : OtherValue) (others : List OtherValue) → AllPairs Differ (first ∷ others) → AllByRecursion (Differ first) others × AllPairs Differ others
+differ_behind first others differ = (
+  recursion_from_All (Differ first) others (λ k d within. differ 0 (suc k) d (omega arith) (omega arith)),
+  (λ i j d before within. differ (suc i) (suc j) d (omega arith) (omega arith)),
+)
+
+-- and have distinct numbers where all have
+pub sections_filtered_differ : (bytes : List ℕ) (stay : Locator → Bool) (locators : List Locator) → AllPairs Differ (sections_at bytes locators)
+    → AllPairs Differ (sections_at bytes (filter stay locators))
+sections_filtered_differ bytes stay [] differ = none_differ
+sections_filtered_differ bytes stay (locator ∷ locators) differ = of_tests (stay locator) (nat_lt locator.number 3) refl differ (sections_filtered_differ bytes stay locators)
+  where
+    here : OtherValue
+    here = section_here bytes locator
+
+    of_tests : (stays low : Bool) → nat_lt locator.number 3 ≡ low → AllPairs Differ (if low then sections_at bytes locators else here ∷ sections_at bytes locators)
+        → (AllPairs Differ (sections_at bytes locators) → AllPairs Differ (sections_at bytes (filter stay locators)))
+        → AllPairs Differ (sections_at bytes (cond stays (locator ∷ filter stay locators) (filter stay locators)))
+    of_tests false true is differ others = others differ
+    of_tests false false is differ others = others (differ_behind here (sections_at bytes locators) differ).1
+    of_tests true true is differ others =
+        subst (λ (known : Bool). AllPairs Differ (if known then sections_at bytes (filter stay locators) else here ∷ sections_at bytes (filter stay locators))) (sym is) (others differ)
+    of_tests true false is differ others =
+        let both = differ_behind here (sections_at bytes locators) differ in
+        subst (λ (known : Bool). AllPairs Differ (if known then sections_at bytes (filter stay locators) else here ∷ sections_at bytes (filter stay locators))) (sym is)
+        (AllPairs-cons Differ here (sections_at bytes (filter stay locators))
+        (All-from_recursion (Differ here) (sections_at bytes (filter stay locators)) (sections_filtered bytes stay (Differ here) locators both.0)) (others both.1))

@@ -12,6 +12,7 @@ ghost use Rattle.dwg_file.specs.ReadAs.{ReadsAs};
 ghost use Rattle.dwg_file.specs.SectionRefusals.{SectionsAreRefused};
 ghost use Rattle.dwg_file.specs.Spelled.{Spelled};
 ghost use Rattle.dwg_file.specs.Valid.{IsValid};
+ghost use Rattle.dwg_file.specs.ValidLaws.{ReadPartsAreValid, WholeSectionsAreRead};
 
 use dwg_sections::{file_header_laws, framed_laws};
 
@@ -19,7 +20,8 @@ use dwg_sections::{file_header_laws, framed_laws};
 /// what is read of it by its places, where none fails, is what it spells, and the other way round; and what an input of at
 /// most 32 MiB spells is valid. The lines on frames refuse an input with a map exactly where behind frames that stand, with
 /// their pairs' handles and without a common byte, a pair is the first whose frame fails, and as it does; and the line on
-/// unknown sections exactly where one is the first that passes the end.
+/// unknown sections exactly where one is the first that passes the end. Parts that are read of no more bytes than an input may
+/// have make a valid drawing, and the unknown sections that don't pass the end are such parts.
 pub fn drawing_laws()
     ensures one { (bytes : List ℕ) (drawing other : Contents) → AreBytes bytes → Spelled drawing bytes → Spelled other bytes → drawing ≡ other }
     ensures passes { (bytes : List ℕ) (drawing : Contents) → AreBytes bytes → Spelled drawing bytes → first_fault ALL_LINES bytes ≡ None }
@@ -28,6 +30,8 @@ pub fn drawing_laws()
     ensures again { (bytes : List ℕ) (drawing : Contents) → AreBytes bytes → Spelled drawing bytes → ReadsAs drawing bytes }
     ensures frames { FramesAreRefused }
     ensures sections { SectionsAreRefused }
+    ensures parts { ReadPartsAreValid }
+    ensures whole { WholeSectionsAreRead }
     ensures valid { (bytes : List ℕ) (drawing : Contents) → AreBytes bytes → length bytes ≤ MOST_BYTES → Spelled drawing bytes → IsValid drawing }
 {
     file_header_laws();

@@ -1,12 +1,14 @@
 //! The objects of frames, in ascending order of their handles.
 
-ghost use Rattle.std.specs.Prelude.{◌≡◌, [], IfOk, IfErr};
+ghost use Rattle.std.specs.Prelude.{◌≡◌, [], map, IfOk, IfErr};
 ghost use Rattle.std.specs.List.Sorted.{IsPermutation, IsNonDecreasingBy};
 ghost use Rattle.dwg_base.specs.Refusals.{IsFaultOfTable};
 ghost use Rattle.dwg_object.specs.Objects.{handle_of, value_of};
 ghost use Rattle.dwg_objmap.specs.Pages.{AreHandles, handles_of};
 ghost use Rattle.dwg_file.specs.FileLines.{frames_behind};
-ghost use Rattle.dwg_file.specs.FrameReading.{AnswersObjects};
+ghost use Rattle.dwg_file.specs.FrameReading.{AnswersObjects, values_of};
+ghost use Rattle.dwg_file.specs.SortedObjects.{sorted};
+ghost use Rattle.dwg_file.specs.Spelled.{AreAscending};
 
 use crate::frames::read_frames;
 use dwg_base::{Fault, Items, NoMemory};
@@ -39,6 +41,22 @@ fn listed<'a>(alloc: Global, objects: Vec<Object<'a>>) -> Result<Items<Object<'a
     Ok(list)
 }
 
+/// The objects in ascending order of their handles, which are distinct, in n log n steps. The only refusal is want of memory.
+pub fn in_handle_order<'a>(
+    alloc: Global,
+    objects: Vec<Object<'a>>,
+) -> Result<Items<Object<'a>>, NoMemory>
+    requires { AreHandles (map handle_of (values_of objects.items)) }
+    ensures same { IfOk result (λ list. IsPermutation (values_of objects.entry.items) (values_of list)) }
+    ensures ascend { IfOk result (λ list. AreAscending (values_of list)) }
+    ensures sorted { IfOk result (λ list. values_of list ≡ sorted (values_of objects.entry.items)) }
+{
+    match listed(alloc, sorted(objects)) {
+        Ok(list) => Ok(list),
+        Err(NoMemory) => Err(NoMemory),
+    }
+}
+
 /// Reads the objects of the frames of pairs: in ascending order of handle, one for each pair and no other. They are refused
 /// by the first pair, in their order, that fails one of the lines on its frame.
 pub(crate) fn read_objects<'a>(
@@ -59,7 +77,7 @@ pub(crate) fn read_objects<'a>(
         Ok(frames) => frames,
         Err(fault) => return Err(fault),
     };
-    match listed(alloc, sorted(frames.objects)) {
+    match in_handle_order(alloc, frames.objects) {
         Ok(objects) => Ok(objects),
         Err(NoMemory) => Err(Fault::NoMemory),
     }

@@ -4,7 +4,7 @@ ghost use Rattle.std.specs.Prelude.{◌≡◌, ◌≤◌, List, [], ◌∷◌, �
 ghost use Rattle.dwg_base.specs.Refusals.{IsOfTable};
 ghost use Rattle.dwg_file.specs.Contents.{other_value};
 ghost use Rattle.dwg_file.specs.FileLines.{is_cut, first_cut};
-ghost use Rattle.dwg_file.specs.ReadAs.{sections_at};
+ghost use Rattle.dwg_file.specs.ReadAs.{sections_at, whole_locators};
 
 use crate::parts::Other;
 use dwg_base::{ByteRun, Items, NoMemory, Refusal};
@@ -19,7 +19,7 @@ const LEAST_NUMBER: u8 = 3;
 const SHORT_LINE: u8 = 33;
 
 /// Whether the bytes of a locator's unknown section pass the end of the input. A section without bytes passes none.
-fn is_cut(bytes: &[u8], locator: &Locator) -> bool
+pub fn is_cut(bytes: &[u8], locator: &Locator) -> bool
     ensures { result ≡ is_cut bytes.now locator.now }
 {
     if locator.number < LEAST_NUMBER {
@@ -63,17 +63,19 @@ fn bytes_of<'a>(bytes: &'a [u8], locator: &Locator) -> &'a [u8]
     &bytes[place..place + locator.size as usize]
 }
 
-/// The unknown sections and that of one locator more, where its number is none that is known. The only refusal is want of
-/// memory, of which as much is taken as the section has bytes.
+/// The unknown sections and that of one locator more, where its number is none that is known and its bytes don't pass the end
+/// of the input. The only refusal is want of memory, of which as much is taken as the section has bytes.
 fn with_section<'a>(
     alloc: Global,
     others: Items<Other<'a>>,
     bytes: &'a [u8],
     locator: &Locator,
 ) -> Result<Items<Other<'a>>, NoMemory>
-    requires { is_cut bytes.now locator.now ≡ false }
-    ensures { IfOk result (λ more. map other_value more ≡ map other_value others.entry ++ sections_at bytes.now (locator.now ∷ [])) }
+    ensures { IfOk result (λ more. map other_value more ≡ map other_value others.entry ++ sections_at bytes.now (whole_locators bytes.now (locator.now ∷ []))) }
 {
+    if is_cut(bytes, locator) {
+        return Ok(others);
+    }
     if locator.number < LEAST_NUMBER {
         return Ok(others);
     }
@@ -88,14 +90,14 @@ fn with_section<'a>(
     }
 }
 
-/// The unknown sections of locators, in their order. The only refusal is want of memory.
-pub(crate) fn read_others<'a>(
+/// The unknown sections of locators, in their order, but for those that pass the end of the input. The only refusal is want of
+/// memory.
+pub fn whole_others<'a>(
     alloc: Global,
     bytes: &'a [u8],
     locators: &[Locator],
 ) -> Result<Items<Other<'a>>, NoMemory>
-    requires { first_cut bytes.now 0 locators.now ≡ None }
-    ensures { IfOk result (λ others. map other_value others ≡ sections_at bytes.now locators.now) }
+    ensures { IfOk result (λ others. map other_value others ≡ sections_at bytes.now (whole_locators bytes.now locators.now)) }
 {
     let mut others = Items::new(alloc);
     'along: for index in 0..locators.len() {

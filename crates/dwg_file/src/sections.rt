@@ -10,7 +10,7 @@ ghost use Rattle.dwg_file.specs.Contents.{other_value};
 ghost use Rattle.dwg_file.specs.FileLines.{section_place, variables_row, classes_section_row, classes_tried, classes_row, map_tried, sections_row};
 ghost use Rattle.dwg_file.specs.ReadAs.{sections_at};
 
-use crate::others::{read_others, refusal_of_others};
+use crate::others::{refusal_of_others, whole_others};
 use crate::parts::Other;
 use dwg_base::{Fault, Items, NoMemory, Refusal};
 use dwg_classes::{Class, read_classes};
@@ -76,7 +76,7 @@ pub(crate) fn pairs_of_file(
 }
 
 /// The unknown sections of the file.
-#[tactic(auto, unfolding(crate::specs::FileLines::sections_row))]
+#[tactic(auto, unfolding(crate::specs::FileLines::sections_row), using(crate::proofs::OthersAlong::uncut_sections))]
 pub(crate) fn others_of_file<'a>(
     alloc: Global,
     bytes: &'a [u8],
@@ -92,7 +92,7 @@ pub(crate) fn others_of_file<'a>(
     if let Some(refusal) = refusal_of_others(bytes, locators) {
         return Err(Fault::Refused(refusal));
     }
-    match read_others(alloc, bytes, locators) {
+    match whole_others(alloc, bytes, locators) {
         Ok(others) => Ok(others),
         Err(NoMemory) => Err(Fault::NoMemory),
     }

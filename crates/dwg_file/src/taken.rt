@@ -10,7 +10,7 @@ use std::marker::Model;
 /// Runs of bytes of which no two share one. Whether further bytes share one with any run is told in as many steps as an
 /// ordered map takes, however many runs there are.
 #[derive(Drop)]
-pub(crate) struct Taken {
+pub struct Taken {
     // The first byte of each run, by its last.
     runs: BTreeMap<u64, u64>,
 }
@@ -30,7 +30,7 @@ impl Taken {
     ghost use Rattle.dwg_file.specs.Taken.{meets, shares};
 
     /// No runs, which takes no memory yet.
-    pub(crate) fn new(alloc: Global) -> Taken
+    pub fn new(alloc: Global) -> Taken
         ensures { result ≡ [] }
     {
         Taken {
@@ -39,7 +39,7 @@ impl Taken {
     }
 
     /// Whether the bytes from a place to another share one with a run: the first run that ends behind the place decides.
-    pub(crate) fn shares(&self, from: u64, end: u64) -> bool
+    pub fn shares(&self, from: u64, end: u64) -> bool
         ensures { result ≡ shares self.now from end }
     {
         match self.runs.range(from..).next() {
@@ -49,7 +49,7 @@ impl Taken {
     }
 
     /// The runs and one more, from a place to another, that shares no byte with them. The only refusal is want of memory.
-    pub(crate) fn add(self, from: u64, end: u64) -> Result<Taken, NoMemory>
+    pub fn add(self, from: u64, end: u64) -> Result<Taken, NoMemory>
         requires some { from < end }
         requires apart { shares self from end ≡ false }
         ensures { IfOk result (λ more. (other to : ℕ) → shares more other to ≡ (shares self other to || meets other to (end - 1, from))) }

@@ -13,7 +13,7 @@ use Rattle.dwg_codes.specs.TableLaws.{bs_is_code}
 use Rattle.dwg_handles.specs.ReferenceCodes.{own_handle}
 use Rattle.dwg_object.specs.Objects.{HeadParts}
 use Rattle.dwg_object.specs.Forms.{head, HasHead}
-use Rattle.dwg_object.specs.HeadLaws.{IsHeadAt}
+use Rattle.dwg_object.specs.HeadLaws.{IsHeadAt, own_of, own_told}
 
 -- two values that were read one behind the other
 seq_read : {V W : Type 0} (first : Grammar Bool V) (second : V → Grammar Bool W) (v : V) (w : W) (old mid new : List Bool)
@@ -111,3 +111,11 @@ pub head_long : (number own a b c : ℕ) → a ≡ length (bs.short number) → 
 unfolding head
 head_long number own a b c is is_size is_own =
     omega (arith, is, is_size, is_own, length-append (bs.short number) (rl.short 0 ++ own_handle.short own), length-append (rl.short 0) (own_handle.short own))
+
+-- a head that a body begins with tells its own handle
+pub own_found : (letters : List Bool) (parts : HeadParts) (end : ℕ) → IsHeadAt letters parts end → Some parts.own ≡ own_of letters
+own_found letters parts end is = own_told letters (Some parts) is.has
+
+-- a body without a head tells none
+pub own_missing : (letters : List Bool) → ((parts : HeadParts) → HasHead letters parts → ⊥) → None ≡ own_of letters
+own_missing letters none = own_told letters None none

@@ -86,3 +86,13 @@ head_only letters (Some parts) (Some other) is was = ap Some (heads_same letters
 head_only letters (Some parts) None is none = absurd (none parts is)
 head_only letters None (Some other) none was = absurd (none other was)
 head_only letters None None none also = refl
+
+-- the own handle in the head that the bits begin with
+abbrev pub own_of : List Bool → Option ℕ
+own_of letters = option_map (λ (parts : HeadParts). parts.own) (option_map (λ (found : HeadParts × List Bool). found.0) (head.parse letters))
+
+-- it is that of every head that the bits tell
+pub own_told : (letters : List Bool) (told : Option HeadParts) → TellsHead letters told → option_map (λ (parts : HeadParts). parts.own) told ≡ own_of letters
+own_told letters told is =
+    ap (option_map (λ (parts : HeadParts). parts.own))
+    (head_only letters told (option_map (λ (found : HeadParts × List Bool). found.0) (head.parse letters)) is (head_told letters))

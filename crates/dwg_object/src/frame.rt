@@ -5,7 +5,7 @@ ghost use Rattle.std.specs.Int.{w16, from_le_bytes};
 ghost use Rattle.dwg_base.specs.Refusals.{IsFaultOfTable};
 ghost use Rattle.dwg_object.specs.Forms.{FormOf};
 ghost use Rattle.dwg_object.specs.FoundFrames.{AnswersFrame};
-ghost use Rattle.dwg_object.specs.FrameLines.{bytes_from, has_check_word, tried_frame};
+ghost use Rattle.dwg_object.specs.FrameLines.{bytes_from, has_check_word, span_body, tried_frame};
 ghost use Rattle.dwg_object.specs.Frames.{FrameAt, SpanAt};
 ghost use Rattle.dwg_object.specs.Objects.{HoldsItsBytes, value_of};
 
@@ -40,13 +40,22 @@ fn piece(bytes: &[u8], from: u64, to: u64) -> &[u8]
     &bytes[from as usize..to as usize]
 }
 
-/// The RS at a place: two bytes, the low one first.
-fn word_at(bytes: &[u8], place: u64, end: u64) -> u16
-    requires two { end ≡ place + 2 }
-    requires within { end ≤ length bytes.now }
-    ensures { result ≡ from_le_bytes w16 (bytes_from bytes.now place end) }
+/// The body of a span that lies in the input.
+pub fn span_body<'a>(bytes: &'a [u8], span: &Span) -> &'a [u8]
+    requires ordered { span.now.body ≤ span.now.body_end }
+    requires within { span.now.body_end ≤ length bytes.now }
+    ensures { result.now ≡ span_body bytes.now span.now }
 {
-    let word = piece(bytes, place, end);
+    piece(bytes, span.body, span.body_end)
+}
+
+/// The check word behind the body of a span that lies in the input: an RS, two bytes, the low one first.
+pub fn span_word(bytes: &[u8], span: &Span) -> u16
+    requires ends { span.now.end ≡ span.now.body_end + 2 }
+    requires within { span.now.end ≤ length bytes.now }
+    ensures { result ≡ from_le_bytes w16 (bytes_from bytes.now span.now.body_end span.now.end) }
+{
+    let word = piece(bytes, span.body_end, span.end);
     u16::from_le_bytes([word[0], word[1]])
 }
 
@@ -59,7 +68,7 @@ fn has_check_word(bytes: &[u8], span: &Span) -> bool
     ensures { result ≡ has_check_word bytes.now span.now }
 {
     let word = check(FRAME_START, piece(bytes, span.from, span.body_end));
-    word_at(bytes, span.body_end, span.end) == word
+    span_word(bytes, span) == word
 }
 
 /// Reads the frame of a span that stands in the input, of the pair of this index. It is refused where the check word is wrong,

@@ -1,12 +1,12 @@
 //! The head of an object, with which each body begins.
 
-ghost use Rattle.std.specs.Prelude.{◌≡◌, ◌^◌, ◌<◌, ◌≤◌, length, option_map, IfSome, IfNone};
+ghost use Rattle.std.specs.Prelude.{◌≡◌, ◌^◌, ◌<◌, ◌≤◌, ℕ, length, option_map, IfSome, IfNone};
 ghost use Rattle.dwg_bits.specs.Bits.{bits};
 ghost use Rattle.dwg_bits.specs.Cursor.{rest};
 ghost use Rattle.dwg_codes.specs.Grammar.{Reads};
 ghost use Rattle.dwg_bits.specs.Sink.{Extends};
-ghost use Rattle.dwg_object.specs.Forms.{HasHead, head};
-ghost use Rattle.dwg_object.specs.HeadLaws.{IsHeadAt};
+ghost use Rattle.dwg_object.specs.Forms.{BeginsWithHead, HasHead, head};
+ghost use Rattle.dwg_object.specs.HeadLaws.{IsHeadAt, own_of};
 ghost use Rattle.dwg_object.specs.Objects.{HeadParts, parts_of};
 
 use dwg_base::Handle;
@@ -63,6 +63,20 @@ pub(crate) fn head_of(body: &[u8]) -> Option<HeadAt>
         head,
         end: cursor.at(),
     })
+}
+
+/// The own handle in the head that a body of fewer than 2^60 bytes begins with. None exactly where it begins with no head.
+#[tactic(auto, using(crate::proofs::HeadReading::own_found, crate::proofs::HeadReading::own_missing))]
+pub fn own_handle(body: &[u8]) -> Option<Handle>
+    requires { length body.now < 2 ^ 60 }
+    ensures parsed { result ≡ own_of (bits body.now) }
+    ensures some { IfSome result (λ own. (number : ℕ) × BeginsWithHead (bits body.now) number own) }
+    ensures none { IfNone result ((number own : ℕ) → BeginsWithHead (bits body.now) number own → ⊥) }
+{
+    match head_of(body) {
+        Some(found) => Some(found.head.own),
+        None => None,
+    }
 }
 
 /// How many bits a head is written by, whatever its bit size.

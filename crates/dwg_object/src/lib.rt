@@ -15,7 +15,8 @@ mod writing;
 
 pub use body::Body;
 pub use common::Common;
-pub use frame::{Found, read_frame, read_span};
+pub use frame::{Found, read_frame, read_span, span_body, span_word};
+pub use head::own_handle;
 pub use laws::frame_laws;
 pub use object::{Object, Plain, Raw, Typed};
 pub use reading::{read_body, read_body_hinted};

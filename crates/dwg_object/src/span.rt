@@ -1,6 +1,6 @@
 //! Where the parts of a frame lie.
 
-ghost use Rattle.std.specs.Prelude.{◌≡◌, ◌≤◌, length, drop, IfOk, IfErr};
+ghost use Rattle.std.specs.Prelude.{◌≡◌, ◌+◌, ◌≤◌, length, drop, IfOk, IfErr};
 ghost use Rattle.dwg_base.specs.Refusals.{IsOfTable};
 ghost use Rattle.dwg_object.specs.Frames.{SpanAt};
 ghost use Rattle.dwg_object.specs.FrameLines.{frame_refusal, tried_span};
@@ -51,6 +51,8 @@ pub fn span_at(bytes: &[u8], place: u64, index: u64) -> Result<Span, Refusal>
     // What stands there, and why nothing does.
     ensures found { IfOk result (SpanAt bytes.now) }
     ensures place { IfOk result (λ span. span.from ≡ place) }
+    ensures ordered { IfOk result (λ span. (span.from ≤ span.body) × (span.body ≤ span.body_end) × (span.end ≡ span.body_end + 2)) }
+    ensures within { IfOk result (λ span. span.end ≤ length bytes.now) }
     ensures tried { result ≡ tried_span place index bytes.now }
 
     ensures of_table { IfErr result IsOfTable }

@@ -80,16 +80,16 @@ fn first_line(which: Framed) -> u8
     }
 }
 
-/// Whether the begin sentinel stands at the place.
-fn has_begin(bytes: &[u8], place: usize, which: Framed) -> bool
+/// Whether the begin sentinel of a section stands at the place.
+pub fn has_begin(bytes: &[u8], place: usize, which: Framed) -> bool
     requires { place + 16 ≤ length bytes.now }
     ensures { result ≡ bytes_eq (bytes_at bytes.now place 16) (begin_sentinel which) }
 {
     piece(bytes, place, SENTINEL_SIZE) == begin_sentinel(which).as_slice()
 }
 
-/// Whether the end sentinel stands at the place.
-fn has_end(bytes: &[u8], place: usize, which: Framed) -> bool
+/// Whether the end sentinel of a section stands at the place.
+pub fn has_end(bytes: &[u8], place: usize, which: Framed) -> bool
     requires { place + 16 ≤ length bytes.now }
     ensures { result ≡ bytes_eq (bytes_at bytes.now place 16) (end_sentinel which) }
 {

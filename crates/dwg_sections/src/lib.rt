@@ -14,7 +14,8 @@ mod locator_lines;
 mod refusals;
 mod section_numbers;
 
-pub use framed::{CONTENT_PLACE, Framed, read_framed};
+pub use fields::{piece, rl, rs};
+pub use framed::{CONTENT_PLACE, Framed, begin_sentinel, has_begin, has_end, read_framed};
 pub use framed_writer::write_framed;
 pub use header::{FileHeader, Locator, read_file_header};
 pub use header_writer::write_file_header;

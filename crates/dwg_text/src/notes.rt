@@ -1,6 +1,6 @@
 //! The notes that the program writes on standard error, one line each.
 
-ghost use Rattle.std.specs.Prelude.{◌≡◌, IfOk, string_bytes};
+ghost use Rattle.std.specs.Prelude.{◌≡◌, ◌++◌, IfOk, OnOk, string_bytes};
 ghost use Rattle.dwg_base.specs.Refusals.{IsOfTable};
 ghost use Rattle.dwg_text.specs.Notes as texts;
 
@@ -52,6 +52,15 @@ fn refusal_text(alloc: Global, refusal: Refusal) -> Result<String, AllocError>
     note.push_str(reason_word(refusal.line))?;
     note.push_str("\n")?;
     Ok(note)
+}
+
+/// Appends which part of the input is faulty, where, and why, as a line. The only refusal is want of memory.
+pub fn push_refusal(alloc: Global, text: &mut String, refusal: Refusal) -> Result<(), AllocError>
+    requires { IsOfTable refusal }
+    ensures { OnOk result (string_bytes text.new ≡ string_bytes text.old ++ texts.refusal_note refusal) }
+{
+    let note = refusal_text(alloc, refusal)?;
+    text.push_str(note.as_str())
 }
 
 /// Which part of the input is faulty, where, and why. The only refusal is want of memory.

@@ -4,7 +4,7 @@ use Rattle.dwg_file.specs.ReadingLaws.{SectionLaws, reads_spelled, spelled_reads
 use Rattle.dwg_file.specs.PassingLaws.{passing_is_spelled}
 use Rattle.dwg_file.specs.FrameRefusalLaws.{frames_are_refused}
 use Rattle.dwg_file.specs.SectionRefusalLaws.{sections_are_refused}
-use Rattle.dwg_file.specs.ValidLaws.{spelled_is_valid}
+use Rattle.dwg_file.specs.ValidLaws.{parts_are_valid, whole_sections_are_read, spelled_is_valid}
 use Rattle.dwg_file.proofs.laws.drawing_laws.Goals as goal
 
 laws : PassingBytesBeginWithHeader → HeaderIsRead → PassingBytesHaveSection → SectionIsRead → SectionLaws
@@ -30,6 +30,12 @@ returns-clause-again c bytes drawing are spelled =
 pub returns-clause-spelled : goal.returns-clause-spelled
 returns-clause-spelled c bytes are none =
     passing_is_spelled (laws c.file_header_laws.ensures.sound c.file_header_laws.ensures.complete c.framed_laws.ensures.sound c.framed_laws.ensures.complete) bytes are none
+
+pub returns-clause-parts : goal.returns-clause-parts
+returns-clause-parts c = parts_are_valid
+
+pub returns-clause-whole : goal.returns-clause-whole
+returns-clause-whole c = whole_sections_are_read
 
 pub returns-clause-valid : goal.returns-clause-valid
 returns-clause-valid c bytes drawing are few spelled =
