@@ -1,0 +1,27 @@
+use Rattle.dwg_recover.specs.ExactLaws.{scan_keeps_exactly}
+use Rattle.dwg_recover.specs.MapExactLaws.{map_keeps_exactly}
+use Rattle.dwg_recover.specs.RecoveredLaws.{frames_are_kept, pairs_read_few, parts_are_read}
+use Rattle.dwg_recover.specs.WalkLaws.{walk_once, walk_stands}
+use Rattle.dwg_recover.proofs.laws.recovered_laws.Goals as goal
+
+pub returns-clause-walk : goal.returns-clause-walk
+returns-clause-walk c = walk_stands c.page_laws.ensures.size
+
+pub returns-clause-one_walk : goal.returns-clause-one_walk
+returns-clause-one_walk c = walk_once
+
+pub returns-clause-few : goal.returns-clause-few
+returns-clause-few c = pairs_read_few c.page_laws.ensures.size
+
+pub returns-clause-mapped : goal.returns-clause-mapped
+returns-clause-mapped c = map_keeps_exactly
+
+pub returns-clause-scanned : goal.returns-clause-scanned
+returns-clause-scanned c = scan_keeps_exactly
+
+pub returns-clause-kept : goal.returns-clause-kept
+returns-clause-kept c = frames_are_kept
+
+pub returns-clause-parts : goal.returns-clause-parts
+returns-clause-parts c =
+    parts_are_read c.file_header_laws.ensures.sound c.drawing_laws.ensures.whole (λ place content classes tried. (c.classes_laws.ensures.read place content classes).0 tried)

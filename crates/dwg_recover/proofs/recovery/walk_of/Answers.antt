@@ -1,0 +1,27 @@
+use Rattle.std.proofs.Common.{sym, ◌∙◌, ap, ◌++◌, Some}
+use Rattle.dwg_recover.specs.Recovering.{pairs_read}
+use Rattle.dwg_recover.specs.Walks.{Walk, lost_end, lost_pages, pairs_of}
+use Rattle.dwg_recover.proofs.RecoveryParts.{walk_at, walk_nowhere}
+use Rattle.dwg_recover.proofs.recovery.walk_of.Goals as goal
+
+pub returns-in_default-clause-pairs : goal.returns-in_default-clause-pairs
+unfolding pairs_read
+returns-in_default-clause-pairs c =
+    let none = walk_nowhere c.args.bytes.now c.args.header.now c.requires (sym c.in_default.is ∙ c.place_located.ensures) in
+    c.new.ensures ∙ sym (ap (λ (walk : Walk). pairs_of c.args.bytes.now walk.pages) none)
+
+pub returns-in_default-clause-losses : goal.returns-in_default-clause-losses
+returns-in_default-clause-losses c =
+    let none = walk_nowhere c.args.bytes.now c.args.header.now c.requires (sym c.in_default.is ∙ c.place_located.ensures) in
+    c.new-in_default.ensures ∙ sym (ap (λ (walk : Walk). lost_pages c.args.bytes.now 0 walk.pages ++ lost_end walk.lost) none)
+
+pub returns-in-Ok-clause-pairs : goal.returns-in-Ok-clause-pairs
+unfolding pairs_read
+returns-in-Ok-clause-pairs c =
+    let located = walk_at c.args.bytes.now c.args.header.now c.from.result c.requires (ap Some c.from.ensures ∙ sym c.in-Some.is ∙ c.place_located.ensures) in
+    c.in-Ok.ensures.pairs ∙ sym (ap (λ (walk : Walk). pairs_of c.args.bytes.now walk.pages) located)
+
+pub returns-in-Ok-clause-losses : goal.returns-in-Ok-clause-losses
+returns-in-Ok-clause-losses c =
+    let located = walk_at c.args.bytes.now c.args.header.now c.from.result c.requires (ap Some c.from.ensures ∙ sym c.in-Some.is ∙ c.place_located.ensures) in
+    c.in-Ok.ensures.losses ∙ sym (ap (λ (walk : Walk). lost_pages c.args.bytes.now 0 walk.pages ++ lost_end walk.lost) located)

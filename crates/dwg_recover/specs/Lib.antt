@@ -1,0 +1,16 @@
+pub mod Walks
+pub mod WalkLaws
+pub mod Frames
+pub mod Placing
+pub mod Keeping
+pub mod FoundLaws
+pub mod KeptLaws
+pub mod ExactLaws
+pub mod MapExactLaws
+pub mod Sections
+pub mod SectionLaws
+pub mod Recovering
+pub mod ReadLaws
+pub mod WholeLaws
+pub mod Results
+pub mod RecoveredLaws

@@ -1,0 +1,288 @@
+-- Which frames are kept for pairs of the map, said of each by itself: one is kept exactly where it lies behind those that are kept before it, and has a new handle.
+use Rattle.std.proofs.Common.{◌≡◌, refl, sym, ◌∙◌, ap, subst, ℕ, zero, suc, ◌+◌, ◌≤◌, Bool, true, false, List, [], ◌∷◌, ◌++◌, length, append_assoc, Option, Some, None, inl, inr, arith}
+use Rattle.std.specs.Prelude.{◌≢◌, ◌⊎◌, ◌↔◌, ◌&&◌, ◌||◌, ◌==◌, ⊤, cond, not, fold, flat_map, nat_lt, if◌then◌else◌}
+use Rattle.std.specs.List.{AllByRecursion, cons_option, filter, list_any, range_with_len}
+use Rattle.std.specs.Option.{option_and_then}
+use Rattle.std.proofs.lemmas.Bool.Decides.{nat_tests}
+use Rattle.std.proofs.lemmas.List.{append-nil}
+use Rattle.std.proofs.lemmas.List.Sums.{fold-append}
+use Rattle.std.proofs.lemmas.Option.{same_Some}
+use Rattle.dwg_object.specs.declared.span.Span.{Span}
+use Rattle.dwg_objmap.specs.declared.pair.Pair.{Pair}
+use Rattle.dwg_recover.specs.declared.frame.Frame.{Frame}
+use Rattle.dwg_recover.specs.ExactLaws.{IsOneOf, in_first, in_second, of_joined, one_of_all}
+use Rattle.dwg_recover.specs.Frames.{candidate, candidate_of, candidates, follows, in_place_order, is_new, keep_mapped, mapped_frames, mapped_of, own_of_span, span_found}
+use Rattle.dwg_recover.specs.KeptLaws.{all_end, all_other, both_hold, ends_follow}
+
+-- no two frames were found for one pair
+abbrev AreDistinct : List Frame → Type 0
+AreDistinct [] = ⊤
+AreDistinct (frame ∷ frames) = ((other : Frame) → IsOneOf other frames → other.pair ≢ frame.pair) × AreDistinct frames
+
+-- frames of the two parts of a list are those of two pairs
+parts_differ : (ones others : List Frame) (one other : Frame) → AreDistinct (ones ++ others) → IsOneOf one ones → IsOneOf other others → other.pair ≢ one.pair
+parts_differ [] others one other distinct is was = absurd is
+parts_differ (first ∷ ones) others one other distinct (inl same) was =
+    subst (λ (frame : Frame). other.pair ≢ frame.pair) (sym same) (distinct.0 other (in_second other ones others was))
+parts_differ (first ∷ ones) others one other distinct (inr behind) was = parts_differ ones others one other distinct.1 behind was
+
+-- the part behind the first is distinct
+second_distinct : (ones others : List Frame) → AreDistinct (ones ++ others) → AreDistinct others
+second_distinct [] others distinct = distinct
+second_distinct (first ∷ ones) others distinct = second_distinct ones others distinct.1
+
+-- what candidates add to those kept before
+record GrowsBy (kept candidates all : List Frame) : Type 0 where
+  more : List Frame
+  whole : all ≡ kept ++ more
+  among : (frame : Frame) → IsOneOf frame more → IsOneOf frame candidates
+
+-- they add none but themselves
+grows_by : (kept frames : List Frame) → GrowsBy kept frames (fold keep_mapped kept frames)
+grows_by kept [] = record { more = []; whole = sym (append-nil kept); among = λ frame none. none }
+grows_by kept (first ∷ frames) = of_test (follows kept first.from && is_new kept first.handle) refl (grows_by (kept ++ first ∷ []) frames) (grows_by kept frames)
+  where
+    of_test : (test : Bool) → (follows kept first.from && is_new kept first.handle) ≡ test → GrowsBy (kept ++ first ∷ []) frames (fold keep_mapped (kept ++ first ∷ []) frames)
+        → GrowsBy kept frames (fold keep_mapped kept frames) → GrowsBy kept (first ∷ frames) (fold keep_mapped (if test then kept ++ first ∷ [] else kept) frames)
+    of_test true passed taken left = record {
+      more = first ∷ taken.more;
+      whole = taken.whole ∙ append_assoc kept (first ∷ []) taken.more;
+      among = λ frame is. among_taken frame is;
+    }
+      where
+        among_taken : (frame : Frame) → IsOneOf frame (first ∷ taken.more) → IsOneOf frame (first ∷ frames)
+        among_taken frame (inl same) = inl same
+        among_taken frame (inr behind) = inr (taken.among frame behind)
+    of_test false failed taken left = record { more = left.more; whole = left.whole; among = λ frame is. inr (left.among frame is) }
+
+-- a candidate in order of place is kept exactly where it begins at or behind the end of every candidate before it that is kept, and has another handle than each
+abbrev pub MapKeepsExactly : Type 0
+MapKeepsExactly =
+    (bytes : List ℕ) (pairs : List Pair) (before : List Frame) (frame : Frame) (behind : List Frame) → in_place_order (length bytes) (candidates bytes 0 pairs) ≡ before ++ frame ∷ behind
+    → IsOneOf frame (mapped_frames bytes pairs)
+    ↔ ((other : Frame) → IsOneOf other before → IsOneOf other (mapped_frames bytes pairs) → (other.end ≤ frame.from) × (other.handle ≢ frame.handle))
+
+-- so it is of any distinct candidates
+exact_of : (before : List Frame) (frame : Frame) (behind : List Frame) → AreDistinct (before ++ frame ∷ behind)
+    → IsOneOf frame (mapped_of (before ++ frame ∷ behind))
+    ↔ ((other : Frame) → IsOneOf other before → IsOneOf other (mapped_of (before ++ frame ∷ behind)) → (other.end ≤ frame.from) × (other.handle ≢ frame.handle))
+exact_of before frame behind distinct = (kept_follows, following_kept)
+  where
+    kept : List Frame
+    kept = mapped_of before
+
+    lesser : GrowsBy [] before kept
+    lesser = grows_by [] before
+
+    later : GrowsBy (keep_mapped kept frame) behind (fold keep_mapped (keep_mapped kept frame) behind)
+    later = grows_by (keep_mapped kept frame) behind
+
+    all : List Frame
+    all = mapped_of (before ++ frame ∷ behind)
+
+    whole : all ≡ keep_mapped kept frame ++ later.more
+    whole = fold-append keep_mapped [] before (frame ∷ behind) ∙ later.whole
+
+    with_test : (test : Bool) → (follows kept frame.from && is_new kept frame.handle) ≡ test → all ≡ (if test then kept ++ frame ∷ [] else kept) ++ later.more
+    with_test test is = whole ∙ ap (λ (t : Bool). (if t then kept ++ frame ∷ [] else kept) ++ later.more) is
+
+    among_before : (other : Frame) → IsOneOf other kept → IsOneOf other before
+    among_before other is = lesser.among other (subst (IsOneOf other) lesser.whole is)
+
+    not_before : IsOneOf frame before → ⊥
+    not_before is = parts_differ before (frame ∷ behind) frame frame distinct is (inl refl) refl
+
+    not_behind : IsOneOf frame behind → ⊥
+    not_behind is = (second_distinct before (frame ∷ behind) distinct).0 frame is refl
+
+    kept_follows : IsOneOf frame all → (other : Frame) → IsOneOf other before → IsOneOf other all → (other.end ≤ frame.from) × (other.handle ≢ frame.handle)
+    kept_follows is other earlier also = of_test (follows kept frame.from && is_new kept frame.handle) refl
+      where
+        is_kept : IsOneOf other ((kept ++ frame ∷ []) ++ later.more) → IsOneOf other kept
+        is_kept has = of_parts (of_joined other (kept ++ frame ∷ []) later.more has)
+          where
+            of_front : IsOneOf other kept ⊎ IsOneOf other (frame ∷ []) → IsOneOf other kept
+            of_front (inl one) = one
+            of_front (inr (inl same)) = absurd (not_before (subst (λ (f : Frame). IsOneOf f before) same earlier))
+            of_front (inr (inr none)) = absurd none
+
+            of_parts : IsOneOf other (kept ++ frame ∷ []) ⊎ IsOneOf other later.more → IsOneOf other kept
+            of_parts (inl front) = of_front (of_joined other kept (frame ∷ []) front)
+            of_parts (inr more) = absurd (parts_differ before (frame ∷ behind) other other distinct earlier (inr (later.among other more)) refl)
+
+        of_test : (test : Bool) → (follows kept frame.from && is_new kept frame.handle) ≡ test → (other.end ≤ frame.from) × (other.handle ≢ frame.handle)
+        of_test true passed =
+            let tests = both_hold (follows kept frame.from) (is_new kept frame.handle) passed in
+            let one = is_kept (subst (IsOneOf other) (with_test true passed) also) in (
+              one_of_all (λ (k : Frame). k.end ≤ frame.from) kept other (all_end kept frame.from tests.0) one,
+              one_of_all (λ (k : Frame). k.handle ≢ frame.handle) kept other (all_other kept frame.handle tests.1) one,
+            )
+        of_test false failed = absurd (of_parts (of_joined frame kept later.more (subst (IsOneOf frame) (with_test false failed) is)))
+          where
+            of_parts : IsOneOf frame kept ⊎ IsOneOf frame later.more → ⊥
+            of_parts (inl one) = not_before (among_before frame one)
+            of_parts (inr more) = not_behind (later.among frame more)
+
+    following_kept : ((other : Frame) → IsOneOf other before → IsOneOf other all → (other.end ≤ frame.from) × (other.handle ≢ frame.handle)) → IsOneOf frame all
+    following_kept others =
+        let passed : (follows kept frame.from && is_new kept frame.handle) ≡ true = both (ends_follow kept frame.from (all_follow kept (λ other is. (of_kept other is).0))) (none_has kept (λ other is. (of_kept other is).1)) in
+        subst (IsOneOf frame) (sym (with_test true passed)) (in_first frame (kept ++ frame ∷ []) later.more (in_second frame kept (frame ∷ []) (inl refl)))
+      where
+        in_all : (other : Frame) → IsOneOf other kept → IsOneOf other all
+        in_all other one = subst (IsOneOf other) (sym whole) (in_first other (keep_mapped kept frame) later.more (of_test (follows kept frame.from && is_new kept frame.handle)))
+          where
+            of_test : (test : Bool) → IsOneOf other (if test then kept ++ frame ∷ [] else kept)
+            of_test true = in_first other kept (frame ∷ []) one
+            of_test false = one
+
+        of_kept : (other : Frame) → IsOneOf other kept → (other.end ≤ frame.from) × (other.handle ≢ frame.handle)
+        of_kept other one = others other (among_before other one) (in_all other one)
+
+        both : follows kept frame.from ≡ true → list_any (λ (other : Frame). other.handle == frame.handle) kept ≡ false → (follows kept frame.from && is_new kept frame.handle) ≡ true
+        both behind new = ap (λ test. test && is_new kept frame.handle) behind ∙ ap not new
+
+        all_follow : (frames : List Frame) → ((other : Frame) → IsOneOf other frames → other.end ≤ frame.from) → AllByRecursion (λ (other : Frame). other.end ≤ frame.from) frames
+        all_follow [] each = tt
+        all_follow (first ∷ frames) each = (each first (inl refl), all_follow frames (λ other is. each other (inr is)))
+
+        differs : (other : Frame) → other.handle ≢ frame.handle → (other.handle == frame.handle) ≡ false
+        differs other differ = grind (arith, nat_tests, differ)
+
+        none_has : (frames : List Frame) → ((other : Frame) → IsOneOf other frames → other.handle ≢ frame.handle) → list_any (λ (other : Frame). other.handle == frame.handle) frames ≡ false
+        none_has [] each = refl
+        none_has (first ∷ frames) each =
+            ap (λ test. test || list_any (λ (other : Frame). other.handle == frame.handle) frames) (differs first (each first (inl refl))) ∙ none_has frames (λ other is. each other (inr is))
+
+-- a frame was found for a pair from a number on
+record IsNumbered (low : ℕ) (frame : Frame) : Type 0 where
+  number : ℕ
+  from : low ≤ number
+  is : frame.pair ≡ Some number
+
+-- a candidate is that of its pair
+candidate_numbered : (bytes : List ℕ) (number : ℕ) (pair : Pair) (frame : Frame) → candidate bytes number pair ≡ Some frame → frame.pair ≡ Some number
+candidate_numbered bytes number pair frame is = of_span (span_found bytes pair.place) is
+  where
+    of_test : (span : Span) (test : Bool)
+        → ◌≡◌ {A = Option Frame} (if test then Some (record { pair = Some number; handle = pair.handle; from = pair.place; end = span.end }) else None) (Some frame) → frame.pair ≡ Some number
+    of_test span true same = subst (λ (one : Frame). one.pair ≡ Some number) (same_Some _ _ same) refl
+    of_test span false same = absurd cc
+
+    of_own : (span : Span) (own : Option ℕ) → option_and_then (candidate_of number pair span) own ≡ Some frame → frame.pair ≡ Some number
+    of_own span None same = absurd cc
+    of_own span (Some own) same = of_test span (nat_lt 0 pair.handle && (own == pair.handle)) same
+
+    of_span : (span : Option Span) → option_and_then (λ (span : Span). option_and_then (candidate_of number pair span) (own_of_span bytes span)) span ≡ Some frame → frame.pair ≡ Some number
+    of_span None same = absurd cc
+    of_span (Some span) same = of_own span (own_of_span bytes span) same
+
+-- those behind have greater numbers
+candidates_numbered : (bytes : List ℕ) (number : ℕ) (pairs : List Pair) (frame : Frame) → IsOneOf frame (candidates bytes number pairs) → IsNumbered number frame
+unfolding candidates
+candidates_numbered bytes number [] frame is = absurd is
+candidates_numbered bytes number (pair ∷ pairs) frame is =
+    of_found (candidate bytes number pair) refl is (λ behind. candidates_numbered bytes (number + 1) pairs frame behind)
+  where
+    lower : IsNumbered (number + 1) frame → IsNumbered number frame
+    lower one = record { number = one.number; from = omega (arith, one.from); is = one.is }
+
+    of_found : (found : Option Frame) → candidate bytes number pair ≡ found → IsOneOf frame (cons_option found (candidates bytes (number + 1) pairs))
+        → (IsOneOf frame (candidates bytes (number + 1) pairs) → IsNumbered (number + 1) frame) → IsNumbered number frame
+    of_found None none has others = lower (others has)
+    of_found (Some one) found (inl same) others =
+        record { number = number; from = omega arith; is = ap (λ (f : Frame). f.pair) same ∙ candidate_numbered bytes number pair one found }
+    of_found (Some one) found (inr behind) others = lower (others behind)
+
+-- so no two candidates are of one pair
+candidates_distinct : (bytes : List ℕ) (number : ℕ) (pairs : List Pair) → AreDistinct (candidates bytes number pairs)
+unfolding candidates
+candidates_distinct bytes number [] = tt
+candidates_distinct bytes number (pair ∷ pairs) = of_found (candidate bytes number pair) refl (candidates_distinct bytes (number + 1) pairs)
+  where
+    of_found : (found : Option Frame) → candidate bytes number pair ≡ found → AreDistinct (candidates bytes (number + 1) pairs)
+        → AreDistinct (cons_option found (candidates bytes (number + 1) pairs))
+    of_found None none others = others
+    of_found (Some one) found others = (differ, others)
+      where
+        differ : (other : Frame) → IsOneOf other (candidates bytes (number + 1) pairs) → other.pair ≢ one.pair
+        differ other is same =
+            let numbered = candidates_numbered bytes (number + 1) pairs other is in
+            let both : numbered.number ≡ number = same_Some _ _ (sym numbered.is ∙ same ∙ candidate_numbered bytes number pair one found) in
+            absurd (omega (arith, numbered.from, both))
+
+-- one that stays is one of all
+filtered_one : (test : Frame → Bool) (frames : List Frame) (frame : Frame) → IsOneOf frame (filter test frames) → IsOneOf frame frames × (test frame ≡ true)
+filtered_one test [] frame is = absurd is
+filtered_one test (first ∷ frames) frame is = of_test (test first) refl is (filtered_one test frames frame)
+  where
+    of_test : (passes : Bool) → test first ≡ passes → IsOneOf frame (cond passes (first ∷ filter test frames) (filter test frames))
+        → (IsOneOf frame (filter test frames) → IsOneOf frame frames × (test frame ≡ true)) → IsOneOf frame (first ∷ frames) × (test frame ≡ true)
+    of_test true passed (inl same) others = (inl same, ap test same ∙ passed)
+    of_test true passed (inr behind) others = (inr (others behind).0, (others behind).1)
+    of_test false failed has others = (inr (others has).0, (others has).1)
+
+-- those that stay are distinct
+filtered_distinct : (test : Frame → Bool) (frames : List Frame) → AreDistinct frames → AreDistinct (filter test frames)
+filtered_distinct test [] distinct = tt
+filtered_distinct test (first ∷ frames) distinct = of_test (test first) (filtered_distinct test frames distinct.1)
+  where
+    of_test : (passes : Bool) → AreDistinct (filter test frames) → AreDistinct (cond passes (first ∷ filter test frames) (filter test frames))
+    of_test true others = ((λ other is. distinct.0 other (filtered_one test frames other is).0), others)
+    of_test false others = others
+
+-- distinct frames at two places are of two pairs
+places_differ : (frames : List Frame) (one other : Frame) → AreDistinct frames → IsOneOf one frames → IsOneOf other frames → one.from ≢ other.from → other.pair ≢ one.pair
+places_differ [] one other distinct is was apart = absurd is
+places_differ (first ∷ frames) one other distinct (inl same) (inl also) apart = absurd (apart (ap (λ (f : Frame). f.from) (same ∙ sym also)))
+places_differ (first ∷ frames) one other distinct (inl same) (inr behind) apart = subst (λ (f : Frame). other.pair ≢ f.pair) (sym same) (distinct.0 other behind)
+places_differ (first ∷ frames) one other distinct (inr behind) (inl same) apart = λ both. distinct.0 one behind (sym both ∙ ap (λ (f : Frame). f.pair) same)
+places_differ (first ∷ frames) one other distinct (inr behind) (inr also) apart = places_differ frames one other distinct.1 behind also apart
+
+-- two lists whose members differ are distinct together
+joined_distinct : (ones others : List Frame) → AreDistinct ones → AreDistinct others → ((one other : Frame) → IsOneOf one ones → IsOneOf other others → other.pair ≢ one.pair) → AreDistinct (ones ++ others)
+joined_distinct [] others distinct more differ = more
+joined_distinct (first ∷ ones) others distinct more differ =
+    ((λ other is. of_parts other (of_joined other ones others is)), joined_distinct ones others distinct.1 more (λ one other is was. differ one other (inr is) was))
+  where
+    of_parts : (other : Frame) → IsOneOf other ones ⊎ IsOneOf other others → other.pair ≢ first.pair
+    of_parts other (inl one) = distinct.0 other one
+    of_parts other (inr was) = differ first other (inl refl) was
+
+-- a frame in order of place is one of all, at one of the places
+ordered_one : (frames : List Frame) (low count : ℕ) (frame : Frame) → IsOneOf frame (flat_map (λ place. filter (λ (frame : Frame). frame.from == place) frames) (range_with_len low count))
+    → IsOneOf frame frames × (low ≤ frame.from)
+ordered_one frames low zero frame is = absurd is
+ordered_one frames low (suc count) frame is =
+    of_parts (of_joined frame (filter (λ (frame : Frame). frame.from == low) frames) (flat_map (λ place. filter (λ (frame : Frame). frame.from == place) frames) (range_with_len (low + 1) count)) is)
+    (ordered_one frames (low + 1) count frame)
+  where
+    here : (from : ℕ) → (from == low) ≡ true → low ≤ from
+    here from passed = grind (arith, nat_tests, passed)
+
+    of_parts : IsOneOf frame (filter (λ (frame : Frame). frame.from == low) frames) ⊎ IsOneOf frame (flat_map (λ place. filter (λ (frame : Frame). frame.from == place) frames) (range_with_len (low + 1) count))
+        → (IsOneOf frame (flat_map (λ place. filter (λ (frame : Frame). frame.from == place) frames) (range_with_len (low + 1) count)) → IsOneOf frame frames × (low + 1 ≤ frame.from))
+        → IsOneOf frame frames × (low ≤ frame.from)
+    of_parts (inl one) others = let both = filtered_one (λ (frame : Frame). frame.from == low) frames frame one in (both.0, here frame.from both.1)
+    of_parts (inr behind) others = let both = others behind in (both.0, omega (arith, both.1))
+
+-- so they are distinct in order of place
+ordered_distinct : (frames : List Frame) (low count : ℕ) → AreDistinct frames → AreDistinct (flat_map (λ place. filter (λ (frame : Frame). frame.from == place) frames) (range_with_len low count))
+ordered_distinct frames low zero distinct = tt
+ordered_distinct frames low (suc count) distinct =
+    joined_distinct (filter (λ (frame : Frame). frame.from == low) frames) (flat_map (λ place. filter (λ (frame : Frame). frame.from == place) frames) (range_with_len (low + 1) count))
+    (filtered_distinct (λ (frame : Frame). frame.from == low) frames distinct) (ordered_distinct frames (low + 1) count distinct)
+    (λ one other is was.
+    let first = filtered_one (λ (frame : Frame). frame.from == low) frames one is in
+    let second = ordered_one frames (low + 1) count other was in
+    places_differ frames one other distinct first.0 second.0 (λ same. apart one.from other.from first.1 second.1 same))
+  where
+    apart : (from to : ℕ) → (from == low) ≡ true → low + 1 ≤ to → from ≡ to → ⊥
+    apart from to passed later same = grind (arith, nat_tests, passed, later, same)
+
+-- so a frame is kept for a pair exactly where it lies behind those that are kept before it, and has a new handle
+pub map_keeps_exactly : MapKeepsExactly
+unfolding mapped_frames in_place_order
+map_keeps_exactly bytes pairs before frame behind is =
+    subst
+    (λ (all : List Frame). IsOneOf frame (mapped_of all) ↔ ((other : Frame) → IsOneOf other before → IsOneOf other (mapped_of all) → (other.end ≤ frame.from) × (other.handle ≢ frame.handle))) (sym is)
+    (exact_of before frame behind (subst AreDistinct is (ordered_distinct (candidates bytes 0 pairs) 0 (length bytes) (candidates_distinct bytes 0 pairs))))

@@ -1,0 +1,17 @@
+//! Recovery: everything of a damaged file that can be shown to be whole, and each loss by its name.
+#![tactic(auto)]
+
+mod candidates;
+mod frame;
+mod kept;
+mod laws;
+mod loss;
+mod losses;
+mod recovery;
+mod scan;
+mod sections;
+mod walk;
+
+pub use laws::recovered_laws;
+pub use loss::{Kept, Loss};
+pub use recovery::{Recovered, recover};

@@ -1,0 +1,121 @@
+//! What is lost of a damaged file, in its order.
+
+ghost use Rattle.std.specs.Prelude.{◌≡◌, [], ◌∷◌, ◌++◌, false, IfOk};
+ghost use Rattle.std.specs.Option.{is_some};
+ghost use Rattle.dwg_recover.specs.Frames.{lost_pairs};
+ghost use Rattle.dwg_recover.specs.Sections.{lost_if, lost_sections};
+
+use crate::kept::KeptFrames;
+use crate::loss::Loss;
+use dwg_base::{Items, NoMemory};
+use dwg_file::is_cut;
+use dwg_objmap::Pair;
+use dwg_sections::Locator;
+
+/// Losses and one more. The only refusal is want of memory.
+pub(crate) fn with_loss(losses: Items<Loss>, loss: Loss) -> Result<Items<Loss>, NoMemory>
+    ensures { IfOk result (λ more. more ≡ losses ++ loss ∷ []) }
+{
+    let mut losses = losses;
+    match losses.push(loss) {
+        Ok(()) => Ok(losses),
+        Err(_) => Err(NoMemory),
+    }
+}
+
+/// Losses and one more, if it is one. The only refusal is want of memory.
+pub(crate) fn with_loss_if(
+    losses: Items<Loss>,
+    lost: bool,
+    loss: Loss,
+) -> Result<Items<Loss>, NoMemory>
+    ensures { IfOk result (λ more. more ≡ losses ++ lost_if lost loss) }
+{
+    if !lost {
+        return Ok(losses);
+    }
+    with_loss(losses, loss)
+}
+
+/// Losses and others behind them. The only refusal is want of memory.
+pub(crate) fn with_losses(losses: Items<Loss>, others: &[Loss]) -> Result<Items<Loss>, NoMemory>
+    ensures { IfOk result (λ more. more ≡ losses ++ others.now) }
+{
+    let mut losses = losses;
+    'along: for loss in others {
+        losses = with_loss(losses, *loss)?;
+    }
+    Ok(losses)
+}
+
+/// Losses and the unknown section of a locator, where it passes the end of the input. The only refusal is want of memory.
+fn with_lost_section(
+    losses: Items<Loss>,
+    bytes: &[u8],
+    locator: &Locator,
+) -> Result<Items<Loss>, NoMemory>
+    ensures { IfOk result (λ more. more ≡ losses ++ lost_sections bytes.now (locator.now ∷ [])) }
+{
+    if !is_cut(bytes, locator) {
+        return Ok(losses);
+    }
+    with_loss(
+        losses,
+        Loss::Section {
+            number: locator.number,
+            place: u64::from(locator.place),
+        },
+    )
+}
+
+/// Losses and the unknown sections of locators that pass the end of the input. The only refusal is want of memory.
+pub(crate) fn with_lost_sections(
+    losses: Items<Loss>,
+    bytes: &[u8],
+    locators: &[Locator],
+) -> Result<Items<Loss>, NoMemory>
+    ensures { IfOk result (λ more. more ≡ losses ++ lost_sections bytes.now locators.now) }
+{
+    let mut losses = losses;
+    'along: for locator in locators {
+        losses = with_lost_section(losses, bytes, locator)?;
+    }
+    Ok(losses)
+}
+
+/// Losses and the pair of a number, where no frame was kept for it. The only refusal is want of memory.
+#[tactic(auto, unfolding(crate::specs::Frames::lost_pairs))]
+fn with_lost_pair(
+    losses: Items<Loss>,
+    kept: &KeptFrames,
+    number: u64,
+    pair: &Pair,
+) -> Result<Items<Loss>, NoMemory>
+    ensures { IfOk result (λ more. more ≡ losses ++ lost_pairs kept.now number (pair.now ∷ [])) }
+{
+    if kept.is_kept_pair(number) {
+        return Ok(losses);
+    }
+    with_loss(
+        losses,
+        Loss::Object {
+            handle: pair.handle,
+            place: pair.place,
+        },
+    )
+}
+
+/// Losses and the pairs that no frame was kept for, in map order. The only refusal is want of memory.
+pub(crate) fn with_lost_pairs(
+    losses: Items<Loss>,
+    kept: &KeptFrames,
+    pairs: &[Pair],
+) -> Result<Items<Loss>, NoMemory>
+    ensures { IfOk result (λ more. more ≡ losses ++ lost_pairs kept.now 0 pairs.now) }
+{
+    let mut losses = losses;
+    'along: for index in 0..pairs.len() {
+        losses = with_lost_pair(losses, kept, index as u64, &pairs[index])?;
+    }
+    Ok(losses)
+}

@@ -1,0 +1,441 @@
+//! Recovery of a whole input.
+
+ghost use Rattle.std.specs.Prelude.{◌≡◌, ◌+◌, ◌*◌, ◌≤◌, [], ◌∷◌, ◌++◌, length, map, None, Some, IfOk, IfSome};
+ghost use Rattle.std.specs.List.{AllByRecursion};
+ghost use Rattle.std.specs.Result.{result_unwrap_or};
+ghost use Rattle.dwg_base.specs.Devices.{MOST_BYTES};
+ghost use Rattle.dwg_base.specs.Refusals.{IsOfTable, first_fault};
+ghost use Rattle.dwg_file.specs.DrawingAt.{drawing_at};
+ghost use Rattle.dwg_file.specs.FileLines.{ALL_LINES, frames_tried};
+ghost use Rattle.dwg_object.specs.Objects.{value_of};
+ghost use Rattle.dwg_objmap.specs.Pages.{AreHandles};
+ghost use Rattle.dwg_recover.specs.Frames.{kept_of, in_place_order};
+ghost use Rattle.dwg_recover.specs.Placing.{IsFound, IsPlaced};
+ghost use Rattle.dwg_recover.specs.Recovering.{classes_found, code_page_of, drawing_recovered, frames_found, frames_kept, frames_mapped, lead_of, losses_of, mark_of, object_of, objects_of, pairs_read, recovered, recovered_damaged, recovered_whole, told, walk_of};
+ghost use Rattle.dwg_recover.specs.Results.{recovered_value};
+ghost use Rattle.dwg_recover.specs.Sections.{header_of, locators_of, section_found};
+ghost use Rattle.dwg_recover.specs.Walks.{lost_end, lost_pages};
+ghost use Rattle.dwg_recover.specs.declared.frame.Frame.{Frame};
+
+use crate::candidates::{candidates, in_place_order, mapped_frames};
+use crate::frame::Frame;
+use crate::kept::KeptFrames;
+use crate::laws::recovered_laws;
+use crate::loss::{Kept, Loss};
+use crate::losses::{with_loss_if, with_losses, with_lost_pairs, with_lost_sections};
+use crate::scan::with_scanned;
+use crate::sections::{classes_at, header_of, place_located, section_found, variables_at};
+use crate::walk::{Walked, walk};
+use dwg_base::{Fault, Items, NoMemory, Refusal};
+use dwg_check::SpanChecks;
+use dwg_classes::{Class, Hints};
+use dwg_file::{Drawing, Parts, drawing_laws, in_handle_order, read_drawing, whole_others};
+use dwg_object::{Object, read_body_hinted, span_at, span_body};
+use dwg_objmap::read_map;
+use dwg_sections::{FileHeader, Framed, Locator, OBJECT_MAP_NUMBER};
+use dwg_steps::Steps;
+use std::alloc::Global;
+use std::sync::ledger::Ledger;
+
+/// What is recovered of an input. A rule of this project.
+#[derive(Drop)]
+pub struct Recovered<'a> {
+    /// The drawing: the one that the input spells, or all that is left of it.
+    pub drawing: Drawing<'a>,
+    /// Why the input spells no drawing; none where it spells one.
+    pub refusal: Option<Refusal>,
+    /// What is lost, in the order of [`Loss`] and within it in that of the file.
+    pub losses: Items<Loss>,
+    /// The frames of the drawing's objects, in order of place.
+    pub kept: Items<Kept>,
+}
+
+/// A frame as it is told.
+fn kept_of(frame: &Frame) -> Kept
+    ensures { result ≡ kept_of frame.now }
+{
+    Kept {
+        handle: frame.handle,
+        from: frame.from,
+        end: frame.end,
+        mapped: frame.pair.is_some(),
+    }
+}
+
+/// Frames as they are told, in their order. The only refusal is want of memory.
+fn all_kept(alloc: Global, frames: &[Frame]) -> Result<Items<Kept>, NoMemory>
+    ensures { IfOk result (λ kept. kept ≡ map kept_of frames.now) }
+{
+    let mut kept = Items::new(alloc);
+    'along: for frame in frames {
+        match kept.push(kept_of(frame)) {
+            Ok(()) => {}
+            Err(_) => return Err(NoMemory),
+        }
+    }
+    Ok(kept)
+}
+
+/// Frames as they are told, in order of place. The only refusal is want of memory.
+#[tactic(auto, unfolding(crate::specs::Recovering::told))]
+fn told(alloc: Global, bytes: &[u8], frames: Vec<Frame>) -> Result<Items<Kept>, NoMemory>
+    requires { AllByRecursion (IsPlaced (length bytes.now)) frames.items }
+    ensures { IfOk result (λ kept. kept ≡ told bytes.now frames.items) }
+{
+    let ordered = in_place_order(alloc, frames)?;
+    all_kept(alloc, ordered.as_slice())
+}
+
+/// The pages of the map that are walked over, and their pairs; where the header is lost there are none. The only refusal is want
+/// of memory.
+fn walk_of(alloc: Global, bytes: &[u8], header: &Option<FileHeader>) -> Result<Walked, NoMemory>
+    requires { header.now ≡ header_of bytes.now }
+    ensures pairs { IfOk result (λ walked. walked.pairs ≡ pairs_read bytes.now) }
+    ensures losses { IfOk result (λ walked. walked.losses ≡ lost_pages bytes.now 0 (walk_of bytes.now).pages ++ lost_end (walk_of bytes.now).lost) }
+{
+    let Some(place) = place_located(header, OBJECT_MAP_NUMBER) else {
+        return Ok(Walked {
+            pairs: Items::new(alloc),
+            losses: Items::new(alloc),
+        });
+    };
+    match walk(alloc, bytes, u64::from(place)) {
+        Ok(walked) => Ok(walked),
+        Err(NoMemory) => Err(NoMemory),
+    }
+}
+
+/// Where the two framed sections are found.
+#[derive(Clone, Copy)]
+struct Places {
+    variables: Option<usize>,
+    classes: Option<usize>,
+}
+
+/// Where the two framed sections are found. The only refusal is want of memory.
+fn find_sections<L: Ledger>(
+    alloc: Global,
+    bytes: &[u8],
+    checks: &SpanChecks<'_>,
+    header: &Option<FileHeader>,
+    steps: &mut Steps<L>,
+) -> Result<Places, NoMemory>
+    requires limit { length bytes.now ≤ MOST_BYTES }
+    requires same { checks.now ≡ bytes.now }
+    requires header { header.now ≡ header_of bytes.now }
+    ensures variables { IfOk result (λ places. places.variables ≡ section_found Framed.Variables bytes.now) }
+    ensures classes { IfOk result (λ places. places.classes ≡ section_found Framed.Classes bytes.now) }
+    ensures steps { steps.new ≤ steps.old + 15 * (2 * length bytes.now + 2) }
+{
+    let variables = section_found(alloc, bytes, checks, header, Framed::Variables, steps)?;
+    let classes = section_found(alloc, bytes, checks, header, Framed::Classes, steps)?;
+    Ok(Places { variables, classes })
+}
+
+/// The locators of a header; where it is lost there are none.
+fn locators_of(header: &Option<FileHeader>) -> &[Locator]
+    ensures { result.now ≡ locators_of header.now }
+{
+    match header {
+        Some(header) => header.locators.as_slice(),
+        None => &[],
+    }
+}
+
+/// All losses, in their order. The only refusal is want of memory.
+#[tactic(auto, unfolding(crate::specs::Recovering::losses_of))]
+fn losses_of(
+    alloc: Global,
+    bytes: &[u8],
+    header: &Option<FileHeader>,
+    places: &Places,
+    walked: &Walked,
+    mapped: &KeptFrames,
+) -> Result<Items<Loss>, NoMemory>
+    requires header { header.now ≡ header_of bytes.now }
+    requires variables { places.now.variables ≡ section_found Framed.Variables bytes.now }
+    requires classes { places.now.classes ≡ section_found Framed.Classes bytes.now }
+    requires pairs { walked.now.pairs ≡ pairs_read bytes.now }
+    requires pages { walked.now.losses ≡ lost_pages bytes.now 0 (walk_of bytes.now).pages ++ lost_end (walk_of bytes.now).lost }
+    requires mapped { mapped.now ≡ frames_mapped bytes.now }
+    ensures { IfOk result (λ losses. losses ≡ losses_of bytes.now) }
+{
+    let losses = with_loss_if(Items::new(alloc), header.is_none(), Loss::Header)?;
+    let losses = with_loss_if(losses, places.variables.is_none(), Loss::Variables)?;
+    let losses = with_loss_if(losses, places.classes.is_none(), Loss::Classes)?;
+    let losses = with_lost_sections(losses, bytes, locators_of(header))?;
+    let losses = with_losses(losses, walked.losses.as_slice())?;
+    match with_lost_pairs(losses, mapped, walked.pairs.as_slice()) {
+        Ok(losses) => Ok(losses),
+        Err(NoMemory) => Err(NoMemory),
+    }
+}
+
+/// The object that the body of a frame that was found is read as. The only refusal is want of memory.
+fn object_of<'a>(
+    alloc: Global,
+    bytes: &'a [u8],
+    hints: &Hints<'_>,
+    frame: &Frame,
+) -> Result<Object<'a>, NoMemory>
+    requires { IsFound bytes.now frame.now }
+    ensures { IfOk result (λ object. value_of object ≡ object_of hints.now bytes.now frame.now) }
+{
+    let Ok(span) = span_at(bytes, frame.from, 0) else {
+        unreachable!()
+    };
+    match read_body_hinted(alloc, span_body(bytes, &span), hints)? {
+        Some(object) => Ok(object),
+        None => unreachable!(),
+    }
+}
+
+/// Objects and one more. The only refusal is want of memory.
+fn with_object<'a>(
+    objects: Vec<Object<'a>>,
+    object: Object<'a>,
+) -> Result<Vec<Object<'a>>, NoMemory>
+    ensures { IfOk result (λ more. more.items ≡ objects.entry.items ++ object.entry ∷ []) }
+{
+    let mut objects = objects;
+    match objects.push(object) {
+        Ok(()) => Ok(objects),
+        Err(_) => Err(NoMemory),
+    }
+}
+
+/// The objects that the bodies of frames are read as, in the order of the frames. The only refusal is want of memory.
+fn read_objects<'a>(
+    alloc: Global,
+    bytes: &'a [u8],
+    classes: &[Class],
+    frames: &[Frame],
+) -> Result<Vec<Object<'a>>, NoMemory>
+    requires { AllByRecursion (IsFound bytes.now) frames.now }
+    ensures { IfOk result (λ objects. map value_of objects.items ≡ map (object_of classes.now bytes.now) frames.now) }
+{
+    let hints = Hints::build(alloc, classes)?;
+    let mut objects = Vec::new(alloc);
+    'along: for index in 0..frames.len() {
+        objects = with_object(objects, object_of(alloc, bytes, &hints, &frames[index])?)?;
+    }
+    Ok(objects)
+}
+
+/// The objects of the frames that are kept, in ascending order of handle. The only refusal is want of memory.
+fn objects_of<'a>(
+    alloc: Global,
+    bytes: &'a [u8],
+    classes: &[Class],
+    frames: &[Frame],
+) -> Result<Items<Object<'a>>, NoMemory>
+    requires frames { frames.now ≡ frames_kept bytes.now }
+    ensures { IfOk result (λ objects. map value_of objects ≡ objects_of classes.now bytes.now (frames_kept bytes.now)) }
+{
+    let objects = read_objects(alloc, bytes, classes, frames)?;
+    match in_handle_order(alloc, objects) {
+        Ok(objects) => Ok(objects),
+        Err(NoMemory) => Err(NoMemory),
+    }
+}
+
+/// What a header tells of a drawing beside its sections.
+#[derive(Clone, Copy)]
+struct Front {
+    lead: [u8; 7],
+    mark: [u8; 2],
+    code_page: u16,
+}
+
+/// What a header tells of a drawing beside its sections; where it is lost these are zeros.
+fn front_of(header: &Option<FileHeader>) -> Front
+    ensures lead { result.lead ≡ lead_of header.now }
+    ensures mark { result.mark ≡ mark_of header.now }
+    ensures code_page { result.code_page ≡ code_page_of header.now }
+{
+    match header {
+        Some(header) => Front {
+            lead: header.lead,
+            mark: header.mark,
+            code_page: header.code_page,
+        },
+        None => Front {
+            lead: [0; 7],
+            mark: [0; 2],
+            code_page: 0,
+        },
+    }
+}
+
+/// The drawing of what is found: the header, the sections, the classes and the frames that are kept. The only refusal is want of
+/// memory.
+fn drawing_recovered<'a>(
+    alloc: Global,
+    bytes: &'a [u8],
+    header: &Option<FileHeader>,
+    places: &Places,
+    classes: Items<Class>,
+    frames: &[Frame],
+) -> Result<Drawing<'a>, NoMemory>
+    requires limit { length bytes.now ≤ MOST_BYTES }
+    requires header { header.now ≡ header_of bytes.now }
+    requires variables { places.now.variables ≡ section_found Framed.Variables bytes.now }
+    requires classes { classes ≡ classes_found bytes.now }
+    requires frames { frames.now ≡ frames_kept bytes.now }
+    ensures { IfOk result (λ drawing. drawing ≡ drawing_recovered bytes.now) }
+{
+    let front = front_of(header);
+    let (lead, mark) = (front.lead, front.mark);
+    let variables = variables_at(alloc, bytes, places.variables)?;
+    let others = whole_others(alloc, bytes, locators_of(header))?;
+    let objects = objects_of(alloc, bytes, classes.as_slice(), frames)?;
+    drawing_laws();
+    recovered_laws();
+    Ok(Drawing::build(Parts {
+        lead,
+        mark,
+        code_page: front.code_page,
+        variables,
+        classes,
+        others,
+        objects,
+    }))
+}
+
+/// The walk over the map, and the frames that are kept for its pairs.
+#[derive(Drop)]
+struct Mapped {
+    walked: Walked,
+    kept: KeptFrames,
+}
+
+/// Walks over the map and keeps the frames of its pairs. The only refusal is want of memory.
+#[tactic(auto, unfolding(crate::specs::Recovering::frames_mapped))]
+fn read_mapped<L: Ledger>(
+    alloc: Global,
+    bytes: &[u8],
+    checks: &SpanChecks<'_>,
+    header: &Option<FileHeader>,
+    steps: &mut Steps<L>,
+) -> Result<Mapped, NoMemory>
+    requires same { checks.now ≡ bytes.now }
+    requires header { header.now ≡ header_of bytes.now }
+    ensures pairs { IfOk result (λ mapped. mapped.walked.pairs ≡ pairs_read bytes.now) }
+    ensures pages { IfOk result (λ mapped. mapped.walked.losses ≡ lost_pages bytes.now 0 (walk_of bytes.now).pages ++ lost_end (walk_of bytes.now).lost) }
+    ensures kept { IfOk result (λ mapped. mapped.kept ≡ frames_mapped bytes.now) }
+    ensures steps { steps.new ≤ steps.old + 15 * length bytes.now }
+{
+    recovered_laws();
+    let walked = walk_of(alloc, bytes, header)?;
+    let kept = mapped_frames(alloc, bytes, checks, walked.pairs.as_slice(), steps)?;
+    Ok(Mapped { walked, kept })
+}
+
+/// What is recovered of an input that spells no drawing, for which it is refused so. The only refusal is want of memory.
+fn recover_damaged<'a, L: Ledger>(
+    alloc: Global,
+    bytes: &'a [u8],
+    refusal: Refusal,
+    steps: &mut Steps<L>,
+) -> Result<Recovered<'a>, NoMemory>
+    requires limit { length bytes.now ≤ MOST_BYTES }
+    requires refusal { first_fault ALL_LINES bytes.now ≡ Some refusal }
+    requires of_table { IsOfTable refusal }
+    ensures recovered { IfOk result (λ value. recovered_value value ≡ recovered_damaged bytes.now) }
+    ensures of_table { IfOk result (λ value. IfSome value.refusal IsOfTable) }
+    ensures steps { steps.new ≤ steps.old + 15 * (4 * length bytes.now + 4) }
+{
+    let checks = SpanChecks::build(alloc, bytes)?;
+    let header = header_of(alloc, bytes)?;
+    let places = find_sections(alloc, bytes, &checks, &header, steps)?;
+    let classes = classes_at(alloc, bytes, places.classes)?;
+    let Mapped { walked, kept } = read_mapped(alloc, bytes, &checks, &header, steps)?;
+    let losses = losses_of(alloc, bytes, &header, &places, &walked, &kept)?;
+    let kept = with_scanned(alloc, bytes, &checks, classes.as_slice(), kept, steps)?;
+    let frames = kept.into_frames();
+    let drawing = drawing_recovered(alloc, bytes, &header, &places, classes, frames.as_slice())?;
+    let kept = told(alloc, bytes, frames)?;
+    Ok(Recovered {
+        drawing,
+        refusal: Some(refusal),
+        losses,
+        kept,
+    })
+}
+
+/// The frames of the map of an input that spells a drawing, as they are told. The only refusal is want of memory.
+fn frames_of_map<L: Ledger>(
+    alloc: Global,
+    bytes: &[u8],
+    steps: &mut Steps<L>,
+) -> Result<Items<Kept>, NoMemory>
+    requires holds { first_fault ALL_LINES bytes.now ≡ None }
+    ensures kept { IfOk result (λ kept. kept ≡ told bytes.now (frames_found 0 (result_unwrap_or (frames_tried bytes.now) []))) }
+    ensures steps { steps.new ≤ steps.old + 15 * length bytes.now }
+{
+    let header = header_of(alloc, bytes)?;
+    let place = place_located(&header, OBJECT_MAP_NUMBER).unwrap_or(0);
+    let pairs = match read_map(alloc, bytes, u64::from(place)) {
+        Ok(pairs) => pairs,
+        Err(Fault::Refused(_)) => unreachable!(),
+        Err(Fault::NoMemory) => return Err(NoMemory),
+    };
+    let checks = SpanChecks::build(alloc, bytes)?;
+    let frames = candidates(alloc, bytes, &checks, pairs.as_slice(), steps)?;
+    told(alloc, bytes, frames)
+}
+
+/// What is recovered of an input that spells a drawing: that drawing, and the frames of its map. The only refusal is want of
+/// memory.
+fn recover_whole<'a, L: Ledger>(
+    alloc: Global,
+    bytes: &'a [u8],
+    drawing: Drawing<'a>,
+    steps: &mut Steps<L>,
+) -> Result<Recovered<'a>, NoMemory>
+    requires holds { first_fault ALL_LINES bytes.now ≡ None }
+    requires drawing { drawing ≡ drawing_at bytes.now }
+    ensures recovered { IfOk result (λ value. recovered_value value ≡ recovered_whole bytes.now) }
+    ensures of_table { IfOk result (λ value. IfSome value.refusal IsOfTable) }
+    ensures steps { steps.new ≤ steps.old + 15 * length bytes.now }
+{
+    let kept = frames_of_map(alloc, bytes, steps)?;
+    Ok(Recovered {
+        drawing,
+        refusal: None,
+        losses: Items::new(alloc),
+        kept,
+    })
+}
+
+/// Recovers what an input of at most 32 MiB holds. A rule of this project.
+///
+/// Where the input spells a drawing, it is that drawing, nothing is lost, and the frames of all its pairs are kept. Otherwise the
+/// first line of the table that refuses it is told, and what can be shown to be whole is kept: the file header; the header
+/// variables and the classes at the places of their locators, or else the first whole ones that stand in the input; the unknown
+/// sections that it holds; of the pairs of the map pages with right check words, in order of place, each whose frame stands at
+/// its place with its handle, shares no byte with the frames before and has a new handle; and then every frame that stands
+/// elsewhere, shares no byte with these, has a new handle, and is read with its common part.
+///
+/// A step is one application of a power of a zero byte to a check word. The only refusal is want of memory, which is taken for
+/// what the input holds.
+pub fn recover<'a, L: Ledger>(
+    alloc: Global,
+    bytes: &'a [u8],
+    steps: &mut Steps<L>,
+) -> Result<Recovered<'a>, NoMemory>
+    requires { length bytes.now ≤ MOST_BYTES }
+    // What is recovered is what the rules say.
+    ensures recovered { IfOk result (λ value. recovered_value value ≡ recovered bytes.now) }
+    ensures of_table { IfOk result (λ value. IfSome value.refusal IsOfTable) }
+
+    // No check word is gone over anew: there are few steps, whatever the input and the answer.
+    ensures steps { steps.new ≤ steps.old + 26 * (4 * length bytes.now + 4) }
+{
+    drawing_laws();
+    match read_drawing(alloc, bytes) {
+        Ok(drawing) => recover_whole(alloc, bytes, drawing, steps),
+        Err(Fault::Refused(refusal)) => recover_damaged(alloc, bytes, refusal, steps),
+        Err(Fault::NoMemory) => Err(NoMemory),
+    }
+}
