@@ -6,7 +6,7 @@ use Rattle.dwg_base.specs.Devices.{MOST_BYTES}
 use Rattle.dwg_cli.specs.declared.status.Status.{Status}
 use Rattle.dwg_cli.specs.declared.status.Status.TheVariants.{Done, Found, Usage, Refused, ReadFault, WriteFault, NoMemory, TooLong, TooLarge}
 use Rattle.dwg_cli.specs.declared.answer.Answer.{Answer}
-use Rattle.dwg_cli.specs.Outcome.{noted, printed, written}
+use Rattle.dwg_cli.specs.Outcome.{noted, filed}
 use Rattle.dwg_file.specs.Canonical.{size_of, canonical}
 use Rattle.dwg_file.specs.Contents.{Contents}
 use Rattle.dwg_text.specs.Notes.{too_large_note}
@@ -35,25 +35,26 @@ stopped_is_cut answer told status output output' notes notes' faults faults' not
     ]
 
 -- the file of a drawing that is within the limit, and of one that isn't
-pub sent_within : (drawing other : Contents) (status : Status) (output output' notes notes' : Option (List ℕ)) (faults faults' note_faults note_faults' : ℕ)
-    → size_of drawing ≤ MOST_BYTES → other ≡ drawing → Sent (printed (canonical other)) status output output' notes notes' faults faults' note_faults note_faults'
-    → Sent (written drawing) status output output' notes notes' faults faults' note_faults note_faults'
-unfolding written
-sent_within drawing other status output output' notes notes' faults faults' note_faults note_faults' few same sent =
+pub sent_within : (drawing other : Contents) (note : List ℕ) (ends status : Status) (output output' notes notes' : Option (List ℕ)) (faults faults' note_faults note_faults' : ℕ)
+    → size_of drawing ≤ MOST_BYTES → other ≡ drawing
+    → Sent (record { output = canonical other; note = note; status = ends }) status output output' notes notes' faults faults' note_faults note_faults'
+    → Sent (filed drawing note ends) status output output' notes notes' faults faults' note_faults note_faults'
+unfolding filed
+sent_within drawing other note ends status output output' notes notes' faults faults' note_faults note_faults' few same sent =
     let within : nat_lt MOST_BYTES (size_of drawing) ≡ false = grind (arith, nat_tests) in
     subst (λ (answer : Answer). Sent answer status output output' notes notes' faults faults' note_faults note_faults')
-    (ap (λ one. printed (canonical one)) same
-    ∙ sym (ap (λ test. if test then noted (too_large_note (size_of drawing)) (TooLarge (size_of drawing)) else printed (canonical drawing)) within)) sent
+    (ap (λ one. record { output = canonical one; note = note; status = ends }) same
+    ∙ sym (ap (λ test. if test then noted (too_large_note (size_of drawing)) (TooLarge (size_of drawing)) else record { output = canonical drawing; note = note; status = ends }) within)) sent
 
-pub sent_too_large : (drawing : Contents) (size : ℕ) (status : Status) (output output' notes notes' : Option (List ℕ)) (faults faults' note_faults note_faults' : ℕ)
+pub sent_too_large : (drawing : Contents) (size : ℕ) (note : List ℕ) (ends status : Status) (output output' notes notes' : Option (List ℕ)) (faults faults' note_faults note_faults' : ℕ)
     → MOST_BYTES < size_of drawing → size ≡ size_of drawing → Sent (noted (too_large_note size) (TooLarge size)) status output output' notes notes' faults faults' note_faults note_faults'
-    → Sent (written drawing) status output output' notes notes' faults faults' note_faults note_faults'
-unfolding written
-sent_too_large drawing size status output output' notes notes' faults faults' note_faults note_faults' many same sent =
+    → Sent (filed drawing note ends) status output output' notes notes' faults faults' note_faults note_faults'
+unfolding filed
+sent_too_large drawing size note ends status output output' notes notes' faults faults' note_faults note_faults' many same sent =
     let over : nat_lt MOST_BYTES (size_of drawing) ≡ true = grind (arith, nat_tests) in
     subst (λ (answer : Answer). Sent answer status output output' notes notes' faults faults' note_faults note_faults')
     (ap (λ one. noted (too_large_note one) (TooLarge one)) same
-    ∙ sym (ap (λ test. if test then noted (too_large_note (size_of drawing)) (TooLarge (size_of drawing)) else printed (canonical drawing)) over)) sent
+    ∙ sym (ap (λ test. if test then noted (too_large_note (size_of drawing)) (TooLarge (size_of drawing)) else record { output = canonical drawing; note = note; status = ends }) over)) sent
 
 -- an answer that is another
 pub sent_same : (answer told : Answer) (status : Status) (output output' notes notes' : Option (List ℕ)) (faults faults' note_faults note_faults' : ℕ)

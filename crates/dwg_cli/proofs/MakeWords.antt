@@ -3,7 +3,7 @@ use Rattle.std.proofs.Common.{◌≡◌, refl, sym, ap, ap₂, ◌∙◌, subst,
 use Rattle.std.specs.Prelude.{Option, codes, decimal, bytes_eq, if◌then◌else◌}
 use Rattle.std.proofs.lemmas.Slice.Eq.{bytes_eq-Decides}
 use Rattle.dwg_cli.specs.declared.words.Command.{Command}
-use Rattle.dwg_cli.specs.declared.words.Command.TheVariants.{Sections, Classes, Show, Rewrite, Audit, Make, Drill}
+use Rattle.dwg_cli.specs.declared.words.Command.TheVariants.{Sections, Classes, Show, Rewrite, Audit, Recover, Make}
 use Rattle.dwg_cli.specs.Words.{number_of, make_of, drill_of, command_of}
 use Rattle.dwg_cli.proofs.Numerals.{number_of_decimal, spelled}
 
@@ -21,14 +21,15 @@ of_numbers (Some a) None n seed is = absurd cc
 of_numbers None other n seed is = absurd cc
 
 -- one word doesn't name it
-of_word : (a b c d e : Bool) (n seed : ℕ)
-    → (if a then Some Sections else (if b then Some Classes else (if c then Some Show else (if d then Some Rewrite else (if e then Some Audit else None))))) ≡ Some (Make n seed) → ⊥
-of_word true b c d e n seed is = absurd cc
-of_word false true c d e n seed is = absurd cc
-of_word false false true d e n seed is = absurd cc
-of_word false false false true e n seed is = absurd cc
-of_word false false false false true n seed is = absurd cc
-of_word false false false false false n seed is = absurd cc
+of_word : (a b c d e f : Bool) (n seed : ℕ)
+    → (if a then Some Sections else (if b then Some Classes else (if c then Some Show else (if d then Some Rewrite else (if e then Some Audit else (if f then Some Recover else None)))))) ≡ Some (Make n seed) → ⊥
+of_word true b c d e f n seed is = absurd cc
+of_word false true c d e f n seed is = absurd cc
+of_word false false true d e f n seed is = absurd cc
+of_word false false false true e f n seed is = absurd cc
+of_word false false false false true f n seed is = absurd cc
+of_word false false false false false true n seed is = absurd cc
+of_word false false false false false false n seed is = absurd cc
 
 -- nor do two
 of_two_words : (test : Bool) (one : Option ℕ) (n seed : ℕ) → (if test then drill_of one else None) ≡ Some (Make n seed) → ⊥
@@ -45,7 +46,7 @@ make_words : (words : List (List ℕ)) (n seed : ℕ) → command_of words ≡ S
 unfolding command_of
 make_words [] n seed names = absurd cc
 make_words (word ∷ []) n seed names =
-    absurd (of_word (bytes_eq word (codes "sections")) (bytes_eq word (codes "classes")) (bytes_eq word (codes "show")) (bytes_eq word (codes "rewrite")) (bytes_eq word (codes "audit")) n seed names)
+    absurd (of_word (bytes_eq word (codes "sections")) (bytes_eq word (codes "classes")) (bytes_eq word (codes "show")) (bytes_eq word (codes "rewrite")) (bytes_eq word (codes "audit")) (bytes_eq word (codes "recover")) n seed names)
 make_words (word ∷ one ∷ []) n seed names = absurd (of_two_words (bytes_eq word (codes "drill")) (number_of one) n seed names)
 make_words (word ∷ one ∷ other ∷ []) n seed names = of_test (bytes_eq word (codes "make")) refl names
   where

@@ -7,7 +7,7 @@ use Rattle.dwg_cli.specs.declared.answer.Answer.{Answer}
 use Rattle.dwg_cli.specs.declared.words.Command.{Command}
 use Rattle.dwg_cli.specs.declared.words.Command.TheVariants.{Make}
 use Rattle.dwg_cli.specs.declared.status.Status.TheVariants.{Usage, TooLarge}
-use Rattle.dwg_cli.specs.Outcome.{noted, printed, written, made_answer, outcome_within}
+use Rattle.dwg_cli.specs.Outcome.{noted, printed, filed, written, made_answer, outcome_within}
 use Rattle.dwg_cli.specs.Run.{IsSettled}
 use Rattle.dwg_file.specs.Canonical.{size_of, canonical}
 use Rattle.dwg_file.specs.Contents.{Contents}
@@ -35,7 +35,7 @@ made_within command n seed bytes is = sym (ap (λ one. outcome_within one bytes)
 
 -- a file that is written or refused is neither a fault nor a note on usage
 settled_written : (drawing : Contents) → IsSettled (written drawing).status × ((written drawing).status ≡ Usage → ⊥)
-unfolding written
+unfolding filed
 settled_written drawing = of_test (nat_lt MOST_BYTES (size_of drawing))
   where
     of_test : (test : Bool) → let answer : Answer = if test then noted (too_large_note (size_of drawing)) (TooLarge (size_of drawing)) else printed (canonical drawing) in

@@ -11,8 +11,9 @@ use Rattle.dwg_base.specs.Refusals.{first_fault}
 use Rattle.dwg_sections.specs.HeaderLines.{HEADER_LINES}
 use Rattle.dwg_text.specs.Notes.{usage_note, too_long_note, too_large_note}
 use Rattle.dwg_cli.specs.declared.words.Command.{Command}
-use Rattle.dwg_cli.specs.declared.words.Command.TheVariants.{Sections, Classes, Show, Rewrite, Audit, Make, Drill}
-use Rattle.dwg_cli.specs.declared.status.Status.TheVariants.{Usage, TooLong, TooLarge}
+use Rattle.dwg_cli.specs.declared.words.Command.TheVariants.{Sections, Classes, Show, Rewrite, Audit, Recover, Make, Drill}
+use Rattle.dwg_cli.specs.declared.status.Status.{Status}
+use Rattle.dwg_cli.specs.declared.status.Status.TheVariants.{Done, Usage, TooLong, TooLarge}
 use Rattle.dwg_cli.specs.declared.answer.Answer.{Answer}
 use Rattle.dwg_cli.specs.declared.request.Request.{Request}
 use Rattle.dwg_file.specs.Contents.{Contents}
@@ -20,7 +21,8 @@ use Rattle.dwg_file.specs.FileLines.{ALL_LINES}
 use Rattle.dwg_file.specs.DrawingAt.{drawing_at}
 use Rattle.dwg_file.specs.Canonical.{size_of, canonical}
 use Rattle.dwg_cli.specs.Lines.{CLASSES_LINES}
-use Rattle.dwg_cli.specs.Outcome.{noted, printed, refused_or, written, made_answer, drill_answer, audited, verdict_status, outcome_within, outcome_of_input, outcome_of}
+use Rattle.dwg_cli.specs.Outcome.{noted, refused_or, filed, made_answer, drill_answer, audited, verdict_status, recovery_notes, recovery_status, recovered_answer, outcome_within, outcome_of_input, outcome_of}
+use Rattle.dwg_recover.specs.Recovering.{RecoveredValue, recovered}
 use Rattle.dwg_cli.specs.Words.{IsReading}
 use Rattle.dwg_cli.specs.Requests.{asked}
 use Rattle.dwg_cli.specs.Run.{Feeds, Came, IsDrained}
@@ -30,14 +32,24 @@ refused_or_is_drained : (first : Option Refusal) (answer : Answer) → IsDrained
 refused_or_is_drained (Some refusal) answer drained = tt
 refused_or_is_drained None answer drained = drained
 
--- so does what is written of a drawing
-written_is_drained : (drawing : Contents) → IsDrained (written drawing).status
-unfolding written
-written_is_drained drawing = of_test (nat_lt MOST_BYTES (size_of drawing))
+-- so does the file of a drawing, with a status that does
+filed_is_drained : (drawing : Contents) (note : List ℕ) (status : Status) → IsDrained status → IsDrained (filed drawing note status).status
+unfolding filed
+filed_is_drained drawing note status drained = of_test (nat_lt MOST_BYTES (size_of drawing))
   where
-    of_test : (test : Bool) → IsDrained (if test then noted (too_large_note (size_of drawing)) (TooLarge (size_of drawing)) else printed (canonical drawing)).status
+    of_test : (test : Bool)
+        → IsDrained (if test then noted (too_large_note (size_of drawing)) (TooLarge (size_of drawing)) else record { output = canonical drawing; note = note; status = status }).status
     of_test true = tt
-    of_test false = tt
+    of_test false = drained
+
+-- and what is recovered
+recovered_is_drained : (value : RecoveredValue) → IsDrained (recovered_answer value).status
+unfolding recovered_answer
+recovered_is_drained value = filed_is_drained value.drawing (recovery_notes value.refusal value.losses value.kept) (recovery_status value.refusal) (of_refusal value.refusal)
+  where
+    of_refusal : (refusal : Option Refusal) → IsDrained (recovery_status refusal)
+    of_refusal None = tt
+    of_refusal (Some refusal) = tt
 
 -- and what an audit says
 audited_is_drained : (drawing : Contents) → IsDrained (audited drawing).status
@@ -54,8 +66,9 @@ unfolding outcome_within
 command_is_drained Sections bytes reads = refused_or_is_drained (first_fault HEADER_LINES bytes) _ tt
 command_is_drained Classes bytes reads = refused_or_is_drained (first_fault CLASSES_LINES bytes) _ tt
 command_is_drained Show bytes reads = refused_or_is_drained (first_fault ALL_LINES bytes) _ tt
-command_is_drained Rewrite bytes reads = refused_or_is_drained (first_fault ALL_LINES bytes) _ (written_is_drained (drawing_at bytes))
+command_is_drained Rewrite bytes reads = refused_or_is_drained (first_fault ALL_LINES bytes) _ (filed_is_drained (drawing_at bytes) [] Done tt)
 command_is_drained Audit bytes reads = refused_or_is_drained (first_fault ALL_LINES bytes) _ (audited_is_drained (drawing_at bytes))
+command_is_drained Recover bytes reads = recovered_is_drained (recovered bytes)
 command_is_drained (Make n seed) bytes reads = absurd reads
 command_is_drained (Drill n) bytes reads = absurd reads
 
@@ -113,6 +126,7 @@ by_command Classes bytes reads = refl
 by_command Show bytes reads = refl
 by_command Rewrite bytes reads = refl
 by_command Audit bytes reads = refl
+by_command Recover bytes reads = refl
 by_command (Make n seed) bytes reads = absurd reads
 by_command (Drill n) bytes reads = absurd reads
 

@@ -10,6 +10,10 @@ use Rattle.dwg_audit.specs.declared.finding.Finding.{Finding}
 use Rattle.dwg_audit.specs.Findings.{findings}
 use Rattle.dwg_drill.specs.Drilled.{DRILL_SEED, drilled}
 use Rattle.dwg_make.specs.Made.{MOST_ENTITIES, made}
+use Rattle.dwg_recover.specs.declared.loss.Kept.{Kept}
+use Rattle.dwg_recover.specs.declared.loss.Loss.{Loss}
+use Rattle.dwg_recover.specs.Recovering.{RecoveredValue, recovered}
+use Rattle.dwg_recovery_text.specs.RecoveryNote.{recovery_note}
 use Rattle.dwg_report.specs.AuditText.{audit_text}
 use Rattle.dwg_report.specs.DrillText.{drill_text}
 use Rattle.dwg_show.specs.DrawingText.{show_text}
@@ -17,7 +21,7 @@ use Rattle.dwg_text.specs.Notes.{usage_note, size_note, refusal_note, too_long_n
 use Rattle.dwg_text.specs.Sections.{sections_text}
 use Rattle.dwg_text.specs.Classes.{classes_text}
 use Rattle.dwg_cli.specs.declared.words.Command.{Command}
-use Rattle.dwg_cli.specs.declared.words.Command.TheVariants.{Sections, Classes, Show, Rewrite, Audit, Make, Drill}
+use Rattle.dwg_cli.specs.declared.words.Command.TheVariants.{Sections, Classes, Show, Rewrite, Audit, Recover, Make, Drill}
 use Rattle.dwg_cli.specs.declared.status.Status.{Status}
 use Rattle.dwg_cli.specs.declared.status.Status.TheVariants.{Done, Found, Usage, Refused, TooLong, TooLarge}
 use Rattle.dwg_cli.specs.declared.answer.Answer.{Answer}
@@ -50,9 +54,13 @@ AnswersFault answer (faults.Refused refusal) = answer ≡ noted (refusal_note re
 abbrev pub unless_large : Contents → Answer → Answer
 unless_large drawing answer = if nat_lt MOST_BYTES (size_of drawing) then noted (too_large_note (size_of drawing)) (TooLarge (size_of drawing)) else answer
 
+-- the canonical file of a drawing, with a note and a status
+unfoldable pub filed : Contents → List ℕ → Status → Answer
+filed drawing note status = unless_large drawing (record { output = canonical drawing; note = note; status = status })
+
 -- the canonical file of a drawing
-unfoldable pub written : Contents → Answer
-written drawing = unless_large drawing (printed (canonical drawing))
+abbrev pub written : Contents → Answer
+written drawing = filed drawing [] Done
 
 -- an answer over a made drawing, unless it is asked for a size that no such drawing has
 abbrev pub unless_no_size : ℕ → Answer → Answer
@@ -78,6 +86,19 @@ verdict_status (finding ∷ more) = Found
 unfoldable pub audited : Contents → Answer
 audited drawing = record { output = audit_text (findings drawing.objects); note = []; status = verdict_status (findings drawing.objects) }
 
+-- what a recovery notes, and how it ends: with no note where the input spells a drawing
+abbrev pub recovery_notes : Option Refusal → List Loss → List Kept → List ℕ
+recovery_notes None losses kept = []
+recovery_notes (Some refusal) losses kept = recovery_note refusal losses kept
+
+abbrev pub recovery_status : Option Refusal → Status
+recovery_status None = Done
+recovery_status (Some refusal) = Found
+
+-- the canonical file of what is recovered
+unfoldable pub recovered_answer : RecoveredValue → Answer
+recovered_answer value = filed value.drawing (recovery_notes value.refusal value.losses value.kept) (recovery_status value.refusal)
+
 -- what a command answers to an input within the limit
 unfoldable pub outcome_within : Command → List ℕ → Answer
 outcome_within Sections bytes = refused_or (first_fault HEADER_LINES bytes) (printed (sections_text (header_at bytes)))
@@ -85,6 +106,7 @@ outcome_within Classes bytes = refused_or (first_fault CLASSES_LINES bytes) (pri
 outcome_within Show bytes = refused_or (first_fault ALL_LINES bytes) (printed (show_text (drawing_at bytes)))
 outcome_within Rewrite bytes = refused_or (first_fault ALL_LINES bytes) (written (drawing_at bytes))
 outcome_within Audit bytes = refused_or (first_fault ALL_LINES bytes) (audited (drawing_at bytes))
+outcome_within Recover bytes = recovered_answer (recovered bytes)
 outcome_within (Make n seed) bytes = made_answer n seed
 outcome_within (Drill n) bytes = drill_answer n
 
@@ -100,6 +122,7 @@ outcome_of (Some Classes) bytes = outcome_of_input Classes bytes
 outcome_of (Some Show) bytes = outcome_of_input Show bytes
 outcome_of (Some Rewrite) bytes = outcome_of_input Rewrite bytes
 outcome_of (Some Audit) bytes = outcome_of_input Audit bytes
+outcome_of (Some Recover) bytes = outcome_of_input Recover bytes
 outcome_of (Some (Make n seed)) bytes = made_answer n seed
 outcome_of (Some (Drill n)) bytes = drill_answer n
 

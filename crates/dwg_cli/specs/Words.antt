@@ -4,7 +4,7 @@ use Rattle.std.specs.Char.{is_ascii_digit}
 use Rattle.std.specs.List.{list_all}
 use Rattle.std.specs.Str.Parse.{digits_value}
 use Rattle.dwg_cli.specs.declared.words.Command.{Command}
-use Rattle.dwg_cli.specs.declared.words.Command.TheVariants.{Sections, Classes, Show, Rewrite, Audit, Make, Drill}
+use Rattle.dwg_cli.specs.declared.words.Command.TheVariants.{Sections, Classes, Show, Rewrite, Audit, Recover, Make, Drill}
 use Rattle.dwg_make.specs.Made.{MOST_ENTITIES}
 
 -- the words as lists of bytes
@@ -38,7 +38,8 @@ command_of (word ∷ []) =
     else (if bytes_eq word (codes "classes") then Some Classes
     else (if bytes_eq word (codes "show") then Some Show
     else (if bytes_eq word (codes "rewrite") then Some Rewrite
-    else (if bytes_eq word (codes "audit") then Some Audit else None))))
+    else (if bytes_eq word (codes "audit") then Some Audit
+    else (if bytes_eq word (codes "recover") then Some Recover else None)))))
 command_of (word ∷ one ∷ []) = if bytes_eq word (codes "drill") then drill_of (number_of one) else None
 command_of (word ∷ one ∷ other ∷ []) = if bytes_eq word (codes "make") then make_of (number_of one) (number_of other) else None
 command_of (word ∷ one ∷ other ∷ more ∷ rest) = None
@@ -51,6 +52,7 @@ IsReading (Some Classes) = ⊤
 IsReading (Some Show) = ⊤
 IsReading (Some Rewrite) = ⊤
 IsReading (Some Audit) = ⊤
+IsReading (Some Recover) = ⊤
 IsReading (Some (Make n seed)) = ⊥
 IsReading (Some (Drill n)) = ⊥
 
@@ -62,5 +64,6 @@ IsUsage (Some Classes) = ⊥
 IsUsage (Some Show) = ⊥
 IsUsage (Some Rewrite) = ⊥
 IsUsage (Some Audit) = ⊥
+IsUsage (Some Recover) = ⊥
 IsUsage (Some (Make n seed)) = (n ≡ 0) ⊎ (MOST_ENTITIES < n)
 IsUsage (Some (Drill n)) = (n ≡ 0) ⊎ (MOST_ENTITIES < n)

@@ -2,8 +2,9 @@
 
 ghost use Rattle.std.specs.Prelude.{◌≡◌, ◌≤◌, IfOk, IfSome, length};
 ghost use Rattle.dwg_base.specs.Devices.{MOST_BYTES};
-ghost use Rattle.dwg_cli.specs.Outcome.{audited, drill_answer, made_answer, outcome_within, printed, verdict_status};
+ghost use Rattle.dwg_cli.specs.Outcome.{audited, drill_answer, made_answer, outcome_within, printed, recovered_answer, recovery_notes, recovery_status, verdict_status};
 ghost use Rattle.dwg_base.specs.Refusals.{IsOfTable};
+ghost use Rattle.dwg_recover.specs.Results.{recovered_value};
 ghost use Rattle.dwg_report.specs.DrillText.{drill_text as drill_report_text};
 ghost use Rattle.dwg_cli.specs.Requests.{asked, IsWithin};
 ghost use Rattle.dwg_cli.specs.Run.{Sent};
@@ -14,10 +15,12 @@ use crate::sending::{send_answer, send_drawing_text, send_file, send_note, send_
 use crate::status::Status;
 use crate::words::Command;
 use dwg_audit::Finding;
-use dwg_base::{ByteRun, NoMemory, Sink};
+use dwg_base::{ByteRun, NoMemory, Refusal, Sink};
 use dwg_drill::{DrillFault, audit_drawing, drill};
 use dwg_file::{Drawing, classes_of_file, drawing_laws, read_drawing};
 use dwg_make::{MakeFault, make};
+use dwg_recover::Recovered;
+use dwg_recovery_text::{recover_input, recovery_note};
 use dwg_report::{DrillReport, audit_text, drill_text};
 use dwg_sections::read_file_header;
 use dwg_text::{classes_text, sections_text, size_note, too_long_note, usage_note};
@@ -83,7 +86,7 @@ fn answer_rewrite<W: Sink, N: Sink>(
 {
     drawing_laws();
     match read_drawing(alloc, bytes) {
-        Ok(drawing) => send_file(alloc, &drawing, output, notes),
+        Ok(drawing) => send_file(alloc, &drawing, b"", Status::Done, output, notes),
         Err(fault) => send_answer(fault_answer(alloc, fault), output, notes),
     }
 }
@@ -132,6 +135,78 @@ fn answer_audit<W: Sink, N: Sink>(
     }
 }
 
+/// What `recover` notes of what it recovered. The only refusal is want of memory.
+fn note_of(alloc: Global, recovered: &Recovered<'_>) -> Result<ByteRun, NoMemory>
+    requires { IfSome recovered.now.refusal IsOfTable }
+    ensures { IfOk result (λ note. note ≡ recovery_notes recovered.now.refusal recovered.now.losses recovered.now.kept) }
+{
+    let Some(refusal) = recovered.refusal else {
+        return ByteRun::from_slice(alloc, &[]);
+    };
+    recovery_note(
+        alloc,
+        refusal,
+        recovered.losses.as_slice(),
+        recovered.kept.as_slice(),
+    )
+}
+
+/// How a recovery ends.
+fn status_of_recovery(refusal: &Option<Refusal>) -> Status
+    ensures { result ≡ recovery_status refusal.now }
+{
+    match refusal {
+        Some(_) => Status::Found,
+        None => Status::Done,
+    }
+}
+
+/// Sends what was recovered: the canonical file of its drawing, and the notes.
+#[tactic(auto, unfolding(crate::specs::Outcome::recovered_answer))]
+fn send_recovered<W: Sink, N: Sink>(
+    alloc: Global,
+    recovered: &Recovered<'_>,
+    output: &mut W,
+    notes: &mut N,
+) -> Status
+    requires { IfSome recovered.now.refusal IsOfTable }
+    ensures never_fall { (W.faults output.old ≤ W.faults output.new) × (N.faults notes.old ≤ N.faults notes.new) }
+    ensures sent { Sent (recovered_answer (recovered_value recovered.now)) result (W.taken output.old) (W.taken output.new) (N.taken notes.old) (N.taken notes.new)
+        (W.faults output.old) (W.faults output.new) (N.faults notes.old) (N.faults notes.new) }
+{
+    let note = match note_of(alloc, recovered) {
+        Ok(note) => note,
+        Err(NoMemory) => return Status::NoMemory,
+    };
+    let status = status_of_recovery(&recovered.refusal);
+    send_file(
+        alloc,
+        &recovered.drawing,
+        note.as_slice(),
+        status,
+        output,
+        notes,
+    )
+}
+
+/// Answers `recover` over an input within the limit.
+fn answer_recover<W: Sink, N: Sink>(
+    alloc: Global,
+    bytes: &[u8],
+    output: &mut W,
+    notes: &mut N,
+) -> Status
+    requires { length bytes.now ≤ MOST_BYTES }
+    ensures never_fall { (W.faults output.old ≤ W.faults output.new) × (N.faults notes.old ≤ N.faults notes.new) }
+    ensures sent { Sent (outcome_within Command.Recover bytes.now) result (W.taken output.old) (W.taken output.new) (N.taken notes.old) (N.taken notes.new)
+        (W.faults output.old) (W.faults output.new) (N.faults notes.old) (N.faults notes.new) }
+{
+    match recover_input(alloc, bytes) {
+        Ok(recovered) => send_recovered(alloc, &recovered, output, notes),
+        Err(NoMemory) => Status::NoMemory,
+    }
+}
+
 /// What `drill` answers where it found out these things.
 fn report_answer(alloc: Global, report: &DrillReport) -> Result<Answer, NoMemory>
     requires { IfSome report.now.fault IsOfTable }
@@ -167,7 +242,7 @@ fn answer_make<W: Sink, N: Sink>(
         (W.faults output.old) (W.faults output.new) (N.faults notes.old) (N.faults notes.new) }
 {
     match make(alloc, n, seed) {
-        Ok(drawing) => send_file(alloc, &drawing, output, notes),
+        Ok(drawing) => send_file(alloc, &drawing, b"", Status::Done, output, notes),
         Err(MakeFault::Size) => send_note(size_note(), Status::Usage, output, notes),
         Err(MakeFault::NoMemory) => Status::NoMemory,
     }
@@ -192,6 +267,7 @@ fn answer_within<W: Sink, N: Sink>(
         Command::Show => answer_show(alloc, bytes, output, notes),
         Command::Rewrite => answer_rewrite(alloc, bytes, output, notes),
         Command::Audit => answer_audit(alloc, bytes, output, notes),
+        Command::Recover => answer_recover(alloc, bytes, output, notes),
         Command::Make { n, seed } => answer_make(alloc, n, seed, output, notes),
         Command::Drill { n } => answer_drill(alloc, n, output, notes),
     }

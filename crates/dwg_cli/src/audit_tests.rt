@@ -529,7 +529,11 @@ audit no 22
 ";
 
 /// The bytes with others over them, each run from its place on.
-fn overlaid(alloc: Global, bytes: &[u8], runs: &[(usize, &[u8])]) -> Result<Vec<u8>, Fail> {
+pub(crate) fn overlaid(
+    alloc: Global,
+    bytes: &[u8],
+    runs: &[(usize, &[u8])],
+) -> Result<Vec<u8>, Fail> {
     let mut list = Vec::from_slice(alloc, bytes)?;
     'runs: for (place, run) in runs {
         'bytes: for (there, byte) in list.iter_mut().skip(*place).zip(run.iter()) {

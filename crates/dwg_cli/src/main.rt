@@ -9,6 +9,8 @@ mod audit_tests;
 #[cfg(test)]
 mod drill_tests;
 #[cfg(test)]
+mod recover_tests;
+#[cfg(test)]
 mod reference_tests;
 mod request;
 mod run;

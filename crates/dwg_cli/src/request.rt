@@ -103,5 +103,6 @@ pub fn request_for<R: Source>(
         Some(Command::Show) => request_from(alloc, Command::Show, input),
         Some(Command::Rewrite) => request_from(alloc, Command::Rewrite, input),
         Some(Command::Audit) => request_from(alloc, Command::Audit, input),
+        Some(Command::Recover) => request_from(alloc, Command::Recover, input),
     }
 }

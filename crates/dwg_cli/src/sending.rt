@@ -4,7 +4,7 @@ ghost use Rattle.std.specs.Prelude.{◌≡◌, ◌≤◌, ℕ, List, Option, IfO
 ghost use Rattle.dwg_file.specs.Canonical.{canonical};
 ghost use Rattle.dwg_show.specs.DrawingText.{show_text};
 ghost use Rattle.dwg_text.specs.Notes as texts;
-ghost use Rattle.dwg_cli.specs.Outcome.{noted, printed, written};
+ghost use Rattle.dwg_cli.specs.Outcome.{filed, noted, printed};
 ghost use Rattle.dwg_cli.specs.Run.{Sent};
 
 use crate::answer::Answer;
@@ -91,14 +91,24 @@ pub(crate) fn send_drawing_text<W: Sink>(
     }
 }
 
-/// Sends a canonical file.
-fn send_plan<W: Sink>(plan: &mut Plan<'_, '_>, output: &mut W) -> Status
-    ensures never_falls { W.faults output.old ≤ W.faults output.new }
-    ensures sent { (notes : Option (List ℕ)) (note_faults : ℕ) → Sent (printed (canonical plan.old)) result (W.taken output.old) (W.taken output.new) notes notes
-        (W.faults output.old) (W.faults output.new) note_faults note_faults }
+/// Sends a canonical file, and then a note.
+fn send_plan<W: Sink, N: Sink>(
+    plan: &mut Plan<'_, '_>,
+    note: &[u8],
+    status: Status,
+    output: &mut W,
+    notes: &mut N,
+) -> Status
+    ensures never_fall { (W.faults output.old ≤ W.faults output.new) × (N.faults notes.old ≤ N.faults notes.new) }
+    ensures sent { Sent (record { output = canonical plan.old; note = note.now; status = status }) result (W.taken output.old) (W.taken output.new) (N.taken notes.old) (N.taken notes.new)
+        (W.faults output.old) (W.faults output.new) (N.faults notes.old) (N.faults notes.new) }
 {
     match plan.write_to(output) {
-        Ok(()) => Status::Done,
+        Ok(()) => {}
+        Err(_) => return Status::WriteFault,
+    }
+    match put_all(notes, note) {
+        Ok(()) => status,
         Err(_) => Status::WriteFault,
     }
 }
@@ -120,19 +130,21 @@ pub(crate) fn send_too_large<W: Sink, N: Sink>(
     }
 }
 
-/// Sends the canonical file of a drawing, unless it would be longer than the limit.
+/// Sends the canonical file of a drawing and then a note, unless the file would be longer than the limit.
 pub(crate) fn send_file<W: Sink, N: Sink>(
     alloc: Global,
     drawing: &Drawing<'_>,
+    note: &[u8],
+    status: Status,
     output: &mut W,
     notes: &mut N,
 ) -> Status
     ensures never_fall { (W.faults output.old ≤ W.faults output.new) × (N.faults notes.old ≤ N.faults notes.new) }
-    ensures sent { Sent (written drawing.now) result (W.taken output.old) (W.taken output.new) (N.taken notes.old) (N.taken notes.new)
+    ensures sent { Sent (filed drawing.now note.now status) result (W.taken output.old) (W.taken output.new) (N.taken notes.old) (N.taken notes.new)
         (W.faults output.old) (W.faults output.new) (N.faults notes.old) (N.faults notes.new) }
 {
     match Plan::prepare(alloc, drawing) {
-        Ok(mut plan) => send_plan(&mut plan, output),
+        Ok(mut plan) => send_plan(&mut plan, note, status, output, notes),
         Err(PlanFault::TooLarge { size }) => send_too_large(alloc, size, output, notes),
         Err(PlanFault::NoMemory) => Status::NoMemory,
     }

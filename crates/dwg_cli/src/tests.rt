@@ -25,7 +25,7 @@ pub(crate) const SMALLEST: [u8; 187] = [
 ];
 
 /// The same with one class.
-const ONE_CLASS: [u8; 199] = [
+pub(crate) const ONE_CLASS: [u8; 199] = [
     0x41, 0x43, 0x31, 0x30, 0x31, 0x35, 0x00, 0x00, 0x00, 0x00, 0x00, 0x00, 0x00, 0x9E, 0x00, 0x00,
     0x00, 0x00, 0x00, 0x00, 0x00, 0x03, 0x00, 0x00, 0x00, 0x00, 0x46, 0x00, 0x00, 0x00, 0x26, 0x00,
     0x00, 0x00, 0x01, 0x6C, 0x00, 0x00, 0x00, 0x32, 0x00, 0x00, 0x00, 0x02, 0xC3, 0x00, 0x00, 0x00,
@@ -42,13 +42,13 @@ const ONE_CLASS: [u8; 199] = [
 ];
 
 /// The frame of a dictionary of handle C, and the map of this frame at 183.
-const ONE_OBJECT: [u8; 27] = [
+pub(crate) const ONE_OBJECT: [u8; 27] = [
     0x0C, 0x00, 0x4A, 0x92, 0x80, 0x00, 0x00, 0x00, 0x43, 0x2A, 0x80, 0x10, 0x0C, 0x00, 0x1F, 0x49,
     0x00, 0x05, 0x0C, 0xB7, 0x01, 0x2E, 0x77, 0x00, 0x02, 0x01, 0xD0,
 ];
 
 /// What the header of the smallest file says else, where this object stands in it.
-const OF_ONE_OBJECT: [(usize, u8); 4] = [(44, 0xC7), (48, 0x0B), (52, 0xD5), (53, 0x91)];
+pub(crate) const OF_ONE_OBJECT: [(usize, u8); 4] = [(44, 0xC7), (48, 0x0B), (52, 0xD5), (53, 0x91)];
 
 /// A map that names the null handle.
 const OF_NULL: [u8; 11] = [
@@ -64,14 +64,14 @@ const TWICE: [u8; 13] = [
 const OF_TWICE: [(usize, u8); 4] = [(44, 0xC7), (48, 0x0D), (52, 0xD5), (53, 0x19)];
 
 /// The frame of an XRECORD of handle A whose content is the frame of the dictionary, and a map that names both.
-const OVERLAP: [u8; 45] = [
+pub(crate) const OVERLAP: [u8; 45] = [
     0x1C, 0x00, 0x53, 0xF2, 0x80, 0x00, 0x00, 0x00, 0x42, 0xA9, 0x10, 0x0C, 0x00, 0x4A, 0x92, 0x80,
     0x00, 0x00, 0x00, 0x43, 0x2A, 0x80, 0x10, 0x0C, 0x00, 0x1F, 0x49, 0x90, 0x0C, 0x00, 0x78, 0x78,
     0x00, 0x07, 0x0A, 0xB7, 0x01, 0x02, 0x0B, 0xA9, 0x6E, 0x00, 0x02, 0x01, 0xD0,
 ];
 
 /// What the header of the smallest file says else, where these stand in it.
-const OF_OVERLAP: [(usize, u8); 4] = [(44, 0xD7), (48, 0x0D), (52, 0xD4), (53, 0x15)];
+pub(crate) const OF_OVERLAP: [(usize, u8); 4] = [(44, 0xD7), (48, 0x0D), (52, 0xD4), (53, 0x15)];
 
 /// The header of the smallest file with an unknown section of number 7 of three bytes behind the map.
 const FOUR_SECTIONS: [u8; 79] = [
@@ -238,7 +238,7 @@ pub(crate) fn changed(
 }
 
 /// The pieces, one behind the other.
-fn joined(alloc: Global, pieces: &[&[u8]]) -> Result<Vec<u8>, Fail> {
+pub(crate) fn joined(alloc: Global, pieces: &[&[u8]]) -> Result<Vec<u8>, Fail> {
     let mut list = Vec::new(alloc);
     for piece in pieces {
         list.extend_from_slice(piece)?;
@@ -247,7 +247,7 @@ fn joined(alloc: Global, pieces: &[&[u8]]) -> Result<Vec<u8>, Fail> {
 }
 
 /// The smallest file with a changed header, and with frames and a map in the place of its empty map.
-fn with_frames(
+pub(crate) fn with_frames(
     alloc: Global,
     header: &[(usize, u8)],
     frames: &[u8],

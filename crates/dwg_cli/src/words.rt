@@ -19,6 +19,8 @@ pub enum Command {
     Rewrite,
     /// What the references of the drawing fail.
     Audit,
+    /// The canonical file of the drawing, or of all that is left of it.
+    Recover,
     /// The canonical file of a made drawing.
     Make {
         /// How many entities follow its fixed objects.
@@ -105,6 +107,8 @@ fn command_word(word: &str) -> Option<Command>
         Some(Command::Rewrite)
     } else if word == "audit" {
         Some(Command::Audit)
+    } else if word == "recover" {
+        Some(Command::Recover)
     } else {
         None
     }

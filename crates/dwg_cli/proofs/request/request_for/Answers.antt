@@ -73,3 +73,9 @@ returns-in-Some-Audit-clause-answered g c = answered_by _ _ c.request_from-in-So
 
 pub returns-in-Some-Audit-clause-came : goal.returns-in-Some-Audit-clause-came
 returns-in-Some-Audit-clause-came g c = came_by _ _ c.request_from-in-Some-Audit.result _ _ (sym c.in-Some-Audit.ensures.named ∙ ap Some c.in-Some-Audit.field-0-is) tt c.request_from-in-Some-Audit.ensures.came
+
+pub returns-in-Some-Recover-clause-answered : goal.returns-in-Some-Recover-clause-answered
+returns-in-Some-Recover-clause-answered g c = answered_by _ _ c.request_from-in-Some-Recover.result _ (sym c.in-Some-Recover.ensures.named ∙ ap Some c.in-Some-Recover.field-0-is) tt c.request_from-in-Some-Recover.ensures.answered
+
+pub returns-in-Some-Recover-clause-came : goal.returns-in-Some-Recover-clause-came
+returns-in-Some-Recover-clause-came g c = came_by _ _ c.request_from-in-Some-Recover.result _ _ (sym c.in-Some-Recover.ensures.named ∙ ap Some c.in-Some-Recover.field-0-is) tt c.request_from-in-Some-Recover.ensures.came
