@@ -256,6 +256,27 @@ def many_claims(count):
     return in_order(*frames_and_places(2, said))
 
 
+def one_byte(count):
+    """No drawing, but bytes that say of each place that a frame of 32,639 bytes begins there."""
+    return b"\x7F" * count
+
+
+def lost_page(count):
+    """Lines, and a wrong check word of the first page of their map: its objects are found by the scan."""
+    data = bytearray(lines(count))
+    place = int.from_bytes(data[44:48], "little")
+    end = place + int.from_bytes(data[place : place + 2], "big")
+    data[end] ^= 0xFF
+    return bytes(data)
+
+
+def begin_sentinels(count):
+    """No drawing, but begin sentinels of the header variables, each with a length that leads to the end of the input."""
+    size = 36 * count
+    sections = (VARIABLES + (size - 36 * (at + 1)).to_bytes(4, "little") + bytes(16) for at in range(count))
+    return b"".join(sections) + bytes(255 - byte for byte in VARIABLES)
+
+
 INPUTS = {
     "objects": (many_objects, (100_000, 200_000)),
     "plain": (plain_entities, (100_000, 200_000)),
@@ -268,6 +289,9 @@ INPUTS = {
     "claims": (many_claims, (100_000, 200_000)),
     "one-place": (one_place, (1_500_000, 3_000_000)),
     "repeated": (one_handle_last, (1_500_000, 3_000_000)),
+    "one-byte": (one_byte, (1_048_576, 2_097_152)),
+    "lost-page": (lost_page, (100_000, 200_000)),
+    "sentinels": (begin_sentinels, (25_000, 50_000)),
 }
 
 if __name__ == "__main__":

@@ -293,3 +293,19 @@ scan_keeps_exactly classes bytes mapped place frame named inside is = (kept_diff
         before_it other (inr lesser_one) =
             let are = at_another classes bytes 0 place split.lesser other split.lesser_are lesser_one in
             inr (in_kept other (in_second other mapped split.lesser lesser_one), are.2, are.1)
+
+-- and adds none but what it found
+pub scan_adds : (classes : List Class) (bytes : List ℕ) (mapped : List Frame) (frame : Frame) → IsOneOf frame (with_scanned classes bytes mapped)
+    → IsOneOf frame mapped ⊎ ((frame.from < length bytes) × (scanned classes bytes frame.from ≡ Some frame))
+unfolding with_scanned
+scan_adds classes bytes mapped frame is =
+    of_part (of_joined frame mapped grown.more (subst (IsOneOf frame) grown.whole is))
+  where
+    grown : Grows classes bytes 0 (0 + length bytes) mapped (scanned_over classes bytes mapped (range_with_len 0 (length bytes)))
+    grown = grows_over classes bytes (length bytes) 0 mapped
+
+    of_part : IsOneOf frame mapped ⊎ IsOneOf frame grown.more → IsOneOf frame mapped ⊎ ((frame.from < length bytes) × (scanned classes bytes frame.from ≡ Some frame))
+    of_part (inl before) = inl before
+    of_part (inr more) =
+        let one = one_of_all (λ (other : Frame). (0 ≤ other.from) × (other.from < 0 + length bytes) × (other.pair ≡ None) × (scanned classes bytes other.from ≡ Some other)) grown.more frame grown.are more in
+        inr (omega (arith, one.1), one.3)

@@ -14,3 +14,5 @@ pub mod ReadLaws
 pub mod WholeLaws
 pub mod Results
 pub mod RecoveredLaws
+pub mod MemberLaws
+pub mod HeldLaws

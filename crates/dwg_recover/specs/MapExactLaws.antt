@@ -286,3 +286,10 @@ map_keeps_exactly bytes pairs before frame behind is =
     subst
     (λ (all : List Frame). IsOneOf frame (mapped_of all) ↔ ((other : Frame) → IsOneOf other before → IsOneOf other (mapped_of all) → (other.end ≤ frame.from) × (other.handle ≢ frame.handle))) (sym is)
     (exact_of before frame behind (subst AreDistinct is (ordered_distinct (candidates bytes 0 pairs) 0 (length bytes) (candidates_distinct bytes 0 pairs))))
+
+-- and keeps none but candidates
+pub mapped_are_candidates : (bytes : List ℕ) (pairs : List Pair) (frame : Frame) → IsOneOf frame (mapped_frames bytes pairs) → IsOneOf frame (in_place_order (length bytes) (candidates bytes 0 pairs))
+unfolding mapped_frames
+mapped_are_candidates bytes pairs frame is =
+    let grown = grows_by [] (in_place_order (length bytes) (candidates bytes 0 pairs)) in
+    grown.among frame (subst (IsOneOf frame) grown.whole is)

@@ -136,3 +136,13 @@ objects_kept classes bytes frames are few kept =
       ascending = sorted_ascends values (distinct_objects values (handles_kept classes bytes frames kept).distinct);
       count = omega (arith, length_permutation values (sorted values) same, length-map frames (object_of classes bytes));
     }
+
+-- they are those of the frames
+pub same_objects : (classes : List Class) (bytes : List ℕ) (frames : List Frame) → IsPermutation (map (object_of classes bytes) frames) (objects_of classes bytes frames)
+same_objects classes bytes frames = sorted_same (map (object_of classes bytes) frames)
+
+-- and as many
+pub objects_counted : (classes : List Class) (bytes : List ℕ) (frames : List Frame) → length (objects_of classes bytes frames) ≡ length frames
+objects_counted classes bytes frames =
+    let values : List ObjectValue = map (object_of classes bytes) frames in
+    omega (arith, length_permutation values (sorted values) (sorted_same values), length-map frames (object_of classes bytes))

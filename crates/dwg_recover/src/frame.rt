@@ -14,7 +14,7 @@ use std::sync::ledger::Ledger;
 /// A frame that is found.
 #[derive(Debug, Drop)]
 pub(crate) struct Frame {
-    /// The number of the pair of the map that names it, in map order; none where no pair does.
+    /// The number of the pair of the map that it is kept for, in map order; none where it is kept without one.
     pub(crate) pair: Option<u64>,
     /// Its own handle.
     pub(crate) handle: Handle,

@@ -49,6 +49,6 @@ pub struct Kept {
     pub from: u64,
     /// The place behind the frame's check word.
     pub end: u64,
-    /// Whether a pair of the map names it. Another was found where no pair that is kept leads.
+    /// Whether it was kept for a pair of the map. Another was found without one.
     pub mapped: bool,
 }

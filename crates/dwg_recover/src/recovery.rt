@@ -429,7 +429,7 @@ pub fn recover<'a, L: Ledger>(
     ensures recovered { IfOk result (λ value. recovered_value value ≡ recovered bytes.now) }
     ensures of_table { IfOk result (λ value. IfSome value.refusal IsOfTable) }
 
-    // No check word is gone over anew: there are few steps, whatever the input and the answer.
+    // Check words of spans take few steps, whatever the input and the answer.
     ensures steps { steps.new ≤ steps.old + 26 * (4 * length bytes.now + 4) }
 {
     drawing_laws();

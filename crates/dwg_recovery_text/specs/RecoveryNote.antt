@@ -22,7 +22,7 @@ loss_line (losses.Page index place) = line (codes "lost: map page " ++ decimal i
 loss_line (losses.MapEnd place) = line (codes "lost: map end at " ++ decimal place)
 loss_line (losses.Object handle place) = line (codes "lost: " ++ object_at handle place)
 
--- a frame that no pair of the map leads to; one that a pair leads to has no line
+-- a frame that is kept without a pair; one that is kept for a pair has no line
 unfoldable pub found_line : Kept → List ℕ
 found_line kept = if kept.mapped then [] else line (codes "found: " ++ object_at kept.handle kept.from)
 
@@ -30,6 +30,6 @@ found_line kept = if kept.mapped then [] else line (codes "found: " ++ object_at
 unfoldable pub count_line : ℕ → List ℕ
 count_line count = line (codes "kept " ++ decimal count)
 
--- why the input spells no drawing, the losses in their order, the frames that no pair leads to in order of place, and how many objects are kept
+-- why the input spells no drawing, the losses in their order, the frames that are kept without a pair in order of place, and how many objects are kept
 unfoldable pub recovery_note : Refusal → List Loss → List Kept → List ℕ
 recovery_note refusal lost kept = refusal_note refusal ++ flat_map loss_line lost ++ flat_map found_line kept ++ count_line (length kept)

@@ -86,7 +86,7 @@ fn push_loss(text: &mut String, loss: &Loss) -> Result<(), AllocError>
     }
 }
 
-/// Appends a frame that no pair of the map leads to, as a line; one that a pair leads to has none. The only refusal is want of
+/// Appends a frame that is kept without a pair, as a line; one that is kept for a pair has none. The only refusal is want of
 /// memory.
 #[tactic(auto, unfolding(crate::specs::RecoveryNote::found_line))]
 fn push_found(text: &mut String, kept: &Kept) -> Result<(), AllocError>
@@ -121,7 +121,7 @@ fn push_count(text: &mut String, count: usize) -> Result<(), AllocError>
     }
 }
 
-/// Appends the frames that no pair of the map leads to, a line each. The only refusal is want of memory.
+/// Appends the frames that are kept without a pair, a line each. The only refusal is want of memory.
 fn push_kept(text: &mut String, kept: &[Kept]) -> Result<(), AllocError>
     ensures { OnOk result (string_bytes text.new ≡ string_bytes text.old ++ flat_map texts.found_line kept.now) }
 {
@@ -150,7 +150,7 @@ fn text_of(
     Ok(text)
 }
 
-/// Why an input spells no drawing, the losses in their order, the frames that no pair of the map leads to in order of place, and how
+/// Why an input spells no drawing, the losses in their order, the frames that are kept without a pair in order of place, and how
 /// many objects are kept, a line each. The only refusal is want of memory.
 pub fn recovery_note(
     alloc: Global,

@@ -1,5 +1,7 @@
 use Rattle.dwg_recover.specs.ExactLaws.{scan_keeps_exactly}
+use Rattle.dwg_recover.specs.HeldLaws.{candidates_hold, scanned_are_read}
 use Rattle.dwg_recover.specs.MapExactLaws.{map_keeps_exactly}
+use Rattle.dwg_recover.specs.MemberLaws.{no_others_are_kept, objects_are_of_frames}
 use Rattle.dwg_recover.specs.RecoveredLaws.{frames_are_kept, pairs_read_few, parts_are_read}
 use Rattle.dwg_recover.specs.WalkLaws.{walk_once, walk_stands}
 use Rattle.dwg_recover.proofs.laws.recovered_laws.Goals as goal
@@ -25,3 +27,15 @@ returns-clause-kept c = frames_are_kept
 pub returns-clause-parts : goal.returns-clause-parts
 returns-clause-parts c =
     parts_are_read c.file_header_laws.ensures.sound c.drawing_laws.ensures.whole (λ place content classes tried. (c.classes_laws.ensures.read place content classes).0 tried)
+
+pub returns-clause-members : goal.returns-clause-members
+returns-clause-members c = no_others_are_kept
+
+pub returns-clause-objects : goal.returns-clause-objects
+returns-clause-objects c = objects_are_of_frames
+
+pub returns-clause-candidates : goal.returns-clause-candidates
+returns-clause-candidates c = candidates_hold c.frame_laws.ensures.held
+
+pub returns-clause-read : goal.returns-clause-read
+returns-clause-read c = scanned_are_read c.frame_laws.ensures.frames
