@@ -1,6 +1,6 @@
 -- A list sorted by place, equals in their order, is that of the frames at each place.
 use Rattle.std.proofs.Common.{◌≡◌, refl, sym, ◌∙◌, ap, ap₂, ℕ, zero, suc, ◌+◌, ◌<◌, ◌≤◌, Bool, true, false, List, [], ◌∷◌, ◌++◌, length, get_or, None, arith, ◌==◌, cond}
-use Rattle.std.specs.Prelude.{⊤, flat_map}
+use Rattle.std.specs.Prelude.{flat_map}
 use Rattle.std.specs.List.{AllByRecursion, filter, range_with_len}
 use Rattle.std.specs.List.Sorted.{IsNonDecreasingBy, IsPermutation, IsStableByKey, ties}
 use Rattle.std.specs.Ordering.{is_lt, nat_cmp}
@@ -9,19 +9,12 @@ use Rattle.std.proofs.lemmas.Bool.Decides.{nat_tests}
 use Rattle.dwg_recover.specs.declared.frame.Frame.{Frame}
 use Rattle.dwg_recover.specs.Frames.{in_place_order}
 use Rattle.dwg_recover.specs.FoundLaws.{all_weaker}
+use Rattle.dwg_recover.specs.OrderLaws.{AreUp, at_place}
 use Rattle.dwg_recover.specs.Placing.{IsPlaced}
 
--- the frames at a place, and at places one behind the other
-abbrev at_place : List Frame → ℕ → List Frame
-at_place frames place = filter (λ (frame : Frame). frame.from == place) frames
-
+-- the frames at places one behind the other
 abbrev at_places : List Frame → ℕ → ℕ → List Frame
 at_places frames low count = flat_map (at_place frames) (range_with_len low count)
-
--- each frame begins no later than those behind it
-abbrev AreUp : List Frame → Type 0
-AreUp [] = ⊤
-AreUp (frame ∷ frames) = AllByRecursion (λ (behind : Frame). frame.from ≤ behind.from) frames × AreUp frames
 
 -- of none there are none
 none_at_places : (low count : ℕ) → [] ≡ at_places [] low count

@@ -2,6 +2,7 @@ pub mod Walks
 pub mod WalkLaws
 pub mod Frames
 pub mod Placing
+pub mod OrderLaws
 pub mod Keeping
 pub mod FoundLaws
 pub mod KeptLaws

@@ -1,16 +1,11 @@
 -- What is kept is nothing else: each frame is that of a pair or one that the scan found, and the objects are those of the frames.
-use Rattle.std.proofs.Common.{◌≡◌, refl, subst, ℕ, ◌<◌, List, [], ◌∷◌, length, map, Some, inl, inr}
+use Rattle.std.proofs.Common.{◌≡◌, ℕ, ◌<◌, List, [], ◌∷◌, length, map, Some}
 use Rattle.std.specs.Prelude.{◌⊎◌}
 use Rattle.std.specs.List.{AllByRecursion}
 use Rattle.std.specs.List.Sorted.{IsPermutation}
-use Rattle.dwg_base.specs.Bytes.{AreBytes}
-use Rattle.dwg_base.specs.Devices.{MOST_BYTES}
-use Rattle.dwg_classes.specs.declared.class.Class.{Class}
-use Rattle.dwg_file.specs.SortedObjects.{sorted_same}
 use Rattle.dwg_recover.specs.declared.frame.Frame.{Frame}
-use Rattle.dwg_recover.specs.ExactLaws.{IsOneOf, of_joined, one_of_all, scan_adds}
-use Rattle.dwg_recover.specs.Frames.{candidates, in_place_order, mapped_frames, scanned, with_scanned}
-use Rattle.dwg_recover.specs.KeptLaws.{AreKept}
+use Rattle.dwg_recover.specs.ExactLaws.{IsOneOf, scan_adds}
+use Rattle.dwg_recover.specs.Frames.{candidates, in_place_order, mapped_frames, scanned}
 use Rattle.dwg_recover.specs.MapExactLaws.{mapped_are_candidates}
 use Rattle.dwg_recover.specs.Placing.{IsFound}
 use Rattle.dwg_recover.specs.ReadLaws.{IsRead, found_is_read, same_objects, objects_counted}

@@ -2,7 +2,9 @@ use Rattle.dwg_recover.specs.ExactLaws.{scan_keeps_exactly}
 use Rattle.dwg_recover.specs.HeldLaws.{candidates_hold, scanned_are_read}
 use Rattle.dwg_recover.specs.MapExactLaws.{map_keeps_exactly}
 use Rattle.dwg_recover.specs.MemberLaws.{no_others_are_kept, objects_are_of_frames}
+use Rattle.dwg_recover.specs.OrderLaws.{places_are_in_order}
 use Rattle.dwg_recover.specs.RecoveredLaws.{frames_are_kept, pairs_read_few, parts_are_read}
+use Rattle.dwg_recover.specs.SectionLaws.{sections_are_first}
 use Rattle.dwg_recover.specs.WalkLaws.{walk_once, walk_stands}
 use Rattle.dwg_recover.proofs.laws.recovered_laws.Goals as goal
 
@@ -39,3 +41,9 @@ returns-clause-candidates c = candidates_hold c.frame_laws.ensures.held
 
 pub returns-clause-read : goal.returns-clause-read
 returns-clause-read c = scanned_are_read c.frame_laws.ensures.frames
+
+pub returns-clause-sections : goal.returns-clause-sections
+returns-clause-sections c = sections_are_first
+
+pub returns-clause-order : goal.returns-clause-order
+returns-clause-order c = places_are_in_order
