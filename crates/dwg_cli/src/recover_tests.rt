@@ -533,7 +533,8 @@ fn finds_the_frames_in_front_of_a_cut(rt: HostRuntime) -> Result<(), Fail> {
     let made = made.as_slice();
     for length in (0..1920).step_by(10) {
         let words = words(alloc, &["recover"])?;
-        let mut input = source(alloc, &made[..length], PLENTY, &[])?;
+        let front = made.get(..length).ok_or("the drawing is shorter")?;
+        let mut input = source(alloc, front, PLENTY, &[])?;
         let mut output = sink(alloc, PLENTY, &[])?;
         let mut notes = sink(alloc, PLENTY, &[])?;
         let ended = run(alloc, &words, &mut input, &mut output, &mut notes);
@@ -555,7 +556,7 @@ fn finds_the_frames_in_front_of_a_cut(rt: HostRuntime) -> Result<(), Fail> {
         &rt,
         alloc,
         &["recover"],
-        &made[..1920],
+        made.get(..1920).ok_or("the drawing is shorter")?,
         Status::Found,
         made,
         b"dwg: refused: map 1 at 1919: short\nlost: map end at 1919\nkept 30\n",
