@@ -13,7 +13,6 @@ const PAGE: [u8; 4] = [0x00, 0x02, 0x01, 0xD0];
 
 #[test]
 fn check_words_are_those_of_the_polynomial(rt: HostRuntime) {
-    check_word_laws();
     assert_eq!(rt; check(0, b"123456789"), 0xBB3D);
     assert_eq!(rt; check(0xC0C1, b""), 0xC0C1);
     // The end of a map: a page of size 2.
@@ -65,6 +64,7 @@ fn span_word(checks: &SpanChecks<'_>, start: u16, from: usize, to: usize) -> u16
 
 #[test]
 fn shift_gives_the_words_of_the_header_counts(rt: HostRuntime) {
+    check_word_laws();
     assert_eq!(rt; shift(0xA598, 9), 0x8101);
     assert_eq!(rt; shift(0x8101, 9), 0x3CC4);
     assert_eq!(rt; shift(0x3CC4, 9), 0x8461);
