@@ -147,8 +147,8 @@ fn shift_counted<L: Ledger>(word: u16, zeros: u64, blank: Blank) -> u16
     after_zeros(word, zeros, &mut steps)
 }
 
-/// The word after so many zero bytes: what its check word becomes (Open Design Specification, "CRC"). It takes no more time for
-/// many than for few, since 32,767 leave every word as it was.
+/// The word after so many zero bytes: what its check word becomes (Open Design Specification, "CRC"). Since 32,767 of them leave
+/// every word as it was, any count of them is taken in at most 15 shifts by powers of two.
 pub fn shift(word: u16, zeros: u64) -> u16
     ensures { result ≡ check_word word (replicate zeros 0) }
 {

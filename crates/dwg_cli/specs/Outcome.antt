@@ -74,6 +74,7 @@ made_answer n seed = unless_no_size n (written (made n seed))
 unfoldable pub drilled_answer : ℕ → Answer
 drilled_answer n = unless_large (made n DRILL_SEED) (printed (drill_text (drilled n)))
 
+-- what `drill` answers: the size note where there is no such drawing
 unfoldable pub drill_answer : ℕ → Answer
 drill_answer n = unless_no_size n (drilled_answer n)
 

@@ -621,6 +621,7 @@ fn tells_how_it_is_used(rt: HostRuntime) -> Result<(), Fail> {
 fn ends_with_the_status_of_the_table(rt: HostRuntime) {
     for (status, code) in [
         (Status::Done, 0),
+        (Status::Found, 1),
         (Status::Usage, 2),
         (refused(1, 0, 0), 3),
         (Status::ReadFault, 4),

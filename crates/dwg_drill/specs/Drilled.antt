@@ -16,7 +16,7 @@ DRILL_SEED = 1
 
 -- what the check word of a whole file begins with
 abbrev pub WHOLE_FILE_START : ℕ
-WHOLE_FILE_START = 49345
+WHOLE_FILE_START = 0xC0C1
 
 -- the place of the byte that is changed
 abbrev pub middle_of : List ℕ → ℕ

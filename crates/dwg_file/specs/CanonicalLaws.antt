@@ -61,20 +61,20 @@ canonical_is_bytes drawing is fits =
     (others_are_bytes drawing.others is.others)
 
 -- each part of the canonical file stands at its place
-record PartsStand (drawing : Contents) : Type 0 where
-  begins : (rest : List ℕ) × (canonical drawing ≡ header_bytes (header_of drawing) ++ rest)
-  variables : StandsAt (canonical drawing) (variables_place drawing) (framed_bytes Variables drawing.variables)
-  classes : StandsAt (canonical drawing) (classes_place drawing) (framed_bytes Classes (class_content drawing.classes))
-  frames : StandsAt (canonical drawing) (objects_place drawing) (frames_bytes drawing.objects)
-  mapped : StandsAt (canonical drawing) (map_place drawing) (map_of drawing)
-  others : StandsAt (canonical drawing) (others_place drawing) (others_bytes drawing.others)
+pub record PartsStand (drawing : Contents) : Type 0 where
+  pub begins : (rest : List ℕ) × (canonical drawing ≡ header_bytes (header_of drawing) ++ rest)
+  pub variables : StandsAt (canonical drawing) (variables_place drawing) (framed_bytes Variables drawing.variables)
+  pub classes : StandsAt (canonical drawing) (classes_place drawing) (framed_bytes Classes (class_content drawing.classes))
+  pub frames : StandsAt (canonical drawing) (objects_place drawing) (frames_bytes drawing.objects)
+  pub mapped : StandsAt (canonical drawing) (map_place drawing) (map_of drawing)
+  pub others : StandsAt (canonical drawing) (others_place drawing) (others_bytes drawing.others)
 
 -- what stands at a place stands at the same number
 stands_there : (bytes piece : List ℕ) (from to : ℕ) → from ≡ to → StandsAt bytes from piece → StandsAt bytes to piece
 stands_there bytes piece from to same stands = subst (λ at. StandsAt bytes at piece) same stands
 
 -- so they do
-parts_stand : (drawing : Contents) → IsFileHeader (header_of drawing) → PartsStand drawing
+pub parts_stand : (drawing : Contents) → IsFileHeader (header_of drawing) → PartsStand drawing
 unfolding canonical
 parts_stand drawing fits =
     let header : List ℕ = header_bytes (header_of drawing) in
