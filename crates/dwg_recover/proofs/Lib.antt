@@ -6,3 +6,4 @@ pub mod RecoveryParts
 pub mod SectionFinding
 pub mod WalkAlong
 pub mod WholeRecovery
+mod SectionsOfFile

@@ -14,40 +14,7 @@ use Rattle.dwg_object.specs.FrameLines.{span_body}
 use Rattle.dwg_recover.specs.declared.frame.Frame.{Frame}
 use Rattle.dwg_recover.specs.Frames.{overlaps, is_free, is_new, own_of_span, span_found, has_common_part, scanned_of, scanned, keep_free, scanned_over, with_scanned}
 use Rattle.dwg_recover.specs.KeptLaws.{AreOther, all_apart, all_other, both_hold, others_of}
-
--- a frame is one of some
-abbrev pub IsOneOf : Frame → List Frame → Type 0
-IsOneOf frame [] = ⊥
-IsOneOf frame (first ∷ frames) = (frame ≡ first) ⊎ IsOneOf frame frames
-
--- of two lists that are joined, it is one of the first or of the second
-pub of_joined : (frame : Frame) (ones others : List Frame) → IsOneOf frame (ones ++ others) → IsOneOf frame ones ⊎ IsOneOf frame others
-of_joined frame [] others is = inr is
-of_joined frame (first ∷ ones) others (inl same) = inl (inl same)
-of_joined frame (first ∷ ones) others (inr behind) = of_rest (of_joined frame ones others behind)
-  where
-    of_rest : IsOneOf frame ones ⊎ IsOneOf frame others → IsOneOf frame (first ∷ ones) ⊎ IsOneOf frame others
-    of_rest (inl one) = inl (inr one)
-    of_rest (inr other) = inr other
-
-pub in_first : (frame : Frame) (ones others : List Frame) → IsOneOf frame ones → IsOneOf frame (ones ++ others)
-in_first frame [] others is = absurd is
-in_first frame (first ∷ ones) others (inl same) = inl same
-in_first frame (first ∷ ones) others (inr behind) = inr (in_first frame ones others behind)
-
-pub in_second : (frame : Frame) (ones others : List Frame) → IsOneOf frame others → IsOneOf frame (ones ++ others)
-in_second frame [] others is = is
-in_second frame (first ∷ ones) others is = inr (in_second frame ones others is)
-
--- what holds of all holds of one
-pub one_of_all : (Holds : Frame → Type 0) (frames : List Frame) (frame : Frame) → AllByRecursion Holds frames → IsOneOf frame frames → Holds frame
-one_of_all Holds [] frame all is = absurd is
-one_of_all Holds (first ∷ frames) frame all (inl same) = subst Holds (sym same) all.0
-one_of_all Holds (first ∷ frames) frame all (inr behind) = one_of_all Holds frames frame all.1 behind
-
--- what holds of one and of those behind it
-pub cases_of : (Holds : Frame → Type 0) (first : Frame) (frames : List Frame) → ((frame : Frame) → IsOneOf frame (first ∷ frames) → Holds frame) → Holds first × ((frame : Frame) → IsOneOf frame frames → Holds frame)
-cases_of Holds first frames all = (all first (inl refl), λ frame is. all frame (inr is))
+use Rattle.dwg_recover.specs.OneOf.{IsOneOf, cases_of, in_first, in_second, of_joined, one_of_all}
 
 -- the tests of the scan hold exactly where the frame shares nothing with any
 tests_hold : (kept : List Frame) (frame : Frame) → ((other : Frame) → IsOneOf other kept → AreOther other frame) → (is_free kept frame.from frame.end && is_new kept frame.handle) ≡ true
@@ -81,7 +48,7 @@ others_differ kept frame passed other is =
     one_of_all (λ (one : Frame). AreOther one frame) kept other (others_of kept frame (all_apart kept frame.from frame.end tests.0) (all_other kept frame.handle tests.1)) is
 
 -- what is scanned at a place stands there
-scanned_at : (classes : List Class) (bytes : List ℕ) (place : ℕ) (frame : Frame) → scanned classes bytes place ≡ Some frame → (frame.from ≡ place) × (frame.pair ≡ None)
+pub scanned_at : (classes : List Class) (bytes : List ℕ) (place : ℕ) (frame : Frame) → scanned classes bytes place ≡ Some frame → (frame.from ≡ place) × (frame.pair ≡ None)
 scanned_at classes bytes place frame is = of_span (span_found bytes place) is
   where
     of_test : (span : Span) (own : ℕ) (common : Bool)
@@ -309,3 +276,10 @@ scan_adds classes bytes mapped frame is =
     of_part (inr more) =
         let one = one_of_all (λ (other : Frame). (0 ≤ other.from) × (other.from < 0 + length bytes) × (other.pair ≡ None) × (scanned classes bytes other.from ≡ Some other)) grown.more frame grown.are more in
         inr (omega (arith, one.1), one.3)
+
+-- and leaves those that were kept before it
+pub mapped_stay : (classes : List Class) (bytes : List ℕ) (mapped : List Frame) (frame : Frame) → IsOneOf frame mapped → IsOneOf frame (with_scanned classes bytes mapped)
+unfolding with_scanned
+mapped_stay classes bytes mapped frame is =
+    let grown : Grows classes bytes 0 (0 + length bytes) mapped (scanned_over classes bytes mapped (range_with_len 0 (length bytes))) = grows_over classes bytes (length bytes) 0 mapped in
+    subst (IsOneOf frame) (sym grown.whole) (in_first frame mapped grown.more is)

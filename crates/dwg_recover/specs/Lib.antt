@@ -6,6 +6,7 @@ pub mod OrderLaws
 pub mod Keeping
 pub mod FoundLaws
 pub mod KeptLaws
+pub mod OneOf
 pub mod ExactLaws
 pub mod MapExactLaws
 pub mod Sections
@@ -17,3 +18,13 @@ pub mod Results
 pub mod RecoveredLaws
 pub mod MemberLaws
 pub mod HeldLaws
+pub mod IntactMap
+pub mod Intact
+pub mod IntactFrames
+pub mod IntactParts
+pub mod IntactLaws
+pub mod Told
+pub mod ToldLaws
+pub mod ResultLaws
+pub mod PartLaws
+pub mod LossLaws

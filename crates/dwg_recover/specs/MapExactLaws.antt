@@ -1,7 +1,7 @@
 -- Which frames are kept for pairs of the map, said of each by itself: one is kept exactly where it lies behind those that are kept before it, and has a new handle.
 use Rattle.std.proofs.Common.{◌≡◌, refl, sym, ◌∙◌, ap, subst, ℕ, zero, suc, ◌+◌, ◌≤◌, Bool, true, false, List, [], ◌∷◌, ◌++◌, length, append_assoc, Option, Some, None, inl, inr, arith}
-use Rattle.std.specs.Prelude.{◌≢◌, ◌⊎◌, ◌↔◌, ◌&&◌, ◌||◌, ◌==◌, ⊤, cond, not, fold, flat_map, nat_lt, if◌then◌else◌}
-use Rattle.std.specs.List.{AllByRecursion, cons_option, filter, list_any, range_with_len}
+use Rattle.std.specs.Prelude.{◌≢◌, ◌⊎◌, ◌↔◌, ◌&&◌, ◌||◌, ◌==◌, ⊤, cond, not, fold, nat_lt, if◌then◌else◌}
+use Rattle.std.specs.List.{AllByRecursion, cons_option, filter, list_any}
 use Rattle.std.specs.Option.{option_and_then}
 use Rattle.std.proofs.lemmas.Bool.Decides.{nat_tests}
 use Rattle.std.proofs.lemmas.List.{append-nil}
@@ -10,9 +10,10 @@ use Rattle.std.proofs.lemmas.Option.{same_Some}
 use Rattle.dwg_object.specs.declared.span.Span.{Span}
 use Rattle.dwg_objmap.specs.declared.pair.Pair.{Pair}
 use Rattle.dwg_recover.specs.declared.frame.Frame.{Frame}
-use Rattle.dwg_recover.specs.ExactLaws.{IsOneOf, in_first, in_second, of_joined, one_of_all}
 use Rattle.dwg_recover.specs.Frames.{candidate, candidate_of, candidates, follows, in_place_order, is_new, keep_mapped, mapped_frames, mapped_of, own_of_span, span_found}
 use Rattle.dwg_recover.specs.KeptLaws.{all_end, all_other, both_hold, ends_follow}
+use Rattle.dwg_recover.specs.OrderLaws.{at_place, at_places}
+use Rattle.dwg_recover.specs.OneOf.{IsOneOf, filtered_one, in_first, in_second, of_joined, one_of_all}
 
 -- no two frames were found for one pair
 abbrev AreDistinct : List Frame → Type 0
@@ -154,10 +155,10 @@ exact_of before frame behind distinct = (kept_follows, following_kept)
             ap (λ test. test || list_any (λ (other : Frame). other.handle == frame.handle) frames) (differs first (each first (inl refl))) ∙ none_has frames (λ other is. each other (inr is))
 
 -- a frame was found for a pair from a number on
-record IsNumbered (low : ℕ) (frame : Frame) : Type 0 where
-  number : ℕ
-  from : low ≤ number
-  is : frame.pair ≡ Some number
+pub record IsNumbered (low : ℕ) (frame : Frame) : Type 0 where
+  pub number : ℕ
+  pub from : low ≤ number
+  pub is : frame.pair ≡ Some number
 
 -- a candidate is that of its pair
 candidate_numbered : (bytes : List ℕ) (number : ℕ) (pair : Pair) (frame : Frame) → candidate bytes number pair ≡ Some frame → frame.pair ≡ Some number
@@ -210,17 +211,6 @@ candidates_distinct bytes number (pair ∷ pairs) = of_found (candidate bytes nu
             let both : numbered.number ≡ number = same_Some _ _ (sym numbered.is ∙ same ∙ candidate_numbered bytes number pair one found) in
             absurd (omega (arith, numbered.from, both))
 
--- one that stays is one of all
-filtered_one : (test : Frame → Bool) (frames : List Frame) (frame : Frame) → IsOneOf frame (filter test frames) → IsOneOf frame frames × (test frame ≡ true)
-filtered_one test [] frame is = absurd is
-filtered_one test (first ∷ frames) frame is = of_test (test first) refl is (filtered_one test frames frame)
-  where
-    of_test : (passes : Bool) → test first ≡ passes → IsOneOf frame (cond passes (first ∷ filter test frames) (filter test frames))
-        → (IsOneOf frame (filter test frames) → IsOneOf frame frames × (test frame ≡ true)) → IsOneOf frame (first ∷ frames) × (test frame ≡ true)
-    of_test true passed (inl same) others = (inl same, ap test same ∙ passed)
-    of_test true passed (inr behind) others = (inr (others behind).0, (others behind).1)
-    of_test false failed has others = (inr (others has).0, (others has).1)
-
 -- those that stay are distinct
 filtered_distinct : (test : Frame → Bool) (frames : List Frame) → AreDistinct frames → AreDistinct (filter test frames)
 filtered_distinct test [] distinct = tt
@@ -249,27 +239,27 @@ joined_distinct (first ∷ ones) others distinct more differ =
     of_parts other (inr was) = differ first other (inl refl) was
 
 -- a frame in order of place is one of all, at one of the places
-ordered_one : (frames : List Frame) (low count : ℕ) (frame : Frame) → IsOneOf frame (flat_map (λ place. filter (λ (frame : Frame). frame.from == place) frames) (range_with_len low count))
+pub ordered_one : (frames : List Frame) (low count : ℕ) (frame : Frame) → IsOneOf frame (at_places frames low count)
     → IsOneOf frame frames × (low ≤ frame.from)
 ordered_one frames low zero frame is = absurd is
 ordered_one frames low (suc count) frame is =
-    of_parts (of_joined frame (filter (λ (frame : Frame). frame.from == low) frames) (flat_map (λ place. filter (λ (frame : Frame). frame.from == place) frames) (range_with_len (low + 1) count)) is)
+    of_parts (of_joined frame (at_place frames low) (at_places frames (low + 1) count) is)
     (ordered_one frames (low + 1) count frame)
   where
     here : (from : ℕ) → (from == low) ≡ true → low ≤ from
     here from passed = grind (arith, nat_tests, passed)
 
-    of_parts : IsOneOf frame (filter (λ (frame : Frame). frame.from == low) frames) ⊎ IsOneOf frame (flat_map (λ place. filter (λ (frame : Frame). frame.from == place) frames) (range_with_len (low + 1) count))
-        → (IsOneOf frame (flat_map (λ place. filter (λ (frame : Frame). frame.from == place) frames) (range_with_len (low + 1) count)) → IsOneOf frame frames × (low + 1 ≤ frame.from))
+    of_parts : IsOneOf frame (at_place frames low) ⊎ IsOneOf frame (at_places frames (low + 1) count)
+        → (IsOneOf frame (at_places frames (low + 1) count) → IsOneOf frame frames × (low + 1 ≤ frame.from))
         → IsOneOf frame frames × (low ≤ frame.from)
     of_parts (inl one) others = let both = filtered_one (λ (frame : Frame). frame.from == low) frames frame one in (both.0, here frame.from both.1)
     of_parts (inr behind) others = let both = others behind in (both.0, omega (arith, both.1))
 
 -- so they are distinct in order of place
-ordered_distinct : (frames : List Frame) (low count : ℕ) → AreDistinct frames → AreDistinct (flat_map (λ place. filter (λ (frame : Frame). frame.from == place) frames) (range_with_len low count))
+ordered_distinct : (frames : List Frame) (low count : ℕ) → AreDistinct frames → AreDistinct (at_places frames low count)
 ordered_distinct frames low zero distinct = tt
 ordered_distinct frames low (suc count) distinct =
-    joined_distinct (filter (λ (frame : Frame). frame.from == low) frames) (flat_map (λ place. filter (λ (frame : Frame). frame.from == place) frames) (range_with_len (low + 1) count))
+    joined_distinct (at_place frames low) (at_places frames (low + 1) count)
     (filtered_distinct (λ (frame : Frame). frame.from == low) frames distinct) (ordered_distinct frames (low + 1) count distinct)
     (λ one other is was.
     let first = filtered_one (λ (frame : Frame). frame.from == low) frames one is in
@@ -278,6 +268,18 @@ ordered_distinct frames low (suc count) distinct =
   where
     apart : (from to : ℕ) → (from == low) ≡ true → low + 1 ≤ to → from ≡ to → ⊥
     apart from to passed later same = grind (arith, nat_tests, passed, later, same)
+
+-- in order of place candidates are members as they were
+pub ordered_is_one : (most : ℕ) (frames : List Frame) (frame : Frame) → IsOneOf frame (in_place_order most frames) → IsOneOf frame frames
+unfolding in_place_order
+ordered_is_one most frames frame is = (ordered_one frames 0 most frame is).0
+
+-- and no two of them are of one pair: those before one are of others
+pub before_differ : (bytes : List ℕ) (pairs : List Pair) (before : List Frame) (frame : Frame) (behind : List Frame) (other : Frame)
+    → in_place_order (length bytes) (candidates bytes 0 pairs) ≡ before ++ frame ∷ behind → IsOneOf other before → frame.pair ≢ other.pair
+unfolding in_place_order
+before_differ bytes pairs before frame behind other is earlier =
+    parts_differ before (frame ∷ behind) other frame (subst AreDistinct is (ordered_distinct (candidates bytes 0 pairs) 0 (length bytes) (candidates_distinct bytes 0 pairs))) earlier (inl refl)
 
 -- so a frame is kept for a pair exactly where it lies behind those that are kept before it, and has a new handle
 pub map_keeps_exactly : MapKeepsExactly
@@ -293,3 +295,8 @@ unfolding mapped_frames
 mapped_are_candidates bytes pairs frame is =
     let grown = grows_by [] (in_place_order (length bytes) (candidates bytes 0 pairs)) in
     grown.among frame (subst (IsOneOf frame) grown.whole is)
+
+-- so each frame that is kept for a pair has the pair's number
+pub mapped_are_numbered : (bytes : List ℕ) (pairs : List Pair) (frame : Frame) → IsOneOf frame (mapped_frames bytes pairs) → IsNumbered 0 frame
+mapped_are_numbered bytes pairs frame is =
+    candidates_numbered bytes 0 pairs frame (ordered_is_one (length bytes) (candidates bytes 0 pairs) frame (mapped_are_candidates bytes pairs frame is))

@@ -4,9 +4,10 @@ use Rattle.std.specs.Prelude.{◌⊎◌}
 use Rattle.std.specs.List.{AllByRecursion}
 use Rattle.std.specs.List.Sorted.{IsPermutation}
 use Rattle.dwg_recover.specs.declared.frame.Frame.{Frame}
-use Rattle.dwg_recover.specs.ExactLaws.{IsOneOf, scan_adds}
+use Rattle.dwg_recover.specs.ExactLaws.{scan_adds}
 use Rattle.dwg_recover.specs.Frames.{candidates, in_place_order, mapped_frames, scanned}
 use Rattle.dwg_recover.specs.MapExactLaws.{mapped_are_candidates}
+use Rattle.dwg_recover.specs.OneOf.{IsOneOf}
 use Rattle.dwg_recover.specs.Placing.{IsFound}
 use Rattle.dwg_recover.specs.ReadLaws.{IsRead, found_is_read, same_objects, objects_counted}
 use Rattle.dwg_recover.specs.RecoveredLaws.{frames_are_kept}

@@ -27,7 +27,7 @@ abbrev pub PlacesAreInOrder : Type 0
 PlacesAreInOrder = (most : ℕ) (frames : List Frame) → AreInOrder most frames
 
 -- the frames at places in a row, one behind the other
-abbrev at_places : List Frame → ℕ → ℕ → List Frame
+abbrev pub at_places : List Frame → ℕ → ℕ → List Frame
 at_places frames low count = flat_map (at_place frames) (range_with_len low count)
 
 -- the frames of two lists at a place

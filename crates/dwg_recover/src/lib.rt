@@ -12,6 +12,6 @@ mod scan;
 mod sections;
 mod walk;
 
-pub use laws::recovered_laws;
+pub use laws::{answer_laws, intact_laws, part_laws, recovered_laws};
 pub use loss::{Kept, Loss};
 pub use recovery::{Recovered, recover};

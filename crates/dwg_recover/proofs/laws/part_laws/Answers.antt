@@ -1,0 +1,18 @@
+use Rattle.dwg_recover.specs.PartLaws.{content_is_taken, header_found, pages_give_pairs, section_is_whole, walk_is_located}
+use Rattle.dwg_recover.proofs.SectionsOfFile.{section_laws}
+use Rattle.dwg_recover.proofs.laws.part_laws.Goals as goal
+
+pub returns-clause-header : goal.returns-clause-header
+returns-clause-header c = header_found (section_laws c.file_header_laws.ensures.sound c.file_header_laws.ensures.complete c.framed_laws.ensures.sound c.framed_laws.ensures.complete)
+
+pub returns-clause-whole : goal.returns-clause-whole
+returns-clause-whole c = section_is_whole (section_laws c.file_header_laws.ensures.sound c.file_header_laws.ensures.complete c.framed_laws.ensures.sound c.framed_laws.ensures.complete)
+
+pub returns-clause-content : goal.returns-clause-content
+returns-clause-content c = content_is_taken (section_laws c.file_header_laws.ensures.sound c.file_header_laws.ensures.complete c.framed_laws.ensures.sound c.framed_laws.ensures.complete)
+
+pub returns-clause-located : goal.returns-clause-located
+returns-clause-located c = walk_is_located
+
+pub returns-clause-pages : goal.returns-clause-pages
+returns-clause-pages c = pages_give_pairs

@@ -1,0 +1,140 @@
+-- The parts that recovery finds are those that stand in the input: its file header, whole sections, the walk over its map, and the pairs of a page.
+use Rattle.std.proofs.Common.{◌≡◌, refl, sym, ◌∙◌, ap, ap₂, subst, ℕ, ◌+◌, Bool, true, false, List, [], Option, Some, None, arith}
+use Rattle.std.specs.Prelude.{◌↔◌, ⊤, ◌&&◌, Ok, if◌then◌else◌}
+use Rattle.std.specs.Option.{is_none}
+use Rattle.std.specs.Result.{is_ok, result_unwrap_or}
+use Rattle.std.proofs.lemmas.Bool.Decides.{nat_tests}
+use Rattle.std.proofs.lemmas.Option.{same_Some}
+use Rattle.dwg_base.specs.Bytes.{AreBytes}
+use Rattle.dwg_base.specs.Refusals.{Tried, first_fault}
+use Rattle.dwg_base.specs.declared.refusal.Refusal.{Refusal}
+use Rattle.dwg_classes.specs.declared.class.Class.{Class}
+use Rattle.dwg_classes.specs.Class.{AreClasses}
+use Rattle.dwg_classes.specs.ClassLineLaws.{tried_ok}
+use Rattle.dwg_classes.specs.ClassLines.{tried_classes}
+use Rattle.dwg_file.specs.ReadingLaws.{SectionLaws}
+use Rattle.dwg_objmap.specs.declared.pair.Pair.{Pair}
+use Rattle.dwg_objmap.specs.MapLines.{HasCheckWord, body_at}
+use Rattle.dwg_objmap.specs.PagePlaces.{body_is_bytes}
+use Rattle.dwg_objmap.specs.Walking.{AreLongest, page_holds_at, pairs_in_front}
+use Rattle.dwg_objmap.specs.WalkingLaws.{longest_in_front, size_is}
+use Rattle.dwg_sections.specs.declared.framed.Framed.{Framed}
+use Rattle.dwg_sections.specs.declared.framed.Framed.TheVariants as framed
+use Rattle.dwg_sections.specs.declared.header.FileHeader.{FileHeader}
+use Rattle.dwg_sections.specs.FileHeader.{BeginsWithHeader}
+use Rattle.dwg_sections.specs.Framed.{FramedAt}
+use Rattle.dwg_sections.specs.FramedLines.{BEFORE_CONTENT, content_at}
+use Rattle.dwg_sections.specs.HeaderLines.{HEADER_LINES, header_at, place_of}
+use Rattle.dwg_recover.specs.IntactParts.{header_is_found}
+use Rattle.dwg_recover.specs.Recovering.{walk_located, walk_of}
+use Rattle.dwg_recover.specs.SectionLaws.{classes_cut, whole_parts}
+use Rattle.dwg_recover.specs.Sections.{classes_of, header_of, is_whole, locators_of, variables_of}
+use Rattle.dwg_recover.specs.WalkLaws.{walk_stands}
+use Rattle.dwg_recover.specs.Walks.{IsWalk, Walk, pairs_at}
+
+-- the header that is found is the one that the input begins with
+abbrev pub HeaderIsFound : Type 0
+HeaderIsFound = (bytes : List ℕ) (header : FileHeader) → AreBytes bytes → (header_of bytes ≡ Some header) ↔ BeginsWithHeader bytes header
+
+-- so it is
+pub header_found : SectionLaws → HeaderIsFound
+unfolding header_of
+header_found laws bytes header are = (of_fault (first_fault HEADER_LINES bytes) refl, header_is_found laws.header_complete bytes header)
+  where
+    of_fault : (fault : Option Refusal) → first_fault HEADER_LINES bytes ≡ fault → (if is_none fault then Some (header_at bytes) else None) ≡ Some header → BeginsWithHeader bytes header
+    of_fault None none same = subst (BeginsWithHeader bytes) (same_Some _ _ same) (laws.header_sound bytes are none)
+    of_fault (Some refusal) none same = absurd cc
+
+-- the content of a section is what it has to be: that of the classes is cut into classes
+abbrev pub IsContent : Framed → List ℕ → Type 0
+IsContent framed.Variables content = ⊤
+IsContent framed.Classes content = (classes : List Class) × AreClasses content classes
+
+-- a section is whole exactly where it stands with its sentinels, size and check word around such a content
+abbrev pub SectionIsWhole : Type 0
+SectionIsWhole =
+    (which : Framed) (bytes : List ℕ) (place : ℕ) → AreBytes bytes
+    → (is_whole which bytes place ≡ true) ↔ ((content : List ℕ) × FramedAt bytes place which content × IsContent which content)
+
+-- and what is taken of it is its content, or the classes that this is cut into
+abbrev pub ContentIsTaken : Type 0
+ContentIsTaken =
+    (bytes : List ℕ) (place : ℕ) (content : List ℕ)
+    → (FramedAt bytes place framed.Variables content → variables_of bytes (Some place) ≡ content)
+    × ((classes : List Class) → FramedAt bytes place framed.Classes content → AreClasses content classes → classes_of bytes (Some place) ≡ classes)
+
+-- the classes of a section that stands are tried
+classes_tried_of : SectionLaws → (bytes : List ℕ) (place : ℕ) (content : List ℕ) (classes : List Class) → FramedAt bytes place framed.Classes content → AreClasses content classes
+    → tried_classes (place + BEFORE_CONTENT) (content_at bytes place) ≡ Ok classes
+classes_tried_of laws bytes place content classes section cut =
+    (tried_ok (place + BEFORE_CONTENT) (content_at bytes place) classes).1
+    (subst (λ (taken : List ℕ). AreClasses taken classes) (laws.section_complete framed.Classes place bytes content section).1 cut)
+
+-- so it is whole
+pub section_is_whole : SectionLaws → SectionIsWhole
+unfolding is_whole
+section_is_whole laws which bytes place are = (stands which, whole which)
+  where
+    stands : (which : Framed) → is_whole which bytes place ≡ true → (content : List ℕ) × FramedAt bytes place which content × IsContent which content
+    stands framed.Variables is = (content_at bytes place, laws.section_sound framed.Variables place bytes are (whole_parts framed.Variables bytes place is).framed, tt)
+    stands framed.Classes is =
+        let cut = (tried_ok (place + BEFORE_CONTENT) (content_at bytes place) _).0 (classes_cut bytes place is) in
+        (content_at bytes place, laws.section_sound framed.Classes place bytes are (whole_parts framed.Classes bytes place is).framed, (_, cut))
+
+    whole : (which : Framed) → (content : List ℕ) × FramedAt bytes place which content × IsContent which content → is_whole which bytes place ≡ true
+    whole framed.Variables (content, section, is) =
+        ap (λ (fault : Option Refusal). is_none fault && true) (laws.section_complete framed.Variables place bytes content section).0
+    whole framed.Classes (content, section, (classes, cut)) =
+        ap₂ (λ (fault : Option Refusal) (tried : Tried (List Class)). is_none fault && is_ok tried) (laws.section_complete framed.Classes place bytes content section).0
+        (classes_tried_of laws bytes place content classes section cut)
+
+-- and so it is taken
+pub content_is_taken : SectionLaws → ContentIsTaken
+content_is_taken laws bytes place content = (
+  (λ section. sym (laws.section_complete framed.Variables place bytes content section).1),
+  (λ classes section cut. ap (λ (tried : Tried (List Class)). result_unwrap_or tried []) (classes_tried_of laws bytes place content classes section cut)),
+)
+
+-- where the header is found the walk goes from the place of the map's locator, and else there is none
+abbrev pub WalkIsLocated : Type 0
+WalkIsLocated =
+    (bytes : List ℕ)
+    → (header_of bytes ≡ None → walk_of bytes ≡ record { pages = []; lost = None })
+    × ((header : FileHeader) (place : ℕ) → header_of bytes ≡ Some header → place_of 2 header.locators ≡ Some place → IsWalk bytes place (walk_of bytes).pages (walk_of bytes).lost)
+
+-- so it goes
+pub walk_is_located : WalkIsLocated
+unfolding walk_of
+walk_is_located bytes = (
+  (λ none. ap (λ (header : Option FileHeader). walk_located bytes (place_of 2 (locators_of header))) none),
+  (λ header place is located.
+      let same : walk_located bytes (place_of 2 (locators_of (header_of bytes))) ≡ walk_located bytes (Some place) =
+      ap (λ (header : Option FileHeader). walk_located bytes (place_of 2 (locators_of header))) is ∙ ap (walk_located bytes) located in
+      subst (λ (walk : Walk). IsWalk bytes place walk.pages walk.lost) (sym same) (walk_stands size_is bytes place)),
+)
+
+-- a page with a right check word gives the longest list of pairs in front of its bytes, and one with a wrong check word gives none
+abbrev pub PagesGivePairs : Type 0
+PagesGivePairs =
+    (bytes : List ℕ) (page : ℕ) → AreBytes bytes
+    → (HasCheckWord bytes page → AreLongest (body_at bytes page) (pairs_at bytes page)) × ((HasCheckWord bytes page → ⊥) → pairs_at bytes page ≡ [])
+
+-- so they do
+pub pages_give_pairs : PagesGivePairs
+pages_give_pairs bytes page are = (λ right. of_right right, λ wrong. of_wrong (page_holds_at bytes page) refl wrong)
+  where
+    given : Bool → List Pair
+    given = λ holds. if holds then pairs_in_front (body_at bytes page) else []
+
+    holds : HasCheckWord bytes page → page_holds_at bytes page ≡ true
+    holds right = grind (arith, nat_tests, right)
+
+    of_right : HasCheckWord bytes page → AreLongest (body_at bytes page) (pairs_at bytes page)
+    of_right right = subst (λ (test : Bool). AreLongest (body_at bytes page) (given test)) (sym (holds right)) (longest_in_front (body_at bytes page) (body_is_bytes bytes page are))
+
+    is_right : page_holds_at bytes page ≡ true → HasCheckWord bytes page
+    is_right passed = grind (arith, nat_tests, passed)
+
+    of_wrong : (test : Bool) → page_holds_at bytes page ≡ test → (HasCheckWord bytes page → ⊥) → given test ≡ []
+    of_wrong true passed wrong = absurd (wrong (is_right passed))
+    of_wrong false failed wrong = refl

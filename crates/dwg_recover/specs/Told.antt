@@ -1,0 +1,47 @@
+-- What holds of every answer of recovery: its frames stand in the input and share nothing, and its objects are those of its frames. A rule of this project.
+use Rattle.std.specs.Prelude.{◌≡◌, ◌≢◌, ⊤, ℕ, ◌≤◌, ◌↔◌, true, List, [], ◌∷◌, length, map}
+use Rattle.std.specs.List.{AllByRecursion}
+use Rattle.std.specs.List.Sorted.{IsPermutation}
+use Rattle.dwg_base.specs.Bytes.{AreBytes}
+use Rattle.dwg_base.specs.Devices.{MOST_BYTES}
+use Rattle.dwg_classes.specs.declared.class.Class.{Class}
+use Rattle.dwg_file.specs.Valid.{IsValid}
+use Rattle.dwg_object.specs.Forms.{FormOf}
+use Rattle.dwg_object.specs.FormLaws.{form_at}
+use Rattle.dwg_object.specs.Frames.{FrameAt}
+use Rattle.dwg_object.specs.Objects.{ObjectValue, handle_of}
+use Rattle.dwg_recover.specs.declared.frame.Frame.{Frame}
+use Rattle.dwg_recover.specs.declared.loss.Kept.{Kept}
+use Rattle.dwg_recover.specs.Frames.{kept_of}
+use Rattle.dwg_recover.specs.OneOf.{IsOneOf}
+use Rattle.dwg_recover.specs.Recovering.{RecoveredValue, frame_body, frames_kept, frames_mapped, recovered}
+
+-- frames are told in order of place, and no two share a byte or have one handle
+abbrev pub AreToldApart : List Kept → Type 0
+AreToldApart [] = ⊤
+AreToldApart (kept ∷ others) = AllByRecursion (λ (other : Kept). (kept.end ≤ other.from) × (kept.handle ≢ other.handle)) others × AreToldApart others
+
+-- the object that the body of a frame is read as under the classes
+abbrev pub object_told : List Class → List ℕ → Kept → ObjectValue
+object_told classes bytes kept = form_at classes (frame_body bytes kept.from)
+
+-- a frame that is told stands in the input with its body, and the object of that body has its handle
+pub record IsTold (classes : List Class) (bytes : List ℕ) (kept : Kept) : Type 0 where
+  pub stands : FrameAt bytes kept.from (frame_body bytes kept.from) kept.end
+  pub form : FormOf classes (frame_body bytes kept.from) (object_told classes bytes kept)
+  pub own : handle_of (object_told classes bytes kept) ≡ kept.handle
+
+-- the frames stand in the input, in order of place, and share no byte and no handle; the objects are those of the frames under the classes of the drawing; and the drawing is valid
+pub record IsSoundAnswer (bytes : List ℕ) (value : RecoveredValue) : Type 0 where
+  pub apart : AreToldApart value.kept
+  pub stand : AllByRecursion (IsTold value.drawing.classes bytes) value.kept
+  pub objects : IsPermutation (map (object_told value.drawing.classes bytes) value.kept) value.drawing.objects
+  pub valid : length bytes ≤ MOST_BYTES → IsValid value.drawing
+
+-- so it is of every input
+abbrev pub RecoveredIsSound : Type 0
+RecoveredIsSound = (bytes : List ℕ) → AreBytes bytes → IsSoundAnswer bytes (recovered bytes)
+
+-- of the frames that are kept of a damaged input, those of the map are told as mapped, and no others
+abbrev pub MappedAreTold : Type 0
+MappedAreTold = (bytes : List ℕ) (frame : Frame) → IsOneOf frame (frames_kept bytes) → ((kept_of frame).mapped ≡ true) ↔ IsOneOf frame (frames_mapped bytes)
