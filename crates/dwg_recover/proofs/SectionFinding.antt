@@ -85,6 +85,16 @@ found_next which bytes left sentinel at found there is first = (
   λ other after before. not_whole which bytes left sentinel at other there is after (first.0.before (other - at) (omega arith) (omega arith)),
 )
 
+-- what occurs behind a place occurs so far behind it in the input
+pub occurs_there : (which : Framed) (bytes left sentinel : List ℕ) (at found : ℕ) → left ≡ drop at bytes → sentinel ≡ begin_sentinel which → OccursAt left sentinel found → OccursAt bytes (begin_sentinel which) (at + found)
+occurs_there which bytes left sentinel at found there is occurs =
+    subst (λ (needle : List ℕ). OccursAt bytes needle (at + found)) is (record {
+      fits = omega (arith, occurs.fits, ap length is ∙ sixteen which, ap length there, length-drop at bytes);
+      reads = λ j below.
+          ap (λ (i : ℕ). get_or bytes i 0) (omega arith) ∙ sym (get_or-drop at bytes (found + j) 0) ∙ sym (ap (λ (xs : List ℕ). get_or xs (found + j) 0) there)
+          ∙ occurs.reads j below;
+    })
+
 -- where there is none, none is whole
 pub none_next : (which : Framed) (bytes left sentinel : List ℕ) (at : ℕ) → left ≡ drop at bytes → sentinel ≡ begin_sentinel which → Nowhere (OccursAt left sentinel) 0 (length left + 1)
     → (other : ℕ) → at ≤ other → is_whole which bytes other ≡ false

@@ -30,6 +30,22 @@ abbrev pub CandidatesHold : Type 0
 CandidatesHold = (bytes : List ℕ) (number : ℕ) (pair : Pair) (end : ℕ) → AreBytes bytes
     → ((0 < pair.handle) × FrameHolds bytes pair.place pair.handle end) ↔ (candidate bytes number pair ≡ Some (frame_of number pair end))
 
+-- a candidate is the frame of its pair, up to its end
+pub candidate_is : (bytes : List ℕ) (number : ℕ) (pair : Pair) (frame : Frame) → candidate bytes number pair ≡ Some frame → frame ≡ frame_of number pair frame.end
+candidate_is bytes number pair frame is = of_span (span_found bytes pair.place) is
+  where
+    of_test : (span : Span) (test : Bool) → (if test then Some (frame_of number pair span.end) else None) ≡ Some frame → frame ≡ frame_of number pair frame.end
+    of_test span true same = subst (λ (one : Frame). one ≡ frame_of number pair one.end) (same_Some _ _ same) refl
+    of_test span false same = absurd cc
+
+    of_own : (span : Span) (own : Option ℕ) → option_and_then (candidate_of number pair span) own ≡ Some frame → frame ≡ frame_of number pair frame.end
+    of_own span None same = absurd cc
+    of_own span (Some own) same = of_test span (nat_lt 0 pair.handle && (own == pair.handle)) same
+
+    of_span : (span : Option Span) → option_and_then (λ (span : Span). option_and_then (candidate_of number pair span) (own_of_span bytes span)) span ≡ Some frame → frame ≡ frame_of number pair frame.end
+    of_span None same = absurd cc
+    of_span (Some span) same = of_own span (own_of_span bytes span) same
+
 -- what is tried of the frame at a place
 record IsTried (place end own : ℕ) (bytes : List ℕ) (tried : Tried Span) : Type 0 where
   found : Span × HeadParts

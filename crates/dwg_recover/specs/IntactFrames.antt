@@ -1,31 +1,25 @@
 -- Frames of the canonical file that hold in an input whose map is that file's: no two share a byte or a handle, so each of them is kept.
-use Rattle.std.proofs.Common.{◌≡◌, refl, sym, ◌∙◌, ap, subst, ℕ, ◌+◌, ◌<◌, ◌≤◌, List, [], ◌∷◌, ◌++◌, length, map, Option, Some, None, inl, inr, arith}
-use Rattle.std.specs.Prelude.{◌⊎◌, ◌≢◌, ◌&&◌, ◌==◌, Bool, true, false, nat_lt, if◌then◌else◌}
+use Rattle.std.proofs.Common.{◌≡◌, refl, sym, ◌∙◌, ap, subst, ℕ, ◌+◌, ◌<◌, ◌≤◌, List, [], ◌∷◌, ◌++◌, length, Option, Some, None, inl, inr, arith}
+use Rattle.std.specs.Prelude.{◌⊎◌, ◌≢◌, ◌==◌, true}
 use Rattle.std.specs.List.{AllByRecursion, cons_option}
-use Rattle.std.specs.Option.{option_and_then}
 use Rattle.std.proofs.lemmas.Bool.Decides.{nat_tests}
-use Rattle.std.proofs.lemmas.Option.{same_Some}
 use Rattle.dwg_base.specs.Bytes.{AreBytes}
 use Rattle.dwg_file.specs.CanonicalFrames.{frames_from}
 use Rattle.dwg_file.specs.CanonicalHeader.{pairs_head, pairs_tail}
 use Rattle.dwg_file.specs.Spelled.{AreAscending, PairFrame}
-use Rattle.dwg_object.specs.declared.span.Span.{Span}
 use Rattle.dwg_object.specs.Frames.{FrameHolds, frame_bytes}
 use Rattle.dwg_object.specs.Objects.{ObjectValue, handle_of}
 use Rattle.dwg_objmap.specs.declared.pair.Pair.{Pair}
 use Rattle.dwg_recover.specs.declared.frame.Frame.{Frame}
 use Rattle.dwg_recover.specs.FoundLaws.{candidates_found, found_placed}
-use Rattle.dwg_recover.specs.Frames.{candidate, candidate_of, candidates, in_place_order, mapped_frames, own_of_span, span_found}
-use Rattle.dwg_recover.specs.HeldLaws.{CandidatesHold, frame_of}
+use Rattle.dwg_recover.specs.Frames.{candidate, candidates, in_place_order, mapped_frames}
+use Rattle.dwg_recover.specs.HeldLaws.{CandidatesHold, candidate_is, frame_of}
+use Rattle.dwg_recover.specs.Intact.{pairs_framed}
 use Rattle.dwg_recover.specs.KeptLaws.{AreOther}
 use Rattle.dwg_recover.specs.MapExactLaws.{before_differ, map_keeps_exactly, ordered_is_one}
 use Rattle.dwg_recover.specs.OneOf.{IsOneOf, IsSplit, filtered_one, in_first, one_of_all, one_stays, split_at}
 use Rattle.dwg_recover.specs.OrderLaws.{AreUp, at_place, places_are_in_order}
 use Rattle.dwg_recover.specs.Placing.{IsFound}
-
--- the pairs of frames
-abbrev pub pairs_of_frames : List PairFrame → List Pair
-pairs_of_frames frames = map (λ (frame : PairFrame). frame.pair) frames
 
 -- the frames of pairs as recovery names them; the first pair has this number
 abbrev pub named : ℕ → List PairFrame → List Frame
@@ -36,40 +30,24 @@ named number (frame ∷ frames) = frame_of number frame.pair frame.end ∷ named
 abbrev pub HoldsOrNone : List ℕ → PairFrame → Type 0
 HoldsOrNone bytes frame = FrameHolds bytes frame.pair.place frame.pair.handle frame.end ⊎ ((end : ℕ) → FrameHolds bytes frame.pair.place frame.pair.handle end → ⊥)
 
--- a candidate is the frame of its pair, up to its end
-candidate_ends : (bytes : List ℕ) (number : ℕ) (pair : Pair) (frame : Frame) → candidate bytes number pair ≡ Some frame → candidate bytes number pair ≡ Some (frame_of number pair frame.end)
-candidate_ends bytes number pair frame is = is ∙ ap Some (of_span (span_found bytes pair.place) is)
-  where
-    of_test : (span : Span) (test : Bool) → (if test then Some (frame_of number pair span.end) else None) ≡ Some frame → frame ≡ frame_of number pair frame.end
-    of_test span true same = subst (λ (one : Frame). one ≡ frame_of number pair one.end) (same_Some _ _ same) refl
-    of_test span false same = absurd cc
-
-    of_own : (span : Span) (own : Option ℕ) → option_and_then (candidate_of number pair span) own ≡ Some frame → frame ≡ frame_of number pair frame.end
-    of_own span None same = absurd cc
-    of_own span (Some own) same = of_test span (nat_lt 0 pair.handle && (own == pair.handle)) same
-
-    of_span : (span : Option Span) → option_and_then (λ (span : Span). option_and_then (candidate_of number pair span) (own_of_span bytes span)) span ≡ Some frame → frame ≡ frame_of number pair frame.end
-    of_span None same = absurd cc
-    of_span (Some span) same = of_own span (own_of_span bytes span) same
-
 -- where none holds there is no candidate
 no_candidate : CandidatesHold → (bytes : List ℕ) (number : ℕ) (pair : Pair) → AreBytes bytes → ((end : ℕ) → FrameHolds bytes pair.place pair.handle end → ⊥) → candidate bytes number pair ≡ None
 no_candidate held bytes number pair are never = of_found (candidate bytes number pair) refl
   where
     of_found : (found : Option Frame) → candidate bytes number pair ≡ found → found ≡ None
     of_found None is = refl
-    of_found (Some frame) is = absurd (never frame.end ((held bytes number pair frame.end are).1 (candidate_ends bytes number pair frame is)).1)
+    of_found (Some frame) is = absurd (never frame.end ((held bytes number pair frame.end are).1 (is ∙ ap Some (candidate_is bytes number pair frame is))).1)
 
 -- so each candidate is one of the frames
 candidates_named : CandidatesHold → (bytes : List ℕ) (frames : List PairFrame) (number : ℕ) → AreBytes bytes → AllByRecursion (λ (frame : PairFrame). 0 < frame.pair.handle) frames
-    → AllByRecursion (HoldsOrNone bytes) frames → (one : Frame) → IsOneOf one (candidates bytes number (pairs_of_frames frames)) → IsOneOf one (named number frames)
+    → AllByRecursion (HoldsOrNone bytes) frames → (one : Frame) → IsOneOf one (candidates bytes number (pairs_framed frames)) → IsOneOf one (named number frames)
 unfolding candidates
 candidates_named held bytes [] number are some each one is = absurd is
 candidates_named held bytes (frame ∷ frames) number are some each one is =
     of_case each.0 is (candidates_named held bytes frames (number + 1) are some.1 each.1 one)
   where
     rest : List Frame
-    rest = candidates bytes (number + 1) (pairs_of_frames frames)
+    rest = candidates bytes (number + 1) (pairs_framed frames)
 
     of_first : IsOneOf one (frame_of number frame.pair frame.end ∷ rest) → (IsOneOf one rest → IsOneOf one (named (number + 1) frames)) → IsOneOf one (named number (frame ∷ frames))
     of_first (inl same) others = inl same
@@ -83,7 +61,7 @@ candidates_named held bytes (frame ∷ frames) number are some each one is =
 -- a frame is a candidate, under the number of its pair
 pub record IsCandidate (bytes : List ℕ) (number : ℕ) (frames : List PairFrame) (frame : PairFrame) : Type 0 where
   pub at : ℕ
-  pub is : IsOneOf (frame_of at frame.pair frame.end) (candidates bytes number (pairs_of_frames frames))
+  pub is : IsOneOf (frame_of at frame.pair frame.end) (candidates bytes number (pairs_framed frames))
 
 -- one that holds is
 holds_candidate : CandidatesHold → (bytes : List ℕ) (frames : List PairFrame) (number : ℕ) (frame : PairFrame) → AreBytes bytes → 0 < frame.pair.handle → FrameHolds bytes frame.pair.place frame.pair.handle frame.end
@@ -95,11 +73,11 @@ holds_candidate held bytes (first ∷ frames) number frame are some holds (inl s
     subst (λ (one : PairFrame). candidate bytes number one.pair ≡ Some (frame_of number frame.pair frame.end)) same ((held bytes number frame.pair frame.end are).0 (some, holds)) in
     record {
       at = number;
-      is = subst (λ (one : Option Frame). IsOneOf (frame_of number frame.pair frame.end) (cons_option one (candidates bytes (number + 1) (pairs_of_frames frames)))) (sym found) (inl refl);
+      is = subst (λ (one : Option Frame). IsOneOf (frame_of number frame.pair frame.end) (cons_option one (candidates bytes (number + 1) (pairs_framed frames)))) (sym found) (inl refl);
     }
 holds_candidate held bytes (first ∷ frames) number frame are some holds (inr behind) =
     let rest = holds_candidate held bytes frames (number + 1) frame are some holds behind in
-    record { at = rest.at; is = of_found (frame_of rest.at frame.pair frame.end) (candidate bytes number first.pair) (candidates bytes (number + 1) (pairs_of_frames frames)) rest.is }
+    record { at = rest.at; is = of_found (frame_of rest.at frame.pair frame.end) (candidate bytes number first.pair) (candidates bytes (number + 1) (pairs_framed frames)) rest.is }
   where
     of_found : (one : Frame) (found : Option Frame) (others : List Frame) → IsOneOf one others → IsOneOf one (cons_option found others)
     of_found one None others is = is
@@ -210,12 +188,12 @@ pub record IsKeptFrame (bytes : List ℕ) (pairs : List Pair) (frame : PairFrame
 -- a frame that holds is kept where each other one holds, or none does at its place
 pub intact_is_kept : CandidatesHold → (bytes : List ℕ) (objects : List ObjectValue) (place : ℕ) (frame : PairFrame) → AreBytes bytes → AreAscending objects
     → AllByRecursion (λ (one : PairFrame). 0 < one.pair.handle) (frames_from place objects) → AllByRecursion (HoldsOrNone bytes) (frames_from place objects)
-    → IsOneOf frame (frames_from place objects) → FrameHolds bytes frame.pair.place frame.pair.handle frame.end → IsKeptFrame bytes (pairs_of_frames (frames_from place objects)) frame
+    → IsOneOf frame (frames_from place objects) → FrameHolds bytes frame.pair.place frame.pair.handle frame.end → IsKeptFrame bytes (pairs_framed (frames_from place objects)) frame
 intact_is_kept held bytes objects place frame are ascending some each is holds =
     let frames : List PairFrame = frames_from place objects in
     let one = holds_candidate held bytes frames 0 frame are (one_of_all (λ (one : PairFrame). 0 < one.pair.handle) frames frame some is) holds is in
     record {
       at = one.at;
       candidate = one.is;
-      kept = all_are_kept bytes (pairs_of_frames frames) objects place ascending (candidates_named held bytes frames 0 are some each) (frame_of one.at frame.pair frame.end) one.is;
+      kept = all_are_kept bytes (pairs_framed frames) objects place ascending (candidates_named held bytes frames 0 are some each) (frame_of one.at frame.pair frame.end) one.is;
     }

@@ -1,12 +1,12 @@
 -- The intact objects of a damaged canonical file are recovered.
 use Rattle.std.proofs.Common.{◌≡◌, refl, sym, ◌∙◌, ap, ap₂, subst, ℕ, ◌≤◌, List, [], length, map, Option, Some, None, inl, inr, arith}
-use Rattle.std.specs.Prelude.{◌⊎◌, Ok, if◌then◌else◌}
+use Rattle.std.specs.Prelude.{◌⊎◌, if◌then◌else◌}
 use Rattle.std.specs.List.{AllByRecursion}
 use Rattle.std.specs.Option.{is_none}
 use Rattle.std.specs.Result.{result_unwrap_or}
 use Rattle.dwg_base.specs.Bytes.{AreBytes}
 use Rattle.dwg_base.specs.Devices.{MOST_BYTES}
-use Rattle.dwg_base.specs.Refusals.{Tried, first_fault}
+use Rattle.dwg_base.specs.Refusals.{first_fault}
 use Rattle.dwg_base.specs.declared.refusal.Refusal.{Refusal}
 use Rattle.dwg_classes.specs.declared.class.Class.{Class}
 use Rattle.dwg_classes.specs.Class.{AreClasses}
@@ -15,10 +15,9 @@ use Rattle.dwg_file.specs.Canonical.{canonical, class_content, classes_place, he
 use Rattle.dwg_file.specs.CanonicalParts.{content_is_classes}
 use Rattle.dwg_file.specs.Contents.{Contents}
 use Rattle.dwg_file.specs.DrawingAt.{drawing_at}
-use Rattle.dwg_file.specs.FileLines.{ALL_LINES, FoundFrame, frames_behind, frames_tried, map_tried, section_place}
+use Rattle.dwg_file.specs.FileLines.{ALL_LINES, frames_tried}
 use Rattle.dwg_file.specs.PassingLaws.{passing_is_spelled}
-use Rattle.dwg_file.specs.PassingLines.{each_holds, ok_of_fault}
-use Rattle.dwg_file.specs.ReadingLaws.{SectionLaws, located_same}
+use Rattle.dwg_file.specs.ReadingLaws.{SectionLaws}
 use Rattle.dwg_file.specs.SortedObjects.{sorted, sorted_same}
 use Rattle.dwg_file.specs.Spelled.{IsFrameOfPair, PairFrame, Spelled}
 use Rattle.dwg_file.specs.Valid.{IsValid}
@@ -29,7 +28,7 @@ use Rattle.dwg_object.specs.Frames.{FrameAt, FrameHolds}
 use Rattle.dwg_object.specs.Objects.{ObjectValue}
 use Rattle.dwg_object.specs.Written.{IsValidObject, body_bytes}
 use Rattle.dwg_objmap.specs.declared.pair.Pair.{Pair}
-use Rattle.dwg_objmap.specs.MapLaws.{map_is_tried, map_is_unique}
+use Rattle.dwg_objmap.specs.MapLaws.{map_is_unique}
 use Rattle.dwg_objmap.specs.Pages.{MapOf}
 use Rattle.dwg_sections.specs.declared.framed.Framed.TheVariants as framed
 use Rattle.dwg_sections.specs.declared.header.FileHeader.{FileHeader}
@@ -40,15 +39,16 @@ use Rattle.dwg_recover.specs.ExactLaws.{mapped_stay}
 use Rattle.dwg_recover.specs.FoundLaws.{candidates_found, found_placed}
 use Rattle.dwg_recover.specs.Frames.{candidates, kept_of, mapped_frames}
 use Rattle.dwg_recover.specs.HeldLaws.{candidates_hold, frame_of}
-use Rattle.dwg_recover.specs.Intact.{HasPart, IntactObjectsAreKept, IsPartlyIntact, canonical_frames, kept_of_pair}
-use Rattle.dwg_recover.specs.IntactFrames.{HoldsOrNone, IsKeptFrame, intact_is_kept, one_ordered, pairs_of_frames}
+use Rattle.dwg_recover.specs.Intact.{HasPart, IntactObjectsAreKept, IsPartlyIntact, canonical_frames, kept_frame, pairs_framed}
+use Rattle.dwg_recover.specs.IntactFrames.{HoldsOrNone, IsKeptFrame, intact_is_kept, one_ordered}
 use Rattle.dwg_recover.specs.IntactMap.{map_is_read}
-use Rattle.dwg_recover.specs.IntactParts.{IntactParts, IsWritten, body_is_found, canonical_written, classes_are_found, classes_are_intact, frame_is_intact, header_is_found, intact_holds, parts_are_intact, written_positive}
+use Rattle.dwg_recover.specs.IntactParts.{IntactParts, IsWritten, body_is_found, canonical_written, classes_are_found, classes_are_intact, frame_is_intact, intact_holds, parts_are_intact, written_positive}
 use Rattle.dwg_recover.specs.OneOf.{IsOneOf, all_of_each, mapped_from, one_mapped, one_of_all, one_permuted}
+use Rattle.dwg_recover.specs.PartLaws.{header_is_found}
 use Rattle.dwg_recover.specs.Placing.{IsFound}
 use Rattle.dwg_recover.specs.Recovering.{RecoveredValue, classes_found, drawing_recovered, frame_body, frames_found, frames_kept, frames_mapped, object_of, pairs_read, recovered, recovered_damaged, recovered_whole, told}
 use Rattle.dwg_recover.specs.Sections.{header_of}
-use Rattle.dwg_recover.specs.WholeLaws.{map_is_found}
+use Rattle.dwg_recover.specs.WholeLaws.{candidates_are_found}
 
 -- what is known of a frame that an input has, and of the pairs of its map
 record IsIntact (drawing : Contents) (bytes : List ℕ) (frame : PairFrame) : Type 0 where
@@ -56,7 +56,7 @@ record IsIntact (drawing : Contents) (bytes : List ℕ) (frame : PairFrame) : Ty
   header : header_of bytes ≡ Some (canonical_header drawing)
   written : IsWritten drawing.classes (canonical drawing) frame
   framed : FrameAt bytes frame.pair.place (body_bytes frame.object) frame.end
-  kept : IsKeptFrame bytes (pairs_of_frames (canonical_frames drawing)) frame
+  kept : IsKeptFrame bytes (pairs_framed (canonical_frames drawing)) frame
 
 -- each frame of the canonical file holds, or none does at its place
 each_holds_or_none : (drawing : Contents) (bytes : List ℕ) → IsValid drawing → size_of drawing ≤ MOST_BYTES → IsPartlyIntact drawing bytes → AllByRecursion (HoldsOrNone bytes) (canonical_frames drawing)
@@ -88,7 +88,7 @@ frame_is_kept laws drawing bytes frame is small are intact one same =
 
 -- a candidate that is among frames is told with them
 told_one : (bytes : List ℕ) (pairs : List Pair) (frames : List Frame) (number : ℕ) (frame : PairFrame) → IsOneOf (frame_of number frame.pair frame.end) (candidates bytes 0 pairs)
-    → IsOneOf (frame_of number frame.pair frame.end) frames → IsOneOf (kept_of_pair frame) (told bytes frames)
+    → IsOneOf (frame_of number frame.pair frame.end) frames → IsOneOf (kept_frame frame) (told bytes frames)
 unfolding told
 told_one bytes pairs frames number frame candidate one =
     let is : Frame = frame_of number frame.pair frame.end in
@@ -104,7 +104,7 @@ read_again classes object valid =
 
 -- of a damaged input the frame is kept, and its object recovered where the classes are those of the drawing
 record IsRecovered (drawing : Contents) (frame : PairFrame) (value : RecoveredValue) (Classes : Type 0) : Type 0 where
-  kept : IsOneOf (kept_of_pair frame) value.kept
+  kept : IsOneOf (kept_frame frame) value.kept
   object : Classes → IsOneOf frame.object value.drawing.objects
 
 damaged_recovers : (drawing : Contents) (bytes : List ℕ) (frame : PairFrame) → AreBytes bytes → IsIntact drawing bytes frame
@@ -113,7 +113,7 @@ unfolding recovered_damaged frames_kept frames_mapped drawing_recovered
 damaged_recovers drawing bytes frame are intact = record { kept = told_one bytes pairs (frames_kept bytes) intact.kept.at frame intact.kept.candidate among; object = object }
   where
     pairs : List Pair
-    pairs = pairs_of_frames (canonical_frames drawing)
+    pairs = pairs_framed (canonical_frames drawing)
 
     read : pairs_read bytes ≡ pairs
     read = map_is_read bytes (canonical_header drawing) (map_place drawing) pairs intact.header refl intact.parts.mapped
@@ -133,19 +133,6 @@ damaged_recovers drawing bytes frame are intact = record { kept = told_one bytes
         one_permuted frame.object (map (object_of (classes_found bytes) bytes) (frames_kept bytes)) (sorted (map (object_of (classes_found bytes) bytes) (frames_kept bytes)))
         (sorted_same (map (object_of (classes_found bytes) bytes) (frames_kept bytes)))
         (subst (λ (one : ObjectValue). IsOneOf one (map (object_of (classes_found bytes) bytes) (frames_kept bytes))) same (one_mapped (object_of (classes_found bytes) bytes) is (frames_kept bytes) among))
-
--- the frames that were found of the pairs of an input in which no line fails are the candidates
-all_are_found : SectionLaws → (drawing : Contents) (bytes : List ℕ) → AreBytes bytes → first_fault ALL_LINES bytes ≡ None → IntactParts drawing bytes
-    → candidates bytes 0 (pairs_of_frames (canonical_frames drawing)) ≡ frames_found 0 (result_unwrap_or (frames_tried bytes) [])
-unfolding frames_tried map_tried
-all_are_found laws drawing bytes are none parts =
-    let pairs : List Pair = pairs_of_frames (canonical_frames drawing) in
-    let header = laws.header_complete bytes (canonical_header drawing) parts.begins in
-    let located : map_place drawing ≡ section_place 2 bytes = located_same bytes (canonical_header drawing) 2 (map_place drawing) header.1 refl in
-    let tried : map_tried bytes ≡ Ok pairs = (map_is_tried (section_place 2 bytes) bytes pairs are).1 (subst (λ place. MapOf bytes place pairs) located parts.mapped) in
-    let founds = ok_of_fault (frames_tried bytes) (each_holds bytes none).frames in
-    let behind : frames_behind bytes 0 [] pairs ≡ Ok founds.0 = sym (ap (λ (tried : Tried (List Pair)). frames_behind bytes 0 [] (result_unwrap_or tried [])) tried) ∙ founds.1 in
-    map_is_found bytes pairs founds.0 parts.mapped.handles.positive behind ∙ ap (λ (tried : Tried (List FoundFrame)). frames_found 0 (result_unwrap_or tried [])) (sym founds.1)
 
 -- the object of a frame that a drawing is spelled with
 record IsSpelledFrame (bytes : List ℕ) (drawing : Contents) (pair : Pair) : Type 0 where
@@ -194,12 +181,12 @@ unfolding recovered_whole
 whole_recovers laws drawing bytes frame is are none one intact = record {
   kept =
       told_one bytes pairs (frames_found 0 (result_unwrap_or (frames_tried bytes) [])) intact.kept.at frame intact.kept.candidate
-      (subst (IsOneOf (frame_of intact.kept.at frame.pair frame.end)) (all_are_found laws drawing bytes are none intact.parts) intact.kept.candidate);
+      (subst (IsOneOf (frame_of intact.kept.at frame.pair frame.end)) (candidates_are_found laws bytes (canonical_header drawing) (map_place drawing) pairs are none intact.parts.begins refl intact.parts.mapped) intact.kept.candidate);
   object = object;
 }
   where
     pairs : List Pair
-    pairs = pairs_of_frames (canonical_frames drawing)
+    pairs = pairs_framed (canonical_frames drawing)
 
     spelled : Spelled (drawing_at bytes) bytes
     spelled = passing_is_spelled laws bytes are none
@@ -243,7 +230,7 @@ intact_objects_are_kept laws drawing bytes frame is small are intact one same = 
     known = frame_is_kept laws drawing bytes frame is small are intact one same
 
     Recovers : RecoveredValue → Type 0
-    Recovers = λ value. IsOneOf (kept_of_pair frame) value.kept
+    Recovers = λ value. IsOneOf (kept_frame frame) value.kept
         × (HasPart drawing bytes (classes_place drawing) (preview_place drawing) → IsOneOf frame.object value.drawing.objects)
 
     of_fault : (fault : Option Refusal) → first_fault ALL_LINES bytes ≡ fault → Recovers (if is_none fault then recovered_whole bytes else recovered_damaged bytes)
@@ -254,6 +241,6 @@ intact_objects_are_kept laws drawing bytes frame is small are intact one same = 
         let recovers = damaged_recovers drawing bytes frame are known in (
           recovers.kept,
           λ has. recovers.object
-              (classes_are_found laws.section_complete bytes (canonical_header drawing) (classes_place drawing) (class_content drawing.classes) drawing.classes known.header refl
+              (classes_are_found laws bytes (canonical_header drawing) (classes_place drawing) (class_content drawing.classes) drawing.classes are known.header refl
               (classes_are_intact drawing bytes is small intact has) (content_is_classes drawing.classes is.classes)),
         )

@@ -1,19 +1,18 @@
 -- A whole map in an input: the walk is over all its pages, and the pairs that are read are its pairs.
-use Rattle.std.proofs.Common.{◌≡◌, refl, sym, ◌∙◌, ap, ap₂, subst, ℕ, ◌+◌, ◌<◌, Bool, true, List, [], ◌∷◌, ◌++◌, length, length-append, Some, None, inl, inr, arith}
+use Rattle.std.proofs.Common.{◌≡◌, refl, sym, ◌∙◌, ap, ap₂, subst, ℕ, ◌+◌, ◌<◌, Bool, List, [], ◌∷◌, ◌++◌, length, length-append, Some, None, inl, inr, arith}
 use Rattle.std.specs.Prelude.{◌≢◌, flat_map, if◌then◌else◌}
-use Rattle.std.proofs.lemmas.Bool.Decides.{nat_tests}
 use Rattle.dwg_objmap.specs.declared.pair.Pair.{Pair}
 use Rattle.dwg_objmap.specs.Pairs.{ORIGIN}
 use Rattle.dwg_objmap.specs.Pages.{MapOf, PageAt, PagesAt, PairsSpell}
 use Rattle.dwg_objmap.specs.PairChains.{pair_has_bytes}
-use Rattle.dwg_objmap.specs.MapLines.{body_at, word_at, HasCheckWord}
-use Rattle.dwg_objmap.specs.Walking.{page_holds_at, pairs_in_front, size_of_page}
+use Rattle.dwg_objmap.specs.MapLines.{body_at, word_at}
+use Rattle.dwg_objmap.specs.Walking.{pairs_in_front, size_of_page}
 use Rattle.dwg_objmap.specs.WalkingLaws.{page_gives, size_is}
 use Rattle.dwg_sections.specs.declared.header.FileHeader.{FileHeader}
 use Rattle.dwg_sections.specs.HeaderLines.{place_of}
 use Rattle.dwg_recover.specs.Recovering.{pairs_read, walk_located, walk_of}
 use Rattle.dwg_recover.specs.Sections.{header_of, locators_of}
-use Rattle.dwg_recover.specs.WalkLaws.{walk_once, walk_stands}
+use Rattle.dwg_recover.specs.WalkLaws.{right_told, walk_once, walk_stands}
 use Rattle.dwg_recover.specs.Walks.{IsWalk, pairs_at, pairs_of, walk_from}
 
 -- a page of the walk: its size is there, it gives its pairs, and the next place is behind it
@@ -28,12 +27,9 @@ page_is bytes place next pairs page =
     let parts = page_gives bytes place next pairs page in
     record {
       sized = (size_is bytes place (word_at bytes place)).1 (parts.0, refl);
-      gives = ap (λ (right : Bool). if right then pairs_in_front (body_at bytes place) else []) (holds parts.1) ∙ parts.3;
+      gives = ap (λ (right : Bool). if right then pairs_in_front (body_at bytes place) else []) ((right_told bytes place).1 parts.1) ∙ parts.3;
       behind = parts.2;
     }
-  where
-    holds : HasCheckWord bytes place → page_holds_at bytes place ≡ true
-    holds right = grind (arith, nat_tests, right)
 
 -- pairs have bytes
 pairs_have_bytes : (pairs : List Pair) (body : List ℕ) → PairsSpell pairs body → pairs ≢ [] → 0 < length body

@@ -1,29 +1,27 @@
 -- The parts of a canonical file that an input has stand in it at their places: the header, the map, the classes and each frame.
-use Rattle.std.proofs.Common.{◌≡◌, refl, sym, ◌∙◌, ap, ap₂, subst, ℕ, ◌+◌, ◌-◌, ◌<◌, ◌≤◌, Bool, true, List, [], ◌∷◌, ◌++◌, length, map, take, drop, Option, Some, None, arith}
-use Rattle.std.specs.Prelude.{◌&&◌, if◌then◌else◌, Ok}
+use Rattle.std.proofs.Common.{◌≡◌, refl, sym, ◌∙◌, ap, subst, ℕ, ◌+◌, ◌-◌, ◌<◌, ◌≤◌, Bool, true, List, [], ◌∷◌, ◌++◌, length, take, drop, Option, Some, None, arith}
+use Rattle.std.specs.Prelude.{if◌then◌else◌, Ok}
 use Rattle.std.specs.List.{AllByRecursion}
-use Rattle.std.specs.Option.{is_none, option_and_then, option_or}
-use Rattle.std.specs.Result.{is_ok, result_ok, result_unwrap_or}
+use Rattle.std.specs.Option.{option_and_then, option_or}
+use Rattle.std.specs.Result.{result_ok}
 use Rattle.std.proofs.lemmas.List.{take-append-drop}
 use Rattle.dwg_base.specs.Bytes.{AreBytes, StandsAt}
 use Rattle.dwg_base.specs.Devices.{MOST_BYTES}
-use Rattle.dwg_base.specs.Refusals.{Tried, first_fault}
-use Rattle.dwg_base.specs.declared.refusal.Refusal.{Refusal}
+use Rattle.dwg_base.specs.Refusals.{Tried}
 use Rattle.dwg_bits.specs.Bits.{bits}
 use Rattle.dwg_classes.specs.declared.class.Class.{Class}
 use Rattle.dwg_classes.specs.Class.{AreClasses}
-use Rattle.dwg_classes.specs.ClassLineLaws.{tried_ok}
-use Rattle.dwg_classes.specs.ClassLines.{tried_classes}
 use Rattle.dwg_file.specs.Canonical.{canonical, class_content, classes_place, frames_bytes, header_of as canonical_header, map_of, map_place, objects_place, others_place, placed, preview_place, size_of, variables_place}
 use Rattle.dwg_file.specs.CanonicalFrames.{frames_from, frames_stand, objects_of_frames, pairs_of_frames as placed_pairs}
 use Rattle.dwg_file.specs.CanonicalHeader.{header_fits}
 use Rattle.dwg_file.specs.CanonicalLaws.{canonical_ascends, header_reaches, parts_stand}
 use Rattle.dwg_file.specs.CanonicalParts.{length_of_framed}
 use Rattle.dwg_file.specs.Contents.{Contents}
+use Rattle.dwg_file.specs.ReadingLaws.{SectionLaws}
 use Rattle.dwg_file.specs.Spelled.{PairFrame}
 use Rattle.dwg_file.specs.Valid.{IsValid}
 use Rattle.dwg_object.specs.declared.span.Span.{Span}
-use Rattle.dwg_object.specs.Forms.{BeginsWithHead}
+use Rattle.dwg_object.specs.Forms.{BeginsWithHead, FormOf}
 use Rattle.dwg_object.specs.FormLaws.{head_of_form, valid_fits, valid_handle, valid_is_form, written_frame}
 use Rattle.dwg_object.specs.FrameLaws.{span_of_frame}
 use Rattle.dwg_object.specs.Frames.{FrameAt, FrameHolds, frame_bytes}
@@ -38,12 +36,10 @@ use Rattle.dwg_sections.specs.declared.framed.Framed.TheVariants as framed
 use Rattle.dwg_sections.specs.declared.header.FileHeader.{FileHeader}
 use Rattle.dwg_sections.specs.FileHeader.{BeginsWithHeader, header_bytes}
 use Rattle.dwg_sections.specs.Framed.{FramedAt, framed_bytes}
-use Rattle.dwg_sections.specs.FramedLaws.{SectionIsRead}
-use Rattle.dwg_sections.specs.FramedLines.{BEFORE_CONTENT, content_at, framed_lines}
-use Rattle.dwg_sections.specs.HeaderLaws.{HeaderIsRead}
-use Rattle.dwg_sections.specs.HeaderLines.{header_at, place_of}
+use Rattle.dwg_sections.specs.HeaderLines.{place_of}
 use Rattle.dwg_recover.specs.Frames.{span_found}
-use Rattle.dwg_recover.specs.Intact.{CanonicalPartsStand, HasPart, IsPartlyIntact, canonical_frames, part}
+use Rattle.dwg_recover.specs.Intact.{CanonicalPartsStand, HasPart, IsPartlyIntact, canonical_frames, pairs_framed, part}
+use Rattle.dwg_recover.specs.PartLaws.{content_is_taken, section_is_whole}
 use Rattle.dwg_recover.specs.Recovering.{body_tried, classes_found, frame_body}
 use Rattle.dwg_recover.specs.Sections.{classes_of, first_whole, header_of, is_whole, locators_of, section_found, whole_at}
 
@@ -64,6 +60,7 @@ canonical_parts_stand drawing is small =
     record {
       begins = record { in_range = fits; stands = stand.begins };
       reaches = header_reaches drawing fits;
+      pages = stand.mapped;
       classes = record { size = omega arith; stands = stand.classes };
       mapped =
           subst (MapOf (canonical drawing) (map_place drawing)) (placed_pairs drawing.objects (objects_place drawing))
@@ -75,7 +72,7 @@ canonical_parts_stand drawing is small =
 -- the header and the map of an input that is partly intact
 pub record IntactParts (drawing : Contents) (bytes : List ℕ) : Type 0 where
   pub begins : BeginsWithHeader bytes (canonical_header drawing)
-  pub mapped : MapOf bytes (map_place drawing) (map (λ (frame : PairFrame). frame.pair) (canonical_frames drawing))
+  pub mapped : MapOf bytes (map_place drawing) (pairs_framed (canonical_frames drawing))
 
 -- they are those of the canonical file
 pub parts_are_intact : (drawing : Contents) (bytes : List ℕ) → IsValid drawing → size_of drawing ≤ MOST_BYTES → IsPartlyIntact drawing bytes → IntactParts drawing bytes
@@ -141,17 +138,20 @@ frame_is_intact drawing bytes frame intact written same =
     subst (FrameAt bytes frame.pair.place (body_bytes frame.object)) (sym written.ends)
     (written_frame bytes frame.pair.place frame.object (valid_fits drawing.classes frame.object written.valid).2 stands)
 
--- and holds there
+-- a frame whose body is read as an object holds with the handle of that object
+pub form_holds : (classes : List Class) (bytes : List ℕ) (place : ℕ) (body : List ℕ) (end : ℕ) (object : ObjectValue) → FrameAt bytes place body end → FormOf classes body object
+    → FrameHolds bytes place (handle_of object) end
+form_holds classes bytes place body end object frame form =
+    let head = head_of_form classes body object form in
+    (body, head.0.number, frame, subst (BeginsWithHead (bits body) head.0.number) (sym head.3) (begins_head (bits body) head.0 head.1))
+
+-- so a frame that an input has holds there
 pub intact_holds : (drawing : Contents) (bytes : List ℕ) (frame : PairFrame) → IsPartlyIntact drawing bytes → IsWritten drawing.classes (canonical drawing) frame
     → HasPart drawing bytes frame.pair.place frame.end → FrameHolds bytes frame.pair.place frame.pair.handle frame.end
 intact_holds drawing bytes frame intact written same =
-    let body : List ℕ = body_bytes frame.object in
-    let head = head_of_form drawing.classes body frame.object (valid_is_form drawing.classes frame.object written.valid) in (
-      body,
-      head.0.number,
-      frame_is_intact drawing bytes frame intact written same,
-      subst (BeginsWithHead (bits body) head.0.number) (sym head.3 ∙ sym written.own) (begins_head (bits body) head.0 head.1),
-    )
+    subst (λ own. FrameHolds bytes frame.pair.place own frame.end) (sym written.own)
+    (form_holds drawing.classes bytes frame.pair.place (body_bytes frame.object) frame.end frame.object (frame_is_intact drawing bytes frame intact written same)
+    (valid_is_form drawing.classes frame.object written.valid))
 
 -- what stands at a place as the body of a frame is found there as one
 pub body_is_found : (bytes : List ℕ) (place : ℕ) (body : List ℕ) (end : ℕ) → AreBytes bytes → FrameAt bytes place body end → frame_body bytes place ≡ body
@@ -160,28 +160,15 @@ body_is_found bytes place body end are frame =
     let is = span_of_frame bytes place body end frame in
     ap (λ (tried : Tried Span). body_tried bytes (result_ok tried)) ((tried_span_means bytes place 0 (Ok is.span) are).1 (is.framed.stands, is.framed.from)) ∙ is.same_body
 
--- the header that an input begins with is found
-pub header_is_found : HeaderIsRead → (bytes : List ℕ) (header : FileHeader) → BeginsWithHeader bytes header → header_of bytes ≡ Some header
-unfolding header_of
-header_is_found read bytes header begins =
-    let is = read bytes header begins in
-    ap (λ (fault : Option Refusal). if is_none fault then Some (header_at bytes) else None) is.0 ∙ ap Some (sym is.1)
-
--- and so are the classes of the section that its locator leads to
-pub classes_are_found : SectionIsRead → (bytes : List ℕ) (header : FileHeader) (place : ℕ) (content : List ℕ) (classes : List Class) → header_of bytes ≡ Some header → place_of 1 header.locators ≡ Some place
-    → FramedAt bytes place framed.Classes content → AreClasses content classes → classes_found bytes ≡ classes
-unfolding classes_found section_found is_whole
-classes_are_found read bytes header place content classes is located section cut =
-    ap (classes_of bytes) found ∙ ap (λ (tried : Tried (List Class)). result_unwrap_or tried []) tried
+-- the classes of the section that the locator of the header leads to are found
+pub classes_are_found : SectionLaws → (bytes : List ℕ) (header : FileHeader) (place : ℕ) (content : List ℕ) (classes : List Class) → AreBytes bytes → header_of bytes ≡ Some header
+    → place_of 1 header.locators ≡ Some place → FramedAt bytes place framed.Classes content → AreClasses content classes → classes_found bytes ≡ classes
+unfolding classes_found section_found
+classes_are_found laws bytes header place content classes are is located section cut =
+    ap (classes_of bytes) found ∙ (content_is_taken laws bytes place content).1 classes section cut
   where
-    reads : (first_fault (framed_lines framed.Classes place) bytes ≡ None) × (content ≡ content_at bytes place)
-    reads = read framed.Classes place bytes content section
-
-    tried : tried_classes (place + BEFORE_CONTENT) (content_at bytes place) ≡ Ok classes
-    tried = (tried_ok (place + BEFORE_CONTENT) (content_at bytes place) classes).1 (subst (λ (bytes : List ℕ). AreClasses bytes classes) reads.1 cut)
-
     whole : is_whole framed.Classes bytes place ≡ true
-    whole = ap₂ (λ (fault : Option Refusal) (cuts : Tried (List Class)). is_none fault && is_ok cuts) reads.0 tried
+    whole = (section_is_whole laws framed.Classes bytes place are).1 (content, section, (classes, cut))
 
     found : section_found framed.Classes bytes ≡ Some place
     found =

@@ -13,17 +13,11 @@ use Rattle.dwg_recover.specs.declared.frame.Frame.{Frame}
 use Rattle.dwg_recover.specs.declared.loss.Loss.{Loss}
 use Rattle.dwg_recover.specs.declared.loss.Loss.TheVariants.{Header, Variables, Classes, Section, Page, MapEnd, Object}
 use Rattle.dwg_recover.specs.Frames.{is_kept_pair, is_number, lost_pairs}
-use Rattle.dwg_recover.specs.OneOf.{IsOneOf, in_first, in_second, of_joined}
+use Rattle.dwg_recover.specs.OneOf.{IsAt, IsOneOf, at_cases, at_first, at_next, in_first, in_second, none_at, of_joined}
 use Rattle.dwg_recover.specs.Recovering.{frames_mapped, losses_of, pairs_read, walk_of}
 use Rattle.dwg_recover.specs.Sections.{header_of, locators_of, lost_if, lost_sections, section_found}
+use Rattle.dwg_recover.specs.WalkLaws.{right_told}
 use Rattle.dwg_recover.specs.Walks.{lost_end, lost_pages}
-
--- a member of a list at a place, counted from 0
-pub record IsAt {A : Type 0} (place : ℕ) (one : A) (all : List A) : Type 0 where
-  pub before : List A
-  pub behind : List A
-  pub whole : all ≡ before ++ one ∷ behind
-  pub far : length before ≡ place
 
 -- what is lost: the header, where none is found; a section, where none is found; an unknown section that passes the end of the input; a page of the walk whose check word is wrong; the end of the map, where no page stands; a pair for which no frame is kept
 abbrev pub IsLoss : List ℕ → Loss → Type 0
@@ -41,28 +35,6 @@ IsLoss bytes (Object handle place) =
 -- just these are told
 abbrev pub LossesAreTold : Type 0
 LossesAreTold = (bytes : List ℕ) (loss : Loss) → IsOneOf loss (losses_of bytes) ↔ IsLoss bytes loss
-
--- one more before those at a place
-at_next : {A : Type 0} (place : ℕ) (one first : A) (all : List A) → IsAt place one all → IsAt (place + 1) one (first ∷ all)
-at_next place one first all at = record { before = first ∷ at.before; behind = at.behind; whole = ap (λ others. first ∷ others) at.whole; far = omega (arith, at.far) }
-
--- the first, or one of those behind it
-at_cases : {A : Type 0} (place : ℕ) (one first : A) (all : List A) → IsAt place one (first ∷ all) → ((place ≡ 0) × (one ≡ first)) ⊎ ((next : ℕ) × (place ≡ next + 1) × IsAt next one all)
-at_cases {A} place one first all at = of_before at.before at.whole at.far
-  where
-    of_before : (before : List A) → first ∷ all ≡ before ++ one ∷ at.behind → length before ≡ place → ((place ≡ 0) × (one ≡ first)) ⊎ ((next : ℕ) × (place ≡ next + 1) × IsAt next one all)
-    of_before [] whole far = let same : first ≡ one = cc in inl (sym far, sym same)
-    of_before (item ∷ before) whole far =
-        let rest : all ≡ before ++ one ∷ at.behind = cc in
-        inr (length before, omega (arith, far), record { before = before; behind = at.behind; whole = rest; far = refl })
-
--- no list without members has one at a place
-none_at : {A : Type 0} (place : ℕ) (one : A) → IsAt place one [] → ⊥
-none_at {A} place one at = of_before at.before at.whole
-  where
-    of_before : (before : List A) → [] ≡ before ++ one ∷ at.behind → ⊥
-    of_before [] whole = cc
-    of_before (first ∷ before) whole = cc
 
 -- a loss that is told if a test holds
 if_told : (lost : Bool) (one loss : Loss) → IsOneOf one (lost_if lost loss) ↔ ((lost ≡ true) × (one ≡ loss))
@@ -142,7 +114,7 @@ pages_told bytes number (page ∷ pages) loss = of_test (page_holds_at bytes pag
         to : IsOneOf loss (Page number page ∷ lost_pages bytes (number + 1) pages) → IsLostPage bytes number (page ∷ pages) loss
         to (inl same) =
             let count : number ≡ number + 0 = omega arith in
-            (0, page, record { before = []; behind = pages; whole = refl; far = refl }, known, same ∙ ap (λ n. Page n page) count)
+            (0, page, at_first page pages, known, same ∙ ap (λ n. Page n page) count)
         to (inr later_one) = later (others.0 later_one)
 
         of_place : (index place : ℕ) → page_holds_at bytes place ≡ false → loss ≡ Page (number + index) place → ((index ≡ 0) × (place ≡ page)) ⊎ ((next : ℕ) × (index ≡ next + 1) × IsAt next place pages)
@@ -188,7 +160,7 @@ pairs_told kept number (pair ∷ pairs) loss = of_test (is_kept_pair kept number
         to : IsOneOf loss (Object pair.handle pair.place ∷ lost_pairs kept (number + 1) pairs) → IsLostPair kept number (pair ∷ pairs) loss
         to (inl same) =
             let count : number + 0 ≡ number = omega arith in
-            (0, pair, record { before = []; behind = pairs; whole = refl; far = refl }, ap (is_kept_pair kept) count ∙ known, same)
+            (0, pair, at_first pair pairs, ap (is_kept_pair kept) count ∙ known, same)
         to (inr later_one) = later (others.0 later_one)
 
         of_place : (index : ℕ) (one : Pair) → is_kept_pair kept (number + index) ≡ false → loss ≡ Object one.handle one.place → ((index ≡ 0) × (one ≡ pair)) ⊎ ((next : ℕ) × (index ≡ next + 1) × IsAt next one pairs)
@@ -259,16 +231,13 @@ end_told (Some place) loss = (to, from)
 
 -- a check word is wrong exactly where its test fails
 wrong_told : (bytes : List ℕ) (place : ℕ) → (page_holds_at bytes place ≡ false) ↔ (HasCheckWord bytes place → ⊥)
-wrong_told bytes place = ((λ failed right. absurd (failed_right failed right)), λ wrong. of_test (page_holds_at bytes place) refl wrong)
+wrong_told bytes place = ((λ failed right. never (sym failed ∙ (right_told bytes place).1 right)), λ wrong. of_test (page_holds_at bytes place) refl wrong)
   where
-    failed_right : page_holds_at bytes place ≡ false → HasCheckWord bytes place → ⊥
-    failed_right failed right = grind (arith, nat_tests, failed, right)
-
-    passed_right : page_holds_at bytes place ≡ true → HasCheckWord bytes place
-    passed_right passed = grind (arith, nat_tests, passed)
+    never : false ≡ true → ⊥
+    never same = cc
 
     of_test : (holds : Bool) → page_holds_at bytes place ≡ holds → (HasCheckWord bytes place → ⊥) → holds ≡ false
-    of_test true known wrong = absurd (wrong (passed_right known))
+    of_test true known wrong = absurd (wrong ((right_told bytes place).0 known))
     of_test false known wrong = refl
 
 -- so each of what is lost is told, and nothing else

@@ -1,19 +1,18 @@
 -- Which frames are kept for pairs of the map, said of each by itself: one is kept exactly where it lies behind those that are kept before it, and has a new handle.
 use Rattle.std.proofs.Common.{◌≡◌, refl, sym, ◌∙◌, ap, subst, ℕ, zero, suc, ◌+◌, ◌≤◌, Bool, true, false, List, [], ◌∷◌, ◌++◌, length, append_assoc, Option, Some, None, inl, inr, arith}
-use Rattle.std.specs.Prelude.{◌≢◌, ◌⊎◌, ◌↔◌, ◌&&◌, ◌||◌, ◌==◌, ⊤, cond, not, fold, nat_lt, if◌then◌else◌}
+use Rattle.std.specs.Prelude.{◌≢◌, ◌⊎◌, ◌↔◌, ◌&&◌, ◌||◌, ◌==◌, ⊤, cond, not, fold, if◌then◌else◌}
 use Rattle.std.specs.List.{AllByRecursion, cons_option, filter, list_any}
-use Rattle.std.specs.Option.{option_and_then}
 use Rattle.std.proofs.lemmas.Bool.Decides.{nat_tests}
 use Rattle.std.proofs.lemmas.List.{append-nil}
 use Rattle.std.proofs.lemmas.List.Sums.{fold-append}
 use Rattle.std.proofs.lemmas.Option.{same_Some}
-use Rattle.dwg_object.specs.declared.span.Span.{Span}
 use Rattle.dwg_objmap.specs.declared.pair.Pair.{Pair}
 use Rattle.dwg_recover.specs.declared.frame.Frame.{Frame}
-use Rattle.dwg_recover.specs.Frames.{candidate, candidate_of, candidates, follows, in_place_order, is_new, keep_mapped, mapped_frames, mapped_of, own_of_span, span_found}
+use Rattle.dwg_recover.specs.Frames.{candidate, candidates, follows, in_place_order, is_new, keep_mapped, mapped_frames, mapped_of}
+use Rattle.dwg_recover.specs.HeldLaws.{candidate_is}
 use Rattle.dwg_recover.specs.KeptLaws.{all_end, all_other, both_hold, ends_follow}
 use Rattle.dwg_recover.specs.OrderLaws.{at_place, at_places}
-use Rattle.dwg_recover.specs.OneOf.{IsOneOf, filtered_one, in_first, in_second, of_joined, one_of_all}
+use Rattle.dwg_recover.specs.OneOf.{IsAt, IsOneOf, at_cases, at_first, at_next, filtered_one, in_first, in_second, none_at, of_joined, one_of_all}
 
 -- no two frames were found for one pair
 abbrev AreDistinct : List Frame → Type 0
@@ -162,20 +161,7 @@ pub record IsNumbered (low : ℕ) (frame : Frame) : Type 0 where
 
 -- a candidate is that of its pair
 candidate_numbered : (bytes : List ℕ) (number : ℕ) (pair : Pair) (frame : Frame) → candidate bytes number pair ≡ Some frame → frame.pair ≡ Some number
-candidate_numbered bytes number pair frame is = of_span (span_found bytes pair.place) is
-  where
-    of_test : (span : Span) (test : Bool)
-        → ◌≡◌ {A = Option Frame} (if test then Some (record { pair = Some number; handle = pair.handle; from = pair.place; end = span.end }) else None) (Some frame) → frame.pair ≡ Some number
-    of_test span true same = subst (λ (one : Frame). one.pair ≡ Some number) (same_Some _ _ same) refl
-    of_test span false same = absurd cc
-
-    of_own : (span : Span) (own : Option ℕ) → option_and_then (candidate_of number pair span) own ≡ Some frame → frame.pair ≡ Some number
-    of_own span None same = absurd cc
-    of_own span (Some own) same = of_test span (nat_lt 0 pair.handle && (own == pair.handle)) same
-
-    of_span : (span : Option Span) → option_and_then (λ (span : Span). option_and_then (candidate_of number pair span) (own_of_span bytes span)) span ≡ Some frame → frame.pair ≡ Some number
-    of_span None same = absurd cc
-    of_span (Some span) same = of_own span (own_of_span bytes span) same
+candidate_numbered bytes number pair frame is = ap (λ (frame : Frame). frame.pair) (candidate_is bytes number pair frame is)
 
 -- those behind have greater numbers
 candidates_numbered : (bytes : List ℕ) (number : ℕ) (pairs : List Pair) (frame : Frame) → IsOneOf frame (candidates bytes number pairs) → IsNumbered number frame
@@ -300,3 +286,67 @@ mapped_are_candidates bytes pairs frame is =
 pub mapped_are_numbered : (bytes : List ℕ) (pairs : List Pair) (frame : Frame) → IsOneOf frame (mapped_frames bytes pairs) → IsNumbered 0 frame
 mapped_are_numbered bytes pairs frame is =
     candidates_numbered bytes 0 pairs frame (ordered_is_one (length bytes) (candidates bytes 0 pairs) frame (mapped_are_candidates bytes pairs frame is))
+
+-- the candidates of pairs are those of each pair, under its number
+abbrev pub CandidatesAreOfPairs : Type 0
+CandidatesAreOfPairs =
+    (bytes : List ℕ) (pairs : List Pair) (frame : Frame)
+    → IsOneOf frame (candidates bytes 0 pairs) ↔ ((number : ℕ) × (pair : Pair) × IsAt number pair pairs × (candidate bytes number pair ≡ Some frame))
+
+-- a pair of some, the first of which has a number, has the frame as its candidate
+IsOfPair : List ℕ → ℕ → List Pair → Frame → Type 0
+IsOfPair bytes first pairs frame = (index : ℕ) × (pair : Pair) × IsAt index pair pairs × (candidate bytes (first + index) pair ≡ Some frame)
+
+-- so they are, whatever the number of the first
+candidates_of_pairs : (bytes : List ℕ) (first : ℕ) (pairs : List Pair) (frame : Frame) → IsOneOf frame (candidates bytes first pairs) ↔ IsOfPair bytes first pairs frame
+unfolding candidates IsOfPair
+candidates_of_pairs bytes first [] frame = ((λ is. absurd is), λ is. absurd (none_at is.0 is.1 is.2))
+candidates_of_pairs bytes first (pair ∷ pairs) frame = of_found (candidate bytes first pair) refl (candidates_of_pairs bytes (first + 1) pairs frame)
+  where
+    later : IsOfPair bytes (first + 1) pairs frame → IsOfPair bytes first (pair ∷ pairs) frame
+    later (index, one, at, is) =
+        let count : first + (index + 1) ≡ first + 1 + index = omega arith in (index + 1, one, at_next index one pair pairs at, ap (λ n. candidate bytes n one) count ∙ is)
+
+    behind : (index next : ℕ) (one : Pair) → index ≡ next + 1 → IsAt next one pairs → candidate bytes (first + index) one ≡ Some frame → IsOfPair bytes (first + 1) pairs frame
+    behind index next one same at is =
+        let count : first + 1 + next ≡ first + index = omega (arith, same) in (next, one, at, ap (λ n. candidate bytes n one) count ∙ is)
+
+    here : (index : ℕ) (one : Pair) → index ≡ 0 → one ≡ pair → candidate bytes (first + index) one ≡ Some frame → candidate bytes first pair ≡ Some frame
+    here index one zero_index same is =
+        let count : first ≡ first + index = omega (arith, zero_index) in ap (λ n. candidate bytes n pair) count ∙ ap (candidate bytes (first + index)) (sym same) ∙ is
+
+    of_found : (found : Option Frame) → candidate bytes first pair ≡ found → IsOneOf frame (candidates bytes (first + 1) pairs) ↔ IsOfPair bytes (first + 1) pairs frame
+        → IsOneOf frame (cons_option found (candidates bytes (first + 1) pairs)) ↔ IsOfPair bytes first (pair ∷ pairs) frame
+    of_found None known others = ((λ is. later (others.0 is)), λ is. of_place is.0 is.1 is.3 (at_cases is.0 is.1 pair pairs is.2))
+      where
+        never : None ≡ Some frame → ⊥
+        never same = cc
+
+        of_place : (index : ℕ) (one : Pair) → candidate bytes (first + index) one ≡ Some frame → ((index ≡ 0) × (one ≡ pair)) ⊎ ((next : ℕ) × (index ≡ next + 1) × IsAt next one pairs)
+            → IsOneOf frame (candidates bytes (first + 1) pairs)
+        of_place index one is (inl (zero_index, same)) = absurd (never (sym known ∙ here index one zero_index same is))
+        of_place index one is (inr (next, same, at)) = others.1 (behind index next one same at is)
+    of_found (Some other) known others = (to, λ is. of_place is.0 is.1 is.3 (at_cases is.0 is.1 pair pairs is.2))
+      where
+        to : IsOneOf frame (other ∷ candidates bytes (first + 1) pairs) → IsOfPair bytes first (pair ∷ pairs) frame
+        to (inl same) =
+            let count : first + 0 ≡ first = omega arith in (0, pair, at_first pair pairs, ap (λ n. candidate bytes n pair) count ∙ known ∙ ap Some (sym same))
+        to (inr later_one) = later (others.0 later_one)
+
+        of_place : (index : ℕ) (one : Pair) → candidate bytes (first + index) one ≡ Some frame → ((index ≡ 0) × (one ≡ pair)) ⊎ ((next : ℕ) × (index ≡ next + 1) × IsAt next one pairs)
+            → IsOneOf frame (other ∷ candidates bytes (first + 1) pairs)
+        of_place index one is (inl (zero_index, same)) = inl (sym (same_Some _ _ (sym known ∙ here index one zero_index same is)))
+        of_place index one is (inr (next, same, at)) = inr (others.1 (behind index next one same at is))
+
+pub candidates_are_of_pairs : CandidatesAreOfPairs
+unfolding IsOfPair
+candidates_are_of_pairs bytes pairs frame = ((λ is. to ((candidates_of_pairs bytes 0 pairs frame).0 is)), λ is. (candidates_of_pairs bytes 0 pairs frame).1 (from is))
+  where
+    from_zero : (n : ℕ) → 0 + n ≡ n
+    from_zero n = omega arith
+
+    to : IsOfPair bytes 0 pairs frame → (number : ℕ) × (pair : Pair) × IsAt number pair pairs × (candidate bytes number pair ≡ Some frame)
+    to (index, pair, at, is) = (index, pair, at, sym (ap (λ n. candidate bytes n pair) (from_zero index)) ∙ is)
+
+    from : (number : ℕ) × (pair : Pair) × IsAt number pair pairs × (candidate bytes number pair ≡ Some frame) → IsOfPair bytes 0 pairs frame
+    from (number, pair, at, is) = (number, pair, at, ap (λ n. candidate bytes n pair) (from_zero number) ∙ is)

@@ -1,5 +1,5 @@
 -- A member of a list, whatever it lists, and where it stands there.
-use Rattle.std.proofs.Common.{◌≡◌, refl, sym, ◌∙◌, ap, subst, Bool, true, false, List, [], ◌∷◌, ◌++◌, map, inl, inr}
+use Rattle.std.proofs.Common.{◌≡◌, refl, sym, ◌∙◌, ap, subst, ℕ, ◌+◌, Bool, true, false, List, [], ◌∷◌, ◌++◌, length, map, inl, inr, arith}
 use Rattle.std.specs.Prelude.{◌⊎◌, cond}
 use Rattle.std.specs.List.{AllByRecursion, filter}
 use Rattle.std.specs.List.Sorted.{IsPermutation}
@@ -58,6 +58,40 @@ split_at one [] is = absurd is
 split_at one (first ∷ all) (inl same) = record { before = []; behind = all; whole = ap (λ item. item ∷ all) (sym same) }
 split_at one (first ∷ all) (inr behind) =
     let rest = split_at one all behind in record { before = first ∷ rest.before; behind = rest.behind; whole = ap (λ others. first ∷ others) rest.whole }
+
+-- a member of a list at a place, counted from 0
+pub record IsAt {A : Type 0} (place : ℕ) (one : A) (all : List A) : Type 0 where
+  pub split : IsSplit one all
+  pub far : length split.before ≡ place
+
+-- the first of a list
+pub at_first : {A : Type 0} (first : A) (all : List A) → IsAt 0 first (first ∷ all)
+at_first first all = record { split = record { before = []; behind = all; whole = refl }; far = refl }
+
+-- one more before those at a place
+pub at_next : {A : Type 0} (place : ℕ) (one first : A) (all : List A) → IsAt place one all → IsAt (place + 1) one (first ∷ all)
+at_next place one first all at = record {
+  split = record { before = first ∷ at.split.before; behind = at.split.behind; whole = ap (λ others. first ∷ others) at.split.whole };
+  far = omega (arith, at.far);
+}
+
+-- the first, or one of those behind it
+pub at_cases : {A : Type 0} (place : ℕ) (one first : A) (all : List A) → IsAt place one (first ∷ all) → ((place ≡ 0) × (one ≡ first)) ⊎ ((next : ℕ) × (place ≡ next + 1) × IsAt next one all)
+at_cases {A} place one first all at = of_before at.split.before at.split.whole at.far
+  where
+    of_before : (before : List A) → first ∷ all ≡ before ++ one ∷ at.split.behind → length before ≡ place → ((place ≡ 0) × (one ≡ first)) ⊎ ((next : ℕ) × (place ≡ next + 1) × IsAt next one all)
+    of_before [] whole far = let same : first ≡ one = cc in inl (sym far, sym same)
+    of_before (item ∷ before) whole far =
+        let rest : all ≡ before ++ one ∷ at.split.behind = cc in
+        inr (length before, omega (arith, far), record { split = record { before = before; behind = at.split.behind; whole = rest }; far = refl })
+
+-- no list without members has one at a place
+pub none_at : {A : Type 0} (place : ℕ) (one : A) → IsAt place one [] → ⊥
+none_at {A} place one at = of_before at.split.before at.split.whole
+  where
+    of_before : (before : List A) → [] ≡ before ++ one ∷ at.split.behind → ⊥
+    of_before [] whole = cc
+    of_before (first ∷ before) whole = cc
 
 -- one is mapped to one
 pub one_mapped : {A B : Type 0} (f : A → B) (one : A) (all : List A) → IsOneOf one all → IsOneOf (f one) (map f all)

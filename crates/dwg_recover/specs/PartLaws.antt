@@ -1,9 +1,8 @@
 -- The parts that recovery finds are those that stand in the input: its file header, whole sections, the walk over its map, and the pairs of a page.
-use Rattle.std.proofs.Common.{◌≡◌, refl, sym, ◌∙◌, ap, ap₂, subst, ℕ, ◌+◌, Bool, true, false, List, [], Option, Some, None, arith}
-use Rattle.std.specs.Prelude.{◌↔◌, ⊤, ◌&&◌, Ok, if◌then◌else◌}
+use Rattle.std.proofs.Common.{◌≡◌, refl, sym, ◌∙◌, ap, ap₂, subst, ℕ, ◌+◌, Bool, true, false, List, [], Option, Some, None}
+use Rattle.std.specs.Prelude.{◌↔◌, ⊤, ◌&&◌, ◌∷◌, Ok, cond, not, replicate, if◌then◌else◌}
 use Rattle.std.specs.Option.{is_none}
 use Rattle.std.specs.Result.{is_ok, result_unwrap_or}
-use Rattle.std.proofs.lemmas.Bool.Decides.{nat_tests}
 use Rattle.std.proofs.lemmas.Option.{same_Some}
 use Rattle.dwg_base.specs.Bytes.{AreBytes}
 use Rattle.dwg_base.specs.Refusals.{Tried, first_fault}
@@ -12,7 +11,11 @@ use Rattle.dwg_classes.specs.declared.class.Class.{Class}
 use Rattle.dwg_classes.specs.Class.{AreClasses}
 use Rattle.dwg_classes.specs.ClassLineLaws.{tried_ok}
 use Rattle.dwg_classes.specs.ClassLines.{tried_classes}
+use Rattle.dwg_file.specs.FileLines.{first_cut, is_cut}
+use Rattle.dwg_file.specs.ReadAs.{sections_at, whole_locators}
 use Rattle.dwg_file.specs.ReadingLaws.{SectionLaws}
+use Rattle.dwg_file.specs.SectionPlaces.{sections_stand}
+use Rattle.dwg_file.specs.Spelled.{AreSectionsOf}
 use Rattle.dwg_objmap.specs.declared.pair.Pair.{Pair}
 use Rattle.dwg_objmap.specs.MapLines.{HasCheckWord, body_at}
 use Rattle.dwg_objmap.specs.PagePlaces.{body_is_bytes}
@@ -21,16 +24,24 @@ use Rattle.dwg_objmap.specs.WalkingLaws.{longest_in_front, size_is}
 use Rattle.dwg_sections.specs.declared.framed.Framed.{Framed}
 use Rattle.dwg_sections.specs.declared.framed.Framed.TheVariants as framed
 use Rattle.dwg_sections.specs.declared.header.FileHeader.{FileHeader}
+use Rattle.dwg_sections.specs.declared.header.Locator.{Locator}
 use Rattle.dwg_sections.specs.FileHeader.{BeginsWithHeader}
 use Rattle.dwg_sections.specs.Framed.{FramedAt}
 use Rattle.dwg_sections.specs.FramedLines.{BEFORE_CONTENT, content_at}
+use Rattle.dwg_sections.specs.HeaderLaws.{HeaderIsRead}
 use Rattle.dwg_sections.specs.HeaderLines.{HEADER_LINES, header_at, place_of}
-use Rattle.dwg_recover.specs.IntactParts.{header_is_found}
-use Rattle.dwg_recover.specs.Recovering.{walk_located, walk_of}
+use Rattle.dwg_recover.specs.Recovering.{classes_found, code_page_of, drawing_recovered, lead_of, mark_of, walk_located, walk_of}
 use Rattle.dwg_recover.specs.SectionLaws.{classes_cut, whole_parts}
-use Rattle.dwg_recover.specs.Sections.{classes_of, header_of, is_whole, locators_of, variables_of}
-use Rattle.dwg_recover.specs.WalkLaws.{walk_stands}
+use Rattle.dwg_recover.specs.Sections.{classes_of, header_of, is_whole, locators_of, section_found, variables_of}
+use Rattle.dwg_recover.specs.WalkLaws.{right_told, walk_stands}
 use Rattle.dwg_recover.specs.Walks.{IsWalk, Walk, pairs_at}
+
+-- the header that an input begins with is found
+pub header_is_found : HeaderIsRead → (bytes : List ℕ) (header : FileHeader) → BeginsWithHeader bytes header → header_of bytes ≡ Some header
+unfolding header_of
+header_is_found read bytes header begins =
+    let is = read bytes header begins in
+    ap (λ (fault : Option Refusal). if is_none fault then Some (header_at bytes) else None) is.0 ∙ ap Some (sym is.1)
 
 -- the header that is found is the one that the input begins with
 abbrev pub HeaderIsFound : Type 0
@@ -64,7 +75,7 @@ ContentIsTaken =
     × ((classes : List Class) → FramedAt bytes place framed.Classes content → AreClasses content classes → classes_of bytes (Some place) ≡ classes)
 
 -- the classes of a section that stands are tried
-classes_tried_of : SectionLaws → (bytes : List ℕ) (place : ℕ) (content : List ℕ) (classes : List Class) → FramedAt bytes place framed.Classes content → AreClasses content classes
+pub classes_tried_of : SectionLaws → (bytes : List ℕ) (place : ℕ) (content : List ℕ) (classes : List Class) → FramedAt bytes place framed.Classes content → AreClasses content classes
     → tried_classes (place + BEFORE_CONTENT) (content_at bytes place) ≡ Ok classes
 classes_tried_of laws bytes place content classes section cut =
     (tried_ok (place + BEFORE_CONTENT) (content_at bytes place) classes).1
@@ -126,15 +137,53 @@ pages_give_pairs bytes page are = (λ right. of_right right, λ wrong. of_wrong 
     given : Bool → List Pair
     given = λ holds. if holds then pairs_in_front (body_at bytes page) else []
 
-    holds : HasCheckWord bytes page → page_holds_at bytes page ≡ true
-    holds right = grind (arith, nat_tests, right)
-
     of_right : HasCheckWord bytes page → AreLongest (body_at bytes page) (pairs_at bytes page)
-    of_right right = subst (λ (test : Bool). AreLongest (body_at bytes page) (given test)) (sym (holds right)) (longest_in_front (body_at bytes page) (body_is_bytes bytes page are))
-
-    is_right : page_holds_at bytes page ≡ true → HasCheckWord bytes page
-    is_right passed = grind (arith, nat_tests, passed)
+    of_right right =
+        subst (λ (test : Bool). AreLongest (body_at bytes page) (given test)) (sym ((right_told bytes page).1 right)) (longest_in_front (body_at bytes page) (body_is_bytes bytes page are))
 
     of_wrong : (test : Bool) → page_holds_at bytes page ≡ test → (HasCheckWord bytes page → ⊥) → given test ≡ []
-    of_wrong true passed wrong = absurd (wrong (is_right passed))
+    of_wrong true passed wrong = absurd (wrong ((right_told bytes page).0 passed))
     of_wrong false failed wrong = refl
+
+-- what a drawing that is recovered of a damaged input has of the header, or without one, and of the sections that are found; of the unknown sections it has those that don't pass the end of the input
+pub record ArePartsKept (bytes : List ℕ) : Type 0 where
+  pub header : (header : FileHeader) → header_of bytes ≡ Some header
+      → ((drawing_recovered bytes).lead ≡ header.lead) × ((drawing_recovered bytes).mark ≡ header.mark) × ((drawing_recovered bytes).code_page ≡ header.code_page)
+      × AreSectionsOf bytes (whole_locators bytes header.locators) (drawing_recovered bytes).others
+  pub without : header_of bytes ≡ None
+      → ((drawing_recovered bytes).lead ≡ replicate 7 0) × ((drawing_recovered bytes).mark ≡ replicate 2 0) × ((drawing_recovered bytes).code_page ≡ 0) × ((drawing_recovered bytes).others ≡ [])
+  pub variables : (drawing_recovered bytes).variables ≡ variables_of bytes (section_found framed.Variables bytes)
+  pub classes : (drawing_recovered bytes).classes ≡ classes_of bytes (section_found framed.Classes bytes)
+
+abbrev pub PartsAreKept : Type 0
+PartsAreKept = (bytes : List ℕ) → ArePartsKept bytes
+
+-- of locators that don't pass the end none does
+whole_not_cut : (bytes : List ℕ) (index : ℕ) (locators : List Locator) → first_cut bytes index (whole_locators bytes locators) ≡ None
+unfolding first_cut
+whole_not_cut bytes index [] = refl
+whole_not_cut bytes index (locator ∷ locators) = of_test (is_cut bytes locator) refl (λ number. whole_not_cut bytes number locators)
+  where
+    others : List Locator
+    others = whole_locators bytes locators
+
+    of_test : (cut : Bool) → is_cut bytes locator ≡ cut → ((number : ℕ) → first_cut bytes number others ≡ None) → first_cut bytes index (cond (not cut) (locator ∷ others) others) ≡ None
+    of_test true known none = none index
+    of_test false known none =
+        ap (λ (cut : Bool). if cut then Some (record { line = 33; index = index; place = locator.place }) else first_cut bytes (index + 1) others) known ∙ none (index + 1)
+
+-- so they are kept
+pub parts_are_kept : PartsAreKept
+unfolding drawing_recovered classes_found
+parts_are_kept bytes = record {
+  header = λ header is. (
+    ap lead_of is,
+    ap mark_of is,
+    ap code_page_of is,
+    subst (λ (found : Option FileHeader). AreSectionsOf bytes (whole_locators bytes header.locators) (sections_at bytes (whole_locators bytes (locators_of found)))) (sym is)
+        (sections_stand bytes 0 (whole_locators bytes header.locators) (whole_not_cut bytes 0 header.locators)),
+  );
+  without = λ none. (ap lead_of none, ap mark_of none, ap code_page_of none, ap (λ (found : Option FileHeader). sections_at bytes (whole_locators bytes (locators_of found))) none);
+  variables = refl;
+  classes = refl;
+}

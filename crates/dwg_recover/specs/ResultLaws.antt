@@ -1,6 +1,6 @@
 -- Every answer of recovery is sound, whether the input spells a drawing or is damaged.
 use Rattle.std.proofs.Common.{◌≡◌, ◌≢◌, refl, sym, ◌∙◌, ap, subst, ℕ, suc, ◌+◌, ◌<◌, ◌≤◌, true, false, is_some, List, [], ◌∷◌, length, map, Option, Some, None, inl, inr, arith}
-use Rattle.std.specs.Prelude.{◌⊎◌, Ok, AllPairs, slice_index, if◌then◌else◌}
+use Rattle.std.specs.Prelude.{◌⊎◌, AllPairs, slice_index, if◌then◌else◌}
 use Rattle.std.specs.List.{AllByRecursion, cons_option}
 use Rattle.std.specs.List.Sorted.{IsPermutation}
 use Rattle.std.specs.Option.{is_none}
@@ -9,46 +9,42 @@ use Rattle.std.proofs.lemmas.List.Elements.{All-from_recursion}
 use Rattle.std.proofs.lemmas.List.Kept.{AllPairs-cons}
 use Rattle.std.proofs.lemmas.List.Sorted.{IsPermutation-trans}
 use Rattle.dwg_base.specs.Bytes.{AreBytes}
-use Rattle.dwg_base.specs.Refusals.{Tried, first_fault}
+use Rattle.dwg_base.specs.Refusals.{first_fault}
 use Rattle.dwg_base.specs.declared.refusal.Refusal.{Refusal}
-use Rattle.dwg_bits.specs.Bits.{bits}
 use Rattle.dwg_classes.specs.declared.class.Class.{Class}
 use Rattle.dwg_classes.specs.ClassLineLaws.{tried_ok}
 use Rattle.dwg_file.specs.CanonicalHeader.{pairs_head, pairs_tail}
 use Rattle.dwg_file.specs.Contents.{Contents}
 use Rattle.dwg_file.specs.DrawingAt.{drawing_at}
-use Rattle.dwg_file.specs.FileLines.{ALL_LINES, FoundFrame, frames_behind, frames_tried, map_tried, section_place}
+use Rattle.dwg_file.specs.FileLines.{ALL_LINES, frames_tried}
 use Rattle.dwg_file.specs.PassingLaws.{passing_is_spelled}
-use Rattle.dwg_file.specs.PassingLines.{each_holds, ok_of_fault}
-use Rattle.dwg_file.specs.ReadingLaws.{SectionLaws, located_same}
+use Rattle.dwg_file.specs.ReadingLaws.{SectionLaws, spelled_once, spelled_passes}
 use Rattle.dwg_file.specs.Spelled.{AreApart, IsFrameOfPair, PairFrame, Spelled}
 use Rattle.dwg_file.specs.ValidLaws.{parts_are_valid, spelled_is_valid, whole_sections_are_read}
-use Rattle.dwg_object.specs.Forms.{BeginsWithHead}
 use Rattle.dwg_object.specs.FormLaws.{form_at, form_is_at, forms_same, head_of_form}
 use Rattle.dwg_object.specs.FrameLaws.{held_frame}
 use Rattle.dwg_object.specs.Frames.{FrameHolds}
-use Rattle.dwg_object.specs.HeadLaws.{begins_head}
 use Rattle.dwg_object.specs.Objects.{ObjectValue}
 use Rattle.dwg_objmap.specs.declared.pair.Pair.{Pair}
-use Rattle.dwg_objmap.specs.MapLaws.{map_is_tried}
 use Rattle.dwg_objmap.specs.Pages.{AreHandles, MapOf, handles_of}
 use Rattle.dwg_recover.specs.declared.frame.Frame.{Frame}
 use Rattle.dwg_recover.specs.ExactLaws.{scan_adds, scanned_at}
 use Rattle.dwg_recover.specs.FoundLaws.{candidates_found}
 use Rattle.dwg_recover.specs.Frames.{candidates, kept_of, scanned}
 use Rattle.dwg_recover.specs.HeldLaws.{candidates_hold, frame_of}
-use Rattle.dwg_recover.specs.IntactFrames.{named, pairs_of_frames}
-use Rattle.dwg_recover.specs.IntactParts.{body_is_found}
+use Rattle.dwg_recover.specs.Intact.{pairs_framed}
+use Rattle.dwg_recover.specs.IntactFrames.{named}
+use Rattle.dwg_recover.specs.IntactParts.{body_is_found, form_holds}
 use Rattle.dwg_recover.specs.KeptLaws.{AreKept, AreOther}
 use Rattle.dwg_recover.specs.MapExactLaws.{mapped_are_numbered}
 use Rattle.dwg_recover.specs.OneOf.{IsOneOf}
 use Rattle.dwg_recover.specs.Placing.{IsFound}
 use Rattle.dwg_recover.specs.ReadLaws.{same_objects}
 use Rattle.dwg_recover.specs.RecoveredLaws.{frames_are_kept, parts_are_read}
-use Rattle.dwg_recover.specs.Recovering.{classes_found, drawing_recovered, frame_body, frames_found, frames_kept, frames_mapped, object_of, pairs_read, recovered, recovered_damaged, recovered_whole}
-use Rattle.dwg_recover.specs.Told.{IsSoundAnswer, MappedAreTold, RecoveredIsSound}
+use Rattle.dwg_recover.specs.Recovering.{RecoveredValue, classes_found, drawing_recovered, frame_body, frames_found, frames_kept, frames_mapped, object_of, pairs_read, recovered, recovered_damaged, recovered_whole, told}
+use Rattle.dwg_recover.specs.Told.{DamagedIsAnswered, IsSoundAnswer, MappedAreTold, RecoveredIsSound, SpelledIsAnswered}
 use Rattle.dwg_recover.specs.ToldLaws.{AreTold, kept_are_told}
-use Rattle.dwg_recover.specs.WholeLaws.{map_is_found}
+use Rattle.dwg_recover.specs.WholeLaws.{candidates_are_found}
 
 -- of a damaged input the answer is sound
 damaged_is_sound : SectionLaws → (bytes : List ℕ) → AreBytes bytes → IsSoundAnswer bytes (recovered_damaged bytes)
@@ -69,16 +65,15 @@ damaged_is_sound laws bytes are =
 -- a frame that a drawing is spelled with holds
 spelled_holds : (classes : List Class) (bytes : List ℕ) (frame : PairFrame) → IsFrameOfPair classes bytes frame → FrameHolds bytes frame.pair.place frame.pair.handle frame.end
 spelled_holds classes bytes frame is =
-    let head = head_of_form classes frame.body frame.object is.form in
-    (frame.body, head.0.number, is.stands, subst (BeginsWithHead (bits frame.body) head.0.number) (sym head.3 ∙ is.own) (begins_head (bits frame.body) head.0 head.1))
+    subst (λ own. FrameHolds bytes frame.pair.place own frame.end) is.own (form_holds classes bytes frame.pair.place frame.body frame.end frame.object is.stands is.form)
 
 -- so frames that it is spelled with are the candidates of their pairs
 spelled_candidates : (classes : List Class) (bytes : List ℕ) (frames : List PairFrame) (number : ℕ) → AreBytes bytes → AllByRecursion (IsFrameOfPair classes bytes) frames
-    → AllByRecursion (λ handle. 0 < handle) (handles_of (pairs_of_frames frames)) → candidates bytes number (pairs_of_frames frames) ≡ named number frames
+    → AllByRecursion (λ handle. 0 < handle) (handles_of (pairs_framed frames)) → candidates bytes number (pairs_framed frames) ≡ named number frames
 unfolding candidates
 spelled_candidates classes bytes [] number are stand some = refl
 spelled_candidates classes bytes (frame ∷ frames) number are stand some =
-    ap (λ (found : Option Frame). cons_option found (candidates bytes (number + 1) (pairs_of_frames frames)))
+    ap (λ (found : Option Frame). cons_option found (candidates bytes (number + 1) (pairs_framed frames)))
     ((candidates_hold held_frame bytes number frame.pair frame.end are).0 (some.0, spelled_holds classes bytes frame stand.0))
     ∙ ap (λ (others : List Frame). frame_of number frame.pair frame.end ∷ others) (spelled_candidates classes bytes frames (number + 1) are stand.1 some.1)
 
@@ -95,24 +90,24 @@ named_differ number first one (frame ∷ frames) from end handle apart differ =
 
 -- the handles behind the first are others
 handles_differ : (first : ℕ) (frames : List PairFrame)
-    → ((j : ℕ) → j < length (handles_of (pairs_of_frames frames)) → first ≢ slice_index (handles_of (pairs_of_frames frames)) j)
+    → ((j : ℕ) → j < length (handles_of (pairs_framed frames)) → first ≢ slice_index (handles_of (pairs_framed frames)) j)
     → AllByRecursion (λ (other : PairFrame). first ≢ other.pair.handle) frames
 handles_differ first [] differ = tt
 handles_differ first (frame ∷ frames) differ = (differ 0 (omega arith), handles_differ first frames (λ j within. differ (suc j) (omega (arith, within))))
 
 -- frames of pairs with distinct handles that share no byte share nothing
-named_other : (number : ℕ) (frames : List PairFrame) → AllPairs AreApart frames
-    → ((i j : ℕ) → i < j → j < length (handles_of (pairs_of_frames frames)) → slice_index (handles_of (pairs_of_frames frames)) i ≢ slice_index (handles_of (pairs_of_frames frames)) j)
+spelled_other : (number : ℕ) (frames : List PairFrame) → AllPairs AreApart frames
+    → ((i j : ℕ) → i < j → j < length (handles_of (pairs_framed frames)) → slice_index (handles_of (pairs_framed frames)) i ≢ slice_index (handles_of (pairs_framed frames)) j)
     → AllPairs AreOther (named number frames)
-named_other number [] apart distinct = λ i j d before within. absurd (omega arith)
-named_other number (frame ∷ frames) apart distinct =
+spelled_other number [] apart distinct = λ i j d before within. absurd (omega arith)
+spelled_other number (frame ∷ frames) apart distinct =
     let first : Frame = frame_of number frame.pair frame.end in
     let others : List Frame = named (number + 1) frames in
     AllPairs-cons AreOther first others
     (All-from_recursion (AreOther first) others
     (named_differ (number + 1) first frame frames refl refl refl (pairs_head AreApart frame frames apart)
     (handles_differ frame.pair.handle frames (λ j within. distinct 0 (suc j) (omega arith) (omega (arith, within))))))
-    (named_other (number + 1) frames (pairs_tail AreApart frame frames apart) (λ i j before within. distinct (suc i) (suc j) (omega (arith, before)) (omega (arith, within))))
+    (spelled_other (number + 1) frames (pairs_tail AreApart frame frames apart) (λ i j before within. distinct (suc i) (suc j) (omega (arith, before)) (omega (arith, within))))
 
 -- the objects of frames that a drawing is spelled with are what their bodies are read as
 spelled_objects : (classes : List Class) (bytes : List ℕ) (frames : List PairFrame) (number : ℕ) → AreBytes bytes → AllByRecursion (IsFrameOfPair classes bytes) frames
@@ -131,17 +126,9 @@ spelled_objects classes bytes (frame ∷ frames) number are stand =
 -- the frames that were found of an input that spells a drawing are those that it is spelled with
 found_are_spelled : SectionLaws → (drawing : Contents) (bytes : List ℕ) (spelled : Spelled drawing bytes) → AreBytes bytes → first_fault ALL_LINES bytes ≡ None
     → frames_found 0 (result_unwrap_or (frames_tried bytes) []) ≡ named 0 spelled.frames
-unfolding frames_tried map_tried
 found_are_spelled laws drawing bytes spelled are none =
-    let pairs : List Pair = pairs_of_frames spelled.frames in
-    let mapped : MapOf bytes spelled.map_place pairs = subst (MapOf bytes spelled.map_place) spelled.framed spelled.mapped in
-    let header = laws.header_complete bytes spelled.header spelled.begins in
-    let located : spelled.map_place ≡ section_place 2 bytes = located_same bytes spelled.header 2 spelled.map_place header.1 spelled.map_located in
-    let tried : map_tried bytes ≡ Ok pairs = (map_is_tried (section_place 2 bytes) bytes pairs are).1 (subst (λ place. MapOf bytes place pairs) located mapped) in
-    let founds = ok_of_fault (frames_tried bytes) (each_holds bytes none).frames in
-    let behind : frames_behind bytes 0 [] pairs ≡ Ok founds.0 = sym (ap (λ (tried : Tried (List Pair)). frames_behind bytes 0 [] (result_unwrap_or tried [])) tried) ∙ founds.1 in
-    ap (λ (tried : Tried (List FoundFrame)). frames_found 0 (result_unwrap_or tried [])) founds.1
-    ∙ sym (map_is_found bytes pairs founds.0 mapped.handles.positive behind)
+    let mapped : MapOf bytes spelled.map_place (pairs_framed spelled.frames) = subst (MapOf bytes spelled.map_place) spelled.framed spelled.mapped in
+    sym (candidates_are_found laws bytes spelled.header spelled.map_place (pairs_framed spelled.frames) are none spelled.begins spelled.map_located mapped)
     ∙ spelled_candidates drawing.classes bytes spelled.frames 0 are spelled.stand mapped.handles.positive
 
 -- of an input that spells a drawing the answer is sound
@@ -168,15 +155,15 @@ whole_is_sound laws bytes are none = record {
     same : frames ≡ named 0 spelled.frames
     same = found_are_spelled laws drawing bytes spelled are none
 
-    handles : AreHandles (handles_of (pairs_of_frames spelled.frames))
+    handles : AreHandles (handles_of (pairs_framed spelled.frames))
     handles = subst (λ (pairs : List Pair). AreHandles (handles_of pairs)) spelled.framed spelled.mapped.handles
 
     kept : AreKept bytes (named 0 spelled.frames)
     kept = record {
       found =
           subst (AllByRecursion (IsFound bytes)) (spelled_candidates drawing.classes bytes spelled.frames 0 are spelled.stand handles.positive)
-          (candidates_found bytes 0 (pairs_of_frames spelled.frames));
-      other = named_other 0 spelled.frames spelled.apart handles.distinct;
+          (candidates_found bytes 0 (pairs_framed spelled.frames));
+      other = spelled_other 0 spelled.frames spelled.apart handles.distinct;
     }
 
     all : AreTold drawing.classes bytes frames
@@ -193,6 +180,36 @@ recovered_is_sound laws bytes are = of_fault (first_fault ALL_LINES bytes) refl
     of_fault : (fault : Option Refusal) → first_fault ALL_LINES bytes ≡ fault → IsSoundAnswer bytes (if is_none fault then recovered_whole bytes else recovered_damaged bytes)
     of_fault None none = whole_is_sound laws bytes are none
     of_fault (Some refusal) refused = damaged_is_sound laws bytes are
+
+-- what is recovered of an input that spells a drawing is that drawing, and the frames that it is spelled with are told
+pub spelled_is_answered : SectionLaws → SpelledIsAnswered
+unfolding recovered recovered_whole
+spelled_is_answered laws drawing bytes spelled are = of_fault (first_fault ALL_LINES bytes) none ∙ same (drawing_at bytes) (frames_found 0 (result_unwrap_or (frames_tried bytes) [])) is frames
+  where
+    none : first_fault ALL_LINES bytes ≡ None
+    none = spelled_passes laws drawing bytes are spelled
+
+    is : drawing_at bytes ≡ drawing
+    is = spelled_once laws bytes (drawing_at bytes) drawing are (passing_is_spelled laws bytes are none) spelled
+
+    frames : frames_found 0 (result_unwrap_or (frames_tried bytes) []) ≡ named 0 spelled.frames
+    frames = found_are_spelled laws drawing bytes spelled are none
+
+    of_fault : (fault : Option Refusal) → fault ≡ None → (if is_none fault then recovered_whole bytes else recovered_damaged bytes) ≡ recovered_whole bytes
+    of_fault None holds = refl
+    of_fault (Some refusal) holds = absurd cc
+
+    answer : Contents → List Frame → RecoveredValue
+    answer = λ one ones. record { drawing = one; refusal = None; losses = []; kept = told bytes ones }
+
+    same : (one : Contents) (ones : List Frame) → one ≡ drawing → ones ≡ named 0 spelled.frames → answer one ones ≡ answer drawing (named 0 spelled.frames)
+    same one ones drawings lists = ap (λ (d : Contents). answer d ones) drawings ∙ ap (answer drawing) lists
+
+-- and of an input that is refused the refusal is told, with what is recovered of a damaged input
+pub damaged_is_answered : DamagedIsAnswered
+unfolding recovered recovered_damaged
+damaged_is_answered bytes refusal refused =
+    (ap (λ (fault : Option Refusal). if is_none fault then recovered_whole bytes else recovered_damaged bytes) refused, refused)
 
 -- frames of the map are told as mapped, and no others
 pub mapped_are_told : MappedAreTold

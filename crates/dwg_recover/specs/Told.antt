@@ -1,10 +1,15 @@
 -- What holds of every answer of recovery: its frames stand in the input and share nothing, and its objects are those of its frames. A rule of this project.
-use Rattle.std.specs.Prelude.{◌≡◌, ◌≢◌, ⊤, ℕ, ◌≤◌, ◌↔◌, true, List, [], ◌∷◌, length, map}
+use Rattle.std.specs.Prelude.{◌≡◌, ◌≢◌, ⊤, ℕ, ◌≤◌, ◌↔◌, true, Some, None, List, [], ◌∷◌, length, map}
 use Rattle.std.specs.List.{AllByRecursion}
 use Rattle.std.specs.List.Sorted.{IsPermutation}
 use Rattle.dwg_base.specs.Bytes.{AreBytes}
 use Rattle.dwg_base.specs.Devices.{MOST_BYTES}
+use Rattle.dwg_base.specs.Refusals.{first_fault}
+use Rattle.dwg_base.specs.declared.refusal.Refusal.{Refusal}
 use Rattle.dwg_classes.specs.declared.class.Class.{Class}
+use Rattle.dwg_file.specs.Contents.{Contents}
+use Rattle.dwg_file.specs.FileLines.{ALL_LINES}
+use Rattle.dwg_file.specs.Spelled.{Spelled}
 use Rattle.dwg_file.specs.Valid.{IsValid}
 use Rattle.dwg_object.specs.Forms.{FormOf}
 use Rattle.dwg_object.specs.FormLaws.{form_at}
@@ -13,8 +18,9 @@ use Rattle.dwg_object.specs.Objects.{ObjectValue, handle_of}
 use Rattle.dwg_recover.specs.declared.frame.Frame.{Frame}
 use Rattle.dwg_recover.specs.declared.loss.Kept.{Kept}
 use Rattle.dwg_recover.specs.Frames.{kept_of}
+use Rattle.dwg_recover.specs.IntactFrames.{named}
 use Rattle.dwg_recover.specs.OneOf.{IsOneOf}
-use Rattle.dwg_recover.specs.Recovering.{RecoveredValue, frame_body, frames_kept, frames_mapped, recovered}
+use Rattle.dwg_recover.specs.Recovering.{RecoveredValue, frame_body, frames_kept, frames_mapped, recovered, recovered_damaged, told}
 
 -- frames are told in order of place, and no two share a byte or have one handle
 abbrev pub AreToldApart : List Kept → Type 0
@@ -45,3 +51,15 @@ RecoveredIsSound = (bytes : List ℕ) → AreBytes bytes → IsSoundAnswer bytes
 -- of the frames that are kept of a damaged input, those of the map are told as mapped, and no others
 abbrev pub MappedAreTold : Type 0
 MappedAreTold = (bytes : List ℕ) (frame : Frame) → IsOneOf frame (frames_kept bytes) → ((kept_of frame).mapped ≡ true) ↔ IsOneOf frame (frames_mapped bytes)
+
+-- of an input that spells a drawing it is that drawing, nothing is refused or lost, and the frames that it is spelled with are told in order of place, each as mapped
+abbrev pub SpelledIsAnswered : Type 0
+SpelledIsAnswered =
+    (drawing : Contents) (bytes : List ℕ) (spelled : Spelled drawing bytes) → AreBytes bytes
+    → recovered bytes ≡ record { drawing = drawing; refusal = None; losses = []; kept = told bytes (named 0 spelled.frames) }
+
+-- of an input that is refused it is what is recovered of a damaged one, with that refusal
+abbrev pub DamagedIsAnswered : Type 0
+DamagedIsAnswered =
+    (bytes : List ℕ) (refusal : Refusal) → first_fault ALL_LINES bytes ≡ Some refusal
+    → (recovered bytes ≡ recovered_damaged bytes) × ((recovered_damaged bytes).refusal ≡ Some refusal)

@@ -1,11 +1,11 @@
 -- The walk that is computed is the one that stands in the input, and there is no other; its pairs are few.
 use Rattle.std.proofs.Common.{◌≡◌, refl, sym, ◌∙◌, ap₂, subst, ℕ, zero, suc, ◌+◌, ◌-◌, ◌<◌, ◌≤◌, Bool, true, false, List, [], ◌∷◌, ◌++◌, length, length-append, Option, Some, None, inl, inr, arith}
-use Rattle.std.specs.Prelude.{◌≢◌, ◌⊎◌, ◌==◌, if◌then◌else◌}
+use Rattle.std.specs.Prelude.{◌≢◌, ◌⊎◌, ◌↔◌, ◌==◌, if◌then◌else◌}
 use Rattle.std.proofs.lemmas.Bool.Decides.{nat_tests}
 use Rattle.std.proofs.lemmas.Option.{same_Some}
 use Rattle.dwg_objmap.specs.declared.pair.Pair.{Pair}
 use Rattle.dwg_objmap.specs.Pairs.{ORIGIN, pair_behind}
-use Rattle.dwg_objmap.specs.MapLines.{body_at, word_at, HasPage}
+use Rattle.dwg_objmap.specs.MapLines.{body_at, word_at, HasCheckWord, HasPage}
 use Rattle.dwg_objmap.specs.PagePlaces.{length_of_body}
 use Rattle.dwg_objmap.specs.Walking.{SizeIsThere, page_holds_at, pairs_from, pairs_in_front, size_of_page, with_next}
 use Rattle.dwg_recover.specs.Walks.{IsWalk, Walk, pairs_at, pairs_of, walk_from, walk_of_size, walk_over, with_page}
@@ -118,3 +118,7 @@ WalkStands = (bytes : List ℕ) (place : ℕ) → IsWalk bytes place (walk_from 
 abbrev pub WalkIsOne : Type 0
 WalkIsOne =
     (bytes : List ℕ) (place : ℕ) (pages others : List ℕ) (lost other : Option ℕ) → IsWalk bytes place pages lost → IsWalk bytes place others other → (pages ≡ others) × (lost ≡ other)
+
+-- a check word is right exactly where its test passes
+pub right_told : (bytes : List ℕ) (place : ℕ) → (page_holds_at bytes place ≡ true) ↔ HasCheckWord bytes place
+right_told bytes place = ((λ passed. grind (arith, nat_tests, passed)), λ right. grind (arith, nat_tests, right))

@@ -3,16 +3,24 @@ use Rattle.std.proofs.Common.{◌≡◌, refl, sym, ◌∙◌, ap, ap₂, subst,
 use Rattle.std.specs.Prelude.{◌&&◌, ◌==◌, not, nat_lt, option_map, Ok, Err, if◌then◌else◌}
 use Rattle.std.specs.List.{AllByRecursion, cons_option}
 use Rattle.std.specs.Option.{option_and_then}
-use Rattle.std.specs.Result.{result_ok}
+use Rattle.std.specs.Result.{result_ok, result_unwrap_or}
 use Rattle.std.proofs.lemmas.Bool.Decides.{nat_tests}
 use Rattle.std.proofs.lemmas.List.{append-nil}
-use Rattle.dwg_base.specs.Refusals.{Tried}
+use Rattle.dwg_base.specs.Bytes.{AreBytes}
+use Rattle.dwg_base.specs.Refusals.{Tried, first_fault}
 use Rattle.dwg_codes.specs.ModularCodes.{ms}
-use Rattle.dwg_file.specs.FileLines.{FoundFrame, frames_behind, touches, tried_pair, with_found, with_handle, with_span}
+use Rattle.dwg_file.specs.FileLines.{ALL_LINES, FoundFrame, frames_behind, frames_tried, map_tried, section_place, touches, tried_pair, with_found, with_handle, with_span}
+use Rattle.dwg_file.specs.PassingLines.{each_holds, ok_of_fault}
+use Rattle.dwg_file.specs.ReadingLaws.{SectionLaws, located_same}
 use Rattle.dwg_object.specs.declared.span.Span.{Span}
 use Rattle.dwg_object.specs.FrameLines.{frame_checked, frame_refusal, has_check_word, head_at, head_tried, span_of, span_parsed, tried_frame, tried_span}
 use Rattle.dwg_object.specs.Objects.{HeadParts}
 use Rattle.dwg_objmap.specs.declared.pair.Pair.{Pair}
+use Rattle.dwg_objmap.specs.MapLaws.{map_is_tried}
+use Rattle.dwg_objmap.specs.Pages.{MapOf}
+use Rattle.dwg_sections.specs.declared.header.FileHeader.{FileHeader}
+use Rattle.dwg_sections.specs.FileHeader.{BeginsWithHeader}
+use Rattle.dwg_sections.specs.HeaderLines.{place_of}
 use Rattle.dwg_recover.specs.declared.frame.Frame.{Frame}
 use Rattle.dwg_recover.specs.FoundLaws.{span_inside}
 use Rattle.dwg_recover.specs.Frames.{candidate, candidate_of, candidates, own_of_span, span_found}
@@ -37,24 +45,24 @@ same_span bytes place index span is = of_tests (not (nat_lt place (length bytes)
         of_length long (length (drop place bytes) - length rest) (nat_lt (length bytes) (place + (length (drop place bytes) - length rest) + long + 2)) same
 
 -- a frame as it is kept for the pair of a number
-frame_of : ℕ → FoundFrame → Frame
-frame_of number found = record { pair = Some number; handle = found.1.own; from = found.0.from; end = found.0.end }
+found_frame : ℕ → FoundFrame → Frame
+found_frame number found = record { pair = Some number; handle = found.1.own; from = found.0.from; end = found.0.end }
 
 -- what is known of a frame that was found at a place
-record IsFoundAt (bytes : List ℕ) (place : ℕ) (found : FoundFrame) : Type 0 where
+record StandsFound (bytes : List ℕ) (place : ℕ) (found : FoundFrame) : Type 0 where
   stands : span_found bytes place ≡ Some found.0
   own : own_of_span bytes found.0 ≡ Some found.1.own
 
 -- a frame that was tried is found
-frame_stands : (bytes : List ℕ) (place index : ℕ) (found : FoundFrame) → tried_frame place index bytes ≡ Ok found → IsFoundAt bytes place found
+frame_stands : (bytes : List ℕ) (place index : ℕ) (found : FoundFrame) → tried_frame place index bytes ≡ Ok found → StandsFound bytes place found
 unfolding tried_frame own_of_span
 frame_stands bytes place index (span, parts) is = of_span (tried_span place index bytes) refl is
   where
     of_head : (stood : Span) → tried_span place index bytes ≡ Ok stood → has_check_word bytes stood ≡ true → (told : Option HeadParts) → head_at bytes stood ≡ told
-        → ◌≡◌ {A = Tried FoundFrame} (head_tried place index stood told) (Ok (span, parts)) → IsFoundAt bytes place (span, parts)
+        → ◌≡◌ {A = Tried FoundFrame} (head_tried place index stood told) (Ok (span, parts)) → StandsFound bytes place (span, parts)
     of_head stood at right None told same = absurd cc
     of_head stood at right (Some others) told same =
-        subst (IsFoundAt bytes place) (same_found stood others span parts same) (record {
+        subst (StandsFound bytes place) (same_found stood others span parts same) (record {
           stands = same_span bytes place index stood at;
           own = ap (λ (test : Bool). if test then option_map (λ (parts : HeadParts). parts.own) (head_at bytes stood) else None) right ∙ ap (option_map (λ (parts : HeadParts). parts.own)) told;
         })
@@ -63,17 +71,17 @@ frame_stands bytes place index (span, parts) is = of_span (tried_span place inde
         same_found stood others span parts same = cc
 
     of_word : (stood : Span) → tried_span place index bytes ≡ Ok stood → (right : Bool) → has_check_word bytes stood ≡ right
-        → ◌≡◌ {A = Tried FoundFrame} (if not right then Err (frame_refusal 30 index place) else head_tried place index stood (head_at bytes stood)) (Ok (span, parts)) → IsFoundAt bytes place (span, parts)
+        → ◌≡◌ {A = Tried FoundFrame} (if not right then Err (frame_refusal 30 index place) else head_tried place index stood (head_at bytes stood)) (Ok (span, parts)) → StandsFound bytes place (span, parts)
     of_word stood at true right same = of_head stood at right (head_at bytes stood) refl same
     of_word stood at false right same = absurd cc
 
-    of_span : (tried : Tried Span) → tried_span place index bytes ≡ tried → ◌≡◌ {A = Tried FoundFrame} (frame_checked place index bytes tried) (Ok (span, parts)) → IsFoundAt bytes place (span, parts)
+    of_span : (tried : Tried Span) → tried_span place index bytes ≡ tried → ◌≡◌ {A = Tried FoundFrame} (frame_checked place index bytes tried) (Ok (span, parts)) → StandsFound bytes place (span, parts)
     of_span (Err refusal) at same = absurd cc
     of_span (Ok stood) at same = of_word stood at (has_check_word bytes stood) refl same
 
 -- the frame of a pair that was tried, and the pair's handle
 record IsOfPair (bytes : List ℕ) (pair : Pair) (found : FoundFrame) : Type 0 where
-  found_at : IsFoundAt bytes pair.place found
+  found_at : StandsFound bytes pair.place found
   own : found.1.own ≡ pair.handle
 
 -- numbers that pass the test are one
@@ -108,8 +116,8 @@ pair_stands bytes earlier index pair found is = of_span (tried_span pair.place i
     of_span (Ok span) same = of_touch (touches earlier span.from span.end) same
 
 -- so it is the candidate of the pair
-pair_is_candidate : (bytes : List ℕ) (index : ℕ) (pair : Pair) (found : FoundFrame) → 0 < pair.handle → IsOfPair bytes pair found → candidate bytes index pair ≡ Some (frame_of index found)
-unfolding frame_of
+pair_is_candidate : (bytes : List ℕ) (index : ℕ) (pair : Pair) (found : FoundFrame) → 0 < pair.handle → IsOfPair bytes pair found → candidate bytes index pair ≡ Some (found_frame index found)
+unfolding found_frame
 pair_is_candidate bytes index pair found positive is =
     let up : nat_lt 0 pair.handle ≡ true = grind (arith, nat_tests) in
     let same : (found.1.own == pair.handle) ≡ true = grind (arith, nat_tests, is.own) in
@@ -127,7 +135,7 @@ record AreBehind (bytes : List ℕ) (index : ℕ) (earlier founds : List FoundFr
 -- so they are
 frames_are_behind : (bytes : List ℕ) (pairs : List Pair) (index : ℕ) (earlier founds : List FoundFrame) → AllByRecursion (λ handle. 0 < handle) (map (λ (pair : Pair). pair.handle) pairs)
     → frames_behind bytes index earlier pairs ≡ Ok founds → AreBehind bytes index earlier founds pairs
-unfolding frames_behind candidates frame_of
+unfolding frames_behind candidates found_frame
 frames_are_behind bytes [] index earlier founds positive is = let same : earlier ≡ founds = cc in record { rest = []; whole = sym same ∙ sym (append-nil earlier); same = refl }
 frames_are_behind bytes (pair ∷ pairs) index earlier founds positive is =
     of_found (tried_pair bytes earlier index pair) refl is (λ found behind. frames_are_behind bytes pairs (index + 1) (earlier ++ found ∷ []) founds positive.1 behind)
@@ -149,3 +157,14 @@ pub map_is_found : (bytes : List ℕ) (pairs : List Pair) (founds : List FoundFr
     → frames_behind bytes 0 [] pairs ≡ Ok founds → candidates bytes 0 pairs ≡ frames_found 0 founds
 map_is_found bytes pairs founds positive is =
     let behind = frames_are_behind bytes pairs 0 [] founds positive is in behind.same ∙ ap (frames_found 0) (sym behind.whole)
+
+-- so of an input in which no line fails, whose header locates a map, the frames that were found are the candidates of its pairs
+pub candidates_are_found : SectionLaws → (bytes : List ℕ) (header : FileHeader) (place : ℕ) (pairs : List Pair) → AreBytes bytes → first_fault ALL_LINES bytes ≡ None → BeginsWithHeader bytes header
+    → place_of 2 header.locators ≡ Some place → MapOf bytes place pairs → candidates bytes 0 pairs ≡ frames_found 0 (result_unwrap_or (frames_tried bytes) [])
+unfolding frames_tried map_tried
+candidates_are_found laws bytes header place pairs are none begins located map =
+    let same : place ≡ section_place 2 bytes = located_same bytes header 2 place (laws.header_complete bytes header begins).1 located in
+    let tried : map_tried bytes ≡ Ok pairs = (map_is_tried (section_place 2 bytes) bytes pairs are).1 (subst (λ at. MapOf bytes at pairs) same map) in
+    let founds = ok_of_fault (frames_tried bytes) (each_holds bytes none).frames in
+    let behind : frames_behind bytes 0 [] pairs ≡ Ok founds.0 = sym (ap (λ (tried : Tried (List Pair)). frames_behind bytes 0 [] (result_unwrap_or tried [])) tried) ∙ founds.1 in
+    map_is_found bytes pairs founds.0 map.handles.positive behind ∙ ap (λ (tried : Tried (List FoundFrame)). frames_found 0 (result_unwrap_or tried [])) (sym founds.1)

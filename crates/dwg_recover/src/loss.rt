@@ -3,7 +3,7 @@
 use dwg_base::Handle;
 
 /// Something of a damaged file that isn't whole. A rule of this project. Losses stand in the order of these variants, and those
-/// of one variant in the order of the file.
+/// of one variant in the order of the locators, of the walk or of the map.
 #[derive(Clone, Copy, Debug, PartialEq, Eq)]
 pub enum Loss {
     /// The file header, and with it the place of everything else.

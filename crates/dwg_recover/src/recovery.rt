@@ -44,7 +44,7 @@ pub struct Recovered<'a> {
     pub drawing: Drawing<'a>,
     /// Why the input spells no drawing; none where it spells one.
     pub refusal: Option<Refusal>,
-    /// What is lost, in the order of [`Loss`] and within it in that of the file.
+    /// What is lost, in the order of [`Loss`] and within it in that of the locators, of the walk or of the map.
     pub losses: Items<Loss>,
     /// The frames of the drawing's objects, in order of place.
     pub kept: Items<Kept>,

@@ -3,12 +3,14 @@
 ghost use Rattle.std.specs.Prelude.{◌≡◌, ◌+◌, ◌*◌, ◌^◌, ◌≤◌, ◌<◌, ℕ, drop, length, false, true, IfOk, IfSome, IfNone, ◌==◌};
 ghost use Rattle.std.specs.Option.{is_none};
 ghost use Rattle.std.specs.Result.{is_ok};
+ghost use Rattle.memchr.specs.Find.{OccursAt};
 ghost use Rattle.dwg_base.specs.Devices.{MOST_BYTES};
 ghost use Rattle.dwg_base.specs.Refusals.{first_fault};
 ghost use Rattle.dwg_check.specs.CheckWord.{FRAME_START, check_word};
 ghost use Rattle.dwg_classes.specs.ClassLines.{tried_classes};
 ghost use Rattle.dwg_codes.specs.Parts.{part_bytes};
 ghost use Rattle.dwg_recover.specs.Sections.{classes_of, first_whole, has_content, header_of, is_whole, locators_of, number_of_section, section_found, variables_of};
+ghost use Rattle.dwg_sections.specs.Framed.{begin_sentinel};
 ghost use Rattle.dwg_sections.specs.FramedLines.{BEFORE_CONTENT, content_at, framed_lines, size_at};
 ghost use Rattle.dwg_sections.specs.HeaderLines.{bytes_at, place_of, rs_at};
 
@@ -166,6 +168,7 @@ fn behind(bytes: &[u8], place: usize) -> &[u8]
 fn next_sentinel(bytes: &[u8], at: usize, which: Framed) -> Option<usize>
     requires { at ≤ length bytes.now }
     ensures found { IfSome result (λ place. (at ≤ place) × (place < length bytes.now) × ((other : ℕ) → at ≤ other → other < place → is_whole which bytes.now other ≡ false)) }
+    ensures stands { IfSome result (λ place. OccursAt bytes.now (begin_sentinel which) place) }
     ensures none { IfNone result ((other : ℕ) → at ≤ other → is_whole which bytes.now other ≡ false) }
 {
     let sentinel = begin_sentinel(which);

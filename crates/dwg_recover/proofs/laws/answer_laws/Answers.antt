@@ -1,11 +1,18 @@
 use Rattle.dwg_recover.specs.LossLaws.{losses_told}
-use Rattle.dwg_recover.specs.ResultLaws.{mapped_are_told, recovered_is_sound}
+use Rattle.dwg_recover.specs.ResultLaws.{damaged_is_answered, mapped_are_told, recovered_is_sound, spelled_is_answered}
 use Rattle.dwg_recover.proofs.SectionsOfFile.{section_laws}
 use Rattle.dwg_recover.proofs.laws.answer_laws.Goals as goal
 
 pub returns-clause-sound : goal.returns-clause-sound
 returns-clause-sound c =
     recovered_is_sound (section_laws c.file_header_laws.ensures.sound c.file_header_laws.ensures.complete c.framed_laws.ensures.sound c.framed_laws.ensures.complete)
+
+pub returns-clause-spelled : goal.returns-clause-spelled
+returns-clause-spelled c =
+    spelled_is_answered (section_laws c.file_header_laws.ensures.sound c.file_header_laws.ensures.complete c.framed_laws.ensures.sound c.framed_laws.ensures.complete)
+
+pub returns-clause-damaged : goal.returns-clause-damaged
+returns-clause-damaged c = damaged_is_answered
 
 pub returns-clause-mapped : goal.returns-clause-mapped
 returns-clause-mapped c = mapped_are_told

@@ -1,4 +1,5 @@
-use Rattle.dwg_recover.specs.PartLaws.{content_is_taken, header_found, pages_give_pairs, section_is_whole, walk_is_located}
+use Rattle.dwg_recover.specs.MapExactLaws.{candidates_are_of_pairs}
+use Rattle.dwg_recover.specs.PartLaws.{content_is_taken, header_found, pages_give_pairs, parts_are_kept, section_is_whole, walk_is_located}
 use Rattle.dwg_recover.proofs.SectionsOfFile.{section_laws}
 use Rattle.dwg_recover.proofs.laws.part_laws.Goals as goal
 
@@ -16,3 +17,9 @@ returns-clause-located c = walk_is_located
 
 pub returns-clause-pages : goal.returns-clause-pages
 returns-clause-pages c = pages_give_pairs
+
+pub returns-clause-candidates : goal.returns-clause-candidates
+returns-clause-candidates c = candidates_are_of_pairs
+
+pub returns-clause-kept : goal.returns-clause-kept
+returns-clause-kept c = parts_are_kept
