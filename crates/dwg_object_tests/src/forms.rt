@@ -201,17 +201,29 @@ fn a_class_says_what_its_objects_are(rt: HostRuntime) -> Result<(), Fail> {
     Ok(())
 }
 
+/// The words of the two ends of the line that a body is of, if it is of one.
+fn ends_of_body(body: &Body) -> Option<[u64; 6]> {
+    match body {
+        Body::Line(line) => {
+            let (start, end) = (line.start, line.end);
+            Some([start.x, start.y, start.z, end.x, end.y, end.z])
+        }
+        _ => None,
+    }
+}
+
+/// The words of the two ends of the line that an object is, if it is one.
+fn ends_of_object(object: &Object<'_>) -> Option<[u64; 6]> {
+    match object {
+        Object::Typed(typed) => ends_of_body(&typed.body),
+        _ => None,
+    }
+}
+
 /// The words of the two ends of the line that a frame holds.
 fn ends_of(alloc: Global, bytes: &[u8]) -> Result<[u64; 6], Fail> {
     let found = read_frame(alloc, bytes, 0, 0, &[]).or(Err("refused"))?;
-    let Object::Typed(typed) = &found.object else {
-        return Err(Fail::from("not typed"));
-    };
-    let Body::Line(line) = &typed.body else {
-        return Err(Fail::from("no line"));
-    };
-    let (start, end) = (line.start, line.end);
-    Ok([start.x, start.y, start.z, end.x, end.y, end.z])
+    Ok(ends_of_object(&found.object).ok_or("no line")?)
 }
 
 #[test]

@@ -75,20 +75,13 @@ pub(crate) enum Form {
     Raw { bytes: usize },
 }
 
-/// What was read of a frame: the type number, the own handle, the form, and the frame's end.
-pub(crate) fn found(
-    alloc: Global,
-    bytes: &[u8],
-    place: u64,
-    classes: &[Class],
-) -> Result<(u16, u64, Form, u64), Fault> {
-    let found = read_frame(alloc, bytes, place, 0, classes)?;
-    let own = found.object.handle().value();
-    let (number, form) = match &found.object {
+/// The type number of an object, and its form.
+fn form_of(object: &Object<'_>) -> (u16, Form) {
+    match object {
         Object::Typed(typed) => (
             typed.number,
             Form::Typed {
-                kind: found.object.kind(),
+                kind: object.kind(),
             },
         ),
         Object::Plain(plain) => (
@@ -104,8 +97,19 @@ pub(crate) fn found(
                 bytes: raw.bytes.as_slice().len(),
             },
         ),
-    };
-    Ok((number, own, form, found.end))
+    }
+}
+
+/// What was read of a frame: the type number, the own handle, the form, and the frame's end.
+pub(crate) fn found(
+    alloc: Global,
+    bytes: &[u8],
+    place: u64,
+    classes: &[Class],
+) -> Result<(u16, u64, Form, u64), Fault> {
+    let found = read_frame(alloc, bytes, place, 0, classes)?;
+    let (number, form) = form_of(&found.object);
+    Ok((number, found.object.handle().value(), form, found.end))
 }
 
 #[test]
