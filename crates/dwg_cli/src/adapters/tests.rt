@@ -71,4 +71,12 @@ fn each_error_of_a_stream_is_a_fault(rt: HostRuntime) {
     assert_eq!(rt; sink.write(b"12345"), Err(Failed));
     assert_eq!(rt; sink.write(b""), Err(Failed));
     assert_eq!(rt; sink.faults, 3);
+
+    // A flush that fails behind bytes that were taken.
+    let mut sink = WriterSink::new(Stream {
+        calls: 0,
+        flushed: true,
+    });
+    assert_eq!(rt; sink.write(b"12345"), Err(Failed));
+    assert_eq!(rt; sink.faults, 1);
 }
