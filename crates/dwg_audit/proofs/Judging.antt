@@ -1,6 +1,6 @@
 -- Findings of one object, in the order of rules, and of all objects, one after the other.
 use Rattle.std.proofs.Common.{◌≡◌, sym, ap, ◌∙◌, subst, ℕ, zero, suc, ◌<◌, ◌≤◌, false, List, [], ◌∷◌, ◌++◌, length, map, drop, Some}
-use Rattle.std.specs.Prelude.{IsTrue, flat_map, if◌then◌else◌, Option, slice_index_or}
+use Rattle.std.specs.Prelude.{◌↔◌, IsTrue, Result, Ok, Err, IfOk, flat_map, if◌then◌else◌, Option, slice_index_or}
 use Rattle.std.specs.List.{AllByRecursion, slice_get, sum_by}
 use Rattle.std.specs.Option.{option_map}
 use Rattle.std.proofs.lemmas.List.{append_assoc, append-nil}
@@ -8,6 +8,7 @@ use Rattle.std.proofs.Math.ListN.{drop_of_length-le}
 use Rattle.std.proofs.lemmas.List.Sums.{get_or-le-sum_by}
 use Rattle.std.proofs.lemmas.Option.{same_Some, slice_get-map, slice_get_within, slice_get-get_or}
 use Rattle.dwg_audit.proofs.Choosing.{drop_at_place}
+use Rattle.dwg_base.specs.declared.device.NoMemory.{NoMemory}
 use Rattle.dwg_audit.specs.Claimed.{reference_count}
 use Rattle.dwg_audit.specs.Findings.{control_findings, findings, resolve_findings, claim_findings, chain_findings, path_findings, findings_of}
 use Rattle.dwg_audit.specs.Held.{HoldsFields}
@@ -92,3 +93,8 @@ findings_begin objects none found empty first = ap (λ front. front ++ flat_map 
 -- behind all objects nothing is left to find
 pub all_found : {A B : Type 0} (f : A → List B) (all : List A) (place : ℕ) (found whole : List B) → length all ≤ place → found ++ flat_map f (drop place all) ≡ whole → found ≡ whole
 all_found {A} {B} f all place found whole behind is = sym (append-nil found) ∙ ap (λ rest. found ++ flat_map f rest) (sym (drop_of_length-le all behind)) ∙ is
+
+-- a list that is all of another is empty exactly where the other is
+pub empty_alike : {V : Type 0} (all : List V) (P : Type 0) (result : Result (List V) NoMemory) → IfOk result (λ found. found ≡ all) → (all ≡ []) ↔ P → IfOk result (λ found. (found ≡ []) ↔ P)
+empty_alike {V} all P (Ok found) same law = (λ none. law.0 (sym same ∙ none), λ holds. same ∙ law.1 holds)
+empty_alike {V} all P (Err fault) same law = tt

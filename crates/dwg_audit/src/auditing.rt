@@ -99,6 +99,35 @@ fn judge_if_typed<L: Ledger>(
     judge(objects, tables, object, standing, found, steps)
 }
 
+/// What objects fail, by what is known of all of them. The only refusal is want of memory.
+fn judge_all<L: Ledger>(
+    alloc: Global,
+    objects: &[Object<'_>],
+    tables: &Tables,
+    steps: &mut Steps<L>,
+) -> Result<Items<Finding>, NoMemory>
+    requires ascend { Ascend (handles_of (map value_of objects.now)) }
+    requires tables { AreTables (map value_of objects.now) tables.now }
+    requires whole { AllByRecursion IsWhole (map value_of objects.now) }
+    requires few { length objects.now + reference_count (map value_of objects.now) < 2 ^ 58 }
+    ensures { IfOk result (λ found. found ≡ findings (map value_of objects.now)) }
+{
+    let mut found = Items::new(alloc);
+    push_control(objects, &mut found)?;
+    'along: for place in 0..objects.len() {
+        let standing = standing_at(objects, tables, place);
+        judge_if_typed(
+            objects,
+            tables,
+            &objects[place],
+            &standing,
+            &mut found,
+            steps,
+        )?;
+    }
+    Ok(found)
+}
+
 /// What the references of objects fail (a rule of this project): none exactly where the drawing is sound. The findings stand in order
 /// of handle, rule, field and position. A step is one probe of the index of handles. The only refusal is want of memory.
 pub fn audit<L: Ledger>(
@@ -114,18 +143,5 @@ pub fn audit<L: Ledger>(
 {
     finding_laws();
     let tables = tabulate(alloc, objects, steps)?;
-    let mut found = Items::new(alloc);
-    push_control(objects, &mut found)?;
-    'along: for place in 0..objects.len() {
-        let standing = standing_at(objects, &tables, place);
-        judge_if_typed(
-            objects,
-            &tables,
-            &objects[place],
-            &standing,
-            &mut found,
-            steps,
-        )?;
-    }
-    Ok(found)
+    judge_all(alloc, objects, &tables, steps)
 }

@@ -1,6 +1,6 @@
 //! The references of objects as tables of places.
 
-ghost use Rattle.std.specs.Prelude.{◌≡◌, ◌==◌, ℕ, List, length, map, IfOk};
+ghost use Rattle.std.specs.Prelude.{◌≡◌, ◌==◌, ℕ, List, [], ◌∷◌, ◌++◌, length, map, IfOk, OnOk};
 ghost use Rattle.std.specs.List.{list_any};
 ghost use Rattle.std.specs.Option.{option_and_then, option_map};
 ghost use Rattle.dwg_audit.specs.Placed.{place_in, owner_table, next_table, root_table, home_table, home_at, end_table};
@@ -18,6 +18,16 @@ use dwg_paths::Ends;
 use dwg_steps::Steps;
 use std::alloc::Global;
 use std::sync::ledger::Ledger;
+
+/// Puts an item at the end. The only refusal is want of memory.
+fn push_item<T: Drop>(items: &mut Vec<T>, item: T) -> Result<(), NoMemory>
+    ensures { OnOk result (items.new.items ≡ items.old.items ++ item ∷ []) }
+{
+    match items.push(item) {
+        Ok(()) => Ok(()),
+        Err(_) => Err(NoMemory),
+    }
+}
 
 /// The place of a handle among the handles of an index.
 #[tactic(auto, using(crate::proofs::Placing::place_known))]
@@ -59,12 +69,7 @@ pub(crate) fn owner_places<L: Ledger>(
 {
     let mut places = Vec::new(alloc);
     'along: for object in objects {
-        if places
-            .push(owner_place(object, known, index, steps))
-            .is_err()
-        {
-            return Err(NoMemory);
-        }
+        push_item(&mut places, owner_place(object, known, index, steps))?;
     }
     Ok(places)
 }
@@ -82,10 +87,7 @@ pub(crate) fn next_places<L: Ledger>(
 {
     let mut places = Vec::new(alloc);
     'along: for object in objects {
-        let place = find_place(index, next_of(object), steps);
-        if places.push(place).is_err() {
-            return Err(NoMemory);
-        }
+        push_item(&mut places, find_place(index, next_of(object), steps))?;
     }
     Ok(places)
 }
@@ -158,9 +160,7 @@ pub(crate) fn root_marks(
 {
     let mut marks = Vec::new(alloc);
     'along: for object in objects {
-        if marks.push(is_root(object, known)).is_err() {
-            return Err(NoMemory);
-        }
+        push_item(&mut marks, is_root(object, known))?;
     }
     Ok(marks)
 }
@@ -252,12 +252,7 @@ pub(crate) fn homes(
 {
     let mut places = Vec::new(alloc);
     'along: for (place, object) in objects.iter().enumerate() {
-        if places
-            .push(home_of(objects, known, object, owners[place]))
-            .is_err()
-        {
-            return Err(NoMemory);
-        }
+        push_item(&mut places, home_of(objects, known, object, owners[place]))?;
     }
     Ok(places)
 }
@@ -310,9 +305,7 @@ pub(crate) fn end_places<L: Ledger>(
 {
     let mut places = Vec::new(alloc);
     'along: for object in objects {
-        if places.push(ends_at(object, index, steps)).is_err() {
-            return Err(NoMemory);
-        }
+        push_item(&mut places, ends_at(object, index, steps))?;
     }
     Ok(places)
 }

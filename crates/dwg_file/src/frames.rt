@@ -1,16 +1,17 @@
 //! Reading frames, pair by pair in map order.
 
-ghost use Rattle.std.specs.Prelude.{◌≡◌, ℕ, ◌<◌, List, [], ◌∷◌, ◌++◌, map, false, IfOk, IfErr};
+ghost use Rattle.std.specs.Bool.{then_some};
+ghost use Rattle.std.specs.Prelude.{◌≡◌, ℕ, ◌-◌, ◌<◌, ◌||◌, List, [], ◌∷◌, ◌++◌, map, false, nat_eq, IfOk, IfErr};
 ghost use Rattle.dwg_base.specs.Refusals.{IsFaultOfTable};
 ghost use Rattle.dwg_object.specs.FrameLines.{frame_refusal};
-ghost use Rattle.dwg_object.specs.Objects.{handle_of};
+ghost use Rattle.dwg_object.specs.Objects.{handle_of, value_of};
 ghost use Rattle.dwg_objmap.specs.Pages.{handles_of};
 ghost use Rattle.dwg_file.specs.FileLines.{FoundFrame, tried_pair, frames_behind};
 ghost use Rattle.dwg_file.specs.FrameReading.{AreTaken, AnswersPair, HasRead, GoesOn, AnswersFrames, values_of};
-ghost use Rattle.dwg_file.specs.Taken.{shares};
+ghost use Rattle.dwg_file.specs.Taken.{meets, shares};
 
 use crate::taken::Taken;
-use dwg_base::{Fault, NoMemory, Refusal};
+use dwg_base::{Fault, Handle, NoMemory, Refusal};
 use dwg_classes::Hints;
 use dwg_object::{Found, Object, read_span, span_at};
 use dwg_objmap::Pair;
@@ -26,6 +27,13 @@ fn refused(line: u8, index: u64, place: u64) -> Fault
     ensures { result ≡ Fault.Refused (frame_refusal line index place) }
 {
     Fault::Refused(Refusal { line, index, place })
+}
+
+/// A frame that was found, where the own handle of its object is this one.
+fn of_handle<'a>(found: Found<'a>, handle: Handle) -> Option<Found<'a>>
+    ensures { result ≡ then_some (nat_eq (handle_of (value_of found.entry.object)) handle) found.entry }
+{
+    (found.object.handle().value() == handle.value()).then_some(found)
 }
 
 /// Reads the frame of a pair: it has a span, which shares no byte with those of earlier pairs, a check word and a head, and
@@ -55,10 +63,10 @@ fn frame_of_pair<'a>(
         Ok(found) => found,
         Err(fault) => return Err(fault),
     };
-    if found.object.handle().value() != pair.handle.value() {
-        return Err(refused(HANDLE_LINE, index, place));
+    match of_handle(found, pair.handle) {
+        Some(found) => Ok(found),
+        None => Err(refused(HANDLE_LINE, index, place)),
     }
-    Ok(found)
 }
 
 /// The objects of the frames that were read so far, and the bytes that these frames took.
@@ -68,18 +76,29 @@ pub(crate) struct Frames<'a> {
     pub(crate) objects: Vec<Object<'a>>,
 }
 
-/// Puts an object at the end. The only refusal is want of memory.
-fn with_object<'a>(
-    objects: Vec<Object<'a>>,
-    object: Object<'a>,
-) -> Result<Vec<Object<'a>>, NoMemory>
-    ensures { IfOk result (λ more. more.items ≡ objects.entry.items ++ object.entry ∷ []) }
+/// The items and one more at the end. The only refusal is want of memory.
+fn with_item<T: Drop>(items: Vec<T>, item: T) -> Result<Vec<T>, NoMemory>
+    ensures { IfOk result (λ more. more.items ≡ items.items ++ item ∷ []) }
 {
-    let mut objects = objects;
-    match objects.push(object) {
-        Ok(()) => Ok(objects),
+    let mut items = items;
+    match items.push(item) {
+        Ok(()) => Ok(items),
         Err(_) => Err(NoMemory),
     }
+}
+
+/// The frames and one more from a place on, that shares no byte with them. The only refusal is want of memory.
+fn with_frame<'a>(frames: Frames<'a>, place: u64, found: Found<'a>) -> Result<Frames<'a>, NoMemory>
+    requires some { place < found.end }
+    requires apart { shares frames.taken place found.end ≡ false }
+    ensures taken { IfOk result (λ more. (other to : ℕ) → shares more.taken other to ≡ (shares frames.entry.taken other to || meets other to (found.entry.end - 1, place))) }
+    ensures objects { IfOk result (λ more. more.objects.items ≡ frames.entry.objects.items ++ found.entry.object ∷ []) }
+{
+    let Frames { taken, objects } = frames;
+    let end = found.end;
+    let objects = with_item(objects, found.object)?;
+    let taken = taken.add(place, end)?;
+    Ok(Frames { taken, objects })
 }
 
 /// The frames and the one of the next pair.
@@ -94,17 +113,12 @@ fn next_frame<'a>(
     ensures goes_on { (earlier : List FoundFrame) (handles : List ℕ) → HasRead hints.now bytes.now earlier handles frames.entry.taken frames.entry.objects.items → GoesOn hints.now bytes.now earlier handles pair.now (tried_pair bytes.now earlier index pair.now) result }
     ensures of_table { IfErr result IsFaultOfTable }
 {
-    let Frames { taken, objects } = frames;
-    let found = match frame_of_pair(alloc, &taken, bytes, pair, index, hints) {
+    let found = match frame_of_pair(alloc, &frames.taken, bytes, pair, index, hints) {
         Ok(found) => found,
         Err(fault) => return Err(fault),
     };
-    let taken = match taken.add(pair.place, found.end) {
-        Ok(taken) => taken,
-        Err(NoMemory) => return Err(Fault::NoMemory),
-    };
-    match with_object(objects, found.object) {
-        Ok(objects) => Ok(Frames { taken, objects }),
+    match with_frame(frames, pair.place, found) {
+        Ok(frames) => Ok(frames),
         Err(NoMemory) => Err(Fault::NoMemory),
     }
 }

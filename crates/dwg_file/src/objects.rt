@@ -27,13 +27,13 @@ fn sorted<'a>(objects: Vec<Object<'a>>) -> Vec<Object<'a>>
     objects
 }
 
-/// The same objects as a list. The only refusal is want of memory.
-fn listed<'a>(alloc: Global, objects: Vec<Object<'a>>) -> Result<Items<Object<'a>>, NoMemory>
-    ensures { IfOk result (λ list. list ≡ objects.entry.items) }
+/// The same items as a list. The only refusal is want of memory.
+fn listed<T: Drop>(alloc: Global, items: Vec<T>) -> Result<Items<T>, NoMemory>
+    ensures { IfOk result (λ list. list ≡ items.items) }
 {
     let mut list = Items::new(alloc);
-    'along: for object in objects {
-        match list.push(object) {
+    'along: for item in items {
+        match list.push(item) {
             Ok(()) => {}
             Err(_) => return Err(NoMemory),
         }

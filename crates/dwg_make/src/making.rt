@@ -3,6 +3,7 @@
 ghost use Rattle.std.specs.Prelude.{◌≡◌, [], ◌∷◌, ◌++◌, map, OnOk};
 ghost use Rattle.dwg_object.specs.Objects.{value_of};
 
+use crate::lists::add_to;
 use dwg_base::{Items, NoMemory};
 use dwg_object::Object;
 use std::alloc::Global;
@@ -37,10 +38,8 @@ impl Making {
     pub(crate) fn add(&mut self, object: Object<'static>) -> Result<(), NoMemory>
         ensures { OnOk result (self.new ≡ self.old ++ value_of object.entry ∷ []) }
     {
-        match self.objects.push(object) {
-            Ok(()) => Ok(()),
-            Err(_) => Err(NoMemory),
-        }
+        add_to(&mut self.objects, object)?;
+        Ok(())
     }
 
     /// All that were made.

@@ -56,10 +56,6 @@ impl Common {
         base: Handle,
     ) -> Result<Option<Common>, NoMemory>
         ensures reads { IfOk result (λ found. ReadsBody (common_part entity base) found (rest main.old) (rest main.new) (rest refs.old) (rest refs.new)) }
-        ensures same_bytes { main.new.bytes.now ≡ main.old.bytes.now }
-        ensures same_end { main.new.end ≡ main.old.end }
-        ensures refs_same_bytes { refs.new.bytes.now ≡ refs.old.bytes.now }
-        ensures refs_same_end { refs.new.end ≡ refs.old.end }
     {
         if entity {
             read_variant::<EntityCommon, Common>(alloc, main, refs, base)

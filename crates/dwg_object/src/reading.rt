@@ -1,35 +1,47 @@
 //! Reading bodies, in the strongest form that they have.
 
-ghost use Rattle.std.specs.Prelude.{◌≡◌, ◌^◌, ◌<◌, ℕ, Bool, List, length, Ok, None, IfOk, IfSome};
+ghost use Rattle.std.specs.Prelude.{◌≡◌, ◌≢◌, ◌^◌, ◌<◌, ◌↔◌, ◌⊎◌, ℕ, Bool, List, length, Ok, Some, None, option_map, IfOk, IfSome, IsTrue};
 ghost use Rattle.dwg_bits.specs.Bits.{bits};
 ghost use Rattle.dwg_bits.specs.Cursor.{rest};
 ghost use Rattle.dwg_classes.specs.declared.class.Class.{Class};
+ghost use Rattle.dwg_codes.specs.ToEnd.{ReadsToEnd};
+ghost use Rattle.dwg_handles.specs.Reference.{Reference};
+ghost use Rattle.dwg_handles.specs.ReferenceCodes.{reference};
+ghost use Rattle.dwg_kinds.specs.declared.kind.Kind.TheVariants as kinds;
+ghost use Rattle.dwg_object.specs.declared.reading.Rest.{Rest};
 ghost use Rattle.dwg_object.specs.Forms.{BeginsWithHead, CommonForm, FormOf, HasCommonForm, HasPlainForm, HasTypedForm, kind_under};
 ghost use Rattle.dwg_object.specs.HeadLaws.{IsHeadAt};
-ghost use Rattle.dwg_object.specs.Objects.{HoldsItsBytes, parts_of, value_of};
+ghost use Rattle.dwg_object.specs.Objects.{HoldsItsBytes, PlainValue, parts_of, value_of};
 ghost use Rattle.dwg_object.specs.TypedLaws.{AreOwn, HasOwn};
 
 use crate::body::Body;
 use crate::common::Common;
 use crate::head::{HeadAt, head_of};
 use crate::object::{Object, Plain, Raw, Typed};
-use dwg_base::{ByteRun, Handle, NoMemory};
-use dwg_bits::{BitCursor, BitPart, BitRun};
+use dwg_base::{ByteRun, Handle, Items, NoMemory};
+use dwg_bits::{BitCursor, BitPart, BitRun, BitSpan};
 use dwg_classes::{Class, Hints};
 use dwg_codes::BytePart;
-use dwg_handles::read_refs_to_end;
+use dwg_handles::{Ref, read_refs_to_end};
 use dwg_kinds::{Kind, is_entity, kind_of};
 use std::alloc::Global;
+
+/// All bits that are left, as a span of the same bytes.
+fn span_left<'a>(cursor: &BitCursor<'a>) -> BitSpan<'a>
+    ensures { result ≡ rest cursor.now }
+{
+    let mut ahead = *cursor;
+    match ahead.run(ahead.left()) {
+        Some(span) => span,
+        None => unreachable!(),
+    }
+}
 
 /// All bits that are left, as a list of its own. The only refusal is want of memory.
 fn take_rest(alloc: Global, cursor: &BitCursor<'_>) -> Result<BitRun, NoMemory>
     ensures { IfOk result (λ run. run ≡ rest cursor.now) }
 {
-    let mut ahead = *cursor;
-    let Some(span) = ahead.run(ahead.left()) else {
-        unreachable!()
-    };
-    match BitRun::copy(alloc, &BitPart::Lent(span)) {
+    match BitRun::copy(alloc, &BitPart::Lent(span_left(cursor))) {
         Some(run) => Ok(run),
         None => Err(NoMemory),
     }
@@ -73,6 +85,13 @@ fn read_front<'a>(
     Ok(Some(Front { common, main, refs }))
 }
 
+/// Whether all is read that a body of a kind has of its own: no bit is left of its own, and of the references fewer than eight.
+fn is_read_out(main: &BitCursor<'_>, refs: &BitCursor<'_>) -> bool
+    ensures { IsTrue result ↔ ((length (rest main.now) ≡ 0) × (length (rest refs.now) < 8)) }
+{
+    main.left() == 0 && refs.left() < 8
+}
+
 /// Reads what a kind has of its own behind the common part of a body. None exactly where own bits and own references are not
 /// those of the kind, but for fewer than eight bits; the only refusal is want of memory.
 fn read_value(
@@ -88,14 +107,58 @@ fn read_value(
     let _base = own.value();
     let mut main = front.main;
     let mut refs = front.refs;
-    let Some(body) = Body::read(alloc, kind, &mut main, &mut refs, own)? else {
-        return Ok(None);
-    };
-    let (left, over) = (main.left(), refs.left());
-    if left != 0 || over >= 8 {
+    match Body::read(alloc, kind, &mut main, &mut refs, own)? {
+        Some(body) => Ok(is_read_out(&main, &refs).then_some(body)),
+        None => Ok(None),
+    }
+}
+
+/// What stands behind the common part of a body in its Plain form.
+#[derive(Drop)]
+struct Rest {
+    /// The bits before the references.
+    bits: BitRun,
+    /// The references.
+    refs: Items<Ref>,
+}
+
+/// Reads what stands behind the common part of a body in its Plain form. None exactly where the kind is unknown or what stands
+/// there are no references; the only refusal is want of memory.
+fn read_rest(
+    alloc: Global,
+    front: &Front<'_>,
+    kind: Kind,
+    own: Handle,
+) -> Result<Option<Rest>, NoMemory>
+    ensures known { IfOk result (λ read. IfSome read (λ behind. kind ≢ kinds.Unknown)) }
+    ensures bits { IfOk result (λ read. IfSome read (λ behind. behind.bits ≡ rest front.now.main)) }
+    ensures refs { IfOk result (λ read. IfSome read (λ behind. (left : List Bool) × ReadsToEnd 8 (reference own) (Some behind.refs) (rest front.now.refs) left)) }
+    ensures none { result ≡ Ok None → (kind ≡ kinds.Unknown) ⊎ ((left : List Bool) × ReadsToEnd {V = Reference} 8 (reference own) None (rest front.now.refs) left) }
+{
+    if kind == Kind::Unknown {
         return Ok(None);
     }
-    Ok(Some(body))
+    let mut cursor = front.refs;
+    let Some(refs) = read_refs_to_end(alloc, &mut cursor, own)? else {
+        return Ok(None);
+    };
+    let bits = take_rest(alloc, &front.main)?;
+    Ok(Some(Rest { bits, refs }))
+}
+
+/// The object of a body in its Plain form, where it has one.
+fn plain_object<'a>(found: &HeadAt, front: Front<'_>, behind: Option<Rest>) -> Option<Object<'a>>
+    ensures form { option_map value_of result ≡ option_map (λ (parts : Rest). PlainValue found.now.head.number found.now.head.own front.entry.common parts.bits parts.refs) behind }
+    ensures owned { IfSome result HoldsItsBytes }
+{
+    let Rest { bits, refs } = behind?;
+    Some(Object::Plain(Plain {
+        number: found.head.number,
+        handle: found.head.own,
+        common: front.common,
+        rest: BitPart::Owned(bits),
+        refs,
+    }))
 }
 
 /// Reads a body in its Plain form, behind its common part. None exactly where it has none; the only refusal is want of memory.
@@ -111,22 +174,8 @@ fn read_plain<'a>(
     ensures none { result ≡ Ok None → (classes : List Class) → kind ≡ kind_under classes found.now.head.number → HasPlainForm classes body.now → ⊥ }
     ensures owned { IfOk result (λ read. IfSome read HoldsItsBytes) }
 {
-    if kind == Kind::Unknown {
-        return Ok(None);
-    }
-    let own = found.head.own;
-    let rest = take_rest(alloc, &front.main)?;
-    let mut refs = front.refs;
-    let Some(refs) = read_refs_to_end(alloc, &mut refs, own)? else {
-        return Ok(None);
-    };
-    Ok(Some(Object::Plain(Plain {
-        number: found.head.number,
-        handle: own,
-        common: front.common,
-        rest: BitPart::Owned(rest),
-        refs,
-    })))
+    let behind = read_rest(alloc, &front, kind, found.head.own)?;
+    Ok(plain_object(found, front, behind))
 }
 
 /// Reads a body in the strongest form that stands behind its common part. None exactly where it has neither; the only refusal

@@ -30,11 +30,7 @@ pub(crate) fn read_variant<B: VariantOf<E>, E>(
     refs: &mut BitCursor<'_>,
     base: Handle,
 ) -> Result<Option<E>, NoMemory>
-    ensures reads { IfOk result (λ found. ReadsBody (variant B.into B.back (B.grammar base)) found (rest main.old) (rest main.new) (rest refs.old) (rest refs.new)) }
-    ensures same_bytes { main.new.bytes.now ≡ main.old.bytes.now }
-    ensures same_end { main.new.end ≡ main.old.end }
-    ensures refs_same_bytes { refs.new.bytes.now ≡ refs.old.bytes.now }
-    ensures refs_same_end { refs.new.end ≡ refs.old.end }
+    ensures { IfOk result (λ found. ReadsBody (variant B.into B.back (B.grammar base)) found (rest main.old) (rest main.new) (rest refs.old) (rest refs.new)) }
 {
     let Some(body) = B::read(alloc, main, refs, base)? else {
         return Ok(None);

@@ -28,3 +28,4 @@ pub mod ToldLaws
 pub mod ResultLaws
 pub mod PartLaws
 pub mod LossLaws
+pub mod Finding

@@ -7,7 +7,8 @@ ghost use Rattle.dwg_recover.specs.Frames.{candidate, candidates, in_place_order
 ghost use Rattle.dwg_recover.specs.Placing.{IsPlaced};
 
 use crate::frame::{Frame, own_of_span};
-use crate::kept::{KeptFrames, with_frame};
+use crate::kept::KeptFrames;
+use crate::lists::with_item;
 use dwg_base::NoMemory;
 use dwg_check::SpanChecks;
 use dwg_object::span_at;
@@ -54,7 +55,7 @@ fn with_candidate(frames: Vec<Frame>, frame: Option<Frame>) -> Result<Vec<Frame>
     ensures { IfOk result (λ more. more.items ≡ frames.items ++ cons_option frame []) }
 {
     match frame {
-        Some(frame) => with_frame(frames, frame),
+        Some(frame) => with_item(frames, frame),
         None => Ok(frames),
     }
 }

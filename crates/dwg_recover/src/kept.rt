@@ -6,6 +6,7 @@ ghost use Rattle.std.specs.BTreeSet as set;
 ghost use Rattle.dwg_recover.specs.Frames.{is_number};
 
 use crate::frame::Frame;
+use crate::lists::with_item;
 use dwg_base::{Handle, NoMemory};
 use dwg_file::Taken;
 use std::alloc::Global;
@@ -56,17 +57,6 @@ fn with_pair(numbers: BTreeSet<u64>, pair: Option<u64>) -> Result<BTreeSet<u64>,
     match pair {
         Some(number) => with_number(numbers, number),
         None => Ok(numbers),
-    }
-}
-
-/// Frames and one more. The only refusal is want of memory.
-pub(crate) fn with_frame(frames: Vec<Frame>, frame: Frame) -> Result<Vec<Frame>, NoMemory>
-    ensures { IfOk result (λ more. more.items ≡ frames.items ++ frame ∷ []) }
-{
-    let mut frames = frames;
-    match frames.push(frame) {
-        Ok(()) => Ok(frames),
-        Err(_) => Err(NoMemory),
     }
 }
 
@@ -138,7 +128,7 @@ impl KeptFrames {
         let handles = with_number(handles, frame.handle.value())?;
         let pairs = with_pair(pairs, frame.pair)?;
         let end = later(end, frame.end);
-        let frames = with_frame(frames, frame)?;
+        let frames = with_item(frames, frame)?;
         Ok(KeptFrames {
             frames,
             taken,

@@ -5,6 +5,7 @@ mod candidates;
 mod frame;
 mod kept;
 mod laws;
+mod lists;
 mod loss;
 mod losses;
 mod recovery;

@@ -5,11 +5,13 @@ ghost use Rattle.std.specs.List.{AllByRecursion};
 ghost use Rattle.std.specs.Result.{result_unwrap_or};
 ghost use Rattle.dwg_base.specs.Devices.{MOST_BYTES};
 ghost use Rattle.dwg_base.specs.Refusals.{IsOfTable, first_fault};
+ghost use Rattle.dwg_file.specs.Contents.{contents_of};
 ghost use Rattle.dwg_file.specs.DrawingAt.{drawing_at};
 ghost use Rattle.dwg_file.specs.FileLines.{ALL_LINES, frames_tried};
 ghost use Rattle.dwg_object.specs.Objects.{value_of};
 ghost use Rattle.dwg_objmap.specs.Pages.{AreHandles};
-ghost use Rattle.dwg_recover.specs.Frames.{kept_of, in_place_order};
+ghost use Rattle.dwg_recover.specs.Finding.{AreFound};
+ghost use Rattle.dwg_recover.specs.Frames.{candidates, kept_of, in_place_order};
 ghost use Rattle.dwg_recover.specs.Placing.{IsFound, IsPlaced};
 ghost use Rattle.dwg_recover.specs.Recovering.{classes_found, code_page_of, drawing_recovered, frames_found, frames_kept, frames_mapped, lead_of, losses_of, mark_of, object_of, objects_of, pairs_read, recovered, recovered_damaged, recovered_whole, told, walk_of};
 ghost use Rattle.dwg_recover.specs.Results.{recovered_value};
@@ -21,6 +23,7 @@ use crate::candidates::{candidates, in_place_order, mapped_frames};
 use crate::frame::Frame;
 use crate::kept::KeptFrames;
 use crate::laws::recovered_laws;
+use crate::lists::with_item;
 use crate::loss::{Kept, Loss};
 use crate::losses::{with_loss_if, with_losses, with_lost_pairs, with_lost_sections};
 use crate::scan::with_scanned;
@@ -31,7 +34,7 @@ use dwg_check::SpanChecks;
 use dwg_classes::{Class, Hints};
 use dwg_file::{Drawing, Parts, drawing_laws, in_handle_order, read_drawing, whole_others};
 use dwg_object::{Object, read_body_hinted, span_at, span_body};
-use dwg_objmap::read_map;
+use dwg_objmap::{Pair, read_map};
 use dwg_sections::{FileHeader, Framed, Locator, OBJECT_MAP_NUMBER};
 use dwg_steps::Steps;
 use std::alloc::Global;
@@ -190,20 +193,6 @@ fn object_of<'a>(
     }
 }
 
-/// Objects and one more. The only refusal is want of memory.
-fn with_object<'a>(
-    objects: Vec<Object<'a>>,
-    object: Object<'a>,
-) -> Result<Vec<Object<'a>>, NoMemory>
-    ensures { IfOk result (λ more. more.items ≡ objects.entry.items ++ object.entry ∷ []) }
-{
-    let mut objects = objects;
-    match objects.push(object) {
-        Ok(()) => Ok(objects),
-        Err(_) => Err(NoMemory),
-    }
-}
-
 /// The objects that the bodies of frames are read as, in the order of the frames. The only refusal is want of memory.
 fn read_objects<'a>(
     alloc: Global,
@@ -217,7 +206,7 @@ fn read_objects<'a>(
     let hints = Hints::build(alloc, classes)?;
     let mut objects = Vec::new(alloc);
     'along: for index in 0..frames.len() {
-        objects = with_object(objects, object_of(alloc, bytes, &hints, &frames[index])?)?;
+        objects = with_item(objects, object_of(alloc, bytes, &hints, &frames[index])?)?;
     }
     Ok(objects)
 }
@@ -267,31 +256,28 @@ fn front_of(header: &Option<FileHeader>) -> Front
     }
 }
 
-/// The drawing of what is found: the header, the sections, the classes and the frames that are kept. The only refusal is want of
-/// memory.
-fn drawing_recovered<'a>(
+/// The parts of the drawing of what is found: the header, the sections, the classes and the frames that are kept. The only refusal
+/// is want of memory.
+fn parts_recovered<'a>(
     alloc: Global,
     bytes: &'a [u8],
     header: &Option<FileHeader>,
     places: &Places,
     classes: Items<Class>,
     frames: &[Frame],
-) -> Result<Drawing<'a>, NoMemory>
-    requires limit { length bytes.now ≤ MOST_BYTES }
+) -> Result<Parts<'a>, NoMemory>
     requires header { header.now ≡ header_of bytes.now }
     requires variables { places.now.variables ≡ section_found Framed.Variables bytes.now }
     requires classes { classes ≡ classes_found bytes.now }
     requires frames { frames.now ≡ frames_kept bytes.now }
-    ensures { IfOk result (λ drawing. drawing ≡ drawing_recovered bytes.now) }
+    ensures { IfOk result (λ parts. contents_of parts ≡ drawing_recovered bytes.now) }
 {
     let front = front_of(header);
     let (lead, mark) = (front.lead, front.mark);
     let variables = variables_at(alloc, bytes, places.variables)?;
     let others = whole_others(alloc, bytes, locators_of(header))?;
     let objects = objects_of(alloc, bytes, classes.as_slice(), frames)?;
-    drawing_laws();
-    recovered_laws();
-    Ok(Drawing::build(Parts {
+    Ok(Parts {
         lead,
         mark,
         code_page: front.code_page,
@@ -299,7 +285,18 @@ fn drawing_recovered<'a>(
         classes,
         others,
         objects,
-    }))
+    })
+}
+
+/// The drawing of parts that were recovered, which are valid.
+fn drawing_of<'a>(bytes: &[u8], parts: Parts<'a>) -> Drawing<'a>
+    requires limit { length bytes.now ≤ MOST_BYTES }
+    requires parts { contents_of parts ≡ drawing_recovered bytes.now }
+    ensures { result ≡ drawing_recovered bytes.now }
+{
+    drawing_laws();
+    recovered_laws();
+    Drawing::build(parts)
 }
 
 /// The walk over the map, and the frames that are kept for its pairs.
@@ -331,6 +328,101 @@ fn read_mapped<L: Ledger>(
     Ok(Mapped { walked, kept })
 }
 
+/// What is found of an input beside its frames: the header, where the two framed sections stand, and the classes.
+#[derive(Drop)]
+struct Found {
+    header: Option<FileHeader>,
+    places: Places,
+    classes: Items<Class>,
+}
+
+/// What is found of an input beside its frames. The only refusal is want of memory.
+#[tactic(auto, unfolding(crate::specs::Recovering::classes_found))]
+fn find_parts<L: Ledger>(
+    alloc: Global,
+    bytes: &[u8],
+    checks: &SpanChecks<'_>,
+    steps: &mut Steps<L>,
+) -> Result<Found, NoMemory>
+    requires limit { length bytes.now ≤ MOST_BYTES }
+    requires same { checks.now ≡ bytes.now }
+    ensures found { IfOk result (AreFound bytes.now) }
+    ensures steps { steps.new ≤ steps.old + 15 * (2 * length bytes.now + 2) }
+{
+    let header = header_of(alloc, bytes)?;
+    let places = find_sections(alloc, bytes, checks, &header, steps)?;
+    let classes = classes_at(alloc, bytes, places.classes)?;
+    Ok(Found {
+        header,
+        places,
+        classes,
+    })
+}
+
+/// What is lost of an input, and the frames that are kept.
+#[derive(Drop)]
+struct Gathered {
+    losses: Items<Loss>,
+    frames: Vec<Frame>,
+}
+
+/// What is lost of an input, and the frames that are kept. The only refusal is want of memory.
+fn gather_frames<L: Ledger>(
+    alloc: Global,
+    bytes: &[u8],
+    checks: &SpanChecks<'_>,
+    found: &Found,
+    steps: &mut Steps<L>,
+) -> Result<Gathered, NoMemory>
+    requires same { checks.now ≡ bytes.now }
+    requires found { AreFound bytes.now found.now }
+    ensures losses { IfOk result (λ gathered. gathered.losses ≡ losses_of bytes.now) }
+    ensures frames { IfOk result (λ gathered. gathered.frames.items ≡ frames_kept bytes.now) }
+    ensures steps { steps.new ≤ steps.old + 15 * (2 * length bytes.now) }
+{
+    let Mapped { walked, kept } = read_mapped(alloc, bytes, checks, &found.header, steps)?;
+    let losses = losses_of(alloc, bytes, &found.header, &found.places, &walked, &kept)?;
+    let kept = with_scanned(alloc, bytes, checks, found.classes.as_slice(), kept, steps)?;
+    Ok(Gathered {
+        losses,
+        frames: kept.into_frames(),
+    })
+}
+
+/// What is recovered of an input that spells no drawing, by what is found of it, what is lost, and the frames that are kept. The only
+/// refusal is want of memory.
+fn recovered_of<'a>(
+    alloc: Global,
+    bytes: &'a [u8],
+    refusal: Refusal,
+    found: Found,
+    gathered: Gathered,
+) -> Result<Recovered<'a>, NoMemory>
+    requires limit { length bytes.now ≤ MOST_BYTES }
+    requires refusal { first_fault ALL_LINES bytes.now ≡ Some refusal }
+    requires of_table { IsOfTable refusal }
+    requires found { AreFound bytes.now found }
+    requires losses { gathered.losses ≡ losses_of bytes.now }
+    requires frames { gathered.frames.items ≡ frames_kept bytes.now }
+    ensures recovered { IfOk result (λ value. recovered_value value ≡ recovered_damaged bytes.now) }
+    ensures of_table { IfOk result (λ value. IfSome value.refusal IsOfTable) }
+{
+    let Found {
+        header,
+        places,
+        classes,
+    } = found;
+    let Gathered { losses, frames } = gathered;
+    let parts = parts_recovered(alloc, bytes, &header, &places, classes, frames.as_slice())?;
+    let kept = told(alloc, bytes, frames)?;
+    Ok(Recovered {
+        drawing: drawing_of(bytes, parts),
+        refusal: Some(refusal),
+        losses,
+        kept,
+    })
+}
+
 /// What is recovered of an input that spells no drawing, for which it is refused so. The only refusal is want of memory.
 fn recover_damaged<'a, L: Ledger>(
     alloc: Global,
@@ -346,21 +438,24 @@ fn recover_damaged<'a, L: Ledger>(
     ensures steps { steps.new ≤ steps.old + 15 * (4 * length bytes.now + 4) }
 {
     let checks = SpanChecks::build(alloc, bytes)?;
+    let found = find_parts(alloc, bytes, &checks, steps)?;
+    let gathered = gather_frames(alloc, bytes, &checks, &found, steps)?;
+    recovered_of(alloc, bytes, refusal, found, gathered)
+}
+
+/// The pairs of the map of an input that spells a drawing. The only refusal is want of memory.
+fn whole_map(alloc: Global, bytes: &[u8]) -> Result<Items<Pair>, NoMemory>
+    requires { first_fault ALL_LINES bytes.now ≡ None }
+    ensures few { IfOk result (λ pairs. length pairs ≤ length bytes.now) }
+    ensures frames { IfOk result (λ pairs. candidates bytes.now 0 pairs ≡ frames_found 0 (result_unwrap_or (frames_tried bytes.now) [])) }
+{
     let header = header_of(alloc, bytes)?;
-    let places = find_sections(alloc, bytes, &checks, &header, steps)?;
-    let classes = classes_at(alloc, bytes, places.classes)?;
-    let Mapped { walked, kept } = read_mapped(alloc, bytes, &checks, &header, steps)?;
-    let losses = losses_of(alloc, bytes, &header, &places, &walked, &kept)?;
-    let kept = with_scanned(alloc, bytes, &checks, classes.as_slice(), kept, steps)?;
-    let frames = kept.into_frames();
-    let drawing = drawing_recovered(alloc, bytes, &header, &places, classes, frames.as_slice())?;
-    let kept = told(alloc, bytes, frames)?;
-    Ok(Recovered {
-        drawing,
-        refusal: Some(refusal),
-        losses,
-        kept,
-    })
+    let place = place_located(&header, OBJECT_MAP_NUMBER).unwrap_or(0);
+    match read_map(alloc, bytes, u64::from(place)) {
+        Ok(pairs) => Ok(pairs),
+        Err(Fault::Refused(_)) => unreachable!(),
+        Err(Fault::NoMemory) => Err(NoMemory),
+    }
 }
 
 /// The frames of the map of an input that spells a drawing, as they are told. The only refusal is want of memory.
@@ -373,13 +468,7 @@ fn frames_of_map<L: Ledger>(
     ensures kept { IfOk result (λ kept. kept ≡ told bytes.now (frames_found 0 (result_unwrap_or (frames_tried bytes.now) []))) }
     ensures steps { steps.new ≤ steps.old + 15 * length bytes.now }
 {
-    let header = header_of(alloc, bytes)?;
-    let place = place_located(&header, OBJECT_MAP_NUMBER).unwrap_or(0);
-    let pairs = match read_map(alloc, bytes, u64::from(place)) {
-        Ok(pairs) => pairs,
-        Err(Fault::Refused(_)) => unreachable!(),
-        Err(Fault::NoMemory) => return Err(NoMemory),
-    };
+    let pairs = whole_map(alloc, bytes)?;
     let checks = SpanChecks::build(alloc, bytes)?;
     let frames = candidates(alloc, bytes, &checks, pairs.as_slice(), steps)?;
     told(alloc, bytes, frames)

@@ -29,6 +29,18 @@ fn is_read_with_common_part(object: &Object<'_>) -> bool
     }
 }
 
+/// Lets a value go.
+fn let_go<T: Drop>(_value: T) {}
+
+/// Whether an object, which is let go, is read with its common part.
+fn is_of_common_part(object: Object<'_>) -> bool
+    ensures { result ≡ has_common_part (value_of object.entry) }
+{
+    let is = is_read_with_common_part(&object);
+    let_go(object);
+    is
+}
+
 /// Whether the body of a span that stands in the input is read with its common part. The only refusal is want of memory.
 fn has_common_part(
     alloc: Global,
@@ -41,7 +53,7 @@ fn has_common_part(
     ensures { IfOk result (λ has. has ≡ has_common_part (form_at hints.now (span_body bytes.now span.now))) }
 {
     match read_body_hinted(alloc, span_body(bytes, span), hints)? {
-        Some(object) => Ok(is_read_with_common_part(&object)),
+        Some(object) => Ok(is_of_common_part(object)),
         None => Ok(false),
     }
 }

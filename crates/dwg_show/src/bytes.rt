@@ -75,7 +75,7 @@ pub(crate) fn tell_bytes<W: Sink>(bytes: &[u8], page: &mut Page, sink: &mut W)
 impl Print for Bytes<'_> {
     ghost lines = { λ path bytes. printers.bytes path bytes.0.now };
 
-    #[tactic(auto, using(crate::proofs::Runs::tells_5), unfolding(crate::specs::Fields::field_line))]
+    #[tactic(auto, unfolding(crate::specs::Fields::field_line))]
     fn print<W: Sink>(&self, path: &str, page: &mut Page, sink: &mut W) {
         page.tell("  ", sink);
         page.tell(path, sink);

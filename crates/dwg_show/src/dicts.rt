@@ -14,7 +14,7 @@ use dwg_dicts::{
 impl Print for BlockControl {
     ghost lines = { fields.block_control_fields };
 
-    #[tactic(auto, using(crate::proofs::Runs::tells_3), unfolding(crate::specs::DictsFields::block_control_fields))]
+    #[tactic(auto, unfolding(crate::specs::DictsFields::block_control_fields))]
     fn print<W: Sink>(&self, path: &str, page: &mut Page, sink: &mut W) {
         print_member(&self.entries, path, "entries", page, sink);
         print_member(&self.model, path, "model", page, sink);
@@ -43,7 +43,7 @@ impl Print for StyleControl {
 impl Print for LtypeControl {
     ghost lines = { fields.ltype_control_fields };
 
-    #[tactic(auto, using(crate::proofs::Runs::tells_3), unfolding(crate::specs::DictsFields::ltype_control_fields))]
+    #[tactic(auto, unfolding(crate::specs::DictsFields::ltype_control_fields))]
     fn print<W: Sink>(&self, path: &str, page: &mut Page, sink: &mut W) {
         print_member(&self.entries, path, "entries", page, sink);
         print_member(&self.first, path, "first", page, sink);
@@ -63,7 +63,7 @@ impl Print for AppIdControl {
 impl Print for DictItem {
     ghost lines = { fields.dict_item_fields };
 
-    #[tactic(auto, using(crate::proofs::Runs::tells_2), unfolding(crate::specs::DictsFields::dict_item_fields))]
+    #[tactic(auto, unfolding(crate::specs::DictsFields::dict_item_fields))]
     fn print<W: Sink>(&self, path: &str, page: &mut Page, sink: &mut W) {
         print_member(&self.name, path, "name", page, sink);
         print_member(&self.target, path, "target", page, sink);
@@ -73,7 +73,7 @@ impl Print for DictItem {
 impl Print for Dictionary {
     ghost lines = { fields.dictionary_fields };
 
-    #[tactic(auto, using(crate::proofs::Runs::tells_3), unfolding(crate::specs::DictsFields::dictionary_fields))]
+    #[tactic(auto, unfolding(crate::specs::DictsFields::dictionary_fields))]
     fn print<W: Sink>(&self, path: &str, page: &mut Page, sink: &mut W) {
         print_member(&self.cloning, path, "cloning", page, sink);
         print_member(&self.hard_owner, path, "hard_owner", page, sink);
@@ -84,7 +84,7 @@ impl Print for Dictionary {
 impl Print for XRecord {
     ghost lines = { fields.xrecord_fields };
 
-    #[tactic(auto, using(crate::proofs::Runs::tells_3), unfolding(crate::specs::DictsFields::xrecord_fields))]
+    #[tactic(auto, unfolding(crate::specs::DictsFields::xrecord_fields))]
     fn print<W: Sink>(&self, path: &str, page: &mut Page, sink: &mut W) {
         print_bytes(&self.bytes, path, "bytes", page, sink);
         print_member(&self.cloning, path, "cloning", page, sink);

@@ -32,7 +32,7 @@ impl Print for Text {
 impl Print for Attrib {
     ghost lines = { fields.attrib_fields };
 
-    #[tactic(auto, using(crate::proofs::Runs::tells_4), unfolding(crate::specs::EntitiesFields::attrib_fields))]
+    #[tactic(auto, unfolding(crate::specs::EntitiesFields::attrib_fields))]
     fn print<W: Sink>(&self, path: &str, page: &mut Page, sink: &mut W) {
         print_member(&self.text, path, "text", page, sink);
         print_member(&self.tag, path, "tag", page, sink);
@@ -44,7 +44,7 @@ impl Print for Attrib {
 impl Print for Attdef {
     ghost lines = { fields.attdef_fields };
 
-    #[tactic(auto, using(crate::proofs::Runs::tells_2), unfolding(crate::specs::EntitiesFields::attdef_fields))]
+    #[tactic(auto, unfolding(crate::specs::EntitiesFields::attdef_fields))]
     fn print<W: Sink>(&self, path: &str, page: &mut Page, sink: &mut W) {
         print_member(&self.attrib, path, "attrib", page, sink);
         print_member(&self.prompt, path, "prompt", page, sink);
@@ -54,7 +54,7 @@ impl Print for Attdef {
 impl Print for Attributes {
     ghost lines = { fields.attributes_fields };
 
-    #[tactic(auto, using(crate::proofs::Runs::tells_3), unfolding(crate::specs::EntitiesFields::attributes_fields))]
+    #[tactic(auto, unfolding(crate::specs::EntitiesFields::attributes_fields))]
     fn print<W: Sink>(&self, path: &str, page: &mut Page, sink: &mut W) {
         print_member(&self.first, path, "first", page, sink);
         print_member(&self.last, path, "last", page, sink);
@@ -65,7 +65,7 @@ impl Print for Attributes {
 impl Print for Insert {
     ghost lines = { fields.insert_fields };
 
-    #[tactic(auto, using(crate::proofs::Runs::tells_6), unfolding(crate::specs::EntitiesFields::insert_fields))]
+    #[tactic(auto, unfolding(crate::specs::EntitiesFields::insert_fields))]
     fn print<W: Sink>(&self, path: &str, page: &mut Page, sink: &mut W) {
         print_member(&self.place, path, "place", page, sink);
         print_member(&self.scale, path, "scale", page, sink);

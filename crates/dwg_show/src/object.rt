@@ -172,7 +172,7 @@ impl Tell for Object<'_> {
 
     ghost told = { λ object. texts.object_text (value_of object) };
 
-    #[tactic(auto, using(crate::proofs::Telling::tells_idle, crate::proofs::Runs::tells_2), unfolding(crate::specs::ObjectText::object_text))]
+    #[tactic(auto, using(crate::proofs::Telling::tells_idle), unfolding(crate::specs::ObjectText::object_text))]
     fn tell<W: Sink>(&self, page: &mut Page, sink: &mut W) {
         if page.fault.is_some() {
             return;

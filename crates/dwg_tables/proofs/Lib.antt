@@ -7,3 +7,4 @@ pub mod MarkReading
 pub mod MarkParts
 pub mod PreviewParts
 pub mod HeaderReading
+pub mod SumOfLengths

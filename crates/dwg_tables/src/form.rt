@@ -4,12 +4,27 @@ ghost use Rattle.std.specs.Prelude.{◌≡◌, ◌^◌, ◌<◌, ◌≤◌, leng
 ghost use Rattle.std.specs.Option.{option_map};
 ghost use Rattle.dwg_bits.specs.Cursor.{rest};
 ghost use Rattle.dwg_bits.specs.Sink.{Extends};
+ghost use Rattle.dwg_codes.specs.Codes.{bd, rc};
+ghost use Rattle.dwg_codes.specs.Combinators.{seq};
 ghost use Rattle.dwg_tables.specs.StyleBody.{style_form};
 
 use crate::style::Form;
 use dwg_bits::{BitCursor, BitSink};
 use dwg_codes::{BitCode, CodeB, CodeBD, CodeRC};
 use dwg_common::parse_code;
+
+/// Reads what stands last in the form of letters, as it is parsed: how oblique they are, how they are mirrored, and how high
+/// the last text was.
+fn read_slant(cursor: &mut BitCursor<'_>) -> Option<(u64, u8, u64)>
+    ensures parsed { (seq bd (λ oblique. seq rc (λ generation. bd))).parse (rest cursor.old) ≡ option_map (λ slant. ((slant.0, (slant.1, slant.2)), rest cursor.new)) result }
+    ensures same_bytes { cursor.new.bytes.now ≡ cursor.old.bytes.now }
+    ensures same_end { cursor.new.end ≡ cursor.old.end }
+{
+    let oblique = parse_code::<CodeBD>(&(), cursor)?;
+    let generation = parse_code::<CodeRC>(&(), cursor)?;
+    let last_height = parse_code::<CodeBD>(&(), cursor)?;
+    Some((oblique, generation, last_height))
+}
 
 /// Reads the form of letters, as it is parsed.
 #[tactic(auto, unfolding(crate::specs::StyleBody::style_form))]
@@ -22,9 +37,7 @@ pub(crate) fn read_form(cursor: &mut BitCursor<'_>) -> Option<Form>
     let flag_b = parse_code::<CodeB>(&(), cursor)?;
     let height = parse_code::<CodeBD>(&(), cursor)?;
     let width = parse_code::<CodeBD>(&(), cursor)?;
-    let oblique = parse_code::<CodeBD>(&(), cursor)?;
-    let generation = parse_code::<CodeRC>(&(), cursor)?;
-    let last_height = parse_code::<CodeBD>(&(), cursor)?;
+    let (oblique, generation, last_height) = read_slant(cursor)?;
     Some(Form {
         flag_a,
         flag_b,

@@ -3,7 +3,9 @@
 ghost use Rattle.std.specs.Prelude.{◌≡◌, IfOk};
 ghost use Rattle.std.specs.Option.{option_map};
 ghost use Rattle.dwg_bits.specs.Cursor.{rest};
-ghost use Rattle.dwg_tables.specs.LayerBody.{layer_body};
+ghost use Rattle.dwg_codes.specs.Codes.{bs};
+ghost use Rattle.dwg_codes.specs.Combinators.{seq};
+ghost use Rattle.dwg_tables.specs.LayerBody.{layer_body, layer_refs};
 ghost use Rattle.dwg_tables.specs.TableLaws.{layer_is_body};
 
 use crate::entry::{Entry, entry_of};
@@ -31,6 +33,30 @@ pub struct Layer {
     pub linetype: Ref,
 }
 
+/// Reads the values of a layer and the number of its colour, as they are parsed.
+fn read_values(cursor: &mut BitCursor<'_>) -> Option<(u16, u16)>
+    ensures parsed { (seq bs (λ values. bs)).parse (rest cursor.old) ≡ option_map (λ told. (told, rest cursor.new)) result }
+    ensures same_bytes { cursor.new.bytes.now ≡ cursor.old.bytes.now }
+    ensures same_end { cursor.new.end ≡ cursor.old.end }
+{
+    let values = parse_code::<CodeBS>(&(), cursor)?;
+    let colour = parse_code::<CodeBS>(&(), cursor)?;
+    Some((values, colour))
+}
+
+/// Reads what the layer of the handle `base` names, as it is parsed: the block of the external reference that it is of, its
+/// plot style and its linetype.
+fn read_named(cursor: &mut BitCursor<'_>, base: Handle) -> Option<(Ref, Ref, Ref)>
+    ensures parsed { (layer_refs base).grammar.parse (rest cursor.old) ≡ option_map (λ named. ((named.0, (named.1, named.2)), rest cursor.new)) result }
+    ensures same_bytes { cursor.new.bytes.now ≡ cursor.old.bytes.now }
+    ensures same_end { cursor.new.end ≡ cursor.old.end }
+{
+    let xref = parse_ref(cursor, base)?;
+    let plotstyle = parse_ref(cursor, base)?;
+    let linetype = parse_ref(cursor, base)?;
+    Some((xref, plotstyle, linetype))
+}
+
 /// Reads a layer, as it is parsed. The only refusal is want of memory, which is taken only for bytes that are there.
 #[tactic(auto, unfolding(crate::specs::LayerBody::layer_body))]
 fn read_parts(
@@ -48,19 +74,10 @@ fn read_parts(
     let Some(title) = read_title(alloc, main)? else {
         return Ok(None);
     };
-    let Some(values) = parse_code::<CodeBS>(&(), main) else {
+    let Some((values, colour)) = read_values(main) else {
         return Ok(None);
     };
-    let Some(colour) = parse_code::<CodeBS>(&(), main) else {
-        return Ok(None);
-    };
-    let Some(xref) = parse_ref(refs, base) else {
-        return Ok(None);
-    };
-    let Some(plotstyle) = parse_ref(refs, base) else {
-        return Ok(None);
-    };
-    let Some(linetype) = parse_ref(refs, base) else {
+    let Some((xref, plotstyle, linetype)) = read_named(refs, base) else {
         return Ok(None);
     };
     Ok(Some(Layer {

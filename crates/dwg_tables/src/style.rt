@@ -3,6 +3,8 @@
 ghost use Rattle.std.specs.Prelude.{◌≡◌, IfOk};
 ghost use Rattle.std.specs.Option.{option_map};
 ghost use Rattle.dwg_bits.specs.Cursor.{rest};
+ghost use Rattle.dwg_codes.specs.Codes.{tv};
+ghost use Rattle.dwg_codes.specs.Combinators.{seq};
 ghost use Rattle.dwg_tables.specs.StyleBody.{form_of, style_body, style_of};
 ghost use Rattle.dwg_tables.specs.TableLaws.{style_is_body};
 
@@ -92,6 +94,25 @@ fn style_of(title: Title, form: Form, fonts: (ByteRun, ByteRun), xref: Ref) -> S
     }
 }
 
+/// Reads the names of the files of letters, as they are parsed. The only refusal is want of memory, which is taken only for
+/// bytes that are there.
+fn read_fonts(
+    alloc: Global,
+    cursor: &mut BitCursor<'_>,
+) -> Result<Option<(ByteRun, ByteRun)>, NoMemory>
+    ensures parsed { IfOk result (λ found. (seq tv (λ font. tv)).parse (rest cursor.old) ≡ option_map (λ fonts. (fonts, rest cursor.new)) found) }
+    ensures same_bytes { cursor.new.bytes.now ≡ cursor.old.bytes.now }
+    ensures same_end { cursor.new.end ≡ cursor.old.end }
+{
+    let Some(font) = parse_tv(alloc, cursor)? else {
+        return Ok(None);
+    };
+    let Some(big_font) = parse_tv(alloc, cursor)? else {
+        return Ok(None);
+    };
+    Ok(Some((font, big_font)))
+}
+
 /// Reads a text style, as it is parsed. The only refusal is want of memory, which is taken only for bytes that are there.
 #[tactic(auto, unfolding(crate::specs::StyleBody::style_body))]
 fn read_parts(
@@ -112,16 +133,13 @@ fn read_parts(
     let Some(form) = read_form(main) else {
         return Ok(None);
     };
-    let Some(font) = parse_tv(alloc, main)? else {
-        return Ok(None);
-    };
-    let Some(big_font) = parse_tv(alloc, main)? else {
+    let Some(fonts) = read_fonts(alloc, main)? else {
         return Ok(None);
     };
     let Some(xref) = parse_ref(refs, base) else {
         return Ok(None);
     };
-    Ok(Some(style_of(title, form, (font, big_font), xref)))
+    Ok(Some(style_of(title, form, fonts, xref)))
 }
 
 impl BodyCode for Style {

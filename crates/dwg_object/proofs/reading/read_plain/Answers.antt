@@ -1,15 +1,17 @@
-use Rattle.std.proofs.Common.{rules}
 use Rattle.dwg_bits.specs.Cursor.{rest}
-use Rattle.dwg_object.proofs.FormReading.{unknown_unread, refs_unread}
+use Rattle.dwg_object.proofs.FormReading.{plain_of_parts, unread_parts}
 use Rattle.dwg_object.proofs.reading.read_plain.Goals as goal
 
-pub returns-then-eq-clause-none : goal.returns-then-eq-clause-none
-returns-then-eq-clause-none c = λ none classes same form.
+pub returns-clause-form : goal.returns-clause-form
+returns-clause-form c =
     let head = c.args.found.now.head in
-    unknown_unread classes c.args.body.now head.number head.own c.args.kind c.args.front.common (rest c.args.front.main) (rest c.args.front.refs) (search rules) same (c.requires.form classes same) form
+    let front = c.args.front in
+    plain_of_parts c.args.body.now head.number head.own c.args.kind front.common (rest front.main) (rest front.refs) c.in_ok-behind.behind c.plain_object.result
+    c.plain_object.ensures.form c.requires.form c.in_ok-behind.ensures.known c.in_ok-behind.ensures.bits c.in_ok-behind.ensures.refs
 
-pub returns-in_default-clause-none : goal.returns-in_default-clause-none
-returns-in_default-clause-none c = λ none classes same form.
+pub returns-clause-none : goal.returns-clause-none
+returns-clause-none c = λ none classes same.
     let head = c.args.found.now.head in
-    let clauses = rw c.in_default.is at c.in_ok-refs.ensures in
-    refs_unread classes c.args.body.now head.number head.own c.args.front.common (rest c.args.front.main) (rest c.args.front.refs) _ (c.requires.form classes same) clauses.reads form
+    let front = c.args.front in
+    unread_parts classes c.args.body.now head.number head.own c.args.kind front.common (rest front.main) (rest front.refs) c.in_ok-behind.behind c.plain_object.result
+    c.plain_object.ensures.form same (c.requires.form classes same) c.in_ok-behind.ensures.none none

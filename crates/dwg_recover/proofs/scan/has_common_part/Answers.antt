@@ -10,7 +10,7 @@ read_body_hinted-requires c = short_body c.args.bytes.now c.span_body.result.now
 pub returns-in-Some : goal.returns-in-Some
 returns-in-Some c =
     let clauses = rw c.in-Some.is at c.in_ok-object.ensures in
-    c.is_read_with_common_part.ensures
+    c.is_of_common_part.ensures
     ∙ read_at c.args.hints.now c.args.bytes.now c.span_body.result.now c.args.span.now (value_of c.in-Some.object) c.span_body.ensures c.requires.head clauses.form
 
 pub returns-in-None : goal.returns-in-None

@@ -1,0 +1,7 @@
+use Rattle.dwg_show.specs.DictsFields.{ltype_control_fields}
+use Rattle.dwg_show.proofs.Telling.{◌▷◌}
+use Rattle.dwg_show.proofs.dicts.LtypeControlPrint.print.Goals as goal
+
+pub returns : goal.returns
+unfolding ltype_control_fields
+returns g c = c.print_member.ensures ▷ c.print_member-2.ensures ▷ c.print_member-3.ensures

@@ -1,0 +1,7 @@
+use Rattle.dwg_show.specs.TablesFields.{insert_mark_fields}
+use Rattle.dwg_show.proofs.Telling.{◌▷◌}
+use Rattle.dwg_show.proofs.tables.InsertMarkPrint.print.Goals as goal
+
+pub returns : goal.returns
+unfolding insert_mark_fields
+returns g c = c.print_member.ensures ▷ c.print_member-2.ensures

@@ -1,0 +1,13 @@
+use Rattle.dwg_bits.specs.SinkLaws.{extends_by_both}
+use Rattle.dwg_tables.specs.StyleBody.{style_form}
+use Rattle.dwg_tables.proofs.form.write_form.Goals as goal
+
+pub returns : goal.returns
+unfolding style_form
+returns c =
+    extends_by_both _ _ _ _ _ c.write.ensures
+    (extends_by_both _ _ _ _ _ c.write-2.ensures
+    (extends_by_both _ _ _ _ _ c.write-3.ensures
+    (extends_by_both _ _ _ _ _ c.write-4.ensures
+    (extends_by_both _ _ _ _ _ c.write-5.ensures
+    (extends_by_both _ _ _ _ _ c.write-6.ensures c.write-7.ensures)))))
