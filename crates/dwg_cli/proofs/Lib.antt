@@ -1,9 +1,1 @@
-pub mod Outcomes
-pub mod Faults
-pub mod Deliveries
-pub mod Drawings
-pub mod Makings
-pub mod Numerals
-pub mod MakeWords
-pub mod DrillWords
-pub mod Drills
+pub mod Stopping

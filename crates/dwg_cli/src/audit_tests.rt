@@ -1,325 +1,203 @@
 //! The audit over devices in memory: the made drawing, and what is found where its references are changed.
 
-use crate::run::run;
-use crate::status::Status;
-use crate::tests::{PLENTY, SMALLEST, answers, changed, output_of, refused, sink, source, words};
+use crate::test_inputs::input_of;
+use crate::test_runs::{Answers, PLENTY, Wanted, first_failing_paragraph, in_pieces, leaves};
+use dwg_answers::Status;
+use dwg_samples::{Case, first_failing};
 use std::alloc::Global;
-use std::process::Abort;
 use std::test::Fail;
 
-/// What is done to a drawing, the bytes that stand there then, each run from its place on, and what the audit prints.
-pub(crate) type Case = (
-    &'static str,
-    &'static [(usize, &'static [u8])],
-    &'static str,
-);
+/// A paragraph: what is done to a drawing, the input, and behind them the lines that the audit prints.
+pub(crate) struct Audited;
 
-/// Where the frames of the drawing that is made of 1 and 7 end.
-const END: usize = 1851;
+impl Case for Audited {
+    fn holds(alloc: Global, paragraph: &str) -> bool {
+        is_audited(alloc, paragraph).unwrap_or(false)
+    }
+}
 
-/// Frames behind it, and a map of all. Each field has a holder here or there whose reference isn't null, in one byte.
-///
-/// | handle | object |
-/// |---|---|
-/// | 32, 34, 36, 38, 3A | controls of layers, styles, linetypes, applications and blocks, all raw |
-/// | 33, 35, 37, 39 | an entry of each of the first four; the linetype has a dash with a style and one without |
-/// | 3B, 3C | a block and its end, both raw |
-/// | 3D, 3E | entries of the last: one without ends, one whose members are 42 and 48 |
-/// | 3F | a text in 44, with an application, a reactor, a linetype, a plot style and the dictionary 40 |
-/// | 40, 41 | a dictionary with an item 41 and an item that is null, and a record |
-/// | 42, 43 | a plain entity in 3E, and an end of attributes that it owns |
-/// | 44, 45 | an entry of blocks and a layer, both raw |
-/// | 46, 47 | a plain object of number 70, and a dictionary that it owns |
-/// | 48 | a line in 3E |
-const MORE: [u8; 895] = [
-    0x08, 0x00, 0x4C, 0xBA, 0x00, 0xC0, 0x00, 0x00, 0x4C, 0x80, 0xAF, 0xC9, 0x12, 0x00, 0x4C, 0xD2,
-    0x00, 0x00, 0x00, 0x00, 0x4C, 0xEA, 0x4A, 0x41, 0x32, 0x30, 0x51, 0x20, 0x51, 0x11, 0x51, 0x16,
-    0x3A, 0x02, 0x08, 0x00, 0x4D, 0x3A, 0x00, 0xC0, 0x00, 0x00, 0x4D, 0x00, 0xEF, 0xFD, 0x11, 0x00,
-    0x4D, 0x56, 0x80, 0x00, 0x00, 0x00, 0x4D, 0x6A, 0x42, 0xA0, 0x0A, 0x90, 0x4D, 0x0C, 0x14, 0x48,
-    0x00, 0xDF, 0x75, 0x08, 0x00, 0x4E, 0x3A, 0x00, 0xC0, 0x00, 0x00, 0x4D, 0x80, 0xAE, 0x48, 0x36,
-    0x01, 0x4E, 0x5B, 0x02, 0x40, 0x00, 0x00, 0x4D, 0xEA, 0x4A, 0x00, 0x02, 0xA0, 0x00, 0x00, 0x00,
-    0x00, 0x00, 0x00, 0x00, 0x00, 0x00, 0x00, 0x00, 0x00, 0x00, 0x00, 0x00, 0x0A, 0xA8, 0x00, 0x00,
-    0x00, 0x00, 0x00, 0x00, 0x00, 0x00, 0x00, 0x00, 0x00, 0x00, 0x00, 0x00, 0x00, 0x02, 0xA0, 0x00,
-    0x00, 0x00, 0x00, 0x00, 0x00, 0x00, 0x00, 0x00, 0x00, 0x00, 0x00, 0x00, 0x00, 0x00, 0x00, 0x00,
-    0x00, 0x00, 0x00, 0x00, 0x00, 0x00, 0x00, 0x00, 0x00, 0x00, 0x00, 0x00, 0x00, 0x00, 0x00, 0x00,
-    0x00, 0x00, 0x00, 0x00, 0x00, 0x00, 0x00, 0x00, 0x00, 0x00, 0x00, 0x00, 0x00, 0x00, 0x00, 0x00,
-    0x00, 0x00, 0x00, 0x00, 0x00, 0x00, 0x00, 0x00, 0x00, 0x00, 0x00, 0x00, 0x00, 0x00, 0x00, 0x00,
-    0x00, 0x00, 0x00, 0x00, 0x00, 0x00, 0x00, 0x00, 0x00, 0x00, 0x00, 0x00, 0x00, 0x00, 0x00, 0x00,
-    0x00, 0x00, 0x00, 0x00, 0x00, 0x00, 0x00, 0x00, 0x00, 0x00, 0x00, 0x00, 0x00, 0x00, 0x00, 0x00,
-    0x00, 0x00, 0x00, 0x00, 0x00, 0x00, 0x00, 0x00, 0x00, 0x00, 0x00, 0x00, 0x00, 0x00, 0x00, 0x00,
-    0x00, 0x00, 0x00, 0x00, 0x00, 0x00, 0x00, 0x00, 0x00, 0x00, 0x00, 0x00, 0x00, 0x00, 0x00, 0x00,
-    0x00, 0x00, 0x00, 0x00, 0x00, 0x00, 0x00, 0x00, 0x00, 0x00, 0x00, 0x00, 0x00, 0x00, 0x00, 0x00,
-    0x00, 0x00, 0x00, 0x00, 0x00, 0x00, 0x00, 0x00, 0x00, 0x00, 0x00, 0x00, 0x00, 0x00, 0x00, 0x00,
-    0x00, 0x00, 0x00, 0x00, 0x00, 0x00, 0x00, 0x00, 0x00, 0x00, 0x00, 0x00, 0x00, 0x00, 0x00, 0x00,
-    0x00, 0x00, 0x00, 0x00, 0x00, 0x00, 0x00, 0x00, 0x00, 0x00, 0x00, 0x00, 0x00, 0x00, 0x00, 0x00,
-    0x00, 0x00, 0x00, 0x00, 0x00, 0x00, 0x00, 0x00, 0x00, 0x00, 0x00, 0x00, 0x00, 0x00, 0x00, 0x00,
-    0x00, 0x00, 0x00, 0x00, 0x00, 0x00, 0x00, 0x00, 0x00, 0x00, 0x00, 0x00, 0x00, 0x00, 0x00, 0x00,
-    0x00, 0x00, 0x00, 0x00, 0x00, 0x00, 0x00, 0x00, 0x00, 0x00, 0x00, 0x00, 0x00, 0x00, 0x00, 0x00,
-    0x00, 0x00, 0x00, 0x00, 0x00, 0x00, 0x00, 0x00, 0x00, 0x00, 0x00, 0x00, 0x00, 0x00, 0x04, 0x13,
-    0x63, 0x05, 0x12, 0x05, 0x11, 0x15, 0x00, 0x57, 0xA3, 0x08, 0x00, 0x50, 0xBA, 0x00, 0xC0, 0x00,
-    0x00, 0x4E, 0x00, 0xAE, 0x50, 0x0F, 0x00, 0x50, 0xD3, 0x00, 0x00, 0x00, 0x00, 0x4E, 0x6A, 0x40,
-    0x04, 0x13, 0x83, 0x05, 0x12, 0x00, 0xED, 0x72, 0x0E, 0x00, 0x4C, 0x10, 0x01, 0x00, 0x00, 0x00,
-    0x4E, 0xAA, 0x40, 0x30, 0x31, 0x18, 0x31, 0x1B, 0x41, 0x39, 0x08, 0x00, 0x41, 0x3A, 0x00, 0xC0,
-    0x00, 0x00, 0x4E, 0xC0, 0xEF, 0x08, 0x08, 0x00, 0x41, 0x7A, 0x00, 0xC0, 0x00, 0x00, 0x4F, 0x00,
-    0xAF, 0x0C, 0x1A, 0x00, 0x4C, 0x59, 0x40, 0x00, 0x00, 0x00, 0x4F, 0x6A, 0x42, 0x55, 0x00, 0x80,
-    0x52, 0x09, 0xD1, 0x82, 0x88, 0x61, 0x89, 0xD9, 0x89, 0xE2, 0x09, 0x82, 0x88, 0x60, 0x5E, 0xAF,
-    0x19, 0x00, 0x4C, 0x57, 0x40, 0x00, 0x00, 0x00, 0x4F, 0xAA, 0x40, 0x55, 0x00, 0x52, 0x09, 0xD1,
-    0x82, 0x81, 0x89, 0xDA, 0x0A, 0x12, 0x0A, 0x41, 0x89, 0xE2, 0x80, 0x3B, 0xE3, 0x38, 0x00, 0x40,
-    0x52, 0x80, 0x40, 0x00, 0x00, 0x4F, 0xD0, 0x15, 0x11, 0x24, 0x18, 0x20, 0x3D, 0xF8, 0x77, 0xFC,
-    0x00, 0x00, 0x00, 0x00, 0x00, 0x00, 0x00, 0x00, 0x00, 0x00, 0x00, 0x00, 0x00, 0x00, 0x00, 0x03,
-    0x00, 0x00, 0x00, 0x00, 0x00, 0x00, 0x00, 0x00, 0x90, 0x51, 0x10, 0x4C, 0x0C, 0x50, 0x14, 0x51,
-    0x54, 0x45, 0x94, 0x44, 0x54, 0x44, 0x40, 0xF6, 0xB3, 0x1D, 0x00, 0x4A, 0xA8, 0x00, 0x00, 0x00,
-    0x00, 0x50, 0x10, 0x15, 0x11, 0x24, 0x19, 0x01, 0x40, 0xA0, 0x04, 0x05, 0x61, 0x01, 0x59, 0x41,
-    0x3F, 0x41, 0x3F, 0x30, 0x21, 0x41, 0x21, 0x00, 0x51, 0xFF, 0x0F, 0x00, 0x53, 0xD0, 0x80, 0x00,
-    0x00, 0x00, 0x50, 0x6A, 0x90, 0x50, 0x0C, 0x10, 0x10, 0x44, 0x00, 0x99, 0xEA, 0x14, 0x00, 0x43,
-    0xD6, 0x40, 0x00, 0x00, 0x00, 0x50, 0xA1, 0x34, 0x21, 0xDB, 0x20, 0x9F, 0x18, 0x20, 0x20, 0xA4,
-    0x28, 0x88, 0x00, 0x04, 0xEC, 0x10, 0x00, 0x41, 0x95, 0x00, 0x00, 0x00, 0x00, 0x50, 0xE1, 0x74,
-    0x21, 0xD4, 0x14, 0x23, 0x05, 0x11, 0x00, 0x59, 0x34, 0x08, 0x00, 0x4C, 0x7A, 0x00, 0xC0, 0x00,
-    0x00, 0x51, 0x00, 0x67, 0x35, 0x08, 0x00, 0x4C, 0xFA, 0x00, 0xC0, 0x00, 0x00, 0x51, 0x40, 0xE7,
-    0x0D, 0x0A, 0x00, 0x51, 0x8F, 0xC0, 0x00, 0x00, 0x00, 0x51, 0xAA, 0x80, 0x60, 0x35, 0x4F, 0x0D,
-    0x00, 0x4A, 0x92, 0x80, 0x00, 0x00, 0x00, 0x51, 0xEA, 0x80, 0x10, 0x51, 0x8C, 0x00, 0x1F, 0xDB,
-    0x24, 0x00, 0x44, 0xF6, 0xC0, 0x00, 0x00, 0x00, 0x52, 0x21, 0x34, 0x21, 0xD8, 0x00, 0x00, 0x00,
-    0x00, 0x00, 0x00, 0x00, 0x00, 0x00, 0x00, 0x00, 0x00, 0x00, 0x00, 0x00, 0x00, 0x68, 0x27, 0xC6,
-    0x08, 0x28, 0x48, 0x0A, 0x22, 0x00, 0x23, 0x9F, 0x00, 0x71, 0x01, 0xB7, 0x01, 0x01, 0x15, 0x01,
-    0x13, 0x02, 0x11, 0x04, 0x15, 0x03, 0x11, 0x01, 0x19, 0x01, 0x1A, 0x02, 0x16, 0x01, 0x17, 0x01,
-    0x21, 0x02, 0x17, 0x01, 0x9B, 0x02, 0x01, 0x9B, 0x02, 0x01, 0x9E, 0x02, 0x01, 0x1B, 0x01, 0x2A,
-    0x01, 0x21, 0x01, 0x14, 0x01, 0x28, 0x01, 0x21, 0x03, 0x14, 0x01, 0x24, 0x01, 0x1A, 0x01, 0x3E,
-    0x01, 0x30, 0x0A, 0x16, 0x01, 0x39, 0x01, 0x16, 0x01, 0x1F, 0x01, 0x32, 0x01, 0x0C, 0x01, 0x16,
-    0x01, 0x0C, 0x01, 0x15, 0x01, 0x0C, 0x01, 0xBA, 0x02, 0x01, 0x0C, 0x01, 0x13, 0x01, 0x12, 0x01,
-    0x0C, 0x01, 0x0C, 0x01, 0x1E, 0x01, 0x1D, 0x01, 0x3C, 0x01, 0x21, 0x01, 0x13, 0x01, 0x18, 0x01,
-    0x14, 0x01, 0x0C, 0x01, 0x0C, 0x01, 0x0E, 0x01, 0x11, 0x11, 0x5F, 0x00, 0x02, 0x01, 0xD0,
-];
+/// What the audit has to leave where it prints this, but for the last line end.
+fn wanted(alloc: Global, text: &str) -> Option<Wanted> {
+    let mut output = Vec::from_slice(alloc, text.as_bytes()).ok()?;
+    output.push(b'\n').ok()?;
+    let status = if text == "audit yes" {
+        Status::Done
+    } else {
+        Status::Found
+    };
+    Some(Wanted {
+        status,
+        output,
+        notes: Vec::new(alloc),
+    })
+}
 
-/// What the header says else then.
-const OF_MORE: [(usize, u8); 5] = [(44, 0x43), (45, 0x0A), (48, 0x77), (52, 0xA7), (53, 0x96)];
-
-/// Frames of two dictionaries behind that drawing, each the other's owner and only item, and a map of all.
-const TWO_DICTIONARIES: [u8; 120] = [
-    0x12, 0x00, 0x4A, 0x99, 0x00, 0x00, 0x00, 0x00, 0x54, 0x29, 0x01, 0x80, 0x10, 0x14, 0x14, 0x15,
-    0x13, 0x02, 0x15, 0x10, 0x52, 0x43, 0x12, 0x00, 0x4A, 0x99, 0x00, 0x00, 0x00, 0x00, 0x54, 0x69,
-    0x01, 0x80, 0x10, 0x14, 0x24, 0x15, 0x03, 0x02, 0x15, 0x00, 0x07, 0x7E, 0x00, 0x46, 0x01, 0xB7,
-    0x01, 0x01, 0x15, 0x01, 0x13, 0x02, 0x11, 0x04, 0x15, 0x03, 0x11, 0x01, 0x19, 0x01, 0x1A, 0x02,
-    0x16, 0x01, 0x17, 0x01, 0x21, 0x02, 0x17, 0x01, 0x9B, 0x02, 0x01, 0x9B, 0x02, 0x01, 0x9E, 0x02,
-    0x01, 0x1B, 0x01, 0x2A, 0x01, 0x21, 0x01, 0x14, 0x01, 0x28, 0x01, 0x21, 0x03, 0x14, 0x01, 0x24,
-    0x01, 0x1A, 0x01, 0x3E, 0x01, 0x30, 0x0A, 0x16, 0x01, 0x39, 0x01, 0x16, 0x01, 0x1F, 0x1F, 0x32,
-    0x01, 0x16, 0xDB, 0x63, 0x00, 0x02, 0x01, 0xD0,
-];
-
-/// What the header says else then.
-const OF_TWO_DICTIONARIES: [(usize, u8); 4] = [(44, 0x67), (48, 0x4C), (52, 0x75), (53, 0x99)];
+/// Whether the audit of a paragraph's input prints its lines.
+fn is_audited(alloc: Global, paragraph: &str) -> Option<bool> {
+    let (_what, rest) = paragraph.split_once("\n")?;
+    let (input, text) = rest.split_once("\n")?;
+    let bytes = input_of(alloc, input)?;
+    let wanted = wanted(alloc, text)?;
+    Some(leaves(alloc, "dwg audit", &bytes, in_pieces(PLENTY), &wanted))
+}
 
 /// Claims: an item of a dictionary leads to one object more.
-const CLAIMS: [Case; 11] = [
-    (
-        "two by the owner",
-        &[(220, &[0x10, 0x3F, 0xD8])],
-        "finding 10 claim - 2 2\nfinding 17 claim - 0 2\naudit no 2\n",
-    ),
-    (
-        "one by the owner and one by another",
-        &[(2466, &[0x0D, 0x90, 0x3A])],
-        "finding D claim - 2 C\naudit no 1\n",
-    ),
-    (
-        "one by another",
-        &[(326, &[0x00, 0x4E, 0xD8]), (2466, &[0x0E, 0xD0, 0x3B])],
-        "finding E claim - 1 D\naudit no 1\n",
-    ),
-    (
-        "one of an object with a raw owner",
-        &[(2466, &[0x33, 0x11, 0xEA])],
-        "finding 33 claim - 1 32\naudit no 1\n",
-    ),
-    (
-        "one of an object with a plain owner",
-        &[(2466, &[0x43, 0x10, 0x0E])],
-        "finding 43 claim - 1 42\naudit no 1\n",
-    ),
-    (
-        "one of an attribute, which may have any",
-        &[(2466, &[0x2E, 0xD1, 0xE3])],
-        "audit yes\n",
-    ),
-    (
-        "one of a member, which may have any",
-        &[(2466, &[0x31, 0x90, 0x2B])],
-        "audit yes\n",
-    ),
-    (
-        "one of a root, which may have any",
-        &[(2466, &[0x0C, 0x51, 0xFA])],
-        "audit yes\n",
-    ),
-    (
-        "one of a raw object, which may have any",
-        &[(2466, &[0x45, 0x90, 0x0C])],
-        "audit yes\n",
-    ),
-    (
-        "one of a plain object, which may have any",
-        &[(2466, &[0x42, 0xD1, 0xCE])],
-        "audit yes\n",
-    ),
-    (
-        "a mark of another block, which is none",
-        &[(1529, &[0x7A, 0x80, 0x61, 0x7E])],
-        "audit yes\n",
-    ),
-];
+const CLAIMS: &str = "\
+two by the owner
+more 220=103FD8
+finding 10 claim - 2 2
+finding 17 claim - 0 2
+audit no 2
+
+one by the owner and one by another
+more 2466=0D903A
+finding D claim - 2 C
+audit no 1
+
+one by another
+more 326=004ED8 2466=0ED03B
+finding E claim - 1 D
+audit no 1
+
+one of an object with a raw owner
+more 2466=3311EA
+finding 33 claim - 1 32
+audit no 1
+
+one of an object with a plain owner
+more 2466=43100E
+finding 43 claim - 1 42
+audit no 1
+
+one of an attribute, which may have any
+more 2466=2ED1E3
+audit yes
+
+one of a member, which may have any
+more 2466=31902B
+audit yes
+
+one of a root, which may have any
+more 2466=0C51FA
+audit yes
+
+one of a raw object, which may have any
+more 2466=45900C
+audit yes
+
+one of a plain object, which may have any
+more 2466=42D1CE
+audit yes
+
+a mark of another block, which is none
+more 1529=7A80617E
+audit yes";
 
 /// Chains of members.
-const CHAINS: [Case; 17] = [
-    (
-        "a member that is its own next",
-        &[(1788, &[0x82]), (1799, &[0x90, 0x60])],
-        "finding 18 chain - 0 31\naudit no 1\n",
-    ),
-    (
-        "a last one whose next is a member",
-        &[
-            (1662, &[0x08, 0x24, 0x4A, 0x22, 0x00, 0x64, 0xC7]),
-            (1844, &[0x08, 0x26, 0x0A, 0x22, 0x00, 0xCB, 0x27]),
-        ],
-        "audit yes\n",
-    ),
-    (
-        "three members",
-        &[
-            (1525, &[0xF9]),
-            (1531, &[0x34, 0xDE]),
-            (1662, &[0x08, 0x27, 0xEA, 0x22, 0x00, 0x64, 0xA1]),
-            (2420, &[0x48]),
-            (2434, &[0xEE, 0x6A]),
-        ],
-        "audit yes\n",
-    ),
-    (
-        "two of three in a circle",
-        &[
-            (1525, &[0xF9]),
-            (1531, &[0x34, 0xDE]),
-            (1662, &[0x08, 0x24, 0x4A, 0x22, 0x00, 0x64, 0xC7]),
-            (2420, &[0x48]),
-            (2434, &[0xEE, 0x6A]),
-        ],
-        "finding 20 chain - 0 3F\naudit no 1\n",
-    ),
-    (
-        "the last of three left out",
-        &[(2420, &[0x48]), (2434, &[0xEE, 0x6A])],
-        "finding 20 chain - 0 23\naudit no 1\n",
-    ),
-    (
-        "the one between left out",
-        &[
-            (1525, &[0xF9]),
-            (1531, &[0x34, 0xDE]),
-            (1614, &[0xFD, 0x44, 0x41, 0x44, 0x44, 0x3B, 0x91]),
-            (2420, &[0x48]),
-            (2434, &[0xEE, 0x6A]),
-        ],
-        "finding 20 chain - 0 3F\naudit no 1\n",
-    ),
-    (
-        "the first left out",
-        &[(1523, &[0x1A]), (1531, &[0x23, 0x18])],
-        "finding 20 chain - 0 23\naudit no 1\n",
-    ),
-    (
-        "an end before the last",
-        &[(1525, &[0x11]), (1531, &[0x23, 0xF6])],
-        "finding 20 chain - 0 22\naudit no 1\n",
-    ),
-    (
-        "one end that is null",
-        &[
-            (1522, &[0x08, 0x02]),
-            (1531, &[0x2E, 0x22]),
-            (2369, &[0x08, 0x01, 0x89, 0xE2, 0x80, 0x57]),
-        ],
-        "finding 20 chain - 0 23\nfinding 3E chain - 0 0\naudit no 2\n",
-    ),
-    (
-        "a first one of another block",
-        &[(1523, &[0x82]), (1531, &[0x2B, 0xD2])],
-        "finding 20 chain - 0 23\naudit no 1\n",
-    ),
-    (
-        "a next one of another block",
-        &[(1614, &[0xC5, 0x44, 0x41, 0x44, 0x44, 0x9A, 0x54])],
-        "finding 20 chain - 0 23\naudit no 1\n",
-    ),
-    (
-        "nexts that are null, no object, no entity",
-        &[
-            (1614, &[0x01, 0x44, 0x41, 0x44, 0x44, 0x6B, 0x85]),
-            (1787, &[0x0B, 0xFA]),
-            (1799, &[0xE9, 0x06]),
-            (2506, &[0xA2, 0x28, 0x88, 0x00, 0x04, 0x64]),
-        ],
-        "\
+const CHAINS: &str = "\
+a member that is its own next
+more 1788=82 1799=9060
+finding 18 chain - 0 31
+audit no 1
+
+a last one whose next is a member
+more 1662=08244A220064C7 1844=08260A2200CB27
+audit yes
+
+three members
+more 1525=F9 1531=34DE 1662=0827EA220064A1 2420=48 2434=EE6A
+audit yes
+
+two of three in a circle
+more 1525=F9 1531=34DE 1662=08244A220064C7 2420=48 2434=EE6A
+finding 20 chain - 0 3F
+audit no 1
+
+the last of three left out
+more 2420=48 2434=EE6A
+finding 20 chain - 0 23
+audit no 1
+
+the one between left out
+more 1525=F9 1531=34DE 1614=FD444144443B91 2420=48 2434=EE6A
+finding 20 chain - 0 3F
+audit no 1
+
+the first left out
+more 1523=1A 1531=2318
+finding 20 chain - 0 23
+audit no 1
+
+an end before the last
+more 1525=11 1531=23F6
+finding 20 chain - 0 22
+audit no 1
+
+one end that is null
+more 1522=0802 1531=2E22 2369=080189E28057
+finding 20 chain - 0 23
+finding 3E chain - 0 0
+audit no 2
+
+a first one of another block
+more 1523=82 1531=2BD2
+finding 20 chain - 0 23
+audit no 1
+
+a next one of another block
+more 1614=C5444144449A54
+finding 20 chain - 0 23
+audit no 1
+
+nexts that are null, no object, no entity
+more 1614=01444144446B85 1787=0BFA 1799=E906 2506=A22888000464
 finding 18 chain - 0 31
 finding 20 chain - 0 23
 finding 30 resolve next 0 7F
 finding 3E chain - 0 48
 audit no 4
-",
-    ),
-    (
-        "a member of a block without ends",
-        &[(2420, &[0x4F, 0x50]), (2434, &[0x16, 0x6D])],
-        "finding 3D chain - 0 0\naudit no 1\n",
-    ),
-    (
-        "a member of a block with null ends",
-        &[(1659, &[0x23, 0x66]), (1667, &[0xC8, 0x65])],
-        "finding 1B chain - 0 0\nfinding 20 chain - 0 23\naudit no 2\n",
-    ),
-    (
-        "a plain member of another block",
-        &[(2502, &[0x90]), (2510, &[0x44, 0xAC])],
-        "finding 20 chain - 0 23\nfinding 3E chain - 0 48\naudit no 2\n",
-    ),
-    (
-        "an end of attributes that is a member",
-        &[(2525, &[0x12, 0x03, 0x05, 0x11, 0x00, 0xDA, 0xF4])],
-        "finding 20 chain - 0 23\nfinding 43 resolve owner 0 20\naudit no 2\n",
-    ),
-    (
-        "an attribute, a block and its end, which are no members",
-        &[
-            (1551, &[0xF8]),
-            (1557, &[0x62, 0x8B]),
-            (1682, &[0x13, 0xE3]),
-            (1689, &[0x73, 0x30]),
-            (1738, &[0xE3]),
-            (1746, &[0x18, 0xB4]),
-        ],
-        "\
+
+a member of a block without ends
+more 2420=4F50 2434=166D
+finding 3D chain - 0 0
+audit no 1
+
+a member of a block with null ends
+more 1659=2366 1667=C865
+finding 1B chain - 0 0
+finding 20 chain - 0 23
+audit no 2
+
+a plain member of another block
+more 2502=90 2510=44AC
+finding 20 chain - 0 23
+finding 3E chain - 0 48
+audit no 2
+
+an end of attributes that is a member
+more 2525=1203051100DAF4
+finding 20 chain - 0 23
+finding 43 resolve owner 0 20
+audit no 2
+
+an attribute, a block and its end, which are no members
+more 1551=F8 1557=628B 1682=13E3 1689=7330 1738=E3 1746=18B4
 finding 21 claim - 1 3E
 finding 24 claim - 1 3E
 finding 2E resolve owner 0 3E
-audit no 3
-",
-    ),
-];
+audit no 3";
 
 /// Paths to a root.
-const PATHS: [Case; 9] = [
-    (
-        "a dictionary that owns itself",
-        &[(323, &[0xD3, 0x02, 0x10, 0xE0, 0x4B, 0x90])],
-        "\
+const PATHS: &str = "\
+a dictionary that owns itself
+more 323=D30210E04B90
 finding D claim - 1 D
 finding D path - 0 D
 finding E path - 0 D
 audit no 3
-",
-    ),
-    (
-        "a block whose member owns it",
-        &[(1516, &[0x09, 0x11]), (1531, &[0xFB, 0xA6])],
-        "\
+
+a block whose member owns it
+more 1516=0911 1531=FBA6
 finding 20 resolve owner 0 22
 finding 20 claim - 1 22
 finding 20 path - 0 22
@@ -328,16 +206,9 @@ finding 22 path - 0 20
 finding 23 path - 0 20
 finding 24 path - 0 20
 audit no 7
-",
-    ),
-    (
-        "two dictionaries that own each other",
-        &[
-            (322, &[0x14, 0x03, 0x02, 0x10, 0xE0, 0x82, 0x90]),
-            (2459, &[0x0D]),
-            (2467, &[0xD3, 0x32]),
-        ],
-        "\
+
+two dictionaries that own each other
+more 322=14030210E08290 2459=0D 2467=D332
 finding D claim - 1 40
 finding D path - 0 40
 finding E path - 0 D
@@ -345,46 +216,41 @@ finding 40 claim - 1 D
 finding 40 path - 0 D
 finding 41 path - 0 40
 audit no 6
-",
-    ),
-    (
-        "a plain object without an owner",
-        &[(2502, &[0xBF, 0x98]), (2510, &[0x87, 0x3C])],
-        "finding 3E chain - 0 48\nfinding 43 path - 0 42\naudit no 2\n",
-    ),
-    (
-        "a circle through a plain object",
-        &[(2502, &[0xA1, 0x98]), (2510, &[0x07, 0xBC])],
-        "finding 3E chain - 0 48\nfinding 43 path - 0 42\naudit no 2\n",
-    ),
-    (
-        "a root of number 68",
-        &[(2559, &[0x0F]), (2568, &[0x54, 0x89])],
-        "audit yes\n",
-    ),
-    (
-        "a root of number 60",
-        &[(2558, &[0x4F, 0x0F]), (2568, &[0x34, 0xE9])],
-        "audit yes\n",
-    ),
-    (
-        "no root of number 69",
-        &[(2559, &[0x4F]), (2568, &[0x65, 0x4A])],
-        "finding 47 path - 0 46\naudit no 1\n",
-    ),
-    (
-        "no root of number 61",
-        &[(2558, &[0x4F, 0x4F]), (2568, &[0x05, 0x2A])],
-        "finding 47 path - 0 46\naudit no 1\n",
-    ),
-];
+
+a plain object without an owner
+more 2502=BF98 2510=873C
+finding 3E chain - 0 48
+finding 43 path - 0 42
+audit no 2
+
+a circle through a plain object
+more 2502=A198 2510=07BC
+finding 3E chain - 0 48
+finding 43 path - 0 42
+audit no 2
+
+a root of number 68
+more 2559=0F 2568=5489
+audit yes
+
+a root of number 60
+more 2558=4F0F 2568=34E9
+audit yes
+
+no root of number 69
+more 2559=4F 2568=654A
+finding 47 path - 0 46
+audit no 1
+
+no root of number 61
+more 2558=4F4F 2568=052A
+finding 47 path - 0 46
+audit no 1";
 
 /// What the spaces of entities come from.
-const CONTROLS: [Case; 5] = [
-    (
-        "two controls of blocks",
-        &[(2279, &[0x00]), (2291, &[0xBC, 0xFA])],
-        "\
+const CONTROLS: &str = "\
+two controls of blocks
+more 2279=00 2291=BCFA
 finding 0 control - 2 0
 finding 18 claim - 2 1
 finding 18 chain - 0 31
@@ -412,12 +278,9 @@ finding 31 path - 0 0
 finding 3D claim - 0 3A
 finding 3E claim - 0 3A
 audit no 26
-",
-    ),
-    (
-        "a control of blocks that is raw",
-        &[(187, &[0x01]), (202, &[0x9E])],
-        "\
+
+a control of blocks that is raw
+more 187=01 202=9E
 finding 0 control - 0 0
 finding 18 chain - 0 31
 finding 19 resolve owner 0 0
@@ -441,12 +304,9 @@ finding 31 resolve owner 0 0
 finding 31 claim - 0 0
 finding 31 path - 0 0
 audit no 22
-",
-    ),
-    (
-        "a model space that is a layer, and a paper space of null",
-        &[(199, &[0x10, 0x31, 0x00, 0x9E, 0xB8])],
-        "\
+
+a model space that is a layer, and a paper space of null
+more 199=1031009EB8
 finding 1 resolve model 0 10
 finding 1 resolve paper 0 0
 finding 10 claim - 2 2
@@ -468,12 +328,9 @@ finding 30 claim - 0 10
 finding 31 resolve owner 0 10
 finding 31 claim - 0 10
 audit no 20
-",
-    ),
-    (
-        "a paper space of no object",
-        &[(201, &[0x7F, 0x5E, 0x9A])],
-        "\
+
+a paper space of no object
+more 201=7F5E9A
 finding 1 resolve paper 0 7F
 finding 1B claim - 0 1
 finding 1C resolve owner 0 7F
@@ -483,26 +340,22 @@ finding 1D resolve owner 0 7F
 finding 1D claim - 1 7F
 finding 1D path - 0 7F
 audit no 8
-",
-    ),
-    (
-        "a paper space that is a dictionary",
-        &[(201, &[0x0C, 0x1F, 0x7F])],
-        "\
+
+a paper space that is a dictionary
+more 201=0C1F7F
 finding 1 resolve paper 0 C
 finding 1B claim - 0 1
 finding 1C resolve owner 0 C
 finding 1C claim - 1 C
 finding 1D resolve owner 0 C
 finding 1D claim - 1 C
-audit no 6
-",
-    ),
-];
+audit no 6";
 
 /// What is found in the drawing that is made of 6 and 47 where the model space is a layer. Entities 31 to 36 are a circle, a
 /// point, a line, a lightweight polyline, a text and an arc.
 const ALL_KINDS: &str = "\
+a model space that is a layer
+made/6/47 199=10311BDEB3
 finding 1 resolve model 0 10
 finding 10 claim - 2 2
 finding 18 claim - 0 1
@@ -525,198 +378,92 @@ finding 35 resolve owner 0 10
 finding 35 claim - 0 10
 finding 36 resolve owner 0 10
 finding 36 claim - 0 10
-audit no 22
-";
-
-/// The bytes with others over them, each run from its place on.
-pub(crate) fn overlaid(
-    alloc: Global,
-    bytes: &[u8],
-    runs: &[(usize, &[u8])],
-) -> Result<Vec<u8>, Fail> {
-    let mut list = Vec::from_slice(alloc, bytes)?;
-    'runs: for (place, run) in runs {
-        'bytes: for (there, byte) in list.iter_mut().skip(*place).zip(run.iter()) {
-            *there = *byte;
-        }
-    }
-    Ok(list)
-}
-
-/// A file with a changed header whose bytes from a place on are others.
-fn continued(
-    alloc: Global,
-    bytes: &[u8],
-    header: &[(usize, u8)],
-    place: usize,
-    more: &[u8],
-) -> Result<Vec<u8>, Fail> {
-    let mut list = changed(alloc, bytes, header)?;
-    list.truncate(place);
-    list.extend_from_slice(more)?;
-    Ok(list)
-}
-
-/// The made drawing with further objects behind it.
-fn with_more(rt: &impl Abort, alloc: Global) -> Result<Vec<u8>, Fail> {
-    let made = output_of(rt, alloc, &["make", "1", "7"], b"", PLENTY)?;
-    continued(alloc, made.as_slice(), &OF_MORE, END, &MORE)
-}
-
-/// Audits a file: this text must come, and the status that goes with it.
-fn audits(
-    rt: &impl Abort,
-    alloc: Global,
-    what: &str,
-    bytes: &[u8],
-    text: &str,
-) -> Result<(), Fail> {
-    let status = if text == "audit yes\n" {
-        Status::Done
-    } else {
-        Status::Found
-    };
-    let words = words(alloc, &["audit"])?;
-    let mut input = source(alloc, bytes, PLENTY, &[])?;
-    let mut output = sink(alloc, PLENTY, &[])?;
-    let mut notes = sink(alloc, PLENTY, &[])?;
-    let ended = run(alloc, &words, &mut input, &mut output, &mut notes);
-    assert_eq!(rt; ended, status, "{what}");
-    assert_eq!(rt; output.bytes(), text.as_bytes(), "{what}");
-    assert_eq!(rt; notes.bytes(), b"".as_slice(), "{what}");
-    Ok(())
-}
-
-/// Audits the drawing with further objects, changed as each case says.
-pub(crate) fn audits_each(rt: &impl Abort, alloc: Global, cases: &[Case]) -> Result<(), Fail> {
-    let base = with_more(rt, alloc)?;
-    'cases: for (what, runs, text) in cases {
-        let bytes = overlaid(alloc, &base, runs)?;
-        audits(rt, alloc, what, &bytes, text)?;
-    }
-    Ok(())
-}
+audit no 22";
 
 #[test]
 fn finds_nothing_in_made_drawings(rt: HostRuntime) -> Result<(), Fail> {
-    let alloc = rt.alloc();
     // The second has all kinds of further entities, and those of the third go on from handle to handle.
-    for (n, seed) in [("1", "7"), ("6", "47"), ("40", "0")] {
-        let made = output_of(&rt, alloc, &["make", n, seed], b"", PLENTY)?;
-        answers(
-            &rt,
-            alloc,
-            &["audit"],
-            made.as_slice(),
-            Status::Done,
-            b"audit yes\n",
-            b"",
-        )?;
-    }
-    let more = with_more(&rt, alloc)?;
-    answers(
-        &rt,
-        alloc,
-        &["audit"],
-        &more,
-        Status::Done,
-        b"audit yes\n",
-        b"",
-    )
+    assert_eq!(rt;
+        first_failing::<Answers>(
+            rt.alloc(),
+            "\
+dwg audit | made/1/7 | Done | audit yes | -
+dwg audit | made/6/47 | Done | audit yes | -
+dwg audit | made/40/0 | Done | audit yes | -
+dwg audit | more | Done | audit yes | -"
+        ),
+        None
+    );
+    Ok(())
 }
 
 #[test]
 fn finds_what_the_specification_tells(rt: HostRuntime) -> Result<(), Fail> {
-    let alloc = rt.alloc();
-    let one = output_of(&rt, alloc, &["make", "1", "7"], b"", PLENTY)?;
-    let dictionaries = continued(
-        alloc,
-        one.as_slice(),
-        &OF_TWO_DICTIONARIES,
-        END,
-        &TWO_DICTIONARIES,
-    )?;
-    let two = output_of(&rt, alloc, &["make", "2", "7"], b"", PLENTY)?;
-    let left_out = overlaid(
-        alloc,
-        two.as_slice(),
-        &[(1345, &[0x89, 0x88, 0xD2, 0x80, 0xA2, 0xB7])],
-    )?;
-    for (input, text) in [
-        (SMALLEST.as_slice(), "finding 0 control - 0 0\naudit no 1\n"),
-        (
-            &dictionaries,
-            "finding 50 path - 0 51\nfinding 51 path - 0 50\naudit no 2\n",
+    assert_eq!(rt;
+        first_failing::<Answers>(
+            rt.alloc(),
+            "\
+dwg audit | smallest | Found | finding 0 control - 0 0; audit no 1 | -
+dwg audit | dictionaries | Found | finding 50 path - 0 51; finding 51 path - 0 50; audit no 2 | -
+dwg audit | made/2/7 1345=8988D280A2B7 | Found | finding 18 chain - 0 31; audit no 1 | -"
         ),
-        (&left_out, "finding 18 chain - 0 31\naudit no 1\n"),
-    ] {
-        answers(
-            &rt,
-            alloc,
-            &["audit"],
-            input,
-            Status::Found,
-            text.as_bytes(),
-            b"",
-        )?;
-    }
+        None
+    );
     Ok(())
 }
 
 #[test]
 fn refuses_to_audit_what_is_no_drawing(rt: HostRuntime) -> Result<(), Fail> {
-    let alloc = rt.alloc();
-    for (input, line, place, note) in [
-        (b"".as_slice(), 1, 0, "dwg: refused: header 0 at 0: short\n"),
-        (
-            &SMALLEST[..183],
-            21,
-            183,
-            "dwg: refused: map 0 at 183: short\n",
+    assert_eq!(rt;
+        first_failing::<Answers>(
+            rt.alloc(),
+            "\
+dwg audit | nothing | Refused 1 0 0 | - | dwg: refused: header 0 at 0: short
+dwg audit | smallest #183 | Refused 21 0 183 | - | dwg: refused: map 0 at 183: short"
         ),
-    ] {
-        answers(
-            &rt,
-            alloc,
-            &["audit"],
-            input,
-            refused(line, 0, place),
-            b"",
-            note.as_bytes(),
-        )?;
-    }
+        None
+    );
     Ok(())
 }
 
 #[test]
 fn resolves_the_owners_of_all_kinds(rt: HostRuntime) -> Result<(), Fail> {
-    let alloc = rt.alloc();
-    let made = output_of(&rt, alloc, &["make", "6", "47"], b"", PLENTY)?;
-    // The model space is a layer.
-    let bytes = overlaid(
-        alloc,
-        made.as_slice(),
-        &[(199, &[0x10, 0x31, 0x1B, 0xDE, 0xB3])],
-    )?;
-    audits(&rt, alloc, "all kinds", &bytes, ALL_KINDS)
+    assert_eq!(rt;
+        first_failing_paragraph::<Audited>(rt.alloc(), ALL_KINDS),
+        None
+    );
+    Ok(())
 }
 
 #[test]
 fn counts_claims(rt: HostRuntime) -> Result<(), Fail> {
-    audits_each(&rt, rt.alloc(), &CLAIMS)
+    assert_eq!(rt;
+        first_failing_paragraph::<Audited>(rt.alloc(), CLAIMS),
+        None
+    );
+    Ok(())
 }
 
 #[test]
 fn follows_chains(rt: HostRuntime) -> Result<(), Fail> {
-    audits_each(&rt, rt.alloc(), &CHAINS)
+    assert_eq!(rt;
+        first_failing_paragraph::<Audited>(rt.alloc(), CHAINS),
+        None
+    );
+    Ok(())
 }
 
 #[test]
 fn follows_paths(rt: HostRuntime) -> Result<(), Fail> {
-    audits_each(&rt, rt.alloc(), &PATHS)
+    assert_eq!(rt; first_failing_paragraph::<Audited>(rt.alloc(), PATHS), None);
+    Ok(())
 }
 
 #[test]
 fn knows_one_control_of_blocks(rt: HostRuntime) -> Result<(), Fail> {
-    audits_each(&rt, rt.alloc(), &CONTROLS)
+    assert_eq!(rt;
+        first_failing_paragraph::<Audited>(rt.alloc(), CONTROLS),
+        None
+    );
+    Ok(())
 }

@@ -2,8 +2,6 @@
 #![tactic(auto)]
 
 mod adapters;
-mod answer;
-mod answering;
 #[cfg(test)]
 mod audit_tests;
 #[cfg(test)]
@@ -12,16 +10,16 @@ mod drill_tests;
 mod recover_tests;
 #[cfg(test)]
 mod reference_tests;
-mod request;
 mod run;
-mod sending;
-mod status;
+#[cfg(test)]
+mod test_inputs;
+#[cfg(test)]
+mod test_runs;
 #[cfg(test)]
 mod tests;
-mod words;
 
 use adapters::{ReaderSource, WriterSink};
-use status::Status;
+use dwg_answers::Status;
 use std::env;
 use std::io::ErrorKind;
 use std::process::ExitCode;

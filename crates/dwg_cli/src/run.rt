@@ -4,13 +4,11 @@ ghost use Rattle.std.specs.Prelude.{◌≡◌, ◌<◌, ◌⊎◌, ℕ, ◌≤�
 ghost use Rattle.std.specs.Io.KnownBytes.{Appends};
 ghost use Rattle.dwg_base.specs.Devices.{Rose, AppendsFront, MOST_BYTES};
 ghost use Rattle.dwg_text.specs.Notes as texts;
-ghost use Rattle.dwg_cli.specs.Words.{texts as words_of, command_of, IsReading, IsUsage};
-ghost use Rattle.dwg_cli.specs.Outcome.{outcome};
-ghost use Rattle.dwg_cli.specs.Run.{Feeds, Came, AnswersTo, IsSettled, IsStopped, IsFailed, IsDrained, Delivers, IsCut, StopsAtFault};
+ghost use Rattle.dwg_answers.specs.Words.{texts as words_of, command_of, IsReading, IsUsage};
+ghost use Rattle.dwg_answers.specs.Outcome.{outcome};
+ghost use Rattle.dwg_answers.specs.Run.{Feeds, Came, AnswersTo, IsSettled, IsStopped, IsFailed, IsDrained, Delivers, IsCut, StopsAtFault};
 
-use crate::answering::answer;
-use crate::request::{Stop, request_for};
-use crate::status::Status;
+use dwg_answers::{Status, Stop, answer_request, request_for};
 use dwg_base::{Sink, Source, put_all};
 use dwg_text::read_fault_note;
 use std::alloc::Global;
@@ -87,7 +85,7 @@ pub fn run<R: Source, W: Sink, N: Sink>(
         (result ≡ (outcome (words_of words.now) bytes).status) ⊎ (result ≡ Status.NoMemory) }
 {
     match request_for(alloc, words, input) {
-        Ok(request) => answer(alloc, &request, output, notes),
+        Ok(request) => answer_request(alloc, &request, output, notes),
         Err(Stop::ReadFault) => tell_read_fault(notes),
         Err(Stop::NoMemory) => Status::NoMemory,
     }

@@ -3,6 +3,7 @@
 ghost use Rattle.std.specs.Prelude.{◌≤◌, IfOk};
 
 use super::*;
+use std::alloc::Global;
 use std::io;
 use std::test::Fail;
 
@@ -47,36 +48,54 @@ impl Write for Stream {
     }
 }
 
-#[test]
-fn each_error_of_a_stream_is_a_fault(rt: HostRuntime) {
-    let stream = || Stream {
+/// Adds what a call gave, `-` for a failure, and the count of faults behind it.
+fn push_told(text: &mut String, told: Result<usize, Failed>, faults: u64) -> Option<()> {
+    match told {
+        Ok(count) => write!(text, "{}/{} ", count, faults).ok(),
+        Err(Failed) => write!(text, "-/{} ", faults).ok(),
+    }
+}
+
+/// What reads into the fronts of a buffer of these lengths give of a stream.
+fn reads(alloc: Global, lengths: &[usize]) -> Option<String> {
+    let mut source = ReaderSource::new(Stream {
         calls: 0,
         flushed: false,
-    };
-    let mut source = ReaderSource::new(stream());
-    let mut piece = [0; 5];
-    assert_eq!(rt; source.read(&mut piece), Ok(2));
-    assert_eq!(rt; source.read(&mut piece[..1]), Ok(1));
-    assert_eq!(rt; source.read(&mut piece), Err(Failed));
-    assert_eq!(rt; source.faults, 1);
-    assert_eq!(rt; source.read(&mut piece), Ok(0));
-    assert_eq!(rt; source.faults, 1);
-
-    let mut sink = WriterSink::new(stream());
-    assert_eq!(rt; sink.write(b"12345"), Ok(2));
-    assert_eq!(rt; sink.write(b"5"), Ok(1));
-    assert_eq!(rt; sink.write(b"12345"), Err(Failed));
-    assert_eq!(rt; sink.faults, 1);
-    // A write that takes nothing of a piece that isn't empty, and a flush that fails.
-    assert_eq!(rt; sink.write(b"12345"), Err(Failed));
-    assert_eq!(rt; sink.write(b""), Err(Failed));
-    assert_eq!(rt; sink.faults, 3);
-
-    // A flush that fails behind bytes that were taken.
-    let mut sink = WriterSink::new(Stream {
-        calls: 0,
-        flushed: true,
     });
-    assert_eq!(rt; sink.write(b"12345"), Err(Failed));
-    assert_eq!(rt; sink.faults, 1);
+    let mut text = String::new(alloc);
+    let mut buffer = [0; 5];
+    for length in lengths {
+        let told = source.read(buffer.get_mut(..*length)?);
+        push_told(&mut text, told, source.faults)?;
+    }
+    Some(text)
+}
+
+/// What writes of pieces give, over a stream whose first flush fails, or that behind its second call.
+fn writes(alloc: Global, flushed: bool, pieces: &str) -> Option<String> {
+    let mut sink = WriterSink::new(Stream { calls: 0, flushed });
+    let mut text = String::new(alloc);
+    for piece in pieces.split(" ") {
+        let told = sink.write(piece.as_bytes());
+        push_told(&mut text, told, sink.faults)?;
+    }
+    Some(text)
+}
+
+#[test]
+fn each_error_of_a_reader_is_a_fault(rt: HostRuntime) -> Result<(), Fail> {
+    let told = reads(rt.alloc(), &[5, 1, 5, 5]).ok_or("no memory")?;
+    assert_eq!(rt; told.as_str(), "2/0 1/0 -/1 0/1 ");
+    Ok(())
+}
+
+#[test]
+fn each_error_of_a_writer_is_a_fault(rt: HostRuntime) -> Result<(), Fail> {
+    // The fourth takes nothing of a piece that isn't empty, and the flush of the fifth, which is empty, fails.
+    let told = writes(rt.alloc(), false, "12345 5 12345 12345 ").ok_or("no memory")?;
+    assert_eq!(rt; told.as_str(), "2/0 1/0 -/1 -/2 -/3 ");
+    // A flush that fails behind bytes that were taken.
+    let told = writes(rt.alloc(), true, "12345").ok_or("no memory")?;
+    assert_eq!(rt; told.as_str(), "-/1 ");
+    Ok(())
 }

@@ -1,0 +1,159 @@
+-- What the defined outcomes are, by their causes.
+use Rattle.std.proofs.Common.{◌≡◌, refl, ℕ, ◌+◌, ◌≤◌, ◌<◌, List, [], ◌∷◌, ◌++◌, length, Some, None, sym, ap, ◌∙◌, subst, arith, true, false, append-nil, length-append}
+use Rattle.std.proofs.lemmas.Bool.Decides.{nat_tests}
+use Rattle.std.specs.Prelude.{Bool, Option, Result, Ok, Err, IfOk, nat_lt, if◌then◌else◌}
+use Rattle.std.specs.Io.KnownBytes.{Consumes, IsAtEnd}
+use Rattle.dwg_audit.specs.declared.finding.Finding.{Finding}
+use Rattle.dwg_audit.specs.Findings.{findings}
+use Rattle.dwg_base.specs.Devices.{MOST_BYTES}
+use Rattle.dwg_base.specs.declared.refusal.Refusal.{Refusal}
+use Rattle.dwg_base.specs.Refusals.{first_fault}
+use Rattle.dwg_sections.specs.HeaderLines.{HEADER_LINES}
+use Rattle.dwg_text.specs.Notes.{usage_note, too_long_note, too_large_note}
+use Rattle.dwg_answers.specs.declared.words.Command.{Command}
+use Rattle.dwg_answers.specs.declared.words.Command.TheVariants.{Sections, Classes, Show, Rewrite, Audit, Recover, Make, Drill}
+use Rattle.dwg_answers.specs.declared.status.Status.{Status}
+use Rattle.dwg_answers.specs.declared.status.Status.TheVariants.{Done, Usage, TooLong, TooLarge}
+use Rattle.dwg_answers.specs.declared.answer.Answer.{Answer}
+use Rattle.dwg_answers.specs.declared.request.Request.{Request}
+use Rattle.dwg_file.specs.Contents.{Contents}
+use Rattle.dwg_file.specs.FileLines.{ALL_LINES}
+use Rattle.dwg_file.specs.DrawingAt.{drawing_at}
+use Rattle.dwg_file.specs.Canonical.{size_of, canonical}
+use Rattle.dwg_answers.specs.Lines.{CLASSES_LINES}
+use Rattle.dwg_answers.specs.Outcome.{noted, refused_or, filed, made_answer, drill_answer, audited, verdict_status, recovery_notes, recovery_status, recovered_answer, outcome_within, outcome_of_input, outcome_of}
+use Rattle.dwg_recover.specs.Recovering.{RecoveredValue, recovered}
+use Rattle.dwg_answers.specs.Words.{IsReading}
+use Rattle.dwg_answers.specs.Requests.{asked}
+use Rattle.dwg_answers.specs.Run.{Feeds, Came, IsDrained}
+
+-- a refusal, and an answer behind no refusal, come of an input that was read to its end
+refused_or_is_drained : (first : Option Refusal) (answer : Answer) → IsDrained answer.status → IsDrained (refused_or first answer).status
+refused_or_is_drained (Some refusal) answer drained = tt
+refused_or_is_drained None answer drained = drained
+
+-- so does the file of a drawing, with a status that does
+filed_is_drained : (drawing : Contents) (note : List ℕ) (status : Status) → IsDrained status → IsDrained (filed drawing note status).status
+unfolding filed
+filed_is_drained drawing note status drained = of_test (nat_lt MOST_BYTES (size_of drawing))
+  where
+    of_test : (test : Bool)
+        → IsDrained (if test then noted (too_large_note (size_of drawing)) (TooLarge (size_of drawing)) else record { output = canonical drawing; note = note; status = status }).status
+    of_test true = tt
+    of_test false = drained
+
+-- and what is recovered
+recovered_is_drained : (value : RecoveredValue) → IsDrained (recovered_answer value).status
+unfolding recovered_answer
+recovered_is_drained value = filed_is_drained value.drawing (recovery_notes value.refusal value.losses value.kept) (recovery_status value.refusal) (of_refusal value.refusal)
+  where
+    of_refusal : (refusal : Option Refusal) → IsDrained (recovery_status refusal)
+    of_refusal None = tt
+    of_refusal (Some refusal) = tt
+
+-- and what an audit says
+audited_is_drained : (drawing : Contents) → IsDrained (audited drawing).status
+unfolding audited
+audited_is_drained drawing = of_findings (findings drawing.objects)
+  where
+    of_findings : (found : List Finding) → IsDrained (verdict_status found)
+    of_findings [] = tt
+    of_findings (finding ∷ more) = tt
+
+-- what a command that reads answers to an input within the limit comes of one that was read to its end
+pub command_is_drained : (command : Command) (bytes : List ℕ) → IsReading (Some command) → IsDrained (outcome_within command bytes).status
+unfolding outcome_within
+command_is_drained Sections bytes reads = refused_or_is_drained (first_fault HEADER_LINES bytes) _ tt
+command_is_drained Classes bytes reads = refused_or_is_drained (first_fault CLASSES_LINES bytes) _ tt
+command_is_drained Show bytes reads = refused_or_is_drained (first_fault ALL_LINES bytes) _ tt
+command_is_drained Rewrite bytes reads = refused_or_is_drained (first_fault ALL_LINES bytes) _ (filed_is_drained (drawing_at bytes) [] Done tt)
+command_is_drained Audit bytes reads = refused_or_is_drained (first_fault ALL_LINES bytes) _ (audited_is_drained (drawing_at bytes))
+command_is_drained Recover bytes reads = recovered_is_drained (recovered bytes)
+command_is_drained (Make n seed) bytes reads = absurd reads
+command_is_drained (Drill n) bytes reads = absurd reads
+
+-- a source that told its bytes and is at its end gave them all
+told_whole : (old new : Option (List ℕ)) (run bytes : List ℕ) → Consumes old new run → IsAtEnd new → old ≡ Some bytes → bytes ≡ run
+told_whole None new run bytes gave end told = absurd cc
+told_whole (Some left) None run bytes gave end told = absurd gave
+told_whole (Some left) (Some rest) run bytes gave end told =
+    let same : bytes ≡ left = cc in
+    same ∙ gave ∙ ap (λ behind. run ++ behind) end ∙ append-nil run
+
+-- a source that gave more bytes than the limit told as many
+told_more : (old new : Option (List ℕ)) (gone bytes : List ℕ) → Consumes old new gone → length gone ≡ MOST_BYTES + 1 → old ≡ Some bytes → MOST_BYTES < length bytes
+told_more None new gone bytes gave long told = absurd cc
+told_more (Some left) None gone bytes gave long told = absurd gave
+told_more (Some left) (Some rest) gone bytes gave long told =
+    let same : bytes ≡ left = cc in
+    omega (arith, long, ap length (same ∙ gave), length-append gone rest)
+
+-- bytes within the limit are answered by the command
+pub outcome_of_few : (command : Command) (run : List ℕ) (answer : Answer) → length run ≤ MOST_BYTES → answer ≡ outcome_within command run → answer ≡ outcome_of_input command run
+unfolding outcome_of_input
+outcome_of_few command run answer within is =
+    let short : nat_lt MOST_BYTES (length run) ≡ false = grind (arith, nat_tests) in
+    rw short is
+
+-- more bytes than the limit are too long
+pub outcome_of_many : (command : Command) (bytes : List ℕ) (answer : Answer) → MOST_BYTES < length bytes → answer ≡ noted too_long_note TooLong → answer ≡ outcome_of_input command bytes
+unfolding outcome_of_input
+outcome_of_many command bytes answer more is =
+    let over : nat_lt MOST_BYTES (length bytes) ≡ true = grind (arith, nat_tests) in
+    rw over is
+
+-- what a source told is answered by its command, where it was read to its end, within the limit
+pub answered_within : (command : Command) (old new : Option (List ℕ)) (run bytes : List ℕ) (answer : Answer) → Consumes old new run → IsAtEnd new → length run ≤ MOST_BYTES
+    → answer ≡ outcome_within command run → old ≡ Some bytes → answer ≡ outcome_of_input command bytes
+answered_within command old new run bytes answer gave end within is told =
+    outcome_of_few command run answer within is ∙ ap (outcome_of_input command) (sym (told_whole old new run bytes gave end told))
+
+-- what a source told is too long, where it gave more than the limit
+pub answered_too_long : (command : Command) (old new : Option (List ℕ)) (gone bytes : List ℕ) (answer : Answer) → Consumes old new gone → length gone ≡ MOST_BYTES + 1
+    → answer ≡ noted too_long_note TooLong → old ≡ Some bytes → answer ≡ outcome_of_input command bytes
+answered_too_long command old new gone bytes answer gave long is told = outcome_of_many command bytes answer (told_more old new gone bytes gave long told) is
+
+-- words of no command get the usage note, whatever the input
+pub outcome_of_no_command : (named : Option Command) (bytes : List ℕ) → named ≡ None → noted usage_note Usage ≡ outcome_of named bytes
+unfolding outcome_of
+outcome_of_no_command named bytes none = rw none refl
+
+-- words of a command that reads are answered as the command is
+by_command : (command : Command) (bytes : List ℕ) → IsReading (Some command) → outcome_of_input command bytes ≡ outcome_of (Some command) bytes
+unfolding outcome_of
+by_command Sections bytes reads = refl
+by_command Classes bytes reads = refl
+by_command Show bytes reads = refl
+by_command Rewrite bytes reads = refl
+by_command Audit bytes reads = refl
+by_command Recover bytes reads = refl
+by_command (Make n seed) bytes reads = absurd reads
+by_command (Drill n) bytes reads = absurd reads
+
+pub outcome_of_reading : (named : Option Command) (command : Command) (bytes : List ℕ) → named ≡ Some command → IsReading (Some command)
+    → outcome_of_input command bytes ≡ outcome_of named bytes
+outcome_of_reading named command bytes names reads = by_command command bytes reads ∙ ap (λ one. outcome_of one bytes) (sym names)
+
+-- and those of the command that makes a drawing, whatever the input
+pub outcome_of_making : (named : Option Command) (n seed : ℕ) (bytes : List ℕ) → named ≡ Some (Make n seed) → made_answer n seed ≡ outcome_of named bytes
+unfolding outcome_of
+outcome_of_making named n seed bytes names = rw names refl
+
+pub outcome_of_drilling : (named : Option Command) (n : ℕ) (bytes : List ℕ) → named ≡ Some (Drill n) → drill_answer n ≡ outcome_of named bytes
+unfolding outcome_of
+outcome_of_drilling named n bytes names = rw names refl
+
+-- what a request asks of any input that its command gets, it asks of the words that name the command
+pub answered_by : {E : Type 0} (named : Option Command) (command : Command) (result : Result Request E) (left : Option (List ℕ)) → named ≡ Some command → IsReading (Some command)
+    → IfOk result (λ request. (bytes : List ℕ) → left ≡ Some bytes → asked request ≡ outcome_of_input command bytes)
+    → IfOk result (λ request. (bytes : List ℕ) → Feeds named left bytes → asked request ≡ outcome_of named bytes)
+answered_by {E} named command (Ok request) left names reads answered = λ bytes feeds.
+    answered bytes (feeds (subst IsReading (sym names) reads)) ∙ outcome_of_reading named command bytes names reads
+answered_by {E} named command (Err stop) left names reads answered = tt
+
+-- and so of the bytes that came
+pub came_by : {E : Type 0} (named : Option Command) (command : Command) (result : Result Request E) (left left' : Option (List ℕ)) → named ≡ Some command → IsReading (Some command)
+    → IfOk result (λ request. Came left left' (λ came. (length came ≤ MOST_BYTES + 1) × (asked request ≡ outcome_of_input command came)))
+    → IfOk result (λ request. Came left left' (λ came. (length came ≤ MOST_BYTES + 1) × (asked request ≡ outcome_of named came)))
+came_by {E} named command (Ok request) left left' names reads (came, gave, (few, is)) = (came, gave, (few, is ∙ outcome_of_reading named command came names reads))
+came_by {E} named command (Err stop) left left' names reads came = tt

@@ -1,0 +1,132 @@
+-- What the program answers to its words and its input. A rule of this project.
+use Rattle.std.specs.Prelude.{◌≡◌, ℕ, ◌==◌, ◌||◌, List, [], ◌∷◌, Option, Some, None, length, nat_lt, if◌then◌else◌}
+use Rattle.dwg_base.specs.Devices.{MOST_BYTES}
+use Rattle.dwg_base.specs.Refusals.{first_fault}
+use Rattle.dwg_base.specs.declared.refusal.Refusal.{Refusal}
+use Rattle.dwg_base.specs.declared.refusal.Fault.{Fault}
+use Rattle.dwg_base.specs.declared.refusal.Fault.TheVariants as faults
+use Rattle.dwg_sections.specs.HeaderLines.{HEADER_LINES, header_at}
+use Rattle.dwg_audit.specs.declared.finding.Finding.{Finding}
+use Rattle.dwg_audit.specs.Findings.{findings}
+use Rattle.dwg_drill.specs.Drilled.{DRILL_SEED, drilled}
+use Rattle.dwg_make.specs.Made.{MOST_ENTITIES, made}
+use Rattle.dwg_recover.specs.declared.loss.Kept.{Kept}
+use Rattle.dwg_recover.specs.declared.loss.Loss.{Loss}
+use Rattle.dwg_recover.specs.Recovering.{RecoveredValue, recovered}
+use Rattle.dwg_recovery_text.specs.RecoveryNote.{recovery_note}
+use Rattle.dwg_report.specs.AuditText.{audit_text}
+use Rattle.dwg_report.specs.DrillText.{drill_text}
+use Rattle.dwg_show.specs.DrawingText.{show_text}
+use Rattle.dwg_text.specs.Notes.{usage_note, size_note, refusal_note, too_long_note, too_large_note}
+use Rattle.dwg_text.specs.Sections.{sections_text}
+use Rattle.dwg_text.specs.Classes.{classes_text}
+use Rattle.dwg_answers.specs.declared.words.Command.{Command}
+use Rattle.dwg_answers.specs.declared.words.Command.TheVariants.{Sections, Classes, Show, Rewrite, Audit, Recover, Make, Drill}
+use Rattle.dwg_answers.specs.declared.status.Status.{Status}
+use Rattle.dwg_answers.specs.declared.status.Status.TheVariants.{Done, Found, Usage, Refused, TooLong, TooLarge}
+use Rattle.dwg_answers.specs.declared.answer.Answer.{Answer}
+use Rattle.dwg_answers.specs.Words.{command_of}
+use Rattle.dwg_file.specs.Contents.{Contents}
+use Rattle.dwg_file.specs.FileLines.{ALL_LINES}
+use Rattle.dwg_file.specs.DrawingAt.{classes_at, drawing_at}
+use Rattle.dwg_file.specs.Canonical.{size_of, canonical}
+use Rattle.dwg_answers.specs.Lines.{CLASSES_LINES}
+
+-- nothing on the output, one note, and a status
+abbrev pub noted : List ℕ → Status → Answer
+noted note status = record { output = []; note = note; status = status }
+
+-- the output, no note
+abbrev pub printed : List ℕ → Answer
+printed output = record { output = output; note = []; status = Done }
+
+-- the first refusal of the command's lines, where there is one, and otherwise its answer
+abbrev pub refused_or : Option Refusal → Answer → Answer
+refused_or (Some refusal) answer = noted (refusal_note refusal) (Refused refusal)
+refused_or None answer = answer
+
+-- the answer is that of the refusal which the fault carries; want of memory has none
+abbrev pub AnswersFault : Answer → Fault → Type 0
+AnswersFault answer faults.NoMemory = ⊥
+AnswersFault answer (faults.Refused refusal) = answer ≡ noted (refusal_note refusal) (Refused refusal)
+
+-- an answer over the canonical file of a drawing, unless that would be longer than the limit
+abbrev pub unless_large : Contents → Answer → Answer
+unless_large drawing answer = if nat_lt MOST_BYTES (size_of drawing) then noted (too_large_note (size_of drawing)) (TooLarge (size_of drawing)) else answer
+
+-- the canonical file of a drawing, with a note and a status
+unfoldable pub filed : Contents → List ℕ → Status → Answer
+filed drawing note status = unless_large drawing (record { output = canonical drawing; note = note; status = status })
+
+-- the canonical file of a drawing
+abbrev pub written : Contents → Answer
+written drawing = filed drawing [] Done
+
+-- an answer over a made drawing, unless it is asked for a size that no such drawing has
+abbrev pub unless_no_size : ℕ → Answer → Answer
+unless_no_size n answer = if n == 0 || nat_lt MOST_ENTITIES n then noted size_note Usage else answer
+
+-- the canonical file of the drawing that two numbers make
+unfoldable pub made_answer : ℕ → ℕ → Answer
+made_answer n seed = unless_no_size n (written (made n seed))
+
+-- what a drill over the drawing of a number finds out
+unfoldable pub drilled_answer : ℕ → Answer
+drilled_answer n = unless_large (made n DRILL_SEED) (printed (drill_text (drilled n)))
+
+-- what `drill` answers: the size note where there is no such drawing
+unfoldable pub drill_answer : ℕ → Answer
+drill_answer n = unless_no_size n (drilled_answer n)
+
+-- how an audit ends
+abbrev pub verdict_status : List Finding → Status
+verdict_status [] = Done
+verdict_status (finding ∷ more) = Found
+
+-- the findings of a drawing and the verdict
+unfoldable pub audited : Contents → Answer
+audited drawing = record { output = audit_text (findings drawing.objects); note = []; status = verdict_status (findings drawing.objects) }
+
+-- what a recovery notes, and how it ends: with no note where the input spells a drawing
+abbrev pub recovery_notes : Option Refusal → List Loss → List Kept → List ℕ
+recovery_notes None losses kept = []
+recovery_notes (Some refusal) losses kept = recovery_note refusal losses kept
+
+abbrev pub recovery_status : Option Refusal → Status
+recovery_status None = Done
+recovery_status (Some refusal) = Found
+
+-- the canonical file of what is recovered
+unfoldable pub recovered_answer : RecoveredValue → Answer
+recovered_answer value = filed value.drawing (recovery_notes value.refusal value.losses value.kept) (recovery_status value.refusal)
+
+-- what a command answers to an input within the limit
+unfoldable pub outcome_within : Command → List ℕ → Answer
+outcome_within Sections bytes = refused_or (first_fault HEADER_LINES bytes) (printed (sections_text (header_at bytes)))
+outcome_within Classes bytes = refused_or (first_fault CLASSES_LINES bytes) (printed (classes_text (classes_at bytes)))
+outcome_within Show bytes = refused_or (first_fault ALL_LINES bytes) (printed (show_text (drawing_at bytes)))
+outcome_within Rewrite bytes = refused_or (first_fault ALL_LINES bytes) (written (drawing_at bytes))
+outcome_within Audit bytes = refused_or (first_fault ALL_LINES bytes) (audited (drawing_at bytes))
+outcome_within Recover bytes = recovered_answer (recovered bytes)
+outcome_within (Make n seed) bytes = made_answer n seed
+outcome_within (Drill n) bytes = drill_answer n
+
+-- what a command that reads answers to any input
+unfoldable pub outcome_of_input : Command → List ℕ → Answer
+outcome_of_input command bytes = if nat_lt MOST_BYTES (length bytes) then noted too_long_note TooLong else outcome_within command bytes
+
+-- what a command answers
+unfoldable pub outcome_of : Option Command → List ℕ → Answer
+outcome_of None bytes = noted usage_note Usage
+outcome_of (Some Sections) bytes = outcome_of_input Sections bytes
+outcome_of (Some Classes) bytes = outcome_of_input Classes bytes
+outcome_of (Some Show) bytes = outcome_of_input Show bytes
+outcome_of (Some Rewrite) bytes = outcome_of_input Rewrite bytes
+outcome_of (Some Audit) bytes = outcome_of_input Audit bytes
+outcome_of (Some Recover) bytes = outcome_of_input Recover bytes
+outcome_of (Some (Make n seed)) bytes = made_answer n seed
+outcome_of (Some (Drill n)) bytes = drill_answer n
+
+-- what the program answers: output bytes, note bytes and status
+abbrev pub outcome : List (List ℕ) → List ℕ → Answer
+outcome words bytes = outcome_of (command_of words) bytes

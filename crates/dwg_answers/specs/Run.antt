@@ -1,0 +1,98 @@
+-- What a run of the program does to its three devices. A rule of this project.
+use Rattle.std.specs.Prelude.{◌≡◌, ⊤, ℕ, List, [], Option, Some, ◌⊎◌, ◌+◌, ◌≤◌, length, IfSome}
+use Rattle.std.specs.Io.KnownBytes.{Appends, Consumes}
+use Rattle.dwg_base.specs.Devices.{Rose, AppendsFront, MOST_BYTES}
+use Rattle.dwg_text.specs.Notes.{read_fault_note}
+use Rattle.dwg_answers.specs.declared.words.Command.{Command}
+use Rattle.dwg_answers.specs.declared.status.Status.{Status}
+use Rattle.dwg_answers.specs.declared.status.Status.TheVariants.{Done, Found, Usage, Refused, ReadFault, WriteFault, NoMemory, TooLong, TooLarge}
+use Rattle.dwg_answers.specs.declared.answer.Answer.{Answer}
+use Rattle.dwg_answers.specs.Words.{IsReading}
+use Rattle.dwg_answers.specs.Outcome.{outcome}
+
+-- the bytes are those that the input tells, where the command reads; a command that doesn't read needs no telling
+abbrev pub Feeds : Option Command → Option (List ℕ) → List ℕ → Type 0
+Feeds command told bytes = IsReading command → told ≡ Some bytes
+
+-- some bytes came from the input, and this holds of them
+abbrev pub Came : Option (List ℕ) → Option (List ℕ) → (List ℕ → Type 0) → Type 0
+Came left left' Holds = (came : List ℕ) × Consumes left left' came × Holds came
+
+-- neither a device nor memory failed
+abbrev pub IsSettled : Status → Type 0
+IsSettled Done = ⊤
+IsSettled Found = ⊤
+IsSettled Usage = ⊤
+IsSettled (Refused refusal) = ⊤
+IsSettled ReadFault = ⊥
+IsSettled WriteFault = ⊥
+IsSettled NoMemory = ⊥
+IsSettled TooLong = ⊤
+IsSettled (TooLarge size) = ⊤
+
+-- a write failed, or memory was wanted
+abbrev pub IsStopped : Status → Type 0
+IsStopped Done = ⊥
+IsStopped Found = ⊥
+IsStopped Usage = ⊥
+IsStopped (Refused refusal) = ⊥
+IsStopped ReadFault = ⊥
+IsStopped WriteFault = ⊤
+IsStopped NoMemory = ⊤
+IsStopped TooLong = ⊥
+IsStopped (TooLarge size) = ⊥
+
+-- a device or memory failed
+abbrev pub IsFailed : Status → Type 0
+IsFailed status = (status ≡ ReadFault) ⊎ IsStopped status
+
+-- a command that reads has read its input to the end
+abbrev pub IsDrained : Status → Type 0
+IsDrained Done = ⊤
+IsDrained Found = ⊤
+IsDrained Usage = ⊥
+IsDrained (Refused refusal) = ⊤
+IsDrained ReadFault = ⊥
+IsDrained WriteFault = ⊥
+IsDrained NoMemory = ⊥
+IsDrained TooLong = ⊥
+IsDrained (TooLarge size) = ⊤
+
+-- where the source told its bytes, it tells that none are left
+abbrev pub IsDrainedSource : Option (List ℕ) → Option (List ℕ) → Type 0
+IsDrainedSource old new = IfSome old (λ _. new ≡ Some [])
+
+-- output and notes took the whole answer
+pub record Delivers (answer : Answer) (output output' notes notes' : Option (List ℕ)) : Type 0 where
+  pub printed : Appends output output' answer.output
+  pub noted : Appends notes notes' answer.note
+
+-- the output took a front of the answer's, and the notes a front of its note, which is nothing unless the output is whole
+abbrev pub IsCut : Answer → Option (List ℕ) → Option (List ℕ) → Option (List ℕ) → Option (List ℕ) → Type 0
+IsCut answer output output' notes notes' =
+    (AppendsFront output output' answer.output × Appends notes notes' [])
+    ⊎ (Appends output output' answer.output × AppendsFront notes notes' answer.note)
+
+-- the input of a command that reads failed: nothing went to the output, and a front of the note on that to the notes
+pub record StopsAtFault (command : Option Command) (before now : ℕ) (output output' notes notes' : Option (List ℕ)) : Type 0 where
+  pub reading : IsReading command
+  pub fault : Rose before now
+  pub printed : Appends output output' []
+  pub noted : AppendsFront notes notes' read_fault_note
+
+-- the run answered to the bytes that came, which are at most one more than the limit, as is defined for them
+pub record AnswersTo (words : List (List ℕ)) (came : List ℕ) (status : Status) (output output' notes notes' : Option (List ℕ)) : Type 0 where
+  pub within : length came ≤ MOST_BYTES + 1
+  pub ends : status ≡ (outcome words came).status
+  pub sends : Delivers (outcome words came) output output' notes notes'
+
+-- how an answer that is sent ends: its status, where both sinks took it; else at a write fault, where one of them failed, or at want of memory
+abbrev pub Sent : Answer → Status → Option (List ℕ) → Option (List ℕ) → Option (List ℕ) → Option (List ℕ) → ℕ → ℕ → ℕ → ℕ → Type 0
+Sent answer status output output' notes notes' faults faults' note_faults note_faults' =
+    IsWhole ⊎ IsBroken
+  where
+    IsWhole : Type 0
+    IsWhole = (status ≡ answer.status) × Delivers answer output output' notes notes' × (faults' ≡ faults) × (note_faults' ≡ note_faults)
+
+    IsBroken : Type 0
+    IsBroken = IsStopped status × IsCut answer output output' notes notes' × (status ≡ WriteFault → Rose faults faults' ⊎ Rose note_faults note_faults')

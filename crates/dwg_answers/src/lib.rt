@@ -1,0 +1,16 @@
+//! What the program answers: the words of its command line, what they and the input ask for, the answer, and how it is sent to
+//! output and notes.
+#![tactic(auto)]
+
+mod answer;
+mod answering;
+mod request;
+mod sending;
+mod status;
+mod words;
+
+pub use answer::Answer;
+pub use answering::answer_request;
+pub use request::{Request, Stop, request_for};
+pub use status::Status;
+pub use words::{Command, read_words};
