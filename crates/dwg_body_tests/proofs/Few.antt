@@ -1,5 +1,5 @@
 -- What is written of a body that was read has no more bits than it was read of.
-use Rattle.std.proofs.Common.{◌≤◌, ℕ, ◌+◌, ◌-◌, ◌*◌, List, Bool, length, length-append, ap, arith}
+use Rattle.std.proofs.Common.{◌≤◌, ℕ, ◌*◌, List, Bool, length, length-append, ap, arith}
 use Rattle.dwg_bits.specs.BitLaws.{length_of_bits_between}
 use Rattle.dwg_bits.specs.Cursor.{rest}
 use Rattle.dwg_bits.specs.declared.cursor.BitCursor.{BitCursor}

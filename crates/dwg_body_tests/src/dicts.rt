@@ -1,202 +1,206 @@
 //! Controls of tables, dictionaries and records.
 
-use crate::again::{base, is_kept, is_none, is_rewritten};
+use crate::table::{Body, OWN, holds};
 use dwg_base::{ByteRun, Handle, Items};
-use dwg_bits::BitCursor;
 use dwg_common::BodyCode;
 use dwg_dicts::{
     AppIdControl, BlockControl, DictItem, Dictionary, LayerControl, LtypeControl, StyleControl,
-    XRecord, dict_laws,
+    XRecord,
 };
 use dwg_handles::Ref;
+use dwg_samples::{Case, first_failing};
 use std::alloc::Global;
 use std::test::Fail;
 
-/// A count of no entries.
-const NONE: [u8; 1] = [0x80];
-
-/// A count of one.
-const ONE: [u8; 2] = [0x40, 0x40];
-
-/// A count of two, and the same by 32 bits.
-const TWO: [u8; 2] = [0x40, 0x80];
-
-const TWO_OTHERWISE: [u8; 5] = [0x00, 0x80, 0x00, 0x00, 0x00];
-
-/// Two layers, and the same by more bytes.
-const LAYERS: [u8; 4] = [0x21, 0x10, 0x21, 0x17];
-
-const LAYERS_OTHERWISE: [u8; 7] = [0x22, 0x00, 0x10, 0x23, 0x00, 0x00, 0x17];
-
-/// A header of a block, and those of the model space and the paper space.
-const BLOCKS: [u8; 6] = [0x21, 0x20, 0x31, 0x18, 0x31, 0x1B];
-
-/// A linetype, and two beside it.
-const LINETYPES: [u8; 6] = [0x21, 0x16, 0x31, 0x14, 0x31, 0x15];
-
-/// A dictionary without items, of cloning 0 and hard owner 0, and the same by the longest codes.
-const EMPTY: [u8; 2] = [0xA0, 0x00];
-
-const EMPTY_OTHERWISE: [u8; 8] = [0x00; 8];
-
-/// A dictionary of two items, "NOTES" and one without a name, of cloning 256 and hard owner 1.
-const NOTES: [u8; 9] = [0x40, 0xB0, 0x14, 0x15, 0x39, 0x3D, 0x51, 0x15, 0x4E];
-
-/// The same of cloning 0, and the same by longer codes.
-const KEPT_NOTES: [u8; 9] = [0x40, 0xA0, 0x14, 0x15, 0x39, 0x3D, 0x51, 0x15, 0x4E];
-
-const KEPT_NOTES_OTHERWISE: [u8; 15] = [
-    0x00, 0x80, 0x00, 0x00, 0x10, 0x00, 0x10, 0x14, 0x01, 0x39, 0x3D, 0x51, 0x15, 0x4D, 0x00,
-];
-
-/// Their targets, and the same by more bytes.
-const NOTED: [u8; 3] = [0x21, 0x0D, 0x30];
-
-const NOTED_OTHERWISE: [u8; 7] = [0x24, 0x00, 0x00, 0x00, 0x0D, 0x31, 0x00];
-
-/// A record without bytes, of cloning 0.
-const BARE: [u8; 1] = [0xA0];
-
-/// A record of the bytes 1, 2 and 3, of cloning 1, and the same by longer codes.
-const RECORD: [u8; 6] = [0x40, 0xC0, 0x40, 0x80, 0xD0, 0x10];
-
-const RECORD_OTHERWISE: [u8; 10] = [0x00, 0xC0, 0x00, 0x00, 0x00, 0x40, 0x80, 0xC0, 0x10, 0x00];
-
-/// Two targets, and the same by more bytes.
-const TARGETS: [u8; 3] = [0x41, 0x10, 0x50];
-
-const TARGETS_OTHERWISE: [u8; 6] = [0x42, 0x00, 0x10, 0x52, 0x00, 0x00];
-
+/// The entries: none, two, and of the layers the same by more bytes; each is cut short once.
 #[test]
-fn controls_are_read_and_written(rt: HostRuntime) -> Result<(), Fail> {
-    dict_laws();
+fn controls_of_entries_are_told_and_written(rt: HostRuntime) -> Result<(), Fail> {
     let alloc = rt.alloc();
-    assert!(rt; is_kept::<LayerControl>(alloc, (&NONE, 2), (&[], 0))?);
-    assert!(rt; is_kept::<LayerControl>(alloc, (&TWO, 10), (&LAYERS, 32))?);
-    assert!(rt;
-        is_rewritten::<LayerControl>(
+    assert_eq!(rt;
+        first_failing::<Body<LayerControl>>(
             alloc,
-            (&TWO_OTHERWISE, 34),
-            (&LAYERS_OTHERWISE, 56),
-            (&TWO, 10),
-            (&LAYERS, 32)
-        )?
+            "\
+        '10 / - | = | [ ]\n\
+        '01 02 / 2.10 2.17 | = | [ 2.10 2.17 ]\n\
+        '00 02000000 / 220010 23000017 | '01 02 / 2.10 2.17 | [ 2.10 2.17 ]\n\
+        '01 02 '000000 / 21 10 21 | none\n\
+        '01 02 / 2.61 3.62 | = | [ 2.61 3.62 ]\n"
+        ),
+        None
     );
-    assert!(rt; is_kept::<StyleControl>(alloc, (&NONE, 2), (&[], 0))?);
-    assert!(rt; is_kept::<StyleControl>(alloc, (&TWO, 10), (&LAYERS, 32))?);
-    assert!(rt; is_kept::<AppIdControl>(alloc, (&NONE, 2), (&[], 0))?);
-    assert!(rt; is_kept::<AppIdControl>(alloc, (&TWO, 10), (&LAYERS, 32))?);
-    assert!(rt; is_kept::<BlockControl>(alloc, (&NONE, 2), (&BLOCKS[2..], 32))?);
-    assert!(rt; is_kept::<BlockControl>(alloc, (&ONE, 10), (&BLOCKS, 48))?);
-    assert!(rt; is_kept::<LtypeControl>(alloc, (&NONE, 2), (&LINETYPES[2..], 32))?);
-    assert!(rt; is_kept::<LtypeControl>(alloc, (&ONE, 10), (&LINETYPES, 48))?);
-    Ok(())
-}
-
-#[test]
-fn dictionaries_and_records_are_read_and_written(rt: HostRuntime) -> Result<(), Fail> {
-    let alloc = rt.alloc();
-    assert!(rt; is_kept::<Dictionary>(alloc, (&EMPTY, 12), (&[], 0))?);
-    assert!(rt;
-        is_rewritten::<Dictionary>(
+    assert_eq!(rt;
+        first_failing::<Body<StyleControl>>(
             alloc,
-            (&EMPTY_OTHERWISE, 60),
-            (&[], 0),
-            (&EMPTY, 12),
-            (&[], 0)
-        )?
+            "\
+        '10 / - | = | [ ]\n\
+        '01 02 / 2.10 2.17 | = | [ 2.10 2.17 ]\n\
+        '00 020000 '000000 / 2.10 2.17 | none\n"
+        ),
+        None
     );
-    assert!(rt; is_kept::<Dictionary>(alloc, (&NOTES, 72), (&NOTED, 24))?);
-    assert!(rt;
-        is_rewritten::<Dictionary>(
+    assert_eq!(rt;
+        first_failing::<Body<AppIdControl>>(
             alloc,
-            (&KEPT_NOTES_OTHERWISE, 120),
-            (&NOTED_OTHERWISE, 56),
-            (&KEPT_NOTES, 72),
-            (&NOTED, 24)
-        )?
-    );
-    assert!(rt; is_kept::<XRecord>(alloc, (&BARE, 4), (&[], 0))?);
-    assert!(rt; is_kept::<XRecord>(alloc, (&RECORD, 44), (&TARGETS, 24))?);
-    assert!(rt;
-        is_rewritten::<XRecord>(
-            alloc,
-            (&RECORD_OTHERWISE, 76),
-            (&TARGETS_OTHERWISE, 48),
-            (&RECORD, 44),
-            (&TARGETS, 24)
-        )?
+            "\
+        '10 / - | = | [ ]\n\
+        '01 02 / 2.10 2.17 | = | [ 2.10 2.17 ]\n\
+        '01 01 '000000 / - | none\n"
+        ),
+        None
     );
     Ok(())
 }
 
+/// The entries and the two beside them: none, one; cut short; each reference another one.
+#[test]
+fn controls_with_two_entries_more_are_told_and_written(rt: HostRuntime) -> Result<(), Fail> {
+    let alloc = rt.alloc();
+    assert_eq!(rt;
+        first_failing::<Body<BlockControl>>(
+            alloc,
+            "\
+        '10 / 3.18 3.1B | = | [ ] 3.18 3.1B\n\
+        '01 01 / 2.20 3.18 3.1B | = | [ 2.20 ] 3.18 3.1B\n\
+        '01 01 '000000 / 3.18 3.1B | none\n\
+        '01 02 / 2.61 3.62 5.63 5.64 | = | [ 2.61 3.62 ] 5.63 5.64\n"
+        ),
+        None
+    );
+    assert_eq!(rt;
+        first_failing::<Body<LtypeControl>>(
+            alloc,
+            "\
+        '10 / 3.14 3.15 | = | [ ] 3.14 3.15\n\
+        '01 01 / 2.16 3.14 3.15 | = | [ 2.16 ] 3.14 3.15\n\
+        '10 '000000 / 21 16 31 | none\n\
+        '01 02 / 2.61 3.62 5.63 5.64 | = | [ 2.61 3.62 ] 5.63 5.64\n"
+        ),
+        None
+    );
+    Ok(())
+}
+
+/// Dictionaries: cloning, hard owner, items: none, and the same by the longest codes; `NOTES` and one without a name; the same of cloning 0
+/// by longer codes; cut short in both places; every number another one. Records: bytes, cloning, targets: none; three bytes and two targets,
+/// and the same by longer codes; eight bits that are no reference, by their code and by their count of bytes; cut short; every number another
+/// one.
+#[test]
+fn dictionaries_and_records_are_told_and_written(rt: HostRuntime) -> Result<(), Fail> {
+    let alloc = rt.alloc();
+    assert_eq!(rt;
+        first_failing::<Body<Dictionary>>(
+            alloc,
+            "\
+        '10 '10 00 / - | = | 0 0 [ ]\n\
+        '00 00000000 '00 0000 00 / - | '10 '10 00 / - | 0 0 [ ]\n\
+        '01 02 '11 01 '01 05 4E4F544553 '10 / 2.D 3.0 | = | 100 1 [ 'NOTES' 2.D '' 3.0 ]\n\
+        '00 02000000 '01 00 01 '00 0500 4E4F544553 '01 00 / 240000000D 3100 \
+            | '01 02 '10 01 '01 05 4E4F544553 '10 / 2.D 3.0 \
+            | 0 1 [ 'NOTES' 2.D '' 3.0 ]\n\
+        '01 02 '11 01 '01 05 4E4F5445 '01 / 2.D 3.0 | none\n\
+        '01 02 '11 01 '01 05 4E4F544553 '10 / 2.D | none\n\
+        '01 02 '01 01 02 '01 01 61 '01 02 6263 / 2.61 3.62 | = | 1 2 [ 'a' 2.61 'bc' 3.62 ]\n"
+        ),
+        None
+    );
+    assert_eq!(rt;
+        first_failing::<Body<XRecord>>(
+            alloc,
+            "\
+        '10 '10 / - | = | : 0 [ ]\n\
+        '01 03 010203 '01 01 / 4.10 5.0 | = | :010203 1 [ 4.10 5.0 ]\n\
+        '00 03000000 010203 '00 0100 / 420010 520000 | '01 03 010203 '01 01 / 4.10 5.0 | :010203 1 [ 4.10 5.0 ]\n\
+        '01 03 010203 '01 01 '0000 / 4.10 F0 | none\n\
+        '01 03 010203 '01 01 '0000 / 41 10 41 | none\n\
+        '01 03 010203 '01 '0000 / 4.10 5.0 | none\n\
+        '01 03 78797A '01 04 / 2.61 3.62 | = | :78797A 4 [ 2.61 3.62 ]\n"
+        ),
+        None
+    );
+    Ok(())
+}
+
+/// Records behind two other bits of the references: lines as those of `Body`.
+struct Behind;
+
+impl Case for Behind {
+    fn holds(alloc: Global, line: &str) -> bool {
+        holds::<XRecord>(alloc, line, 2) == Some(true)
+    }
+}
+
+/// Two bits stand before the one reference, and six behind it.
 #[test]
 fn references_of_a_record_end_before_the_last_bits(rt: HostRuntime) -> Result<(), Fail> {
-    let alloc = rt.alloc();
-    let mut main = BitCursor::new(&RECORD, 0, 48);
-    // Two bits stand before the one reference, and six behind it.
-    let mut refs = BitCursor::new(&[0xD0, 0x44, 0x00], 2, 24);
-    let read = XRecord::read(alloc, &mut main, &mut refs, base()?).or(Err("no memory"))?;
-    let record = read.ok_or("no record")?;
-    assert_eq!(rt; record.bytes.as_slice(), [1, 2, 3].as_slice());
-    assert_eq!(rt; record.cloning, 1);
-    let target = Handle::new(0x10).ok_or("no handle")?;
-    let named = [Ref::new(4, target).ok_or("no reference")?];
-    assert_eq!(rt; record.targets.as_slice(), named.as_slice());
-    assert_eq!(rt; (main.at(), refs.at(), refs.left()), (44, 18, 6));
-    // Eight bits that are no reference: their code, and then their count of bytes.
-    assert!(rt; is_none::<XRecord>(alloc, &RECORD, &[0x41, 0x10, 0xF0])?);
-    assert!(rt; is_none::<XRecord>(alloc, &RECORD, &[0x41, 0x10, 0x41])?);
+    assert_eq!(rt;
+        first_failing::<Behind>(
+            rt.alloc(),
+            "\
+        '01 03 010203 '01 01 / '11 4.10 | '01 03 010203 '01 01 / 4.10 | :010203 1 [ 4.10 ]\n"
+        ),
+        None
+    );
     Ok(())
 }
 
-#[test]
-fn dicts_that_are_cut_short_are_none(rt: HostRuntime) -> Result<(), Fail> {
-    let alloc = rt.alloc();
-    assert!(rt; is_none::<LayerControl>(alloc, &TWO, &LAYERS[..3])?);
-    assert!(rt; is_none::<StyleControl>(alloc, &TWO_OTHERWISE[..4], &LAYERS)?);
-    assert!(rt; is_none::<AppIdControl>(alloc, &ONE, &[])?);
-    assert!(rt; is_none::<BlockControl>(alloc, &ONE, &BLOCKS[2..])?);
-    assert!(rt; is_none::<LtypeControl>(alloc, &NONE, &LINETYPES[..3])?);
-    assert!(rt; is_none::<Dictionary>(alloc, &NOTES[..8], &NOTED)?);
-    assert!(rt; is_none::<Dictionary>(alloc, &NOTES, &NOTED[..2])?);
-    assert!(rt; is_none::<XRecord>(alloc, &RECORD[..5], &TARGETS)?);
-    Ok(())
+/// A list of one.
+fn one(alloc: Global, entry: Ref) -> Option<Items<Ref>> {
+    let mut entries = Items::new(alloc);
+    entries.push(entry).ok()?;
+    Some(entries)
 }
 
+/// Whether a control with the entry fits.
+fn fits_control(alloc: Global, base: Handle, entry: Ref) -> Option<bool> {
+    let control = LayerControl {
+        entries: one(alloc, entry)?,
+    };
+    Some(control.fits(base))
+}
+
+/// Whether a record that names the entry fits.
+fn fits_record(alloc: Global, base: Handle, entry: Ref) -> Option<bool> {
+    let record = XRecord {
+        bytes: ByteRun::from_slice(alloc, &[]).ok()?,
+        cloning: 0,
+        targets: one(alloc, entry)?,
+    };
+    Some(record.fits(base))
+}
+
+/// Whether a dictionary with an item for the entry fits.
+fn fits_dictionary(alloc: Global, base: Handle, entry: Ref) -> Option<bool> {
+    let mut items = Items::new(alloc);
+    let name = ByteRun::from_slice(alloc, &[]).ok()?;
+    let item = DictItem {
+        name,
+        target: entry,
+    };
+    items.push(item).ok()?;
+    let dictionary = Dictionary {
+        cloning: 0,
+        hard_owner: 0,
+        items,
+    };
+    Some(dictionary.fits(base))
+}
+
+/// Whether a control, a record and a dictionary fit in the object 80 that name an object by code 6.
+fn fits_next(alloc: Global, target: u64) -> Option<String> {
+    let base = Handle::new(OWN)?;
+    let entry = Ref::new(6, Handle::new(target)?)?;
+    let control = fits_control(alloc, base, entry)?;
+    let record = fits_record(alloc, base, entry)?;
+    let dictionary = fits_dictionary(alloc, base, entry)?;
+    format!(in alloc; "{control} {record} {dictionary}").ok()
+}
+
+/// Code 6 tells the next handle and no other.
 #[test]
 fn what_no_bits_tell_does_not_fit(rt: HostRuntime) -> Result<(), Fail> {
-    let alloc = rt.alloc();
-    let base = base()?;
-    // Code 6 tells the next handle and no other.
-    let next = Ref::new(6, Handle::new(0x81).ok_or("no handle")?).ok_or("no reference")?;
-    let far = Ref::new(6, Handle::new(0x82).ok_or("no handle")?).ok_or("no reference")?;
-    for (entry, told) in [(next, true), (far, false)] {
-        let mut entries = Items::new(alloc);
-        entries.push(entry).or(Err("no memory"))?;
-        assert_eq!(rt; LayerControl { entries }.fits(base), told);
-        let mut targets = Items::new(alloc);
-        targets.push(entry).or(Err("no memory"))?;
-        let bytes = ByteRun::from_slice(alloc, &[]).or(Err("no memory"))?;
-        let record = XRecord {
-            bytes,
-            cloning: 0,
-            targets,
-        };
-        assert_eq!(rt; record.fits(base), told);
-        let mut items = Items::new(alloc);
-        let name = ByteRun::from_slice(alloc, &[]).or(Err("no memory"))?;
-        let item = DictItem {
-            name,
-            target: entry,
-        };
-        items.push(item).or(Err("no memory"))?;
-        let dictionary = Dictionary {
-            cloning: 0,
-            hard_owner: 0,
-            items,
-        };
-        assert_eq!(rt; dictionary.fits(base), told);
-    }
+    let next = fits_next(rt.alloc(), 0x81);
+    assert_eq!(rt; next.as_deref(), Some("true true true"));
+    let far = fits_next(rt.alloc(), 0x82);
+    assert_eq!(rt; far.as_deref(), Some("false false false"));
     Ok(())
 }

@@ -1,121 +1,151 @@
 //! Texts, attributes and their definitions, inserts, and the begin and end of blocks.
 
-use crate::again::{is_kept, is_none, is_rewritten};
-use dwg_entities::{Attdef, Attrib, Block, EndBlk, Insert, SeqEnd, Text, entity_laws};
+use crate::table::Body;
+use dwg_entities::{Attdef, Attrib, Block, EndBlk, Insert, SeqEnd, Text};
+use dwg_samples::first_failing;
 use std::test::Fail;
 
-/// A text "A" of which nothing else is there.
-const PLAIN_TEXT: [u8; 28] = [
-    0xFF, 0x00, 0x00, 0x00, 0x00, 0x00, 0x00, 0x00, 0x00, 0x00, 0x00, 0x00, 0x00, 0x00, 0x00, 0x00,
-    0x00, 0xC0, 0x00, 0x00, 0x00, 0x00, 0x00, 0x00, 0x00, 0x10, 0x14, 0x10,
-];
-
-/// A text "AB" with every part.
-const FULL_TEXT: [u8; 81] = [
-    0x00, 0x00, 0x00, 0x00, 0x00, 0x00, 0x00, 0xF0, 0x3F, 0x00, 0x00, 0x00, 0x00, 0x00, 0x00, 0xF0,
-    0x3F, 0x00, 0x00, 0x00, 0x00, 0x00, 0x00, 0x00, 0x40, 0x30, 0x00, 0x00, 0x00, 0x00, 0x00, 0x00,
-    0x84, 0x03, 0x40, 0x00, 0x00, 0x00, 0x00, 0x00, 0x00, 0x01, 0x00, 0x00, 0x00, 0x00, 0x00, 0x00,
-    0x03, 0xC0, 0xFC, 0x00, 0x00, 0x00, 0x00, 0x00, 0x00, 0x01, 0x00, 0x00, 0x00, 0x00, 0x00, 0x00,
-    0x00, 0x21, 0x00, 0x00, 0x00, 0x00, 0x00, 0x00, 0x03, 0xC0, 0xFD, 0x02, 0x41, 0x42, 0x40, 0x50,
-    0x2C,
-];
-
-/// An empty text with some of its parts.
-const MIXED_TEXT: [u8; 52] = [
-    0xA5, 0x00, 0x00, 0x00, 0x00, 0x00, 0x00, 0xF0, 0x3F, 0x00, 0x00, 0x00, 0x00, 0x00, 0x00, 0x00,
-    0x40, 0xC0, 0x00, 0x00, 0x00, 0x00, 0x00, 0x02, 0x10, 0x0C, 0x00, 0x00, 0x00, 0x00, 0x00, 0x00,
-    0x01, 0x00, 0x00, 0x00, 0x00, 0x00, 0x00, 0x03, 0xC0, 0xFC, 0x00, 0x00, 0x00, 0x00, 0x00, 0x00,
-    0x01, 0x02, 0x41, 0xC0,
-];
-
-/// An attribute of tag "NO", length 3 and flags 8.
-const ATTRIB: [u8; 33] = [
-    0xFF, 0x00, 0x00, 0x00, 0x00, 0x00, 0x00, 0x00, 0x00, 0x00, 0x00, 0x00, 0x00, 0x00, 0x00, 0x00,
-    0x00, 0xC0, 0x00, 0x00, 0x00, 0x00, 0x00, 0x00, 0x00, 0x10, 0x14, 0x14, 0x09, 0x39, 0x3D, 0x03,
-    0x08,
-];
-
-/// The definition of that attribute, which asks "Number".
-const ATTDEF: [u8; 41] = [
-    0xFF, 0x00, 0x00, 0x00, 0x00, 0x00, 0x00, 0x00, 0x00, 0x00, 0x00, 0x00, 0x00, 0x00, 0x00, 0x00,
-    0x00, 0xC0, 0x00, 0x00, 0x00, 0x00, 0x00, 0x00, 0x00, 0x10, 0x14, 0x14, 0x09, 0x39, 0x3D, 0x03,
-    0x08, 0x41, 0x93, 0x9D, 0x5B, 0x58, 0x99, 0x5C, 0x80,
-];
-
-/// An insert of scale 1.0.
-const INSERT_WHOLE: [u8; 11] = [
-    0x60, 0x00, 0x00, 0x00, 0x00, 0x00, 0x00, 0x01, 0x03, 0xA9, 0x00,
-];
-
-/// An insert of scale (1.0, 2.0, 1.0) with attributes.
-const INSERT_BESIDE_ONE: [u8; 19] = [
-    0x60, 0x00, 0x00, 0x00, 0x00, 0x00, 0x00, 0x01, 0x01, 0xC0, 0x00, 0x00, 0x00, 0x00, 0x00, 0x00,
-    0x10, 0x0A, 0x98,
-];
-
-/// An insert of scale 2.0.
-const INSERT_EVEN: [u8; 19] = [
-    0x60, 0x00, 0x00, 0x00, 0x00, 0x00, 0x00, 0x01, 0x02, 0x00, 0x00, 0x00, 0x00, 0x00, 0x00, 0x00,
-    0x40, 0xA9, 0x00,
-];
-
-/// An insert of scale (2.0, 2.0, 3.0).
-const INSERT_FREE: [u8; 27] = [
-    0x60, 0x00, 0x00, 0x00, 0x00, 0x00, 0x00, 0x01, 0x00, 0x00, 0x00, 0x00, 0x00, 0x00, 0x00, 0x00,
-    0x40, 0x30, 0x00, 0x00, 0x00, 0x00, 0x00, 0x00, 0x84, 0x0A, 0x90,
-];
-
-/// A block "TAG".
-const BLOCK: [u8; 5] = [0x40, 0xD5, 0x10, 0x51, 0xC0];
-
-/// The insert of scale 1.0, its scale spelled by all its words.
-const INSERT_WHOLE_OTHERWISE: [u8; 35] = [
-    0x60, 0x00, 0x00, 0x00, 0x00, 0x00, 0x00, 0x01, 0x00, 0x00, 0x00, 0x00, 0x00, 0x00, 0x00, 0xF0,
-    0x3F, 0xC0, 0x00, 0x00, 0x00, 0x00, 0x00, 0x3C, 0x0F, 0xF0, 0x00, 0x00, 0x00, 0x00, 0x00, 0x0F,
-    0x03, 0xFA, 0x90,
-];
-
-/// The reference to a style.
-const STYLE: [u8; 2] = [0x51, 0x11];
-
+/// Elevation, insertion, alignment, extrusion, thickness, oblique, rotation, height, width, text, generation, horizontal, vertical, style:
+/// of a text with nothing else, with every part, with some; cut short in both places; every number another one. Its style is one before
+/// the text (`C.1`).
 #[test]
-fn entities_are_read_and_written(rt: HostRuntime) -> Result<(), Fail> {
-    entity_laws();
+fn texts_are_told_and_written(rt: HostRuntime) -> Result<(), Fail> {
     let alloc = rt.alloc();
-    let block = [0x51, 0x20].as_slice();
-    let attributes = [0x51, 0x20, 0x41, 0x2E, 0x41, 0x2F, 0x31, 0x30].as_slice();
-    assert!(rt; is_kept::<Text>(alloc, (&PLAIN_TEXT, 220), (&STYLE, 16))?);
-    assert!(rt; is_kept::<Text>(alloc, (&FULL_TEXT, 646), (&STYLE, 16))?);
-    assert!(rt; is_kept::<Text>(alloc, (&MIXED_TEXT, 410), (&STYLE, 16))?);
-    assert!(rt; is_kept::<Attrib>(alloc, (&ATTRIB, 264), (&STYLE, 16))?);
-    assert!(rt; is_kept::<Attdef>(alloc, (&ATTDEF, 322), (&STYLE, 16))?);
-    assert!(rt; is_kept::<Insert>(alloc, (&INSERT_WHOLE, 81), (block, 16))?);
-    assert!(rt; is_kept::<Insert>(alloc, (&INSERT_BESIDE_ONE, 149), (attributes, 64))?);
-    assert!(rt; is_kept::<Insert>(alloc, (&INSERT_EVEN, 145), (block, 16))?);
-    assert!(rt; is_kept::<Insert>(alloc, (&INSERT_FREE, 213), (block, 16))?);
-    assert!(rt;
-        is_rewritten::<Insert>(
+    assert_eq!(rt;
+        first_failing::<Body<Text>>(
             alloc,
-            (&INSERT_WHOLE_OTHERWISE, 277),
-            (&[0x52, 0x00, 0x20], 24),
-            (&INSERT_WHOLE, 81),
-            (block, 16)
-        )?
+            "\
+        FF 0000000000000000 0000000000000000 '1 '1 0000000000000000 '01 01 41 / 5.11 \
+            | = | - 0 0 - 0 0 3FF0000000000000 0 - - 0 - 'A' - - - 5.11\n\
+        00 000000000000F03F 000000000000F03F 0000000000000040 '00 '11 0000000000000840 '0 '01 '10 '10 '0 '00 \
+            0000000000000040 000000000000F03F 0000000000000040 0000000000000840 000000000000F03F '01 02 4142 '01 01 \
+            '01 02 '11 / 5.11 \
+            | = | 3FF0000000000000 3FF0000000000000 4000000000000000 3FF0000000000000 4008000000000000 3FF0000000000000 \
+              0 0 4000000000000000 3FF0000000000000 4000000000000000 4008000000000000 3FF0000000000000 'AB' 1 2 100 \
+              5.11\n\
+        A5 000000000000F03F 0000000000000040 '11 0000000000000840 '00 '1 '1 0000000000000040 000000000000F03F \
+            0000000000000040 '10 '01 07 / 5.11 \
+            | = | - 3FF0000000000000 4000000000000000 4008000000000000 4000000000000000 0 0 3FF0000000000000 0 - \
+              4000000000000000 3FF0000000000000 4000000000000000 '' - 7 - 5.11\n\
+        FF 0000000000000000 0000000000000000 '1 '1 0000000000000000 '01 01 '0100 / 5.11 | none\n\
+        FF 0000000000000000 0000000000000000 '1 '1 0000000000000000 '01 01 41 '0000 / 51 | none\n\
+        00 0100000000000000 0200000000000000 0300000000000000 '11 0400000000000000 '11 0500000000000000 '0 '00 \
+            0600000000000000 '00 0700000000000000 '00 0800000000000000 '0 '00 0900000000000000 0A00000000000000 \
+            0B00000000000000 0C00000000000000 0D00000000000000 '01 01 54 '01 0E '01 0F '01 10 / C.1 \
+            | 00 0100000000000000 0200000000000000 0300000000000000 '01 04000000 '01 05000000 '0 '00 \
+              0600000000000000 '00 0700000000000000 '00 0800000000000000 '0 '00 0900000000000000 0A00000000000000 \
+              0B00000000000000 0C00000000000000 0D00000000000000 '01 01 54 '01 0E '01 0F '01 10 / C.1 \
+            | 1 2 3 4 5 6 7 8 9 A B C D 'T' E F 10 C.7F\n"
+        ),
+        None
     );
-    assert!(rt; is_kept::<Block>(alloc, (&BLOCK, 34), (&[], 0))?);
-    assert!(rt; is_kept::<EndBlk>(alloc, (&[], 0), (&[], 0))?);
-    assert!(rt; is_kept::<SeqEnd>(alloc, (&[], 0), (&[], 0))?);
     Ok(())
 }
 
+/// What a text has, and then tag, length and flags, and of a definition the prompt. Of each the second is cut short, and in the third every
+/// number is another one.
 #[test]
-fn entities_that_are_cut_short_are_none(rt: HostRuntime) -> Result<(), Fail> {
+fn attributes_are_told_and_written(rt: HostRuntime) -> Result<(), Fail> {
     let alloc = rt.alloc();
-    assert!(rt; is_none::<Text>(alloc, &PLAIN_TEXT[..27], &STYLE)?);
-    assert!(rt; is_none::<Text>(alloc, &PLAIN_TEXT, &STYLE[..1])?);
-    assert!(rt; is_none::<Attrib>(alloc, &ATTRIB[..32], &STYLE)?);
-    assert!(rt; is_none::<Attdef>(alloc, &ATTDEF[..40], &STYLE)?);
-    assert!(rt; is_none::<Insert>(alloc, &INSERT_BESIDE_ONE, &STYLE)?);
-    assert!(rt; is_none::<Block>(alloc, &BLOCK[..4], &[])?);
+    assert_eq!(rt;
+        first_failing::<Body<Attrib>>(
+            alloc,
+            "\
+        FF 0000000000000000 0000000000000000 '1 '1 0000000000000000 '01 01 41 '01 02 4E4F '01 03 08 / 5.11 \
+            | = | - 0 0 - 0 0 3FF0000000000000 0 - - 0 - 'A' - - - 5.11 'NO' 3 8\n\
+        FF 0000000000000000 0000000000000000 '1 '1 0000000000000000 '01 01 41 '01 02 4E4F '01 03 / 5.11 | none\n\
+        FF 0200000000000000 0300000000000000 '1 '1 0C00000000000000 '01 01 54 '01 01 47 '01 11 12 / C.1 \
+            | = | - 2 3 - 0 0 3FF0000000000000 0 - - C - 'T' - - - C.7F 'G' 11 12\n"
+        ),
+        None
+    );
+    assert_eq!(rt;
+        first_failing::<Body<Attdef>>(
+            alloc,
+            "\
+        FF 0000000000000000 0000000000000000 '1 '1 0000000000000000 '01 01 41 '01 02 4E4F '01 03 08 '01 06 \
+            4E756D626572 / 5.11 \
+            | = | - 0 0 - 0 0 3FF0000000000000 0 - - 0 - 'A' - - - 5.11 'NO' 3 8 'Number'\n\
+        FF 0000000000000000 0000000000000000 '1 '1 0000000000000000 '01 01 41 '01 02 4E4F '01 03 08 '01 06 \
+            4E756D6265 '011100 / 5.11 \
+            | none\n\
+        FF 0200000000000000 0300000000000000 '1 '1 0C00000000000000 '01 01 54 '01 01 47 '01 11 12 '01 01 50 / C.1 \
+            | = | - 2 3 - 0 0 3FF0000000000000 0 - - C - 'T' - - - C.7F 'G' 11 12 'P'\n"
+        ),
+        None
+    );
+    Ok(())
+}
+
+/// Place, scale, rotation, extrusion, block, attributes: of scale 1.0, of (1.0, 2.0, 1.0) with attributes, of 2.0, of (2.0, 2.0, 3.0), and
+/// of 1.0 by all its words; without the references to its attributes; every number another one.
+#[test]
+fn inserts_are_told_and_written(rt: HostRuntime) -> Result<(), Fail> {
+    let alloc = rt.alloc();
+    assert_eq!(rt;
+        first_failing::<Body<Insert>>(
+            alloc,
+            "\
+        '01 '10 '00 0000000000000040 '11 '10 '10 '10 '01 '0 / 5.20 \
+            | = | 3FF0000000000000 0 4000000000000000 3FF0000000000000 3FF0000000000000 3FF0000000000000 0 0 0 \
+              3FF0000000000000 5.20 -\n\
+        '01 '10 '00 0000000000000040 '01 '11 0000000000000040 '00 '10 '10 '10 '01 '1 / 5.20 4.2E 4.2F 3.30 \
+            | = | 3FF0000000000000 0 4000000000000000 3FF0000000000000 4000000000000000 3FF0000000000000 0 0 0 \
+              3FF0000000000000 5.20 4.2E 4.2F 3.30\n\
+        '01 '10 '00 0000000000000040 '10 0000000000000040 '10 '10 '10 '01 '0 / 5.20 \
+            | = | 3FF0000000000000 0 4000000000000000 4000000000000000 4000000000000000 4000000000000000 0 0 0 \
+              3FF0000000000000 5.20 -\n\
+        '01 '10 '00 0000000000000040 '00 0000000000000040 '00 '11 0000000000000840 '10 '10 '10 '01 '0 / 5.20 \
+            | = | 3FF0000000000000 0 4000000000000000 4000000000000000 4000000000000000 4008000000000000 0 0 0 \
+              3FF0000000000000 5.20 -\n\
+        '01 '10 '00 0000000000000040 '00 000000000000F03F '11 000000000000F03F '11 000000000000F03F '10 '10 '10 '01 \
+            '0 / 520020 \
+            | '01 '10 '00 0000000000000040 '11 '10 '10 '10 '01 '0 / 5.20 \
+            | 3FF0000000000000 0 4000000000000000 3FF0000000000000 3FF0000000000000 3FF0000000000000 0 0 0 \
+              3FF0000000000000 5.20 -\n\
+        '01 '10 '00 0000000000000040 '01 '11 0000000000000040 '00 '10 '10 '10 '01 '1 '000 / 5.11 | none\n\
+        '00 0100000000000000 '00 0200000000000000 '00 0300000000000000 '00 0400000000000000 '11 0500000000000000 \
+            '11 0600000000000000 '00 0700000000000000 '00 0800000000000000 '00 0900000000000000 '00 \
+            0A00000000000000 '1 / 5.12 4.20 4.21 3.22 \
+            | '00 0100000000000000 '00 0200000000000000 '00 0300000000000000 '00 0400000000000000 '01 05000000 '01 \
+              06000000 '00 0700000000000000 '00 0800000000000000 '00 0900000000000000 '00 0A00000000000000 '1 / \
+              5.12 4.20 4.21 3.22 \
+            | 1 2 3 4 5 6 7 8 9 A 5.12 4.20 4.21 3.22\n"
+        ),
+        None
+    );
+    Ok(())
+}
+
+/// The begin of a block has a name, the ends have no field. The second block is cut short.
+#[test]
+fn marks_of_blocks_are_told_and_written(rt: HostRuntime) -> Result<(), Fail> {
+    let alloc = rt.alloc();
+    assert_eq!(rt;
+        first_failing::<Body<Block>>(
+            alloc,
+            "\
+        '01 03 544147 / - | = | 'TAG'\n\
+        '01 03 5441 '010001 / - | none\n\
+        '01 01 4E / - | = | 'N'\n"
+        ),
+        None
+    );
+    assert_eq!(rt;
+        first_failing::<Body<EndBlk>>(
+            alloc,
+            "\
+        - / - | = | -\n"
+        ),
+        None
+    );
+    assert_eq!(rt;
+        first_failing::<Body<SeqEnd>>(
+            alloc,
+            "\
+        - / - | = | -\n"
+        ),
+        None
+    );
     Ok(())
 }

@@ -1,92 +1,123 @@
 //! Lines, points, circles, arcs and lightweight polylines.
 
-use crate::again::{is_kept, is_none, is_rewritten};
-use dwg_shapes::{Arc, Circle, Line, LwPolyline, Point, shape_laws};
+use crate::table::Body;
+use dwg_samples::first_failing;
+use dwg_shapes::{Arc, Circle, Line, LwPolyline, Point};
 use std::test::Fail;
 
-/// A line from (1.0, 2.0, 0) to (1.0, 3.0, 0).
-const FLAT_LINE: [u8; 25] = [
-    0x80, 0x00, 0x00, 0x00, 0x00, 0x00, 0x78, 0x1F, 0x80, 0x00, 0x00, 0x00, 0x00, 0x00, 0x00, 0x08,
-    0x18, 0x00, 0x00, 0x00, 0x00, 0x00, 0x00, 0x42, 0x06,
-];
-
-/// The same, each part by its longest spelling.
-const FLAT_LINE_OTHERWISE: [u8; 51] = [
-    0x00, 0x00, 0x00, 0x00, 0x00, 0x00, 0x78, 0x1F, 0xE0, 0x00, 0x00, 0x00, 0x00, 0x00, 0x1E, 0x07,
-    0xE0, 0x00, 0x00, 0x00, 0x00, 0x00, 0x00, 0x08, 0x18, 0x00, 0x00, 0x00, 0x00, 0x00, 0x00, 0x42,
-    0x00, 0x00, 0x00, 0x00, 0x00, 0x00, 0x00, 0x00, 0x00, 0x00, 0x00, 0x00, 0x00, 0x00, 0x00, 0x00,
-    0x00, 0x14, 0x80,
-];
-
-/// A line from (1.0, 0, 3.0) to (2.0, 0, 1.0) of thickness 2.0 and extrusion (1.0, 0, 0).
-const SOLID_LINE: [u8; 51] = [
-    0x00, 0x00, 0x00, 0x00, 0x00, 0x00, 0x78, 0x1F, 0xE0, 0x00, 0x00, 0x00, 0x00, 0x00, 0x00, 0x08,
-    0x00, 0x00, 0x00, 0x00, 0x00, 0x00, 0x00, 0x00, 0x00, 0x00, 0x00, 0x00, 0x00, 0x00, 0x00, 0x42,
-    0x06, 0x00, 0x00, 0x00, 0x00, 0x00, 0x01, 0xE0, 0x7E, 0x00, 0x00, 0x00, 0x00, 0x00, 0x00, 0x00,
-    0x10, 0x0D, 0x00,
-];
-
-/// A point at (1.0, 0, 2.0) of angle 3.0.
-const POINT: [u8; 18] = [
-    0x60, 0x00, 0x00, 0x00, 0x00, 0x00, 0x00, 0x01, 0x03, 0x00, 0x00, 0x00, 0x00, 0x00, 0x00, 0x02,
-    0x10, 0x00,
-];
-
-/// A circle round (1.0, 2.0, 0) of radius 3.0, thickness 1.0 and extrusion (0, 1.0, 0).
-const CIRCLE: [u8; 19] = [
-    0x40, 0x00, 0x00, 0x00, 0x00, 0x00, 0x00, 0x04, 0x08, 0x00, 0x00, 0x00, 0x00, 0x00, 0x00, 0x08,
-    0x40, 0x29, 0x80,
-];
-
-/// An arc round (1.0, 2.0, 0) of radius 3.0 from 0 to 1.0.
-const ARC: [u8; 18] = [
-    0x40, 0x00, 0x00, 0x00, 0x00, 0x00, 0x00, 0x04, 0x08, 0x00, 0x00, 0x00, 0x00, 0x00, 0x00, 0x08,
-    0x40, 0xE4,
-];
-
-/// A lightweight polyline of flag 511 with every part: three points, a bulge, two widths.
-const POLYLINE: [u8; 66] = [
-    0x3F, 0xC0, 0x50, 0x00, 0x00, 0x00, 0x00, 0x00, 0x00, 0x01, 0x02, 0xA5, 0x03, 0x40, 0x50, 0x20,
-    0x00, 0x00, 0x00, 0x00, 0x00, 0x0F, 0x03, 0xF0, 0x00, 0x00, 0x00, 0x00, 0x00, 0x00, 0x04, 0x03,
-    0x00, 0x00, 0x00, 0x00, 0x00, 0x00, 0x08, 0x40, 0xC0, 0x00, 0x00, 0x00, 0x00, 0x00, 0x02, 0x10,
-    0x00, 0x00, 0x00, 0x00, 0x00, 0x00, 0x00, 0x01, 0x02, 0x50, 0x00, 0x00, 0x00, 0x00, 0x00, 0x00,
-    0x01, 0x00,
-];
-
+/// Lines: start, end, thickness, extrusion. From (1.0, 2.0, 0) to (1.0, 3.0, 0), and the same by the longest codes; from (1.0, 0, 3.0)
+/// to (2.0, 0, 1.0) of thickness 2.0; cut short; every number another one. Points: place, thickness, extrusion, angle; the second is cut
+/// short.
 #[test]
-fn shapes_are_read_and_written(rt: HostRuntime) -> Result<(), Fail> {
-    shape_laws();
+fn lines_and_points_are_told_and_written(rt: HostRuntime) -> Result<(), Fail> {
     let alloc = rt.alloc();
-    assert!(rt; is_kept::<Line>(alloc, (&FLAT_LINE, 199), (&[], 0))?);
-    assert!(rt;
-        is_rewritten::<Line>(
+    assert_eq!(rt;
+        first_failing::<Body<Line>>(
             alloc,
-            (&FLAT_LINE_OTHERWISE, 401),
-            (&[], 0),
-            (&FLAT_LINE, 199),
-            (&[], 0)
-        )?
+            "\
+        '1 000000000000F03F '00 0000000000000040 '11 0000000000000840 '1 '1 / - \
+            | = | 3FF0000000000000 4000000000000000 0 3FF0000000000000 4008000000000000 0 0 0 0 3FF0000000000000\n\
+        '0 000000000000F03F '11 000000000000F03F 0000000000000040 '11 0000000000000840 0000000000000000 '00 '0 '00 \
+            0000000000000000 '0 '10 '10 '01 / - \
+            | '1 000000000000F03F '00 0000000000000040 '11 0000000000000840 '1 '1 / - \
+            | 3FF0000000000000 4000000000000000 0 3FF0000000000000 4008000000000000 0 0 0 0 3FF0000000000000\n\
+        '0 000000000000F03F '11 0000000000000040 0000000000000000 '00 0000000000000840 '11 000000000000F03F '0 '00 \
+            0000000000000040 '0 '01 '10 '10 / - \
+            | = | 3FF0000000000000 0 4008000000000000 4000000000000000 0 3FF0000000000000 4000000000000000 \
+              3FF0000000000000 0 0\n\
+        '1 000000000000F03F '00 0000000000000040 '11 00000000000008 '010 / - | none\n\
+        '0 0100000000000000 '11 0200000000000000 0300000000000000 '11 0400000000000000 0500000000000000 '11 \
+            0600000000000000 '0 '00 0700000000000000 '0 '00 0800000000000000 '00 0900000000000000 '00 \
+            0A00000000000000 / - \
+            | '0 0100000000000000 '01 02000000 0300000000000000 '01 04000000 0500000000000000 '01 06000000 '0 '00 \
+              0700000000000000 '0 '00 0800000000000000 '00 0900000000000000 '00 0A00000000000000 / - \
+            | 1 3 5 2 4 6 7 8 9 A\n"
+        ),
+        None
     );
-    assert!(rt; is_kept::<Line>(alloc, (&SOLID_LINE, 401), (&[], 0))?);
-    assert!(rt; is_kept::<Point>(alloc, (&POINT, 138), (&[], 0))?);
-    assert!(rt; is_kept::<Circle>(alloc, (&CIRCLE, 146), (&[], 0))?);
-    assert!(rt; is_kept::<Arc>(alloc, (&ARC, 142), (&[], 0))?);
-    assert!(rt; is_kept::<LwPolyline>(alloc, (&POLYLINE, 526), (&[], 0))?);
-    assert!(rt; is_kept::<LwPolyline>(alloc, (&[0xA0], 4), (&[], 0))?);
-    assert!(rt; is_kept::<LwPolyline>(alloc, (&[0x44, 0x24, 0x05], 24), (&[], 0))?);
+    assert_eq!(rt;
+        first_failing::<Body<Point>>(
+            alloc,
+            "\
+        '01 '10 '00 0000000000000040 '1 '1 '00 0000000000000840 / - \
+            | = | 3FF0000000000000 0 4000000000000000 0 0 0 3FF0000000000000 4008000000000000\n\
+        '01 '10 '00 0000000000000040 '1 '1 '00 00000000000008 '010000 / - | none\n\
+        '00 0100000000000000 '00 0200000000000000 '00 0300000000000000 '0 '00 0400000000000000 '0 '00 \
+            0500000000000000 '00 0600000000000000 '00 0700000000000000 '00 0800000000000000 / - \
+            | = | 1 2 3 4 5 6 7 8\n"
+        ),
+        None
+    );
     Ok(())
 }
 
+/// Circles: centre, radius, thickness, extrusion. Arcs: the same, and the start and end angles. Of each the second is cut short, and in the
+/// third every number is another one.
 #[test]
-fn shapes_that_are_cut_short_are_none(rt: HostRuntime) -> Result<(), Fail> {
+fn circles_and_arcs_are_told_and_written(rt: HostRuntime) -> Result<(), Fail> {
     let alloc = rt.alloc();
-    assert!(rt; is_none::<Line>(alloc, &FLAT_LINE[..24], &[])?);
-    assert!(rt; is_none::<Point>(alloc, &POINT[..17], &[])?);
-    assert!(rt; is_none::<Circle>(alloc, &CIRCLE[..18], &[])?);
-    assert!(rt; is_none::<Arc>(alloc, &ARC[..17], &[])?);
-    assert!(rt; is_none::<LwPolyline>(alloc, &POLYLINE[..65], &[])?);
-    // A count of 2^32 - 1 points of which none is there.
-    let hostile = [0x8F, 0xFF, 0xFF, 0xFF, 0xF0];
-    assert!(rt; is_none::<LwPolyline>(alloc, &hostile, &[])?);
+    assert_eq!(rt;
+        first_failing::<Body<Circle>>(
+            alloc,
+            "\
+        '01 '00 0000000000000040 '10 '00 0000000000000840 '0 '01 '0 '10 '01 '10 / - \
+            | = | 3FF0000000000000 4000000000000000 0 4008000000000000 3FF0000000000000 0 3FF0000000000000 0\n\
+        '01 '00 0000000000000040 '10 '00 0000000000000840 '0 '01 '0 '10 '01 / - | none\n\
+        '00 0100000000000000 '00 0200000000000000 '00 0300000000000000 '00 0400000000000000 '0 '00 0500000000000000 \
+            '0 '00 0600000000000000 '00 0700000000000000 '00 0800000000000000 / - \
+            | = | 1 2 3 4 5 6 7 8\n"
+        ),
+        None
+    );
+    assert_eq!(rt;
+        first_failing::<Body<Arc>>(
+            alloc,
+            "\
+        '01 '00 0000000000000040 '10 '00 0000000000000840 '1 '1 '10 '01 / - \
+            | = | 3FF0000000000000 4000000000000000 0 4008000000000000 0 0 0 3FF0000000000000 0 3FF0000000000000\n\
+        '01 '00 0000000000000040 '10 '00 0000000000000840 / - | none\n\
+        '00 0100000000000000 '00 0200000000000000 '00 0300000000000000 '00 0400000000000000 '0 '00 0500000000000000 \
+            '0 '00 0600000000000000 '00 0700000000000000 '00 0800000000000000 '00 0900000000000000 '00 \
+            0A00000000000000 / - \
+            | = | 1 2 3 4 5 6 7 8 9 A\n"
+        ),
+        None
+    );
+    Ok(())
+}
+
+/// Flag, width, elevation, thickness, normal, points, bulges, widths: with every part, with none, with a bulge alone; cut short, and with a
+/// count of 2^32 - 1 points of which none is there; every number another one.
+#[test]
+fn lightweight_polylines_are_told_and_written(rt: HostRuntime) -> Result<(), Fail> {
+    let alloc = rt.alloc();
+    assert_eq!(rt;
+        first_failing::<Body<LwPolyline>>(
+            alloc,
+            "\
+        '00 FF01 '01 '00 0000000000000040 '10 '10 '10 '01 '01 03 '01 01 '01 02 000000000000F03F 0000000000000040 \
+            '00 '11 0000000000000840 '11 0000000000000840 '00 '00 0000000000000040 '10 '01 '01 '00 0000000000000040 \
+            / - \
+            | = | 1FF 3FF0000000000000 4000000000000000 0 0 0 3FF0000000000000 [ 3FF0000000000000 4000000000000000 \
+              3FF0000000000000 4008000000000000 4008000000000000 4008000000000000 ] [ 4000000000000000 ] [ 0 \
+              3FF0000000000000 3FF0000000000000 4000000000000000 ]\n\
+        '10 '10 / - | = | 0 - - - - [ ] - -\n\
+        '01 10 '10 '01 01 '01 / - | = | 10 - - - - [ ] [ 3FF0000000000000 ] -\n\
+        '00 FF01 '01 '00 0000000000000040 '10 '10 '10 '01 '01 03 '01 01 '01 02 000000000000F03F 0000000000000040 \
+            '00 '11 0000000000000840 '11 0000000000000840 '00 '00 0000000000000040 '10 '01 '01 '00 00000000000000 \
+            '01 / - \
+            | none\n\
+        '10 '00 FFFFFFFF '0000 / - | none\n\
+        '00 3F02 '00 0100000000000000 '00 0200000000000000 '00 0300000000000000 '00 0400000000000000 '00 \
+            0500000000000000 '00 0600000000000000 '01 02 '01 01 '01 01 0700000000000000 0800000000000000 '11 \
+            0900000000000000 '11 0A00000000000000 '00 0B00000000000000 '00 0C00000000000000 '00 0D00000000000000 / \
+            - \
+            | '00 3F02 '00 0100000000000000 '00 0200000000000000 '00 0300000000000000 '00 0400000000000000 '00 \
+              0500000000000000 '00 0600000000000000 '01 02 '01 01 '01 01 0700000000000000 0800000000000000 '01 \
+              09000000 '01 0A000000 '00 0B00000000000000 '00 0C00000000000000 '00 0D00000000000000 / - \
+            | 23F 1 2 3 4 5 6 [ 7 8 9 A ] [ B ] [ C D ]\n"
+        ),
+        None
+    );
     Ok(())
 }

@@ -1,131 +1,191 @@
 //! Bits: the cursor, the sink and lists of bits, at each bit position from 0 to 15.
 
-use dwg_bits::{BitCursor, BitPart, BitRun, BitSink, bit_laws};
+use crate::lines::{Line, Tale, all_hold, number_of};
+use crate::sinks::{cursor_of, cursor_over, has_room, pad, push_low, tell_sink};
+use crate::told::Told;
+use dwg_bits::{BitCursor, BitPart, BitRun, BitSink};
 use std::alloc::Global;
-use std::process::Abort;
-use std::test::Fail;
 
-/// Nine bytes.
-const BYTES: [u8; 9] = [0x12, 0x34, 0x56, 0x78, 0x9A, 0xBC, 0xDE, 0xF0, 0x0F];
+/// `FROM END : BYTES ; COUNTS | what each count of bits gives, and the place where the cursor then stands; how many bits are left`: a number,
+/// or none where fewer bits are left. `s18` takes 18 bits as a span, and gives how many it has.
+struct Takes;
 
-/// A place among the bits of these bytes, a count of bits there, and the number that they spell.
-const NUMBERS: [(u64, u32, u64); 16] = [
-    (0, 64, 0x123456789ABCDEF0),
-    (1, 1, 0x0),
-    (2, 7, 0x24),
-    (3, 8, 0x91),
-    (4, 13, 0x468),
-    (5, 64, 0x468ACF13579BDE01),
-    (6, 31, 0x468ACF13),
-    (7, 33, 0x3456789A),
-    (8, 64, 0x3456789ABCDEF00F),
-    (9, 1, 0x0),
-    (10, 8, 0xD1),
-    (11, 16, 0xA2B3),
-    (12, 24, 0x456789),
-    (13, 32, 0x8ACF1357),
-    (14, 3, 0x0),
-    (15, 57, 0x56789ABCDEF00F),
-];
+/// So many bits as a span, and how many it has.
+fn take_span(cursor: &mut BitCursor<'_>, count: u64) -> Option<u64> {
+    let span = cursor.run(count)?;
+    Some(BitPart::Lent(span).length())
+}
 
-#[test]
-fn takes_numbers_at_each_bit_position(rt: HostRuntime) {
-    bit_laws();
-    for (place, count, value) in NUMBERS {
-        assert!(rt; place <= 72);
-        assert!(rt; count <= 64);
-        let mut cursor = BitCursor::new(&BYTES, place, 72);
-        assert_eq!(rt; cursor.take(count), Some(value), "{count} bits at {place}");
-        assert_eq!(rt; cursor.at(), place.saturating_add(u64::from(count)));
-        assert_eq!(rt; cursor.left(), 72u64.saturating_sub(cursor.at()));
+/// So many bits.
+fn take(cursor: &mut BitCursor<'_>, count: &str) -> Option<u64> {
+    if let Some(count) = count.strip_prefix("s") {
+        return take_span(cursor, number_of(count)?);
+    }
+    let count = number_of(count)?;
+    cursor.take(count.min(64) as u32)
+}
+
+/// Tells what so many bits are, and where the cursor then stands.
+fn tell_taken(cursor: &mut BitCursor<'_>, count: &str, told: &mut Told) {
+    match take(cursor, count) {
+        Some(number) => told.hex(number),
+        None => told.word("none"),
+    }
+    told.number(cursor.at());
+}
+
+impl Tale for Takes {
+    fn tell(_alloc: Global, line: &Line<'_>, told: &mut Told) {
+        let [from, end, _, _, _] = line.numbers;
+        let mut cursor = cursor_of(line.bytes(), from, end);
+        for count in line.words().split_whitespace() {
+            tell_taken(&mut cursor, count, told);
+        }
+        told.number(cursor.left());
     }
 }
 
-#[test]
-fn refuses_more_bits_than_are_left(rt: HostRuntime) {
-    let mut cursor = BitCursor::new(&BYTES, 3, 20);
-    assert_eq!(rt; cursor.take(18), None);
-    assert!(rt; cursor.run(18).is_none());
-    assert_eq!(rt; cursor.at(), 3);
-    assert_eq!(rt; cursor.take(17), Some(0x12345));
-    assert_eq!(rt; cursor.take(0), Some(0));
-    assert_eq!(rt; cursor.take(1), None);
-}
+/// `COUNT LENT OWNED : BYTES | the bytes, copied from a cursor to a sink`: so many bits as a number, then 13, so many as a lent list, and so
+/// many as an owned one.
+struct Copies;
 
 /// Copies bits as a number.
-fn copy_number(rt: &impl Abort, cursor: &mut BitCursor<'_>, sink: &mut BitSink, count: u32) {
-    assert!(rt; count <= 64);
-    assert!(rt; sink.length() < 1_000);
-    assert!(rt; sink.reserve(64));
-    match cursor.take(count) {
-        Some(value) => sink.push(value, count),
-        None => assert!(rt; false, "{count} bits are there"),
+fn copy_number(cursor: &mut BitCursor<'_>, sink: &mut BitSink, count: u64) {
+    let count = count.min(64) as u32;
+    if !has_room(sink, 64) {
+        return;
+    }
+    if let Some(value) = cursor.take(count) {
+        sink.push(value, count);
     }
 }
 
-/// Copies bits as a list, lent or owned.
-fn copy_list(
-    rt: &impl Abort,
-    cursor: &mut BitCursor<'_>,
-    sink: &mut BitSink,
-    count: u64,
-    owner: Option<Global>,
-) -> Result<(), Fail> {
-    let lent = BitPart::Lent(cursor.run(count).ok_or("fewer bits are left")?);
-    let part = match owner {
-        Some(alloc) => BitPart::Owned(BitRun::copy(alloc, &lent).ok_or("no memory")?),
-        None => lent,
-    };
-    assert_eq!(rt; part.length(), count);
-    assert!(rt; sink.length() < 1_000 && count < 1_000);
-    assert!(rt; sink.reserve(count));
-    sink.push_part(&part);
-    Ok(())
-}
-
-#[test]
-fn writes_what_it_reads_at_each_bit_position(rt: HostRuntime) -> Result<(), Fail> {
-    for place in 0..16u32 {
-        let mut sink = BitSink::new(rt.alloc());
-        let mut cursor = BitCursor::new(&BYTES, 0, 72);
-        copy_number(&rt, &mut cursor, &mut sink, place);
-        copy_number(&rt, &mut cursor, &mut sink, 13);
-        copy_list(&rt, &mut cursor, &mut sink, 19, None)?;
-        let left = cursor.left();
-        copy_list(&rt, &mut cursor, &mut sink, left, Some(rt.alloc()))?;
-        assert!(rt; sink.length() % 8 == 0);
-        assert_eq!(rt; sink.as_bytes(), BYTES.as_slice());
-    }
-    Ok(())
-}
-
-#[test]
-fn pads_to_a_whole_byte_and_clears(rt: HostRuntime) {
-    let mut sink = BitSink::new(rt.alloc());
-    for (value, padded) in [(0b101u64, [0xA0u8]), (0b110, [0xC0])] {
-        assert!(rt; sink.length() == 0 && value < 8);
-        assert!(rt; sink.reserve(16));
-        sink.push(value, 3);
-        assert!(rt; sink.length() == 3);
-        sink.pad();
-        assert!(rt; sink.length() % 8 == 0);
-        assert_eq!(rt; sink.as_bytes(), padded.as_slice());
-        sink.clear();
+/// Writes a list of so many bits.
+fn push_list(sink: &mut BitSink, part: &BitPart<'_>, count: u64) {
+    let length = part.length();
+    if length == count && has_room(sink, length) {
+        sink.push_part(part);
     }
 }
 
+/// Copies bits as a lent list.
+fn copy_lent(cursor: &mut BitCursor<'_>, sink: &mut BitSink, count: u64) {
+    if let Some(span) = cursor.run(count) {
+        push_list(sink, &BitPart::Lent(span), count);
+    }
+}
+
+/// An owned copy of a list.
+fn owned_copy(alloc: Global, cursor: &mut BitCursor<'_>, count: u64) -> Option<BitRun> {
+    let span = cursor.run(count)?;
+    BitRun::copy(alloc, &BitPart::Lent(span))
+}
+
+/// Copies bits as an owned list.
+fn copy_owned(alloc: Global, cursor: &mut BitCursor<'_>, sink: &mut BitSink, count: u64) {
+    if let Some(run) = owned_copy(alloc, cursor, count) {
+        push_list(sink, &BitPart::Owned(run), count);
+    }
+}
+
+impl Tale for Copies {
+    fn tell(alloc: Global, line: &Line<'_>, told: &mut Told) {
+        let [count, lent, owned, _, _] = line.numbers;
+        let mut cursor = cursor_over(line.bytes());
+        let mut sink = BitSink::new(alloc);
+        copy_number(&mut cursor, &mut sink, count);
+        copy_number(&mut cursor, &mut sink, 13);
+        copy_lent(&mut cursor, &mut sink, lent);
+        copy_owned(alloc, &mut cursor, &mut sink, owned);
+        tell_sink(&sink, told);
+    }
+}
+
+/// `FIRST SECOND : BYTES | the bytes of a sink with the low three bits of the first number, these bytes and padding, and with those of the
+/// second after it was cleared`
+struct Pads;
+
+/// Tells the bytes of a sink with three bits, bytes and padding, and clears it.
+fn tell_padded(sink: &mut BitSink, number: u64, bytes: &[u8], told: &mut Told) {
+    push_low(sink, number, 3);
+    if bytes.len() < 8 && has_room(sink, 64) {
+        sink.push_bytes(bytes);
+    }
+    pad(sink);
+    tell_sink(sink, told);
+    sink.clear();
+}
+
+impl Tale for Pads {
+    fn tell(alloc: Global, line: &Line<'_>, told: &mut Told) {
+        let [first, second, _, _, _] = line.numbers;
+        let mut sink = BitSink::new(alloc);
+        tell_padded(&mut sink, first, line.bytes(), told);
+        tell_padded(&mut sink, second, line.bytes(), told);
+    }
+}
+
 #[test]
-fn pushes_bytes_behind_single_bits(rt: HostRuntime) {
-    let mut sink = BitSink::new(rt.alloc());
-    assert!(rt; sink.length() == 0);
-    assert!(rt; sink.reserve(24));
-    sink.push(0b101, 3);
-    assert!(rt; sink.length() == 3);
-    assert!(rt; sink.reserve(21));
-    sink.push_bytes(&[0x12, 0x34]);
-    assert!(rt; sink.length() == 19);
-    assert!(rt; sink.reserve(5));
-    sink.pad();
-    assert!(rt; sink.length() % 8 == 0);
-    assert_eq!(rt; sink.as_bytes(), [0xA2u8, 0x46, 0x80].as_slice());
+fn takes_numbers_at_each_bit_position_but_no_more_than_are_left(rt: HostRuntime) {
+    let alloc = rt.alloc();
+    all_hold::<Takes>(
+        &rt,
+        rt.alloc(),
+        "\
+        0 72 : 12 34 56 78 9A BC DE F0 0F; 64 | x123456789ABCDEF0 64 8\n\
+        1 72 : 12 34 56 78 9A BC DE F0 0F; 1 | x0 2 70\n\
+        2 72 : 12 34 56 78 9A BC DE F0 0F; 7 | x24 9 63\n\
+        3 72 : 12 34 56 78 9A BC DE F0 0F; 8 | x91 11 61\n\
+        4 72 : 12 34 56 78 9A BC DE F0 0F; 13 | x468 17 55\n\
+        5 72 : 12 34 56 78 9A BC DE F0 0F; 64 | x468ACF13579BDE01 69 3\n\
+        6 72 : 12 34 56 78 9A BC DE F0 0F; 31 | x468ACF13 37 35\n\
+        7 72 : 12 34 56 78 9A BC DE F0 0F; 33 | x3456789A 40 32\n\
+        8 72 : 12 34 56 78 9A BC DE F0 0F; 64 | x3456789ABCDEF00F 72 0\n\
+        9 72 : 12 34 56 78 9A BC DE F0 0F; 1 | x0 10 62\n\
+        10 72 : 12 34 56 78 9A BC DE F0 0F; 8 | xD1 18 54\n\
+        11 72 : 12 34 56 78 9A BC DE F0 0F; 16 | xA2B3 27 45\n\
+        12 72 : 12 34 56 78 9A BC DE F0 0F; 24 | x456789 36 36\n\
+        13 72 : 12 34 56 78 9A BC DE F0 0F; 32 | x8ACF1357 45 27\n\
+        14 72 : 12 34 56 78 9A BC DE F0 0F; 3 | x0 17 55\n\
+        15 72 : 12 34 56 78 9A BC DE F0 0F; 57 | x56789ABCDEF00F 72 0",
+    );
+    all_hold::<Takes>(
+        &rt,
+        rt.alloc(),
+        "\
+        3 20 : 12 34 56 78 9A BC DE F0 0F; 18 s18 17 0 1 | none 3 none 3 x12345 20 x0 20 none 20 0",
+    );
+}
+
+#[test]
+fn writes_what_it_reads_at_each_bit_position_and_pads_to_a_whole_byte(rt: HostRuntime) {
+    let alloc = rt.alloc();
+    all_hold::<Copies>(
+        &rt,
+        rt.alloc(),
+        "\
+        0 19 40 : 12 34 56 78 9A BC DE F0 0F | =123456789ABCDEF00F\n\
+        1 19 39 : 12 34 56 78 9A BC DE F0 0F | =123456789ABCDEF00F\n\
+        2 19 38 : 12 34 56 78 9A BC DE F0 0F | =123456789ABCDEF00F\n\
+        3 19 37 : 12 34 56 78 9A BC DE F0 0F | =123456789ABCDEF00F\n\
+        4 19 36 : 12 34 56 78 9A BC DE F0 0F | =123456789ABCDEF00F\n\
+        5 19 35 : 12 34 56 78 9A BC DE F0 0F | =123456789ABCDEF00F\n\
+        6 19 34 : 12 34 56 78 9A BC DE F0 0F | =123456789ABCDEF00F\n\
+        7 19 33 : 12 34 56 78 9A BC DE F0 0F | =123456789ABCDEF00F\n\
+        8 19 32 : 12 34 56 78 9A BC DE F0 0F | =123456789ABCDEF00F\n\
+        9 19 31 : 12 34 56 78 9A BC DE F0 0F | =123456789ABCDEF00F\n\
+        10 19 30 : 12 34 56 78 9A BC DE F0 0F | =123456789ABCDEF00F\n\
+        11 19 29 : 12 34 56 78 9A BC DE F0 0F | =123456789ABCDEF00F\n\
+        12 19 28 : 12 34 56 78 9A BC DE F0 0F | =123456789ABCDEF00F\n\
+        13 19 27 : 12 34 56 78 9A BC DE F0 0F | =123456789ABCDEF00F\n\
+        14 19 26 : 12 34 56 78 9A BC DE F0 0F | =123456789ABCDEF00F\n\
+        15 19 25 : 12 34 56 78 9A BC DE F0 0F | =123456789ABCDEF00F",
+    );
+    all_hold::<Pads>(
+        &rt,
+        rt.alloc(),
+        "\
+        5 6 | =A0 =C0\n\
+        5 5 : 1234 | =A24680 =A24680",
+    );
 }

@@ -2,30 +2,38 @@
 
 ghost use Rattle.std.specs.Prelude.{◌≡◌, ◌≤◌, ◌<◌, length};
 
-use dwg_check::{SpanChecks, check, check_word_laws, header_word, shift};
+use crate::lines::{Line, Tale, all_hold};
+use crate::told::Told;
+use dwg_check::{SpanChecks, check, header_word, shift};
 use dwg_steps::Steps;
+use std::alloc::Global;
 use std::marker::Brand;
 use std::sync::ledger::{Blank, Ledger};
-use std::test::Fail;
 
-/// The size and the check word of the page that ends a map.
-const PAGE: [u8; 4] = [0x00, 0x02, 0x01, 0xD0];
+/// `START : BYTES | their check word`
+struct Words;
 
-#[test]
-fn check_words_are_those_of_the_polynomial(rt: HostRuntime) {
-    assert_eq!(rt; check(0, b"123456789"), 0xBB3D);
-    assert_eq!(rt; check(0xC0C1, b""), 0xC0C1);
-    // The end of a map: a page of size 2.
-    assert_eq!(rt; check(0xC0C1, &[0, 2]), 0x01D0);
-    // Nine zero bytes lead from the constant of a count of locators to that of the next.
-    assert_eq!(rt; check(0xA598, &[0; 9]), 0x8101);
-    assert_eq!(rt; check(0x8101, &[0; 9]), 0x3CC4);
-    assert_eq!(rt; check(0x3CC4, &[0; 9]), 0x8461);
-    for (count, word) in [(3, 0xA598), (4, 0x8101), (5, 0x3CC4), (6, 0x8461)] {
-        assert_eq!(rt; header_word(count, b""), word);
-        assert_eq!(rt; header_word(count, b"123456789"), 0xBB3D ^ word);
+impl Tale for Words {
+    fn tell(_alloc: Global, line: &Line<'_>, told: &mut Told) {
+        let [start, _, _, _, _] = line.numbers;
+        let word = check((start % 65_536) as u16, line.bytes());
+        told.hex(u64::from(word));
     }
 }
+
+/// `COUNT : BYTES | the check word of a header with so many locators behind these bytes`
+struct HeaderWords;
+
+impl Tale for HeaderWords {
+    fn tell(_alloc: Global, line: &Line<'_>, told: &mut Told) {
+        let [count, _, _, _, _] = line.numbers;
+        let word = header_word(count.clamp(3, 6) as u32, line.bytes());
+        told.hex(u64::from(word));
+    }
+}
+
+/// `START COUNT ZEROS | the word after a shift by the count, and whether that is the check word of so many zero bytes`
+struct Shifts;
 
 /// The word after so many zero bytes, byte by byte.
 fn after_each(start: u16, zeros: u64) -> u16 {
@@ -35,6 +43,18 @@ fn after_each(start: u16, zeros: u64) -> u16 {
     }
     word
 }
+
+impl Tale for Shifts {
+    fn tell(_alloc: Global, line: &Line<'_>, told: &mut Told) {
+        let [start, count, zeros, _, _] = line.numbers;
+        let start = (start % 65_536) as u16;
+        told.hex(u64::from(shift(start, count)));
+        told.hex(u64::from(after_each(start, zeros)));
+    }
+}
+
+/// `FROM TO : BYTES | the check word of this span of the bytes, begun as C0C1, by the words of fronts, and byte by byte`
+struct Spans;
 
 /// The word of a span, with a counter of the ledger that the blank opens.
 fn span_counted<L: Ledger>(
@@ -62,33 +82,94 @@ fn span_word(checks: &SpanChecks<'_>, start: u16, from: usize, to: usize) -> u16
     span_counted::<Brand>(checks, start, from, to, Blank::new(1))
 }
 
-#[test]
-fn shift_gives_the_words_of_the_header_counts(rt: HostRuntime) {
-    check_word_laws();
-    assert_eq!(rt; shift(0xA598, 9), 0x8101);
-    assert_eq!(rt; shift(0x8101, 9), 0x3CC4);
-    assert_eq!(rt; shift(0x3CC4, 9), 0x8461);
+/// Tells the word of a span by the words of fronts.
+fn tell_span(alloc: Global, bytes: &[u8], from: usize, to: usize, told: &mut Told) {
+    if from > to || to > bytes.len() {
+        return;
+    }
+    match SpanChecks::build(alloc, bytes) {
+        Ok(checks) => told.hex(u64::from(span_word(&checks, 0xC0C1, from, to))),
+        Err(_) => told.word("no memory"),
+    }
+}
+
+/// Tells the word of a span byte by byte.
+fn tell_bytes(bytes: &[u8], from: usize, to: usize, told: &mut Told) {
+    if let Some(span) = bytes.get(from..to) {
+        told.hex(u64::from(check(0xC0C1, span)));
+    }
+}
+
+impl Tale for Spans {
+    fn tell(alloc: Global, line: &Line<'_>, told: &mut Told) {
+        let [from, to, _, _, _] = line.numbers;
+        let from = from.min(1_000) as usize;
+        let to = to.min(1_000) as usize;
+        tell_span(alloc, line.bytes(), from, to, told);
+        tell_bytes(line.bytes(), from, to, told);
+    }
 }
 
 #[test]
-fn shift_is_the_check_word_of_zeros(rt: HostRuntime) {
-    for zeros in [0u64, 1, 2, 15, 16, 255, 32_766, 32_767, 32_768, 65_535] {
-        assert_eq!(rt; shift(0xC0C1, zeros), after_each(0xC0C1, zeros));
-    }
-    assert_eq!(rt; shift(0xC0C1, 32_767), 0xC0C1);
-    assert_eq!(rt; shift(0xC0C1, u64::MAX), shift(0xC0C1, 15));
-}
-
-#[test]
-fn span_checks_are_the_check_words_of_spans(rt: HostRuntime) -> Result<(), Fail> {
-    let bytes = PAGE.as_slice();
-    assert!(rt; bytes.len() == 4);
-    let checks = SpanChecks::build(rt.alloc(), bytes).or(Err("no memory"))?;
-    assert_eq!(rt; span_word(&checks, 0xC0C1, 0, 2), 0x01D0);
-    for (from, to) in [(0usize, 0usize), (0, 4), (1, 3), (2, 4), (3, 4), (4, 4)] {
-        assert!(rt; from <= to && to <= bytes.len());
-        let word = check(0xC0C1, &bytes[from..to]);
-        assert_eq!(rt; span_word(&checks, 0xC0C1, from, to), word);
-    }
-    Ok(())
+fn check_words_shifts_and_spans_are_those_of_the_polynomial(rt: HostRuntime) {
+    let alloc = rt.alloc();
+    // The third is the end of a map: a page of size 2. Nine zero bytes lead from the constant of a count of locators to that of the next.
+    all_hold::<Words>(
+        &rt,
+        alloc,
+        "\
+        0 : 313233343536373839 | xBB3D\n\
+        xC0C1 | xC0C1\n\
+        xC0C1 : 0002 | x1D0\n\
+        xA598 : 000000000000000000 | x8101\n\
+        x8101 : 000000000000000000 | x3CC4\n\
+        x3CC4 : 000000000000000000 | x8461",
+    );
+    // The words of the digits 1 to 9 are BB3D xor the constants.
+    all_hold::<HeaderWords>(
+        &rt,
+        alloc,
+        "\
+        3 | xA598\n\
+        4 | x8101\n\
+        5 | x3CC4\n\
+        6 | x8461\n\
+        3 : 313233343536373839 | x1EA5\n\
+        4 : 313233343536373839 | x3A3C\n\
+        5 : 313233343536373839 | x87F9\n\
+        6 : 313233343536373839 | x3F5C",
+    );
+    // 32,767 zero bytes leave each word, and the largest count is 15 more than a multiple of that.
+    all_hold::<Shifts>(
+        &rt,
+        rt.alloc(),
+        "\
+        xA598 9 9 | x8101 x8101\n\
+        x8101 9 9 | x3CC4 x3CC4\n\
+        x3CC4 9 9 | x8461 x8461\n\
+        xC0C1 0 0 | xC0C1 xC0C1\n\
+        xC0C1 1 1 | x9001 x9001\n\
+        xC0C1 2 2 | xC051 xC051\n\
+        xC0C1 15 15 | x90C1 x90C1\n\
+        xC0C1 16 16 | x9051 x9051\n\
+        xC0C1 255 255 | xFCC1 xFCC1\n\
+        xC0C1 32766 32766 | x1 x1\n\
+        xC0C1 32767 32767 | xC0C1 xC0C1\n\
+        xC0C1 32768 32768 | x9001 x9001\n\
+        xC0C1 65535 65535 | x9001 x9001\n\
+        xC0C1 18446744073709551615 15 | x90C1 x90C1",
+    );
+    // The size and the check word of the page that ends a map.
+    all_hold::<Spans>(
+        &rt,
+        rt.alloc(),
+        "\
+        0 2 : 00 02 01 D0 | x1D0 x1D0\n\
+        0 0 : 00 02 01 D0 | xC0C1 xC0C1\n\
+        0 4 : 00 02 01 D0 | xC9C xC9C\n\
+        1 3 : 00 02 01 D0 | x6091 x6091\n\
+        2 4 : 00 02 01 D0 | xCC51 xCC51\n\
+        3 4 : 00 02 01 D0 | xC00 xC00\n\
+        4 4 : 00 02 01 D0 | xC0C1 xC0C1",
+    );
 }

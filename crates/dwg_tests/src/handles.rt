@@ -1,298 +1,418 @@
 //! Handles, references and own handles: values from outside, and each at every bit position.
 
-use dwg_base::{Handle, Items};
+ghost use Rattle.std.specs.Prelude.{⊤};
+
+use crate::lines::{Line, Tale, all_hold};
+use crate::sinks::{cursor_of, cursor_over, has_room};
+use crate::told::Told;
+use crate::travels::{Traveller, tell_travel};
+use dwg_base::{Handle, Items, NoMemory};
 use dwg_bits::{BitCursor, BitSink};
 use dwg_handles::{
-    Ref, own_bits, read_own, read_ref, read_refs, read_refs_to_end, ref_bits, reference_laws,
-    write_own, write_ref,
+    Ref, own_bits, read_own, read_ref, read_refs, read_refs_to_end, ref_bits, refs_fit, write_own,
+    write_ref,
 };
 use std::alloc::Global;
-use std::process::Abort;
-use std::test::Fail;
 
-/// The largest handle.
-const LAST: u64 = 0x7FFF_FFFF_FFFF_FFFF;
+/// `NUMBER | the handle of this number`
+struct Handles;
 
-fn handle(number: u64) -> Result<Handle, Fail> {
-    Ok(Handle::new(number).ok_or("no handle")?)
-}
-
-fn reference(code: u8, target: u64) -> Result<Ref, Fail> {
-    Ok(Ref::new(code, handle(target)?).ok_or("no reference")?)
-}
-
-/// The code and target of the reference in front of the bytes, and how many bits it has.
-fn reads(base: Handle, bytes: &[u8]) -> Option<(u8, u64, u64)> {
-    let end = bytes.len().min(64) as u64 * 8;
-    let mut cursor = BitCursor::new(bytes, 0, end);
-    let read = read_ref(&mut cursor, base)?;
-    Some((read.code, read.target.value(), cursor.at()))
-}
-
-#[test]
-fn handles_lie_below_their_limit_and_some_codes_are_references(
-    rt: HostRuntime,
-) -> Result<(), Fail> {
-    reference_laws();
-    assert_eq!(rt; Handle::new(LAST).map(Handle::value), Some(LAST));
-    assert_eq!(rt; Handle::new(LAST + 1), None);
-    for code in 0..16u8 {
-        let known = matches!(code, 0 | 1 | 2 | 3 | 4 | 5 | 6 | 8 | 10 | 12);
-        assert_eq!(rt; Ref::new(code, handle(1)?).is_some(), known, "code {code}");
-    }
-    Ok(())
-}
-
-#[test]
-fn references_are_read(rt: HostRuntime) -> Result<(), Fail> {
-    let base = handle(0x80)?;
-    for (bytes, read) in [
-        ([0x60u8].as_slice(), Some((6u8, 0x81u64, 8u64))),
-        (&[0x80], Some((8, 0x7F, 8))),
-        (&[0xA1, 0x0F], Some((10, 0x8F, 16))),
-        (&[0xC1, 0x10], Some((12, 0x70, 16))),
-        (&[0xA0], Some((10, 0x80, 8))),
-        (&[0x41, 0x10], Some((4, 0x10, 16))),
-        (&[0x42, 0x00, 0x10], Some((4, 0x10, 24))),
-        (&[0x10], Some((1, 0, 8))),
-        (&[0xC1, 0x80], Some((12, 0, 16))),
-        (&[0xC1, 0x81], None),
-        (&[0x61, 0x00], None),
-        (&[0x81, 0x00], None),
-        (&[0x70], None),
-        (&[0x90], None),
-        (&[0xB0], None),
-        (&[0xD0], None),
-        (&[0x49, 0, 0, 0, 0, 0, 0, 0, 0, 1], None),
-        (&[0x48, 0x80, 0, 0, 0, 0, 0, 0, 0], None),
-        (
-            &[0xA8, 0x7F, 0xFF, 0xFF, 0xFF, 0xFF, 0xFF, 0xFF, 0x80],
-            None,
-        ),
-        (&[0x42, 0x10], None),
-        (&[], None),
-    ] {
-        assert_eq!(rt; reads(base, bytes), read, "{bytes:?}");
-    }
-    assert_eq!(rt; reads(handle(LAST)?, &[0x60]), None);
-    assert_eq!(rt; reads(handle(0)?, &[0x80]), None);
-    Ok(())
-}
-
-#[test]
-fn a_code_reaches_some_targets(rt: HostRuntime) -> Result<(), Fail> {
-    for (code, target, base, fits) in [
-        (0u8, LAST, 0u64, true),
-        (5, 0, LAST, true),
-        (6, 0x81, 0x80, true),
-        (6, 0x80, 0x80, false),
-        (6, LAST, LAST, false),
-        (8, 0x7F, 0x80, true),
-        (8, 0x80, 0x80, false),
-        (8, 0, 0, false),
-        (10, 0x80, 0x80, true),
-        (10, 0x7F, 0x80, false),
-        (10, LAST, 0, true),
-        (12, 0x80, 0x80, true),
-        (12, 0x81, 0x80, false),
-        (12, 0, LAST, true),
-    ] {
-        let value = reference(code, target)?;
-        assert_eq!(rt;
-            value.fits(handle(base)?),
-            fits,
-            "{code} {target:x} from {base:x}"
-        );
-    }
-    Ok(())
-}
-
-/// A sink that stands at a bit position.
-fn sink_at(rt: &impl Abort, alloc: Global, place: u32) -> BitSink {
-    let mut sink = BitSink::new(alloc);
-    assert!(rt; sink.length() == 0);
-    assert!(rt; sink.reserve(16));
-    assert!(rt; place <= 16);
-    sink.push(0, place);
-    sink
-}
-
-/// Writes a reference at each bit position, and reads it again.
-fn travels(rt: &impl Abort, alloc: Global, value: Ref, base: Handle) {
-    for place in 0..16u32 {
-        let mut sink = sink_at(rt, alloc, place);
-        assert!(rt; value.fits(base));
-        let count = ref_bits(value, base);
-        assert!(rt; sink.length() == u64::from(place));
-        assert!(rt; sink.reserve(count));
-        write_ref(value, base, &mut sink);
-        assert!(rt; sink.length() == u64::from(place) + count);
-        assert!(rt; sink.length() < 100);
-        assert!(rt; sink.reserve(8));
-        sink.pad();
-        assert!(rt; sink.length() % 8 == 0);
-        let bytes = sink.as_bytes();
-        assert!(rt; bytes.len() < 100);
-        let end = bytes.len() as u64 * 8;
-        assert!(rt; u64::from(place) <= end);
-        let mut cursor = BitCursor::new(bytes, u64::from(place), end);
-        assert_eq!(rt; read_ref(&mut cursor, base), Some(value));
-        assert_eq!(rt; cursor.at(), u64::from(place) + count);
-    }
-}
-
-#[test]
-fn references_travel_at_each_bit_position(rt: HostRuntime) -> Result<(), Fail> {
-    let alloc = rt.alloc();
-    for (code, target, bits) in [
-        (0u8, 0u64, 8u64),
-        (1, 0xFF, 16),
-        (2, 0x100, 24),
-        (3, 0xFF_FFFF, 32),
-        (4, 0x100_0000, 40),
-        (5, LAST, 72),
-        (6, 0x81, 8),
-        (8, 0x7F, 8),
-        (10, 0x80, 8),
-        (10, 0x17F, 16),
-        (12, 0, 16),
-    ] {
-        let value = reference(code, target)?;
-        let base = handle(0x80)?;
-        assert!(rt; value.fits(base));
-        assert_eq!(rt; ref_bits(value, base), bits, "{code} {target:x}");
-        travels(&rt, alloc, value, base);
-    }
-    Ok(())
-}
-
-/// Writes an own handle at each bit position, and reads it again.
-fn own_travels(rt: &impl Abort, alloc: Global, own: Handle) {
-    for place in 0..16u32 {
-        let mut sink = sink_at(rt, alloc, place);
-        assert!(rt; own.value() > 0);
-        let count = own_bits(own);
-        assert!(rt; sink.length() == u64::from(place));
-        assert!(rt; sink.reserve(count));
-        write_own(own, &mut sink);
-        assert!(rt; sink.length() == u64::from(place) + count);
-        assert!(rt; sink.length() < 100);
-        assert!(rt; sink.reserve(8));
-        sink.pad();
-        assert!(rt; sink.length() % 8 == 0);
-        let bytes = sink.as_bytes();
-        assert!(rt; bytes.len() < 100);
-        let end = bytes.len() as u64 * 8;
-        assert!(rt; u64::from(place) <= end);
-        let mut cursor = BitCursor::new(bytes, u64::from(place), end);
-        assert_eq!(rt; read_own(&mut cursor), Some(own));
-        assert_eq!(rt; cursor.at(), u64::from(place) + count);
-    }
-}
-
-/// The own handle in front of the bytes.
-fn own(bytes: &[u8]) -> Option<u64> {
-    let end = bytes.len().min(64) as u64 * 8;
-    let mut cursor = BitCursor::new(bytes, 0, end);
-    read_own(&mut cursor).map(Handle::value)
-}
-
-#[test]
-fn own_handles_are_positive_numbers_behind_code_0(rt: HostRuntime) -> Result<(), Fail> {
-    for (bytes, read) in [
-        ([0x01u8, 0x42].as_slice(), Some(0x42u64)),
-        (&[0x03, 0x00, 0x00, 0x42], Some(0x42)),
-        (&[0x00], None),
-        (&[0x01, 0x00], None),
-        (&[0x11, 0x42], None),
-        (&[0x02, 0x42], None),
-        (&[0x08, 0x80, 0, 0, 0, 0, 0, 0, 0], None),
-        (&[0x09, 0, 0, 0, 0, 0, 0, 0, 0, 1], None),
-    ] {
-        assert_eq!(rt; own(bytes), read, "{bytes:?}");
-    }
-    for number in [1, 0x42, 0x100, LAST] {
-        own_travels(&rt, rt.alloc(), handle(number)?);
-    }
-    Ok(())
-}
-
-/// What a list of so many references, or without a count one to the end, is read as, and where the cursor then stands.
-fn listed(
-    rt: &impl Abort,
-    alloc: Global,
-    base: Handle,
-    count: Option<u32>,
-    bytes: &[u8],
-    from: u64,
-    end: u64,
-) -> (Option<Items<Ref>>, u64) {
-    assert!(rt; bytes.len() < 64);
-    assert!(rt; from <= end);
-    assert!(rt; end <= 8 * bytes.len() as u64);
-    let mut cursor = BitCursor::new(bytes, from, end);
-    let read = match count {
-        Some(count) => read_refs(alloc, &mut cursor, base, count),
-        None => read_refs_to_end(alloc, &mut cursor, base),
-    };
-    assert!(rt; read.is_ok());
-    (read.ok().flatten(), cursor.at())
-}
-
-#[test]
-fn lists_of_references_are_seen_from_one_object(rt: HostRuntime) -> Result<(), Fail> {
-    let alloc = rt.alloc();
-    let three = [0x60u8, 0x41, 0x10, 0xA1, 0x0F, 0x00];
-    let refs = [
-        reference(6, 0x81)?,
-        reference(4, 0x10)?,
-        reference(10, 0x8F)?,
-    ];
-    for (count, end, length, place) in [
-        (None, 46u64, Some(3usize), 40u64),
-        (None, 40, Some(3), 40),
-        (None, 39, None, 0),
-        (None, 7, Some(0), 0),
-        (Some(3u32), 46, Some(3), 40),
-        (Some(2), 46, Some(2), 24),
-        (Some(0), 46, Some(0), 0),
-        (Some(4), 46, None, 0),
-    ] {
-        let (found, at) = listed(&rt, alloc, handle(0x80)?, count, &three, 0, end);
-        let wanted = length.map(|length| &refs[..length]);
-        assert_eq!(rt; found.as_ref().map(Items::as_slice), wanted);
-        assert_eq!(rt; at, place);
-    }
-    let (found, at) = listed(
-        &rt,
-        alloc,
-        handle(0x80)?,
-        Some(u32::MAX),
-        &[0x60; 10],
-        0,
-        80,
-    );
-    assert!(rt; found.is_none());
-    assert_eq!(rt; at, 0);
-    Ok(())
-}
-
-#[test]
-fn the_references_of_an_object_end_before_its_padding(rt: HostRuntime) -> Result<(), Fail> {
-    let alloc = rt.alloc();
-    let owner_and_xdict = [reference(4, 0)?, reference(3, 0)?];
-    for last in [0x00, 0x3F] {
-        let body = [
-            0x4A, 0x92, 0x80, 0x00, 0x00, 0x00, 0x43, 0x2A, 0x80, 0x10, 0x0C, last,
-        ];
-        for count in [Some(2u32), None] {
-            let (found, at) = listed(&rt, alloc, handle(0xC)?, count, &body, 74, 96);
-            assert_eq!(rt;
-                found.as_ref().map(Items::as_slice),
-                Some(owner_and_xdict.as_slice())
-            );
-            assert_eq!(rt; at, 90);
+impl Tale for Handles {
+    fn tell(_alloc: Global, line: &Line<'_>, told: &mut Told) {
+        let [number, _, _, _, _] = line.numbers;
+        match Handle::new(number) {
+            Some(handle) => told.hex(handle.value()),
+            None => told.word("none"),
         }
     }
-    Ok(())
+}
+
+/// A reference of a code to a handle.
+fn reference_of(code: u64, target: u64) -> Option<Ref> {
+    Ref::new(code.min(255) as u8, Handle::new(target)?)
+}
+
+/// `COUNT TARGET | the codes, of so many from 0 on, that references to the target have`
+struct Codes;
+
+impl Tale for Codes {
+    fn tell(_alloc: Global, line: &Line<'_>, told: &mut Told) {
+        let [count, target, _, _, _] = line.numbers;
+        for code in 0..count {
+            if reference_of(code, target).is_some() {
+                told.number(code);
+            }
+        }
+    }
+}
+
+/// Tells a reference.
+fn tell_reference(reference: Ref, told: &mut Told) {
+    told.number(u64::from(reference.code));
+    told.hex(reference.target.value());
+}
+
+/// `BASE : BYTES | the code and the target of the reference in front of the bytes, and how many bits it has`
+struct Fronts;
+
+/// Tells the reference that is read.
+fn tell_read(mut cursor: BitCursor<'_>, base: Handle, told: &mut Told) {
+    match read_ref(&mut cursor, base) {
+        Some(reference) => tell_reference(reference, told),
+        None => told.word("none"),
+    }
+    told.number(cursor.at());
+}
+
+impl Tale for Fronts {
+    fn tell(_alloc: Global, line: &Line<'_>, told: &mut Told) {
+        let [base, _, _, _, _] = line.numbers;
+        if let Some(base) = Handle::new(base) {
+            tell_read(cursor_over(line.bytes()), base, told);
+        }
+    }
+}
+
+/// A reference, and the handle of the object that has it.
+#[derive(Drop)]
+struct Seen {
+    /// The reference.
+    reference: Ref,
+    /// The handle.
+    base: Handle,
+}
+
+/// The reference of a line's first two numbers, seen from the third.
+fn seen_of(line: &Line<'_>) -> Option<Seen> {
+    let [code, target, base, _, _] = line.numbers;
+    let reference = reference_of(code, target)?;
+    let base = Handle::new(base)?;
+    Some(Seen { reference, base })
+}
+
+/// `CODE TARGET BASE | whether the code reaches the target from the object of the base`
+struct Fits;
+
+/// Tells yes or no.
+fn tell_truth(truth: bool, told: &mut Told) {
+    told.word(if truth { "yes" } else { "no" });
+}
+
+impl Tale for Fits {
+    fn tell(_alloc: Global, line: &Line<'_>, told: &mut Told) {
+        if let Some(seen) = seen_of(line) {
+            tell_truth(seen.reference.fits(seen.base), told);
+        }
+    }
+}
+
+impl Traveller for Seen {
+    ghost IsSpelled = { λ _. ⊤ };
+
+    fn write(&self, sink: &mut BitSink) -> u64 {
+        if !self.reference.fits(self.base) {
+            return 0;
+        }
+        let bits = ref_bits(self.reference, self.base);
+        if has_room(sink, bits) {
+            write_ref(self.reference, self.base, sink);
+        }
+        bits
+    }
+
+    fn is_read(&self, cursor: &mut BitCursor<'_>) -> bool {
+        read_ref(cursor, self.base) == Some(self.reference)
+    }
+}
+
+/// `CODE TARGET BASE | by how many bits the reference is written`: it is read again at each bit position.
+struct Travels;
+
+impl Tale for Travels {
+    fn tell(alloc: Global, line: &Line<'_>, told: &mut Told) {
+        if let Some(seen) = seen_of(line) {
+            tell_travel(alloc, &seen, told);
+        }
+    }
+}
+
+/// `: BYTES | the own handle in front of them`
+struct OwnFronts;
+
+impl Tale for OwnFronts {
+    fn tell(_alloc: Global, line: &Line<'_>, told: &mut Told) {
+        let mut cursor = cursor_over(line.bytes());
+        match read_own(&mut cursor) {
+            Some(own) => told.hex(own.value()),
+            None => told.word("none"),
+        }
+    }
+}
+
+/// An own handle.
+#[derive(Drop)]
+struct Own {
+    /// The handle.
+    own: Handle,
+}
+
+impl Traveller for Own {
+    ghost IsSpelled = { λ _. ⊤ };
+
+    fn write(&self, sink: &mut BitSink) -> u64 {
+        if self.own.value() == 0 {
+            return 0;
+        }
+        let bits = own_bits(self.own);
+        if has_room(sink, bits) {
+            write_own(self.own, sink);
+        }
+        bits
+    }
+
+    fn is_read(&self, cursor: &mut BitCursor<'_>) -> bool {
+        read_own(cursor) == Some(self.own)
+    }
+}
+
+/// `HANDLE | by how many bits it is written as an own handle`: it is read again at each bit position.
+struct OwnTravels;
+
+impl Tale for OwnTravels {
+    fn tell(alloc: Global, line: &Line<'_>, told: &mut Told) {
+        let [number, _, _, _, _] = line.numbers;
+        if let Some(own) = Handle::new(number) {
+            tell_travel(alloc, &Own { own }, told);
+        }
+    }
+}
+
+#[test]
+fn own_handles_are_positive_numbers_behind_code_0(rt: HostRuntime) {
+    let alloc = rt.alloc();
+    all_hold::<OwnFronts>(
+        &rt,
+        alloc,
+        "\
+        : 01 42 | x42\n\
+        : 03 00 00 42 | x42\n\
+        : 00 | none\n\
+        : 01 00 | none\n\
+        : 11 42 | none\n\
+        : 02 42 | none\n\
+        : 08 80 00 00 00 00 00 00 00 | none\n\
+        : 09 00 00 00 00 00 00 00 00 01 | none",
+    );
+    all_hold::<OwnTravels>(
+        &rt,
+        alloc,
+        "\
+        1 | 16\n\
+        x42 | 16\n\
+        x100 | 24\n\
+        x7FFFFFFFFFFFFFFF | 72",
+    );
+}
+
+/// `BASE COUNT FROM END : BYTES | what so many references, or at the name all those to the end, are read as, and where the cursor then
+/// stands`
+struct Lists;
+
+/// So many references.
+fn counted(
+    alloc: Global,
+    cursor: &mut BitCursor<'_>,
+    base: Handle,
+    count: u64,
+) -> Result<Option<Items<Ref>>, NoMemory> {
+    read_refs(alloc, cursor, base, count.min(4_294_967_295) as u32)
+}
+
+/// The references to the end.
+fn to_end(
+    alloc: Global,
+    cursor: &mut BitCursor<'_>,
+    base: Handle,
+) -> Result<Option<Items<Ref>>, NoMemory> {
+    read_refs_to_end(alloc, cursor, base)
+}
+
+/// Tells the references of a list.
+fn tell_items(items: Items<Ref>, told: &mut Told) {
+    for reference in items.as_slice() {
+        tell_reference(*reference, told);
+    }
+}
+
+/// Tells a list.
+fn tell_list(found: Result<Option<Items<Ref>>, NoMemory>, told: &mut Told) {
+    match found {
+        Ok(Some(items)) => tell_items(items, told),
+        Ok(None) => told.word("none"),
+        Err(NoMemory) => told.word("no memory"),
+    }
+}
+
+impl Tale for Lists {
+    fn tell(alloc: Global, line: &Line<'_>, told: &mut Told) {
+        let [base, count, from, end, _] = line.numbers;
+        let Some(base) = Handle::new(base) else {
+            return;
+        };
+        let mut cursor = cursor_of(line.bytes(), from, end);
+        if line.is("all") {
+            tell_list(to_end(alloc, &mut cursor, base), told);
+        } else {
+            tell_list(counted(alloc, &mut cursor, base, count), told);
+        }
+        told.word("at");
+        told.number(cursor.at());
+    }
+}
+
+/// `BASE CODE TARGET CODE TARGET | whether both references are reached`; at the name none whether no references are
+struct ListFits;
+
+/// Tells whether references are reached.
+fn tell_fit(references: &[Ref], base: Handle, told: &mut Told) {
+    tell_truth(refs_fit(references, base), told);
+}
+
+/// Tells whether both references are reached.
+fn tell_both(one: Option<Ref>, other: Option<Ref>, base: Handle, told: &mut Told) {
+    if let (Some(one), Some(other)) = (one, other) {
+        tell_fit(&[one, other], base, told);
+    }
+}
+
+impl Tale for ListFits {
+    fn tell(_alloc: Global, line: &Line<'_>, told: &mut Told) {
+        let [base, code, target, other_code, other_target] = line.numbers;
+        let Some(base) = Handle::new(base) else {
+            return;
+        };
+        if line.is("none") {
+            return tell_fit(&[], base, told);
+        }
+        let one = reference_of(code, target);
+        tell_both(one, reference_of(other_code, other_target), base, told);
+    }
+}
+
+#[test]
+fn handles_lie_below_their_limit_and_codes_reach_some_targets(rt: HostRuntime) {
+    let alloc = rt.alloc();
+    all_hold::<Handles>(
+        &rt,
+        alloc,
+        "\
+        x7FFFFFFFFFFFFFFF | x7FFFFFFFFFFFFFFF\n\
+        x8000000000000000 | none",
+    );
+    all_hold::<Codes>(&rt, alloc, "16 1 | 0 1 2 3 4 5 6 8 10 12");
+    all_hold::<Fits>(
+        &rt,
+        rt.alloc(),
+        "\
+        0 x7FFFFFFFFFFFFFFF 0 | yes\n\
+        5 0 x7FFFFFFFFFFFFFFF | yes\n\
+        6 x81 x80 | yes\n\
+        6 x80 x80 | no\n\
+        6 x7FFFFFFFFFFFFFFF x7FFFFFFFFFFFFFFF | no\n\
+        8 x7F x80 | yes\n\
+        8 x80 x80 | no\n\
+        8 0 0 | no\n\
+        10 x80 x80 | yes\n\
+        10 x7F x80 | no\n\
+        10 x7FFFFFFFFFFFFFFF 0 | yes\n\
+        12 x80 x80 | yes\n\
+        12 x81 x80 | no\n\
+        12 0 x7FFFFFFFFFFFFFFF | yes",
+    );
+}
+
+#[test]
+fn references_are_read_and_travel_at_each_bit_position(rt: HostRuntime) {
+    let alloc = rt.alloc();
+    all_hold::<Fronts>(
+        &rt,
+        rt.alloc(),
+        "\
+        x80 : 60 | 6 x81 8\n\
+        x80 : 80 | 8 x7F 8\n\
+        x80 : A1 0F | 10 x8F 16\n\
+        x80 : C1 10 | 12 x70 16\n\
+        x80 : A0 | 10 x80 8\n\
+        x80 : 41 10 | 4 x10 16\n\
+        x80 : 42 00 10 | 4 x10 24\n\
+        x80 : 10 | 1 x0 8\n\
+        x80 : C1 80 | 12 x0 16\n\
+        x80 : C1 81 | none 0\n\
+        x80 : 61 00 | none 0\n\
+        x80 : 81 00 | none 0\n\
+        x80 : 70 | none 0\n\
+        x80 : 90 | none 0\n\
+        x80 : B0 | none 0\n\
+        x80 : D0 | none 0\n\
+        x80 : 49 00 00 00 00 00 00 00 00 01 | none 0\n\
+        x80 : 48 80 00 00 00 00 00 00 00 | none 0\n\
+        x80 : A8 7F FF FF FF FF FF FF 80 | none 0\n\
+        x80 : 42 10 | none 0\n\
+        x80 | none 0\n\
+        x7FFFFFFFFFFFFFFF : 60 | none 0\n\
+        x0 : 80 | none 0",
+    );
+    all_hold::<Travels>(
+        &rt,
+        rt.alloc(),
+        "\
+        0 0 x80 | 8\n\
+        1 xFF x80 | 16\n\
+        2 x100 x80 | 24\n\
+        3 xFFFFFF x80 | 32\n\
+        4 x1000000 x80 | 40\n\
+        5 x7FFFFFFFFFFFFFFF x80 | 72\n\
+        6 x81 x80 | 8\n\
+        8 x7F x80 | 8\n\
+        10 x80 x80 | 8\n\
+        10 x17F x80 | 16\n\
+        12 0 x80 | 16",
+    );
+}
+
+#[test]
+fn lists_of_references_are_seen_from_one_object(rt: HostRuntime) {
+    let alloc = rt.alloc();
+    all_hold::<Lists>(
+        &rt,
+        alloc,
+        "\
+        all x80 0 0 46 : 60 41 10 A1 0F 00 | 6 x81 4 x10 10 x8F at 40\n\
+        all x80 0 0 40 : 60 41 10 A1 0F 00 | 6 x81 4 x10 10 x8F at 40\n\
+        all x80 0 0 39 : 60 41 10 A1 0F 00 | none at 0\n\
+        all x80 0 0 7 : 60 41 10 A1 0F 00 | at 0\n\
+        x80 3 0 46 : 60 41 10 A1 0F 00 | 6 x81 4 x10 10 x8F at 40\n\
+        x80 2 0 46 : 60 41 10 A1 0F 00 | 6 x81 4 x10 at 24\n\
+        x80 0 0 46 : 60 41 10 A1 0F 00 | at 0\n\
+        x80 4 0 46 : 60 41 10 A1 0F 00 | none at 0\n\
+        x80 4294967295 0 80 : 60 60 60 60 60 60 60 60 60 60 | none at 0",
+    );
+    // The references of an object end before its padding.
+    all_hold::<Lists>(
+        &rt,
+        alloc,
+        "\
+        xC 2 74 96 : 4A 92 80 00 00 00 43 2A 80 10 0C 00 | 4 x0 3 x0 at 90\n\
+        all xC 0 74 96 : 4A 92 80 00 00 00 43 2A 80 10 0C 00 | 4 x0 3 x0 at 90\n\
+        xC 2 74 96 : 4A 92 80 00 00 00 43 2A 80 10 0C 3F | 4 x0 3 x0 at 90\n\
+        all xC 0 74 96 : 4A 92 80 00 00 00 43 2A 80 10 0C 3F | 4 x0 3 x0 at 90",
+    );
+    all_hold::<ListFits>(
+        &rt,
+        rt.alloc(),
+        "\
+        x80 6 x81 3 x80 | yes\n\
+        x80 6 x81 6 x80 | no\n\
+        none x80 | yes",
+    );
 }

@@ -1,140 +1,221 @@
 //! Modular chars and shorts, and texts.
 
-use dwg_base::ByteRun;
+ghost use Rattle.std.specs.Prelude.{⊤};
+
+use crate::base::run;
+use crate::lines::{Line, Tale, all_hold};
+use crate::sinks::{has_room, tell_sink};
+use crate::told::Told;
+use crate::travels::{Traveller, tell_travel};
 use dwg_bits::{BitCursor, BitSink};
 use dwg_codes::{
-    BytePart, byte_code_laws, mc_bytes, ms_bytes, plain_spellings, read_mc, read_ms,
-    read_signed_mc, read_text, signed_mc_bytes, text_length, write_mc, write_ms, write_signed_mc,
-    write_text,
+    BytePart, mc_bytes, ms_bytes, read_mc, read_ms, read_signed_mc, read_text, signed_mc_bytes,
+    text_length, write_mc, write_ms, write_signed_mc, write_text,
 };
 use std::alloc::Global;
-use std::process::Abort;
-use std::test::Fail;
 
-#[test]
-fn modular_codes_are_read(rt: HostRuntime) {
-    byte_code_laws();
-    plain_spellings();
-    assert_eq!(rt; read_mc(&[0x82, 0x24]), Some((4_610, 2)));
-    assert_eq!(rt;
-        read_mc(&[0xE9, 0x97, 0xE6, 0x35, 0x00]),
-        Some((112_823_273, 4))
-    );
-    assert_eq!(rt; read_mc(&[0x80, 0x00]), Some((0, 2)));
-    assert_eq!(rt;
-        read_mc(&[
-            0x80, 0x80, 0x80, 0x80, 0x80, 0x80, 0x80, 0x80, 0x80, 0x80, 0x00
-        ]),
-        None
-    );
-    assert_eq!(rt; read_signed_mc(&[0x85, 0x4B]), Some((-1_413, 2)));
-    assert_eq!(rt; read_signed_mc(&[0x40]), Some((0, 1)));
-    assert_eq!(rt; read_signed_mc(&[0xC0, 0x00]), Some((64, 2)));
-    assert_eq!(rt; read_signed_mc(&[0x85]), None);
-    assert_eq!(rt; read_ms(&[0x31, 0xF4, 0x8D, 0x00]), Some((4_650_033, 4)));
-    assert_eq!(rt; read_ms(&[0xFF]), None);
-}
+/// `CODE : BYTES | the number that the code reads at their front, and by how many of them it is spelled`: the code is mc, signed or ms.
+struct Fronts;
 
-/// An empty sink with room for 80 bits.
-fn room(rt: &impl Abort, alloc: Global) -> BitSink {
-    let mut sink = BitSink::new(alloc);
-    assert!(rt; sink.length() == 0);
-    assert!(rt; sink.reserve(80));
-    sink
-}
-
-#[test]
-fn modular_codes_are_written_by_the_fewest_bytes(rt: HostRuntime) {
-    let alloc = rt.alloc();
-    for (value, bytes) in [
-        (0u64, [0x00u8].as_slice()),
-        (4_610, &[0x82, 0x24]),
-        (127, &[0x7F]),
-    ] {
-        let mut sink = room(&rt, alloc);
-        assert!(rt; value < 1 << 63);
-        assert!(rt; mc_bytes(value) == bytes.len() && bytes.len() <= 10);
-        assert!(rt; sink.length() == 0);
-        assert!(rt; sink.reserve(80));
-        write_mc(value, &mut sink);
-        assert!(rt; sink.length() % 8 == 0);
-        assert_eq!(rt; sink.as_bytes(), bytes);
-    }
-    for (value, bytes) in [
-        (32_767u64, [0xFFu8, 0x7F].as_slice()),
-        (32_768, &[0x00, 0x80, 0x01, 0x00]),
-    ] {
-        let mut sink = room(&rt, alloc);
-        assert!(rt; value < 1 << 60);
-        assert!(rt; ms_bytes(value) == bytes.len() && bytes.len() <= 10);
-        assert!(rt; sink.length() == 0);
-        assert!(rt; sink.reserve(80));
-        write_ms(value, &mut sink);
-        assert!(rt; sink.length() % 8 == 0);
-        assert_eq!(rt; sink.as_bytes(), bytes);
+/// Tells a number and its bytes.
+fn tell_number(read: Option<(u64, usize)>, told: &mut Told) {
+    match read {
+        Some((number, bytes)) => {
+            told.number(number);
+            told.number(bytes as u64);
+        }
+        None => told.word("none"),
     }
 }
 
-#[test]
-fn signed_numbers_are_written(rt: HostRuntime) {
-    let mut sink = room(&rt, rt.alloc());
-    assert_eq!(rt; signed_mc_bytes(-1_413), 2);
-    assert_eq!(rt; signed_mc_bytes(0), 1);
-    assert!(rt; signed_mc_bytes(-64) == 2 && signed_mc_bytes(63) == 1);
-    assert!(rt; sink.length() == 0);
-    assert!(rt; sink.reserve(80));
-    write_signed_mc(-1_413, &mut sink);
-    assert!(rt; sink.length() == 16);
-    assert_eq!(rt; sink.as_bytes(), [0x85, 0x4B].as_slice());
+/// Tells a signed number and its bytes.
+fn tell_signed(read: Option<(i64, usize)>, told: &mut Told) {
+    match read {
+        Some((number, bytes)) => {
+            told.word(if number < 0 { "minus" } else { "plus" });
+            told.number(number.unsigned_abs());
+            told.number(bytes as u64);
+        }
+        None => told.word("none"),
+    }
 }
 
-/// Writes a text at a bit position, and reads it again, but not where its last bit is missing.
-fn travels(rt: &impl Abort, alloc: Global, place: u32, text: &[u8]) -> Result<(), Fail> {
-    let mut sink = BitSink::new(alloc);
-    assert!(rt; sink.length() == 0 && place < 16 && text.len() < 1_000);
-    assert!(rt; sink.reserve(16));
-    sink.push(0, place);
-    let count = text_length(text);
-    assert!(rt; sink.length() < 1_000 && count < 10_000);
-    assert!(rt; sink.reserve(count));
-    write_text(text, &mut sink);
-    let end = sink.length();
-    assert!(rt; end == u64::from(place) + count);
-    assert!(rt; sink.reserve(8));
-    sink.pad();
-    assert!(rt; sink.length() % 8 == 0);
-    let bytes = sink.as_bytes();
-    assert!(rt; bytes.len() < 2_000 && end <= bytes.len() as u64 * 8);
-    assert!(rt; u64::from(place) < end);
-    let mut cursor = BitCursor::new(bytes, u64::from(place), end);
-    let read = read_text(alloc, &mut cursor)
-        .or(Err("no memory"))?
-        .ok_or("no text")?;
-    assert_eq!(rt; read.as_slice(), text);
-    assert_eq!(rt; cursor.at(), end);
-    let mut cut = BitCursor::new(bytes, u64::from(place), end - 1);
-    assert!(rt; read_text(alloc, &mut cut).or(Err("no memory"))?.is_none());
-    assert_eq!(rt; cut.at(), u64::from(place));
-    Ok(())
-}
-
-#[test]
-fn texts_travel_at_each_bit_position(rt: HostRuntime) -> Result<(), Fail> {
-    for place in 0..16 {
-        for text in [b"".as_slice(), b"A", b"AutoCAD R2000"] {
-            travels(&rt, rt.alloc(), place, text)?;
+impl Tale for Fronts {
+    fn tell(_alloc: Global, line: &Line<'_>, told: &mut Told) {
+        let bytes = line.bytes();
+        if line.is("mc") {
+            tell_number(read_mc(bytes), told);
+        } else if line.is("ms") {
+            tell_number(read_ms(bytes), told);
+        } else if line.is("signed") {
+            tell_signed(read_signed_mc(bytes), told);
         }
     }
-    Ok(())
+}
+
+/// `CODE NUMBER | by how many bytes the number is written, and by which`: the code is mc or ms, and of signed numbers plus or minus.
+struct Writes;
+
+/// Writes an MC, and says by how many bytes.
+fn push_mc(sink: &mut BitSink, value: u64) -> usize {
+    let value = value.min((1 << 63) - 1);
+    let bytes = mc_bytes(value);
+    if has_room(sink, 8 * bytes as u64) {
+        write_mc(value, sink);
+    }
+    bytes
+}
+
+/// Writes an MS, and says by how many bytes.
+fn push_ms(sink: &mut BitSink, value: u64) -> usize {
+    let value = value.min((1 << 60) - 1);
+    let bytes = ms_bytes(value);
+    if has_room(sink, 8 * bytes as u64) {
+        write_ms(value, sink);
+    }
+    bytes
+}
+
+/// Writes a signed MC, and says by how many bytes.
+fn push_signed(sink: &mut BitSink, value: i64) -> usize {
+    let value = value.max(-i64::MAX);
+    let bytes = signed_mc_bytes(value);
+    if has_room(sink, 8 * bytes as u64) {
+        write_signed_mc(value, sink);
+    }
+    bytes
+}
+
+/// Writes a number by a code, and says by how many bytes.
+fn push_number(sink: &mut BitSink, line: &Line<'_>, number: u64) -> usize {
+    if line.is("mc") {
+        return push_mc(sink, number);
+    }
+    if line.is("ms") {
+        return push_ms(sink, number);
+    }
+    let magnitude = number.min(1 << 62) as i64;
+    push_signed(
+        sink,
+        if line.is("minus") {
+            -magnitude
+        } else {
+            magnitude
+        },
+    )
+}
+
+impl Tale for Writes {
+    fn tell(alloc: Global, line: &Line<'_>, told: &mut Told) {
+        let [number, _, _, _, _] = line.numbers;
+        let mut sink = BitSink::new(alloc);
+        told.number(push_number(&mut sink, line, number) as u64);
+        tell_sink(&sink, told);
+    }
+}
+
+/// A text.
+#[derive(Drop)]
+struct Text<'a> {
+    /// What reads it.
+    alloc: Global,
+    /// Its bytes.
+    bytes: &'a [u8],
+}
+
+impl Traveller for Text<'_> {
+    ghost IsSpelled = { λ _. ⊤ };
+
+    fn write(&self, sink: &mut BitSink) -> u64 {
+        let bytes = self.bytes;
+        if bytes.len() > 1_000 {
+            return 0;
+        }
+        let bits = text_length(bytes);
+        if has_room(sink, bits) {
+            write_text(bytes, sink);
+        }
+        bits
+    }
+
+    fn is_read(&self, cursor: &mut BitCursor<'_>) -> bool {
+        match read_text(self.alloc, cursor) {
+            Ok(Some(text)) => text.as_slice() == self.bytes,
+            _ => false,
+        }
+    }
+}
+
+/// `: BYTES | by how many bits they are written as a text`: it is read again at each bit position.
+struct Travels;
+
+impl Tale for Travels {
+    fn tell(alloc: Global, line: &Line<'_>, told: &mut Told) {
+        let bytes = line.bytes();
+        tell_travel(alloc, &Text { alloc, bytes }, told);
+    }
+}
+
+/// `: BYTES | those of a part that is lent, and of one that is owned`
+struct Parts;
+
+/// Tells the bytes of a part.
+fn tell_part(part: BytePart<'_>, told: &mut Told) {
+    told.bytes(part.as_slice());
+}
+
+impl Tale for Parts {
+    fn tell(alloc: Global, line: &Line<'_>, told: &mut Told) {
+        tell_part(BytePart::Lent(line.bytes()), told);
+        tell_part(BytePart::Owned(run(alloc, line.bytes())), told);
+    }
 }
 
 #[test]
-fn a_part_tells_its_bytes_owned_or_lent(rt: HostRuntime) -> Result<(), Fail> {
-    let text = b"ACAD";
-    let owned = ByteRun::from_slice(rt.alloc(), text).or(Err("no memory"))?;
-    assert_eq!(rt;
-        BytePart::Lent(text).as_slice(),
-        BytePart::Owned(owned).as_slice()
+fn texts_travel_at_each_bit_position_and_parts_tell_their_bytes(rt: HostRuntime) {
+    let alloc = rt.alloc();
+    // No letters, A, and AutoCAD R2000.
+    all_hold::<Travels>(
+        &rt,
+        alloc,
+        "\
+        : - | 2\n\
+        : 41 | 18\n\
+        : 4175746F434144205232303030 | 114",
     );
-    Ok(())
+    all_hold::<Parts>(&rt, alloc, ": 41434144 | =41434144 =41434144");
+}
+
+#[test]
+fn modular_codes_are_read_and_written_by_the_fewest_bytes(rt: HostRuntime) {
+    let alloc = rt.alloc();
+    all_hold::<Fronts>(
+        &rt,
+        rt.alloc(),
+        "\
+        mc : 82 24 | 4610 2\n\
+        mc : E9 97 E6 35 00 | 112823273 4\n\
+        mc : 80 00 | 0 2\n\
+        mc : 80 80 80 80 80 80 80 80 80 80 00 | none\n\
+        signed : 85 4B | minus 1413 2\n\
+        signed : 40 | plus 0 1\n\
+        signed : C0 00 | plus 64 2\n\
+        signed : 85 | none\n\
+        ms : 31 F4 8D 00 | 4650033 4\n\
+        ms : FF | none",
+    );
+    all_hold::<Writes>(
+        &rt,
+        rt.alloc(),
+        "\
+        mc 0 | 1 =00\n\
+        mc 4610 | 2 =8224\n\
+        mc 127 | 1 =7F\n\
+        ms 32767 | 2 =FF7F\n\
+        ms 32768 | 4 =00800100\n\
+        minus 1413 | 2 =854B\n\
+        plus 0 | 1 =00\n\
+        minus 64 | 2 =C040\n\
+        plus 63 | 1 =3F",
+    );
 }
