@@ -2,7 +2,7 @@
 
 use crate::inputs::canonical_file;
 use crate::objmap::{long_map, sink};
-use crate::table::{Telling, first_untrue};
+use crate::table::{Telling, hold};
 use crate::told;
 use dwg_base::{Items, LIMIT, MemSink};
 use dwg_check::check;
@@ -324,7 +324,7 @@ fn a_drawing_is_read_and_written(rt: HostRuntime) -> Result<(), Fail> {
         padded with ones | padded => same\n\
         one object and more | one object => same\n\
         long | long => same\n";
-    assert_eq!(rt; first_untrue::<Drawings>(rt.alloc(), cases), None);
+    hold::<Drawings>(&rt, rt.alloc(), cases);
     Ok(())
 }
 
@@ -340,21 +340,21 @@ fn each_part_of_a_drawing_is_kept(rt: HostRuntime) -> Result<(), Fail> {
             objects , 80 LINE typed 4050E9DAB1D10000 40509CCC40FC0000 0 4050E9DAB1D10000 40509CCC40FC0000 0 , 81 LINE plain 136 0 , \
             82 ENTITY plain 3 0 , 83 UNKNOWN raw 14 , 84 INSERT typed , 85 LWPOLYLINE typed\n\
         padded with ones | parts => 00000000000000 0000 0 - classes others objects , 80 ENTITY plain 5 0 , 90 XRECORD typed\n";
-    assert_eq!(rt; first_untrue::<Drawings>(rt.alloc(), cases), None);
+    hold::<Drawings>(&rt, rt.alloc(), cases);
     Ok(())
 }
 
 #[test]
 fn a_file_that_is_too_large_is_told_with_its_size(rt: HostRuntime) -> Result<(), Fail> {
     let cases = "two large sections | smallest => 34000205\n";
-    assert_eq!(rt; first_untrue::<Drawings>(rt.alloc(), cases), None);
+    hold::<Drawings>(&rt, rt.alloc(), cases);
     Ok(())
 }
 
 #[test]
 fn a_failing_sink_holds_a_front(rt: HostRuntime) -> Result<(), Fail> {
     let cases = "one object | front => 4143313031350000000000000092000000000000\n";
-    assert_eq!(rt; first_untrue::<Drawings>(rt.alloc(), cases), None);
+    hold::<Drawings>(&rt, rt.alloc(), cases);
     Ok(())
 }
 

@@ -25,10 +25,19 @@ pub(crate) fn placed(alloc: Global, text: &str) -> Option<(u64, Vec<u8>)> {
 /// both flags 0, invisible 0, line weight 29.
 const ENTITY: &str = "'10 '0 '10 '10 '1 '11 '01 '00 '00 '10 1D ";
 
-/// Adds what stands for a word: for `ENTITY` those bits, for `;` a line end, for any other the word and a blank.
+/// Adds the texts of a linetype, 256 zero bytes.
+fn push_texts(whole: &mut String) -> Option<()> {
+    for _ in 0..256u32 {
+        whole.push_str("00 ").ok()?;
+    }
+    Some(())
+}
+
+/// Adds what stands for a word: for `ENTITY` and `TEXTS` these bits, for `;` a line end, for any other the word and a blank.
 fn push_word(whole: &mut String, word: &str) -> Option<()> {
     match word {
         "ENTITY" => whole.push_str(ENTITY).ok(),
+        "TEXTS" => push_texts(whole),
         ";" => whole.push_str("\n").ok(),
         _ => push_itself(whole, word),
     }
@@ -49,7 +58,7 @@ fn expanded(alloc: Global, text: &str) -> Option<String> {
     Some(whole)
 }
 
-/// The bytes of a frame: by its text, in which `ENTITY` stands for common main bits (`frame_of`), or by hexadecimal digits.
+/// The bytes of a frame: by its text (`frame_of`), in which those words may stand, or by hexadecimal digits.
 pub(crate) fn frame(alloc: Global, text: &str) -> Option<Vec<u8>> {
     match text.split_once(" : ") {
         Some(_) => frame_of(alloc, expanded(alloc, text)?.as_str()),
@@ -64,26 +73,29 @@ pub(crate) fn canonical_file(alloc: Global, classes: &str, frames: &str) -> Opti
     file_of(alloc, &[], &bytes_of(alloc, classes)?, frames.as_str())
 }
 
-/// Adds a class by a text `NUMBER NAME ITEM`, in decimal digits, with its name in DXF.
-fn push_class(content: &mut Bits, text: &str) -> Option<()> {
-    let (number, rest) = text.split_once(" ")?;
-    let (name, item) = rest.split_once(" ")?;
+/// Adds a class of a number, with its name in DXF and its item, of version 0, without other names.
+fn push_class(content: &mut Bits, number: u16, name: &str, item: u16) -> Option<()> {
     content.push_text("'00")?;
-    content.push_bytes(&small(number)?.to_le_bytes())?;
-    // Version 0, and no names of an application and in C++.
+    content.push_bytes(&number.to_le_bytes())?;
     content.push_text("'10 '10 '10 '01")?;
     content.push(name.len() as u64, 8)?;
     content.push_bytes(name.as_bytes())?;
-    // No proxy.
     content.push_text("'0 '00")?;
-    content.push_bytes(&small(item)?.to_le_bytes())
+    content.push_bytes(&item.to_le_bytes())
+}
+
+/// Adds a class by a text `NUMBER NAME ITEM`, in decimal digits.
+fn push_class_of(content: &mut Bits, text: &str) -> Option<()> {
+    let (number, rest) = text.split_once(" ")?;
+    let (name, item) = rest.split_once(" ")?;
+    push_class(content, small(number)?, name, small(item)?)
 }
 
 /// The content of a section of classes, which stand apart by commas.
 fn content_of(alloc: Global, text: &str) -> Option<Vec<u8>> {
     let mut content = Bits::new(alloc);
     for class in text.split(", ") {
-        push_class(&mut content, class)?;
+        push_class_of(&mut content, class)?;
     }
     content.to_bytes(alloc)
 }

@@ -1,7 +1,7 @@
 //! Kinds of type numbers, and what classes say of them.
 
 use crate::inputs::{classes_of, small};
-use crate::table::{Telling, first_untrue};
+use crate::table::{Telling, hold};
 use crate::told;
 use dwg_classes::{Class, Hints, hint};
 use dwg_kinds::{ClassHint, Kind, is_entity, kind_laws, kind_of, name_of};
@@ -50,7 +50,7 @@ fn a_number_has_a_kind_and_a_name(rt: HostRuntime) -> Result<(), Fail> {
         59 => Unknown UNKNOWN false\n\
         73 => Unknown UNKNOWN false\n\
         499 => Unknown UNKNOWN false\n";
-    assert_eq!(rt; first_untrue::<Numbers>(rt.alloc(), cases), None);
+    hold::<Numbers>(&rt, rt.alloc(), cases);
     Ok(())
 }
 
@@ -88,7 +88,7 @@ fn from_500_on_a_class_says_what_a_number_is(rt: HostRuntime) -> Result<(), Fail
     let cases = "\
         500 => Absent Unknown Entity PlainEntity Object PlainObject LwPolyline LwPolyline XRecord XRecord Other Unknown\n\
         65535 => Absent Unknown Entity PlainEntity Object PlainObject LwPolyline LwPolyline XRecord XRecord Other Unknown\n";
-    assert_eq!(rt; first_untrue::<Hinted>(rt.alloc(), cases), None);
+    hold::<Hinted>(&rt, rt.alloc(), cases);
     Ok(())
 }
 
@@ -124,6 +124,6 @@ fn the_first_class_of_a_number_says_what_its_objects_are(rt: HostRuntime) -> Res
         504 => Other Other\n\
         505 => Absent Absent\n\
         0 => Absent Absent\n";
-    assert_eq!(rt; first_untrue::<Said>(rt.alloc(), cases), None);
+    hold::<Said>(&rt, rt.alloc(), cases);
     Ok(())
 }

@@ -1,9 +1,13 @@
 //! Objects and their frames.
 
+ghost use Rattle.std.specs.Prelude.{◌≡◌, ◌*◌, ◌^◌, ◌<◌, ◌≤◌, [], length, IfSome};
+ghost use Rattle.dwg_object.specs.Objects.{value_of};
+ghost use Rattle.dwg_object.specs.Written.{PartsFit, body_bytes};
+
 use crate::inputs::{classes_of, frame, placed, small};
-use crate::table::{Telling, first_untrue};
+use crate::table::{Telling, hold};
 use crate::told;
-use dwg_base::Handle;
+use dwg_base::{Fault, Handle, NoMemory};
 use dwg_bits::BitSink;
 use dwg_classes::Class;
 use dwg_codes::BytePart;
@@ -20,7 +24,46 @@ fn tell_found(told: &mut String, found: &Found<'_>) -> Option<()> {
     told::number(told, found.end)
 }
 
-/// Adds what is read of the frame at a place, of the pair 7.
+/// What is read of the frame at a place, of the pair 7.
+fn frame_at<'a>(
+    alloc: Global,
+    bytes: &'a [u8],
+    place: u64,
+    classes: &[Class],
+) -> Result<Found<'a>, Fault> {
+    read_frame(alloc, bytes, place, 7, classes)
+}
+
+/// What can be told in a few words.
+trait Words {
+    /// Adds them.
+    fn tell(&self, told: &mut String) -> Option<()>;
+}
+
+impl Words for Found<'_> {
+    fn tell(&self, told: &mut String) -> Option<()> {
+        tell_found(told, self)
+    }
+}
+
+impl Words for Option<Object<'_>> {
+    fn tell(&self, told: &mut String) -> Option<()> {
+        tell_body(told, self.as_ref())
+    }
+}
+
+/// Adds what was read, or the fault. Of any type, since a function that drops an object of all its kinds is dear to prove.
+fn tell_answer<T: Words + Drop>(told: &mut String, answer: Result<T, Fault>) -> Option<()> {
+    match answer {
+        Ok(found) => found.tell(told),
+        Err(fault) => told::fault(told, fault),
+    }
+}
+
+/// Lets go of a value, of any type for the same reason.
+fn let_go<T: Drop>(_value: T) {}
+
+/// Adds what is read of the frame at a place.
 fn tell_frame(
     alloc: Global,
     told: &mut String,
@@ -28,10 +71,7 @@ fn tell_frame(
     place: u64,
     classes: &[Class],
 ) -> Option<()> {
-    match read_frame(alloc, bytes, place, 7, classes) {
-        Ok(found) => tell_found(told, &found),
-        Err(fault) => told::fault(told, fault),
-    }
+    tell_answer(told, frame_at(alloc, bytes, place, classes))
 }
 
 /// `PLACE | BYTES => NUMBER HANDLE KIND FORM END`: what is read of the frame at a place: type number, own handle, kind and form of the object
@@ -53,7 +93,7 @@ fn a_frame_is_read_where_it_stands(rt: HostRuntime) -> Result<(), Fail> {
         0 | 0C00 4A9280000000432A80100C00 1F49 => 42 C DICTIONARY typed 16\n\
         3 | FF000C 0C00 4A9280000000432A80100C00 1F49 000051C0 => 42 C DICTIONARY typed 19\n\
         0 | 0C80008000800000 4A9280000000432A80100C00 1A0F => 42 C DICTIONARY typed 22\n";
-    assert_eq!(rt; first_untrue::<Placed>(rt.alloc(), cases), None);
+    hold::<Placed>(&rt, rt.alloc(), cases);
     Ok(())
 }
 
@@ -72,7 +112,7 @@ fn the_first_line_that_fails_is_named(rt: HostRuntime) -> Result<(), Fail> {
         0 | 0C00 4A9280000000432A80100C01 1F49 => refused 30 7 0\n\
         0 | 0000 50C0 => refused 30 7 0\n\
         0 | 0000 51C0 => refused 31 7 0\n";
-    assert_eq!(rt; first_untrue::<Placed>(rt.alloc(), cases), None);
+    hold::<Placed>(&rt, rt.alloc(), cases);
     Ok(())
 }
 
@@ -124,13 +164,13 @@ fn an_object_is_read_with_its_common_part_where_it_has_one(rt: HostRuntime) -> R
         2000 0B4035C0000000802000000480400010000000000003C0FC1001DA6200A40021 5338 => 45 80 ENTITY plain 3 0 36\n\
         45 80 : '10 '0 '11 '10 '1 '11 '01 '00 '00 '10 1D '101 / 3.0 5.10 => 45 80 ENTITY raw 14 18\n\
         500 90 : '01 02 5.12 AABB '10 '01 02 '0110 / 4.1 4.2 C.10 3.D 2.33 => 500 90 UNKNOWN raw 26 30\n";
-    assert_eq!(rt; first_untrue::<Frames>(rt.alloc(), cases), None);
+    hold::<Frames>(&rt, rt.alloc(), cases);
     // An object of a class of objects or of records, and no entity where the class says so.
     let cases = "\
         500 WIPEOUT 499 | 500 90 : '01 02 5.12 AABB '10 '01 02 '0110 / 4.1 4.2 C.10 3.D 2.33 => 500 90 OBJECT plain 4 1 30\n\
         500 XRECORD 499 | 500 90 : '01 02 5.12 AABB '10 '01 02 '0110 / 4.1 4.2 C.10 3.D 2.33 => 500 90 OBJECT plain 4 1 30\n\
         500 WIPEOUT 498 | 500 90 : '01 02 5.12 AABB '10 '01 02 '0110 / 4.1 4.2 C.10 3.D 2.33 => 500 90 UNKNOWN raw 26 30\n";
-    assert_eq!(rt; first_untrue::<Classed>(rt.alloc(), cases), None);
+    hold::<Classed>(&rt, rt.alloc(), cases);
     Ok(())
 }
 
@@ -145,15 +185,20 @@ fn tell_body(told: &mut String, object: Option<&Object<'_>>) -> Option<()> {
     }
 }
 
-/// Adds what is read of a body of less than a hundred bytes.
-fn tell_read(alloc: Global, told: &mut String, body: &[u8]) -> Option<()> {
+/// What is read of a body, which has less than a hundred bytes.
+fn body_of<'a>(alloc: Global, body: &'a [u8]) -> Result<Option<Object<'a>>, Fault> {
     if body.len() >= 100 {
-        return None;
+        return Err(Fault::NoMemory);
     }
     match read_body(alloc, body, &[]) {
-        Ok(object) => tell_body(told, object.as_ref()),
-        Err(_) => None,
+        Ok(object) => Ok(object),
+        Err(NoMemory) => Err(Fault::NoMemory),
     }
+}
+
+/// Adds what is read of a body.
+fn tell_read(alloc: Global, told: &mut String, body: &[u8]) -> Option<()> {
+    tell_answer(told, body_of(alloc, body))
 }
 
 impl Telling for Bodies {
@@ -171,12 +216,36 @@ fn a_body_without_a_head_is_no_object(rt: HostRuntime) -> Result<(), Fail> {
         4A9280000000402A80100C00 => none\n\
         4A9280000000432A80100C00 => 42 C DICTIONARY typed\n\
         425280000000432A80100C00 => 9 C UNKNOWN raw 12\n";
-    assert_eq!(rt; first_untrue::<Bodies>(rt.alloc(), cases), None);
+    hold::<Bodies>(&rt, rt.alloc(), cases);
     Ok(())
 }
 
+/// An empty sink with room for so many bytes.
+fn sink_for(alloc: Global, count: u64) -> Option<BitSink>
+    requires { count < 2 ^ 30 }
+    ensures empty { IfSome result (λ sink. sink.written ≡ []) }
+    ensures room { IfSome result (λ sink. 8 * count ≤ sink.spare) }
+{
+    let mut sink = BitSink::new(alloc);
+    if sink.reserve(8 * count) {
+        Some(sink)
+    } else {
+        None
+    }
+}
+
+/// What is written as the frame of an object.
+fn written(alloc: Global, object: &Object<'_>) -> Option<BitSink>
+    requires fits { PartsFit (value_of object.now) }
+    requires few { length (body_bytes (value_of object.now)) < 2 ^ 29 }
+{
+    let mut sink = sink_for(alloc, frame_length(object))?;
+    write_frame(object, &mut sink);
+    Some(sink)
+}
+
 /// What is written as the frame of an object of number 42 that keeps a body of less than 100,000 bytes as it is.
-fn written(alloc: Global, handle: Handle, body: &[u8]) -> Option<BitSink> {
+fn raw_written(alloc: Global, handle: Handle, body: &[u8]) -> Option<BitSink> {
     if handle.value() == 0 || body.len() >= 100_000 {
         return None;
     }
@@ -185,21 +254,14 @@ fn written(alloc: Global, handle: Handle, body: &[u8]) -> Option<BitSink> {
         handle,
         bytes: BytePart::Lent(body),
     });
-    let mut sink = BitSink::new(alloc);
-    let length = frame_length(&object);
-    if length >= 200_000 || sink.length() != 0 {
-        return None;
-    }
-    if !sink.reserve(8 * length) {
-        return None;
-    }
-    write_frame(&object, &mut sink);
-    Some(sink)
+    let sink = written(alloc, &object);
+    let_go(object);
+    sink
 }
 
 /// The bytes that are written as the frame of the object C with that body.
 fn frame_written(alloc: Global, body: &[u8]) -> Option<Vec<u8>> {
-    let sink = written(alloc, Handle::new(12)?, body)?;
+    let sink = raw_written(alloc, Handle::new(12)?, body)?;
     if sink.length() % 8 != 0 {
         return None;
     }
@@ -246,10 +308,10 @@ impl Telling for LongBodies {
 fn a_frame_is_written_by_the_shortest_length(rt: HostRuntime) -> Result<(), Fail> {
     let cases = "\
         4A9280000000432A80100C00 => 0C004A9280000000432A80100C001F49\n";
-    assert_eq!(rt; first_untrue::<WrittenFrames>(rt.alloc(), cases), None);
+    hold::<WrittenFrames>(&rt, rt.alloc(), cases);
     // A length of two units.
     let cases = "\
         32768 => 00800100 9 C UNKNOWN raw 32768 32774\n";
-    assert_eq!(rt; first_untrue::<LongBodies>(rt.alloc(), cases), None);
+    hold::<LongBodies>(&rt, rt.alloc(), cases);
     Ok(())
 }

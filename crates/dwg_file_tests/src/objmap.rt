@@ -4,7 +4,7 @@ ghost use Rattle.std.specs.Prelude.{◌≡◌, ◌^◌, ◌<◌, IfSome};
 ghost use Rattle.dwg_objmap.specs.MapLines.{HasPage};
 
 use crate::inputs::{number, placed, small};
-use crate::table::{Telling, first_untrue};
+use crate::table::{Telling, hold};
 use crate::told;
 use dwg_base::{Handle, Items, MemSink, WriteFault};
 use dwg_objmap::{
@@ -61,7 +61,7 @@ fn pairs_are_read_in_map_order(rt: HostRuntime) -> Result<(), Fail> {
         0 | 0004 0510 9D7E 0004 0320 297D 000201D0 => 5:16 3:32\n\
         0 | 0007 8C00B78100 D201 000201D0 => C:183\n\
         0 | 000D 01FFFFFFFFFFFFFFFFFF00 2D98 000201D0 => 1:9223372036854775807\n";
-    assert_eq!(rt; first_untrue::<Maps>(rt.alloc(), cases), None);
+    hold::<Maps>(&rt, rt.alloc(), cases);
     Ok(())
 }
 
@@ -83,7 +83,7 @@ fn names_the_first_line_of_the_map_that_fails(rt: HostRuntime) -> Result<(), Fai
         0 | 000E 808080808080808080800000 82A5 => refused 24 0 2\n\
         3 | FFFFFF 0005 00B701 2DB7 => refused 25 0 5\n\
         18446744073709551615 | 0005 0CB701 2E77 000201D0 => refused 21 0 18446744073709551615\n";
-    assert_eq!(rt; first_untrue::<Maps>(rt.alloc(), cases), None);
+    hold::<Maps>(&rt, rt.alloc(), cases);
     Ok(())
 }
 
@@ -105,7 +105,7 @@ fn a_map_that_is_cut_or_changed_is_refused(rt: HostRuntime) -> Result<(), Fail> 
         0 | 00050DB7012E77000201D0 => refused 23 0 5\n\
         0 | 00050CB7012E76000201D0 => refused 23 0 5\n\
         0 | 00050CB7012E77000201D1 => refused 23 1 9\n";
-    assert_eq!(rt; first_untrue::<Maps>(rt.alloc(), cases), None);
+    hold::<Maps>(&rt, rt.alloc(), cases);
     Ok(())
 }
 
@@ -183,7 +183,7 @@ fn pages_are_filled(rt: HostRuntime) -> Result<(), Fail> {
         0 2 => 2216 07EF\n\
         2031 4 => 2216 F31900B1\n\
         2210 6 => 2216 1206000201D0\n";
-    assert_eq!(rt; first_untrue::<Filled>(rt.alloc(), cases), None);
+    hold::<Filled>(&rt, rt.alloc(), cases);
     Ok(())
 }
 
@@ -236,7 +236,7 @@ fn pages_that_were_filled_are_read(rt: HostRuntime) -> Result<(), Fail> {
         0 => 1014 2033\n\
         2033 => 86 2212\n\
         2212 => 0 2216\n";
-    assert_eq!(rt; first_untrue::<Pages>(alloc, cases), None);
+    hold::<Pages>(&rt, rt.alloc(), cases);
     assert_eq!(rt; pairs_of_long_map(alloc), Some(1_100));
     Ok(())
 }
@@ -269,7 +269,7 @@ fn a_map_that_is_not_taken_whole_is_a_fault(rt: HostRuntime) -> Result<(), Fail>
         2032 => 2032\n\
         2033 => 2033\n\
         2215 => 2215\n";
-    assert_eq!(rt; first_untrue::<Rooms>(rt.alloc(), cases), None);
+    hold::<Rooms>(&rt, rt.alloc(), cases);
     Ok(())
 }
 
@@ -318,7 +318,7 @@ fn pages_are_read_past_their_faults(rt: HostRuntime) -> Result<(), Fail> {
         0 | 000101D0 => none\n\
         0 | 0005 0CB701 2E => none\n\
         18446744073709551615 | 0005 0CB701 2E77 000201D0 => none\n";
-    assert_eq!(rt; first_untrue::<Damaged>(rt.alloc(), cases), None);
+    hold::<Damaged>(&rt, rt.alloc(), cases);
     Ok(())
 }
 

@@ -1,6 +1,7 @@
 //! Tables of cases, a line each: an input, and what is told of it.
 
 use std::alloc::Global;
+use std::process::Abort;
 
 /// What is told of the inputs of a table.
 pub(crate) trait Telling {
@@ -22,11 +23,16 @@ fn is_true<T: Telling>(alloc: Global, line: &str) -> bool {
 }
 
 /// The first line of a table that doesn't tell the truth.
-pub(crate) fn first_untrue<T: Telling>(alloc: Global, table: &str) -> Option<&str> {
+fn first_untrue<T: Telling>(alloc: Global, table: &str) -> Option<&str> {
     for line in table.lines() {
         if !is_true::<T>(alloc, line) {
             return Some(line);
         }
     }
     None
+}
+
+/// Ends the test if a line of a table doesn't tell the truth.
+pub(crate) fn hold<T: Telling>(rt: &impl Abort, alloc: Global, table: &str) {
+    assert_eq!(rt; first_untrue::<T>(alloc, table), None);
 }
