@@ -1,7 +1,7 @@
 -- What an answer that was sent left on output and notes.
 use Rattle.std.proofs.Common.{◌≡◌, ◌∙◌, ap, subst, sym, ℕ, ◌<◌, ◌≤◌, true, false, List, arith}
 use Rattle.std.proofs.lemmas.Bool.Decides.{nat_tests}
-use Rattle.std.specs.Prelude.{Option, Result, Ok, Err, IfOk, nat_lt, if◌then◌else◌}
+use Rattle.std.specs.Prelude.{nat_lt, if◌then◌else◌}
 use Rattle.dwg_base.specs.Devices.{MOST_BYTES}
 use Rattle.dwg_answers.specs.declared.status.Status.{Status}
 use Rattle.dwg_answers.specs.declared.status.Status.TheVariants.{TooLarge}
@@ -10,37 +10,27 @@ use Rattle.dwg_answers.specs.Outcome.{noted, filed}
 use Rattle.dwg_file.specs.Canonical.{size_of, canonical}
 use Rattle.dwg_file.specs.Contents.{Contents}
 use Rattle.dwg_text.specs.Notes.{too_large_note}
-use Rattle.dwg_answers.specs.Run.{Sent}
+use Rattle.dwg_answers.specs.Run.{Sent, Sinks}
+
+-- an answer that is another
+pub sent_same : (answer told : Answer) (status : Status) (before behind : Sinks) → answer ≡ told → Sent answer status before behind → Sent told status before behind
+sent_same answer told status before behind is sent = subst (λ (one : Answer). Sent one status before behind) is sent
 
 -- the file of a drawing that is within the limit, and of one that isn't
-pub sent_within : (drawing other : Contents) (note : List ℕ) (ends status : Status) (output output' notes notes' : Option (List ℕ)) (faults faults' note_faults note_faults' : ℕ)
-    → size_of drawing ≤ MOST_BYTES → other ≡ drawing
-    → Sent (record { output = canonical other; note = note; status = ends }) status output output' notes notes' faults faults' note_faults note_faults'
-    → Sent (filed drawing note ends) status output output' notes notes' faults faults' note_faults note_faults'
+pub sent_within : (drawing other : Contents) (note : List ℕ) (ends status : Status) (before behind : Sinks) → size_of drawing ≤ MOST_BYTES → other ≡ drawing
+    → Sent (record { output = canonical other; note = note; status = ends }) status before behind → Sent (filed drawing note ends) status before behind
 unfolding filed
-sent_within drawing other note ends status output output' notes notes' faults faults' note_faults note_faults' few same sent =
+sent_within drawing other note ends status before behind few same sent =
     let within : nat_lt MOST_BYTES (size_of drawing) ≡ false = grind (arith, nat_tests) in
-    subst (λ (answer : Answer). Sent answer status output output' notes notes' faults faults' note_faults note_faults')
+    sent_same _ _ status before behind
     (ap (λ one. record { output = canonical one; note = note; status = ends }) same
     ∙ sym (ap (λ test. if test then noted (too_large_note (size_of drawing)) (TooLarge (size_of drawing)) else record { output = canonical drawing; note = note; status = ends }) within)) sent
 
-pub sent_too_large : (drawing : Contents) (size : ℕ) (note : List ℕ) (ends status : Status) (output output' notes notes' : Option (List ℕ)) (faults faults' note_faults note_faults' : ℕ)
-    → MOST_BYTES < size_of drawing → size ≡ size_of drawing → Sent (noted (too_large_note size) (TooLarge size)) status output output' notes notes' faults faults' note_faults note_faults'
-    → Sent (filed drawing note ends) status output output' notes notes' faults faults' note_faults note_faults'
+pub sent_too_large : (drawing : Contents) (size : ℕ) (note : List ℕ) (ends status : Status) (before behind : Sinks) → MOST_BYTES < size_of drawing → size ≡ size_of drawing
+    → Sent (noted (too_large_note size) (TooLarge size)) status before behind → Sent (filed drawing note ends) status before behind
 unfolding filed
-sent_too_large drawing size note ends status output output' notes notes' faults faults' note_faults note_faults' many same sent =
+sent_too_large drawing size note ends status before behind many same sent =
     let over : nat_lt MOST_BYTES (size_of drawing) ≡ true = grind (arith, nat_tests) in
-    subst (λ (answer : Answer). Sent answer status output output' notes notes' faults faults' note_faults note_faults')
+    sent_same _ _ status before behind
     (ap (λ one. noted (too_large_note one) (TooLarge one)) same
     ∙ sym (ap (λ test. if test then noted (too_large_note (size_of drawing)) (TooLarge (size_of drawing)) else record { output = canonical drawing; note = note; status = ends }) over)) sent
-
--- an answer that is another
-pub sent_same : (answer told : Answer) (status : Status) (output output' notes notes' : Option (List ℕ)) (faults faults' note_faults note_faults' : ℕ)
-    → answer ≡ told → Sent answer status output output' notes notes' faults faults' note_faults note_faults' → Sent told status output output' notes notes' faults faults' note_faults note_faults'
-sent_same answer told status output output' notes notes' faults faults' note_faults note_faults' is sent =
-    subst (λ (one : Answer). Sent one status output output' notes notes' faults faults' note_faults note_faults') is sent
-
--- an answer that was made, where it is another
-pub told_same : {E : Type 0} (result : Result Answer E) (answer told : Answer) → answer ≡ told → IfOk result (λ one. one ≡ answer) → IfOk result (λ one. one ≡ told)
-told_same {E} (Ok one) answer told is made = made ∙ is
-told_same {E} (Err wanted) answer told is made = tt

@@ -1,10 +1,13 @@
 -- The words that name the command which drills.
 use Rattle.std.proofs.Common.{◌≡◌, refl, sym, ap, ap₂, ◌∙◌, ℕ, ◌<◌, ◌^◌, List, [], ◌∷◌, Bool, true, false, Some, None}
 use Rattle.std.specs.Prelude.{Option, codes, decimal, bytes_eq, if◌then◌else◌}
+use Rattle.std.specs.Option.{option_map}
 use Rattle.std.proofs.lemmas.Slice.Eq.{bytes_eq-Decides}
 use Rattle.dwg_answers.specs.declared.words.Command.{Command}
-use Rattle.dwg_answers.specs.declared.words.Command.TheVariants.{Sections, Classes, Show, Rewrite, Audit, Recover, Drill}
-use Rattle.dwg_answers.specs.Words.{number_of, make_of, drill_of, command_of}
+use Rattle.dwg_answers.specs.declared.words.Command.TheVariants.{Drill}
+use Rattle.dwg_answers.specs.declared.words.Reading.{Reading}
+use Rattle.dwg_answers.specs.declared.words.Reading.TheVariants.{Sections, Classes, Show, Rewrite, Audit, Recover}
+use Rattle.dwg_answers.specs.Words.{number_of, make_of, drill_of, reading_of, reads, command_of}
 use Rattle.dwg_answers.proofs.MakeWords.{text_of}
 use Rattle.dwg_answers.proofs.Numerals.{number_of_decimal}
 
@@ -19,15 +22,14 @@ of_number (Some a) n is = cc
 of_number None n is = absurd cc
 
 -- one word doesn't name it
-of_word : (a b c d e f : Bool) (n : ℕ)
-    → (if a then Some Sections else (if b then Some Classes else (if c then Some Show else (if d then Some Rewrite else (if e then Some Audit else (if f then Some Recover else None)))))) ≡ Some (Drill n) → ⊥
-of_word true b c d e f n is = absurd cc
-of_word false true c d e f n is = absurd cc
-of_word false false true d e f n is = absurd cc
-of_word false false false true e f n is = absurd cc
-of_word false false false false true f n is = absurd cc
-of_word false false false false false true n is = absurd cc
-of_word false false false false false false n is = absurd cc
+of_word : (reading : Option Reading) (n : ℕ) → option_map reads reading ≡ Some (Drill n) → ⊥
+of_word (Some Sections) n is = absurd cc
+of_word (Some Classes) n is = absurd cc
+of_word (Some Show) n is = absurd cc
+of_word (Some Rewrite) n is = absurd cc
+of_word (Some Audit) n is = absurd cc
+of_word (Some Recover) n is = absurd cc
+of_word None n is = absurd cc
 
 -- nor do three
 of_three_words : (test : Bool) (one other : Option ℕ) (n : ℕ) → (if test then make_of one other else None) ≡ Some (Drill n) → ⊥
@@ -40,8 +42,7 @@ of_three_words false one other n is = absurd cc
 drill_words : (words : List (List ℕ)) (n : ℕ) → command_of words ≡ Some (Drill n) → words ≡ codes "drill" ∷ decimal n ∷ []
 unfolding command_of
 drill_words [] n names = absurd cc
-drill_words (word ∷ []) n names =
-    absurd (of_word (bytes_eq word (codes "sections")) (bytes_eq word (codes "classes")) (bytes_eq word (codes "show")) (bytes_eq word (codes "rewrite")) (bytes_eq word (codes "audit")) (bytes_eq word (codes "recover")) n names)
+drill_words (word ∷ []) n names = absurd (of_word (reading_of word) n names)
 drill_words (word ∷ one ∷ []) n names = of_test (bytes_eq word (codes "drill")) refl names
   where
     of_test : (test : Bool) → bytes_eq word (codes "drill") ≡ test → (if test then drill_of (number_of one) else None) ≡ Some (Drill n) → word ∷ one ∷ [] ≡ codes "drill" ∷ decimal n ∷ []

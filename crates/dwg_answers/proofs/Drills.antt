@@ -1,17 +1,14 @@
 -- The answers of drills.
-use Rattle.std.proofs.Common.{◌≡◌, refl, sym, ap, ◌∙◌, ℕ, ◌<◌, ◌≤◌, List, true, false, arith}
+use Rattle.std.proofs.Common.{◌≡◌, refl, sym, ap, ◌∙◌, ℕ, ◌<◌, ◌≤◌, true, false, arith}
 use Rattle.std.proofs.lemmas.Bool.Decides.{nat_tests}
 use Rattle.std.specs.Prelude.{Bool, ◌||◌, ◌==◌, ◌⊎◌, nat_lt, if◌then◌else◌}
 use Rattle.dwg_base.specs.Devices.{MOST_BYTES}
 use Rattle.dwg_answers.specs.declared.answer.Answer.{Answer}
-use Rattle.dwg_answers.specs.declared.words.Command.{Command}
-use Rattle.dwg_answers.specs.declared.words.Command.TheVariants.{Drill}
 use Rattle.dwg_answers.specs.declared.status.Status.TheVariants.{Usage, TooLarge}
-use Rattle.dwg_answers.specs.Outcome.{noted, printed, unless_large, unless_no_size, drilled_answer, drill_answer, outcome_within}
+use Rattle.dwg_answers.specs.Outcome.{noted, printed, drilled_answer, drill_answer}
 use Rattle.dwg_answers.specs.Run.{IsSettled}
 use Rattle.dwg_drill.specs.Drilled.{DRILL_SEED, drilled}
 use Rattle.dwg_file.specs.Canonical.{size_of}
-use Rattle.dwg_file.specs.Contents.{Contents}
 use Rattle.dwg_make.specs.Made.{MOST_ENTITIES, made}
 use Rattle.dwg_report.specs.DrillText.{drill_text}
 use Rattle.dwg_text.specs.Notes.{size_note, too_large_note}
@@ -46,11 +43,6 @@ drill_too_large n size some few large is =
     ap (λ one. noted (too_large_note one) (TooLarge one)) is
     ∙ sym (ap (λ test. if test then noted (too_large_note (size_of (made n DRILL_SEED))) (TooLarge (size_of (made n DRILL_SEED))) else printed (drill_text (drilled n))) over)
     ∙ sized n some few
-
--- what is answered to a size is what the command answers
-pub drill_within : (command : Command) (n : ℕ) (bytes : List ℕ) → command ≡ Drill n → drill_answer n ≡ outcome_within command bytes
-unfolding outcome_within
-drill_within command n bytes is = sym (ap (λ one. outcome_within one bytes) is)
 
 -- what was found out, or a file that is too large, is neither a fault nor a note on usage
 settled_drilled : (n : ℕ) → IsSettled (drilled_answer n).status × ((drilled_answer n).status ≡ Usage → ⊥)

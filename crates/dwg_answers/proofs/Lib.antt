@@ -1,7 +1,7 @@
 pub mod Outcomes
+pub mod OutcomeLaws
 pub mod Faults
 pub mod Deliveries
-pub mod Drawings
 pub mod Makings
 pub mod Numerals
 pub mod MakeWords

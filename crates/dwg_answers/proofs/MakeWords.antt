@@ -1,10 +1,13 @@
 -- The words that name the command which makes a drawing.
 use Rattle.std.proofs.Common.{◌≡◌, refl, sym, ap, ap₂, ◌∙◌, subst, ℕ, ◌<◌, ◌^◌, List, [], ◌∷◌, Bool, true, false, Some, None, IfSome}
 use Rattle.std.specs.Prelude.{Option, codes, decimal, bytes_eq, if◌then◌else◌}
+use Rattle.std.specs.Option.{option_map}
 use Rattle.std.proofs.lemmas.Slice.Eq.{bytes_eq-Decides}
 use Rattle.dwg_answers.specs.declared.words.Command.{Command}
-use Rattle.dwg_answers.specs.declared.words.Command.TheVariants.{Sections, Classes, Show, Rewrite, Audit, Recover, Make}
-use Rattle.dwg_answers.specs.Words.{number_of, make_of, drill_of, command_of}
+use Rattle.dwg_answers.specs.declared.words.Command.TheVariants.{Make}
+use Rattle.dwg_answers.specs.declared.words.Reading.{Reading}
+use Rattle.dwg_answers.specs.declared.words.Reading.TheVariants.{Sections, Classes, Show, Rewrite, Audit, Recover}
+use Rattle.dwg_answers.specs.Words.{number_of, make_of, drill_of, reading_of, reads, command_of}
 use Rattle.dwg_answers.proofs.Numerals.{number_of_decimal, spelled}
 
 -- they name it
@@ -21,15 +24,14 @@ of_numbers (Some a) None n seed is = absurd cc
 of_numbers None other n seed is = absurd cc
 
 -- one word doesn't name it
-of_word : (a b c d e f : Bool) (n seed : ℕ)
-    → (if a then Some Sections else (if b then Some Classes else (if c then Some Show else (if d then Some Rewrite else (if e then Some Audit else (if f then Some Recover else None)))))) ≡ Some (Make n seed) → ⊥
-of_word true b c d e f n seed is = absurd cc
-of_word false true c d e f n seed is = absurd cc
-of_word false false true d e f n seed is = absurd cc
-of_word false false false true e f n seed is = absurd cc
-of_word false false false false true f n seed is = absurd cc
-of_word false false false false false true n seed is = absurd cc
-of_word false false false false false false n seed is = absurd cc
+of_word : (reading : Option Reading) (n seed : ℕ) → option_map reads reading ≡ Some (Make n seed) → ⊥
+of_word (Some Sections) n seed is = absurd cc
+of_word (Some Classes) n seed is = absurd cc
+of_word (Some Show) n seed is = absurd cc
+of_word (Some Rewrite) n seed is = absurd cc
+of_word (Some Audit) n seed is = absurd cc
+of_word (Some Recover) n seed is = absurd cc
+of_word None n seed is = absurd cc
 
 -- nor do two
 of_two_words : (test : Bool) (one : Option ℕ) (n seed : ℕ) → (if test then drill_of one else None) ≡ Some (Make n seed) → ⊥
@@ -45,8 +47,7 @@ text_of word value is = subst (λ result. IfSome result (λ number. word ≡ dec
 make_words : (words : List (List ℕ)) (n seed : ℕ) → command_of words ≡ Some (Make n seed) → words ≡ codes "make" ∷ decimal n ∷ decimal seed ∷ []
 unfolding command_of
 make_words [] n seed names = absurd cc
-make_words (word ∷ []) n seed names =
-    absurd (of_word (bytes_eq word (codes "sections")) (bytes_eq word (codes "classes")) (bytes_eq word (codes "show")) (bytes_eq word (codes "rewrite")) (bytes_eq word (codes "audit")) (bytes_eq word (codes "recover")) n seed names)
+make_words (word ∷ []) n seed names = absurd (of_word (reading_of word) n seed names)
 make_words (word ∷ one ∷ []) n seed names = absurd (of_two_words (bytes_eq word (codes "drill")) (number_of one) n seed names)
 make_words (word ∷ one ∷ other ∷ []) n seed names = of_test (bytes_eq word (codes "make")) refl names
   where

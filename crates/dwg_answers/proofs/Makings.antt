@@ -1,13 +1,11 @@
 -- The answers of drawings that are made.
-use Rattle.std.proofs.Common.{◌≡◌, refl, sym, ap, ℕ, ◌<◌, ◌≤◌, List, true, false, arith}
+use Rattle.std.proofs.Common.{◌≡◌, refl, sym, ap, ℕ, ◌<◌, ◌≤◌, true, false, arith}
 use Rattle.std.proofs.lemmas.Bool.Decides.{nat_tests}
 use Rattle.std.specs.Prelude.{Bool, ◌||◌, ◌==◌, ◌⊎◌, nat_lt, if◌then◌else◌}
 use Rattle.dwg_base.specs.Devices.{MOST_BYTES}
 use Rattle.dwg_answers.specs.declared.answer.Answer.{Answer}
-use Rattle.dwg_answers.specs.declared.words.Command.{Command}
-use Rattle.dwg_answers.specs.declared.words.Command.TheVariants.{Make}
 use Rattle.dwg_answers.specs.declared.status.Status.TheVariants.{Usage, TooLarge}
-use Rattle.dwg_answers.specs.Outcome.{noted, printed, filed, written, made_answer, outcome_within}
+use Rattle.dwg_answers.specs.Outcome.{noted, printed, filed, written, made_answer}
 use Rattle.dwg_answers.specs.Run.{IsSettled}
 use Rattle.dwg_file.specs.Canonical.{size_of, canonical}
 use Rattle.dwg_file.specs.Contents.{Contents}
@@ -27,11 +25,6 @@ unfolding made_answer
 of_no_size n seed none =
     let without : (n == 0 || nat_lt MOST_ENTITIES n) ≡ true = grind (arith, nat_tests, none) in
     sym (ap (λ test. if test then noted size_note Usage else written (made n seed)) without)
-
--- what is answered to a size is what the command answers
-pub made_within : (command : Command) (n seed : ℕ) (bytes : List ℕ) → command ≡ Make n seed → made_answer n seed ≡ outcome_within command bytes
-unfolding outcome_within
-made_within command n seed bytes is = sym (ap (λ one. outcome_within one bytes) is)
 
 -- a file that is written or refused is neither a fault nor a note on usage
 settled_written : (drawing : Contents) → IsSettled (written drawing).status × ((written drawing).status ≡ Usage → ⊥)

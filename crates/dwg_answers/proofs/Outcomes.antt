@@ -8,22 +8,22 @@ use Rattle.dwg_audit.specs.Findings.{findings}
 use Rattle.dwg_base.specs.Devices.{MOST_BYTES}
 use Rattle.dwg_base.specs.declared.refusal.Refusal.{Refusal}
 use Rattle.dwg_base.specs.Refusals.{first_fault}
-use Rattle.dwg_sections.specs.HeaderLines.{HEADER_LINES}
 use Rattle.dwg_text.specs.Notes.{usage_note, too_long_note, too_large_note}
 use Rattle.dwg_answers.specs.declared.words.Command.{Command}
-use Rattle.dwg_answers.specs.declared.words.Command.TheVariants.{Sections, Classes, Show, Rewrite, Audit, Recover, Make, Drill}
+use Rattle.dwg_answers.specs.declared.words.Command.TheVariants.{Make, Drill}
+use Rattle.dwg_answers.specs.declared.words.Reading.{Reading}
+use Rattle.dwg_answers.specs.declared.words.Reading.TheVariants.{Sections, Classes, Show, Rewrite, Audit, Recover}
 use Rattle.dwg_answers.specs.declared.status.Status.{Status}
 use Rattle.dwg_answers.specs.declared.status.Status.TheVariants.{Done, Usage, TooLong, TooLarge}
 use Rattle.dwg_answers.specs.declared.answer.Answer.{Answer}
 use Rattle.dwg_answers.specs.declared.request.Request.{Request}
 use Rattle.dwg_file.specs.Contents.{Contents}
-use Rattle.dwg_file.specs.FileLines.{ALL_LINES}
 use Rattle.dwg_file.specs.DrawingAt.{drawing_at}
 use Rattle.dwg_file.specs.Canonical.{size_of, canonical}
-use Rattle.dwg_answers.specs.Lines.{CLASSES_LINES}
-use Rattle.dwg_answers.specs.Outcome.{noted, refused_or, filed, made_answer, drill_answer, audited, verdict_status, recovery_notes, recovery_status, recovered_answer, outcome_within, outcome_of_input, outcome_of}
+use Rattle.dwg_answers.specs.Lines.{lines_of}
+use Rattle.dwg_answers.specs.Outcome.{noted, refused_or, filed, made_answer, drill_answer, audited, verdict_status, recovery_notes, recovery_status, recovered_answer, answer_within, outcome_within, outcome_of_input, outcome_of}
 use Rattle.dwg_recover.specs.Recovering.{RecoveredValue, recovered}
-use Rattle.dwg_answers.specs.Words.{IsReading}
+use Rattle.dwg_answers.specs.Words.{IsReading, reads}
 use Rattle.dwg_answers.specs.Requests.{asked}
 use Rattle.dwg_answers.specs.Run.{Feeds, Came, IsDrained}
 
@@ -60,17 +60,19 @@ audited_is_drained drawing = of_findings (findings drawing.objects)
     of_findings [] = tt
     of_findings (finding ∷ more) = tt
 
--- what a command that reads answers to an input within the limit comes of one that was read to its end
-pub command_is_drained : (command : Command) (bytes : List ℕ) → IsReading (Some command) → IsDrained (outcome_within command bytes).status
+-- and so does what a command that reads answers to an input within the limit
+answer_is_drained : (reading : Reading) (bytes : List ℕ) → IsDrained (answer_within reading bytes).status
+unfolding answer_within
+answer_is_drained Sections bytes = tt
+answer_is_drained Classes bytes = tt
+answer_is_drained Show bytes = tt
+answer_is_drained Rewrite bytes = filed_is_drained (drawing_at bytes) [] Done tt
+answer_is_drained Audit bytes = audited_is_drained (drawing_at bytes)
+answer_is_drained Recover bytes = recovered_is_drained (recovered bytes)
+
+pub outcome_is_drained : (reading : Reading) (bytes : List ℕ) → IsDrained (outcome_within reading bytes).status
 unfolding outcome_within
-command_is_drained Sections bytes reads = refused_or_is_drained (first_fault HEADER_LINES bytes) _ tt
-command_is_drained Classes bytes reads = refused_or_is_drained (first_fault CLASSES_LINES bytes) _ tt
-command_is_drained Show bytes reads = refused_or_is_drained (first_fault ALL_LINES bytes) _ tt
-command_is_drained Rewrite bytes reads = refused_or_is_drained (first_fault ALL_LINES bytes) _ (filed_is_drained (drawing_at bytes) [] Done tt)
-command_is_drained Audit bytes reads = refused_or_is_drained (first_fault ALL_LINES bytes) _ (audited_is_drained (drawing_at bytes))
-command_is_drained Recover bytes reads = recovered_is_drained (recovered bytes)
-command_is_drained (Make n seed) bytes reads = absurd reads
-command_is_drained (Drill n) bytes reads = absurd reads
+outcome_is_drained reading bytes = refused_or_is_drained (first_fault (lines_of reading) bytes) (answer_within reading bytes) (answer_is_drained reading bytes)
 
 -- a source that told its bytes and is at its end gave them all
 told_whole : (old new : Option (List ℕ)) (run bytes : List ℕ) → Consumes old new run → IsAtEnd new → old ≡ Some bytes → bytes ≡ run
@@ -89,29 +91,29 @@ told_more (Some left) (Some rest) gone bytes gave long told =
     omega (arith, long, ap length (same ∙ gave), length-append gone rest)
 
 -- bytes within the limit are answered by the command
-pub outcome_of_few : (command : Command) (run : List ℕ) (answer : Answer) → length run ≤ MOST_BYTES → answer ≡ outcome_within command run → answer ≡ outcome_of_input command run
+pub outcome_of_few : (reading : Reading) (run : List ℕ) (answer : Answer) → length run ≤ MOST_BYTES → answer ≡ outcome_within reading run → answer ≡ outcome_of_input reading run
 unfolding outcome_of_input
-outcome_of_few command run answer within is =
+outcome_of_few reading run answer within is =
     let short : nat_lt MOST_BYTES (length run) ≡ false = grind (arith, nat_tests) in
     rw short is
 
 -- more bytes than the limit are too long
-pub outcome_of_many : (command : Command) (bytes : List ℕ) (answer : Answer) → MOST_BYTES < length bytes → answer ≡ noted too_long_note TooLong → answer ≡ outcome_of_input command bytes
+pub outcome_of_many : (reading : Reading) (bytes : List ℕ) (answer : Answer) → MOST_BYTES < length bytes → answer ≡ noted too_long_note TooLong → answer ≡ outcome_of_input reading bytes
 unfolding outcome_of_input
-outcome_of_many command bytes answer more is =
+outcome_of_many reading bytes answer more is =
     let over : nat_lt MOST_BYTES (length bytes) ≡ true = grind (arith, nat_tests) in
     rw over is
 
 -- what a source told is answered by its command, where it was read to its end, within the limit
-pub answered_within : (command : Command) (old new : Option (List ℕ)) (run bytes : List ℕ) (answer : Answer) → Consumes old new run → IsAtEnd new → length run ≤ MOST_BYTES
-    → answer ≡ outcome_within command run → old ≡ Some bytes → answer ≡ outcome_of_input command bytes
-answered_within command old new run bytes answer gave end within is told =
-    outcome_of_few command run answer within is ∙ ap (outcome_of_input command) (sym (told_whole old new run bytes gave end told))
+pub answered_within : (reading : Reading) (old new : Option (List ℕ)) (run bytes : List ℕ) (answer : Answer) → Consumes old new run → IsAtEnd new → length run ≤ MOST_BYTES
+    → answer ≡ outcome_within reading run → old ≡ Some bytes → answer ≡ outcome_of_input reading bytes
+answered_within reading old new run bytes answer gave end within is told =
+    outcome_of_few reading run answer within is ∙ ap (outcome_of_input reading) (sym (told_whole old new run bytes gave end told))
 
 -- what a source told is too long, where it gave more than the limit
-pub answered_too_long : (command : Command) (old new : Option (List ℕ)) (gone bytes : List ℕ) (answer : Answer) → Consumes old new gone → length gone ≡ MOST_BYTES + 1
-    → answer ≡ noted too_long_note TooLong → old ≡ Some bytes → answer ≡ outcome_of_input command bytes
-answered_too_long command old new gone bytes answer gave long is told = outcome_of_many command bytes answer (told_more old new gone bytes gave long told) is
+pub answered_too_long : (reading : Reading) (old new : Option (List ℕ)) (gone bytes : List ℕ) (answer : Answer) → Consumes old new gone → length gone ≡ MOST_BYTES + 1
+    → answer ≡ noted too_long_note TooLong → old ≡ Some bytes → answer ≡ outcome_of_input reading bytes
+answered_too_long reading old new gone bytes answer gave long is told = outcome_of_many reading bytes answer (told_more old new gone bytes gave long told) is
 
 -- words of no command get the usage note, whatever the input
 pub outcome_of_no_command : (named : Option Command) (bytes : List ℕ) → named ≡ None → noted usage_note Usage ≡ outcome_of named bytes
@@ -119,20 +121,26 @@ unfolding outcome_of
 outcome_of_no_command named bytes none = rw none refl
 
 -- words of a command that reads are answered as the command is
-by_command : (command : Command) (bytes : List ℕ) → IsReading (Some command) → outcome_of_input command bytes ≡ outcome_of (Some command) bytes
+pub outcome_of_reading : (named : Option Command) (reading : Reading) (bytes : List ℕ) → named ≡ Some (reads reading) → outcome_of_input reading bytes ≡ outcome_of named bytes
 unfolding outcome_of
-by_command Sections bytes reads = refl
-by_command Classes bytes reads = refl
-by_command Show bytes reads = refl
-by_command Rewrite bytes reads = refl
-by_command Audit bytes reads = refl
-by_command Recover bytes reads = refl
-by_command (Make n seed) bytes reads = absurd reads
-by_command (Drill n) bytes reads = absurd reads
+outcome_of_reading named reading bytes names = rw names (of_command reading)
+  where
+    of_command : (reading : Reading) → outcome_of_input reading bytes ≡ outcome_of (Some (reads reading)) bytes
+    of_command Sections = refl
+    of_command Classes = refl
+    of_command Show = refl
+    of_command Rewrite = refl
+    of_command Audit = refl
+    of_command Recover = refl
 
-pub outcome_of_reading : (named : Option Command) (command : Command) (bytes : List ℕ) → named ≡ Some command → IsReading (Some command)
-    → outcome_of_input command bytes ≡ outcome_of named bytes
-outcome_of_reading named command bytes names reads = by_command command bytes reads ∙ ap (λ one. outcome_of one bytes) (sym names)
+-- such words name a command that reads
+names_reading : (reading : Reading) → IsReading (Some (reads reading))
+names_reading Sections = tt
+names_reading Classes = tt
+names_reading Show = tt
+names_reading Rewrite = tt
+names_reading Audit = tt
+names_reading Recover = tt
 
 -- and those of the command that makes a drawing, whatever the input
 pub outcome_of_making : (named : Option Command) (n seed : ℕ) (bytes : List ℕ) → named ≡ Some (Make n seed) → made_answer n seed ≡ outcome_of named bytes
@@ -144,16 +152,15 @@ unfolding outcome_of
 outcome_of_drilling named n bytes names = rw names refl
 
 -- what a request asks of any input that its command gets, it asks of the words that name the command
-pub answered_by : {E : Type 0} (named : Option Command) (command : Command) (result : Result Request E) (left : Option (List ℕ)) → named ≡ Some command → IsReading (Some command)
-    → IfOk result (λ request. (bytes : List ℕ) → left ≡ Some bytes → asked request ≡ outcome_of_input command bytes)
+pub answered_by : {E : Type 0} (named : Option Command) (reading : Reading) (result : Result Request E) (left : Option (List ℕ)) → named ≡ Some (reads reading)
+    → IfOk result (λ request. (bytes : List ℕ) → left ≡ Some bytes → asked request ≡ outcome_of_input reading bytes)
     → IfOk result (λ request. (bytes : List ℕ) → Feeds named left bytes → asked request ≡ outcome_of named bytes)
-answered_by {E} named command (Ok request) left names reads answered = λ bytes feeds.
-    answered bytes (feeds (subst IsReading (sym names) reads)) ∙ outcome_of_reading named command bytes names reads
-answered_by {E} named command (Err stop) left names reads answered = tt
+answered_by {E} named reading (Ok request) left names answered = λ bytes feeds. answered bytes (feeds (subst IsReading (sym names) (names_reading reading))) ∙ outcome_of_reading named reading bytes names
+answered_by {E} named reading (Err stop) left names answered = tt
 
 -- and so of the bytes that came
-pub came_by : {E : Type 0} (named : Option Command) (command : Command) (result : Result Request E) (left left' : Option (List ℕ)) → named ≡ Some command → IsReading (Some command)
-    → IfOk result (λ request. Came left left' (λ came. (length came ≤ MOST_BYTES + 1) × (asked request ≡ outcome_of_input command came)))
+pub came_by : {E : Type 0} (named : Option Command) (reading : Reading) (result : Result Request E) (left left' : Option (List ℕ)) → named ≡ Some (reads reading)
+    → IfOk result (λ request. Came left left' (λ came. (length came ≤ MOST_BYTES + 1) × (asked request ≡ outcome_of_input reading came)))
     → IfOk result (λ request. Came left left' (λ came. (length came ≤ MOST_BYTES + 1) × (asked request ≡ outcome_of named came)))
-came_by {E} named command (Ok request) left left' names reads (came, gave, (few, is)) = (came, gave, (few, is ∙ outcome_of_reading named command came names reads))
-came_by {E} named command (Err stop) left left' names reads came = tt
+came_by {E} named reading (Ok request) left left' names (came, gave, (few, is)) = (came, gave, (few, is ∙ outcome_of_reading named reading came names))
+came_by {E} named reading (Err stop) left left' names came = tt

@@ -1,6 +1,16 @@
+-- The exit status that tells how a run ended.
 pub mod Status
+-- The words of the command line, and which commands read the input.
 pub mod Words
+-- The lines of the table of refusals that each command tries.
 pub mod Lines
+-- What the program answers to its words and its input.
 pub mod Outcome
+-- What the program is asked, and which answer that asks for.
 pub mod Requests
+-- What the commands on drawings answer, said of the drawing that the input spells.
+pub mod OutcomeLaws
+-- Which answer is sent of what is made of one before it is sent.
+pub mod Replies
+-- What a run of the program does to its three devices.
 pub mod Run

@@ -2,8 +2,15 @@
 use Rattle.std.specs.Prelude.{List, [], ◌∷◌, ◌++◌}
 use Rattle.dwg_base.specs.Refusals.{RefusalRow}
 use Rattle.dwg_sections.specs.HeaderLines.{HEADER_LINES}
-use Rattle.dwg_file.specs.FileLines.{classes_section_row, classes_row}
+use Rattle.dwg_file.specs.FileLines.{ALL_LINES, classes_section_row, classes_row}
+use Rattle.dwg_answers.specs.declared.words.Reading.{Reading}
+use Rattle.dwg_answers.specs.declared.words.Reading.TheVariants.{Sections, Classes, Show, Rewrite, Audit, Recover}
 
--- the lines that the command on classes tries, in their order: on the file header, on the section of the classes, and on the classes
-abbrev pub CLASSES_LINES : List RefusalRow
-CLASSES_LINES = HEADER_LINES ++ classes_section_row ∷ classes_row ∷ []
+-- the lines that a command that reads tries, in their order: `classes` those on the file header, on the section of the classes, and on the classes
+abbrev pub lines_of : Reading → List RefusalRow
+lines_of Sections = HEADER_LINES
+lines_of Classes = HEADER_LINES ++ classes_section_row ∷ classes_row ∷ []
+lines_of Show = ALL_LINES
+lines_of Rewrite = ALL_LINES
+lines_of Audit = ALL_LINES
+lines_of Recover = []

@@ -1,11 +1,9 @@
 -- What the program answers to its words and its input. A rule of this project.
-use Rattle.std.specs.Prelude.{◌≡◌, ℕ, ◌==◌, ◌||◌, List, [], ◌∷◌, Option, Some, None, length, nat_lt, if◌then◌else◌}
+use Rattle.std.specs.Prelude.{ℕ, ◌==◌, ◌||◌, List, [], ◌∷◌, Option, Some, None, length, nat_lt, if◌then◌else◌}
 use Rattle.dwg_base.specs.Devices.{MOST_BYTES}
 use Rattle.dwg_base.specs.Refusals.{first_fault}
 use Rattle.dwg_base.specs.declared.refusal.Refusal.{Refusal}
-use Rattle.dwg_base.specs.declared.refusal.Fault.{Fault}
-use Rattle.dwg_base.specs.declared.refusal.Fault.TheVariants as faults
-use Rattle.dwg_sections.specs.HeaderLines.{HEADER_LINES, header_at}
+use Rattle.dwg_sections.specs.HeaderLines.{header_at}
 use Rattle.dwg_audit.specs.declared.finding.Finding.{Finding}
 use Rattle.dwg_audit.specs.Findings.{findings}
 use Rattle.dwg_drill.specs.Drilled.{DRILL_SEED, drilled}
@@ -21,16 +19,17 @@ use Rattle.dwg_text.specs.Notes.{usage_note, size_note, refusal_note, too_long_n
 use Rattle.dwg_text.specs.Sections.{sections_text}
 use Rattle.dwg_text.specs.Classes.{classes_text}
 use Rattle.dwg_answers.specs.declared.words.Command.{Command}
-use Rattle.dwg_answers.specs.declared.words.Command.TheVariants.{Sections, Classes, Show, Rewrite, Audit, Recover, Make, Drill}
+use Rattle.dwg_answers.specs.declared.words.Command.TheVariants as commands
+use Rattle.dwg_answers.specs.declared.words.Reading.{Reading}
+use Rattle.dwg_answers.specs.declared.words.Reading.TheVariants.{Sections, Classes, Show, Rewrite, Audit, Recover}
 use Rattle.dwg_answers.specs.declared.status.Status.{Status}
 use Rattle.dwg_answers.specs.declared.status.Status.TheVariants.{Done, Found, Usage, Refused, TooLong, TooLarge}
 use Rattle.dwg_answers.specs.declared.answer.Answer.{Answer}
 use Rattle.dwg_answers.specs.Words.{command_of}
 use Rattle.dwg_file.specs.Contents.{Contents}
-use Rattle.dwg_file.specs.FileLines.{ALL_LINES}
 use Rattle.dwg_file.specs.DrawingAt.{classes_at, drawing_at}
 use Rattle.dwg_file.specs.Canonical.{size_of, canonical}
-use Rattle.dwg_answers.specs.Lines.{CLASSES_LINES}
+use Rattle.dwg_answers.specs.Lines.{lines_of}
 
 -- nothing on the output, one note, and a status
 abbrev pub noted : List ℕ → Status → Answer
@@ -44,11 +43,6 @@ printed output = record { output = output; note = []; status = Done }
 abbrev pub refused_or : Option Refusal → Answer → Answer
 refused_or (Some refusal) answer = noted (refusal_note refusal) (Refused refusal)
 refused_or None answer = answer
-
--- the answer is that of the refusal which the fault carries; want of memory has none
-abbrev pub AnswersFault : Answer → Fault → Type 0
-AnswersFault answer faults.NoMemory = ⊥
-AnswersFault answer (faults.Refused refusal) = answer ≡ noted (refusal_note refusal) (Refused refusal)
 
 -- an answer over the canonical file of a drawing, unless that would be longer than the limit
 abbrev pub unless_large : Contents → Answer → Answer
@@ -100,32 +94,34 @@ recovery_status (Some refusal) = Found
 unfoldable pub recovered_answer : RecoveredValue → Answer
 recovered_answer value = filed value.drawing (recovery_notes value.refusal value.losses value.kept) (recovery_status value.refusal)
 
--- what a command answers to an input within the limit
-unfoldable pub outcome_within : Command → List ℕ → Answer
-outcome_within Sections bytes = refused_or (first_fault HEADER_LINES bytes) (printed (sections_text (header_at bytes)))
-outcome_within Classes bytes = refused_or (first_fault CLASSES_LINES bytes) (printed (classes_text (classes_at bytes)))
-outcome_within Show bytes = refused_or (first_fault ALL_LINES bytes) (printed (show_text (drawing_at bytes)))
-outcome_within Rewrite bytes = refused_or (first_fault ALL_LINES bytes) (written (drawing_at bytes))
-outcome_within Audit bytes = refused_or (first_fault ALL_LINES bytes) (audited (drawing_at bytes))
-outcome_within Recover bytes = recovered_answer (recovered bytes)
-outcome_within (Make n seed) bytes = made_answer n seed
-outcome_within (Drill n) bytes = drill_answer n
+-- what a command that reads answers to an input within the limit in which none of its lines fails
+unfoldable pub answer_within : Reading → List ℕ → Answer
+answer_within Sections bytes = printed (sections_text (header_at bytes))
+answer_within Classes bytes = printed (classes_text (classes_at bytes))
+answer_within Show bytes = printed (show_text (drawing_at bytes))
+answer_within Rewrite bytes = written (drawing_at bytes)
+answer_within Audit bytes = audited (drawing_at bytes)
+answer_within Recover bytes = recovered_answer (recovered bytes)
 
--- what a command that reads answers to any input
-unfoldable pub outcome_of_input : Command → List ℕ → Answer
-outcome_of_input command bytes = if nat_lt MOST_BYTES (length bytes) then noted too_long_note TooLong else outcome_within command bytes
+-- what it answers to any input within the limit
+unfoldable pub outcome_within : Reading → List ℕ → Answer
+outcome_within reading bytes = refused_or (first_fault (lines_of reading) bytes) (answer_within reading bytes)
+
+-- what it answers to any input
+unfoldable pub outcome_of_input : Reading → List ℕ → Answer
+outcome_of_input reading bytes = if nat_lt MOST_BYTES (length bytes) then noted too_long_note TooLong else outcome_within reading bytes
 
 -- what a command answers
 unfoldable pub outcome_of : Option Command → List ℕ → Answer
 outcome_of None bytes = noted usage_note Usage
-outcome_of (Some Sections) bytes = outcome_of_input Sections bytes
-outcome_of (Some Classes) bytes = outcome_of_input Classes bytes
-outcome_of (Some Show) bytes = outcome_of_input Show bytes
-outcome_of (Some Rewrite) bytes = outcome_of_input Rewrite bytes
-outcome_of (Some Audit) bytes = outcome_of_input Audit bytes
-outcome_of (Some Recover) bytes = outcome_of_input Recover bytes
-outcome_of (Some (Make n seed)) bytes = made_answer n seed
-outcome_of (Some (Drill n)) bytes = drill_answer n
+outcome_of (Some commands.Sections) bytes = outcome_of_input Sections bytes
+outcome_of (Some commands.Classes) bytes = outcome_of_input Classes bytes
+outcome_of (Some commands.Show) bytes = outcome_of_input Show bytes
+outcome_of (Some commands.Rewrite) bytes = outcome_of_input Rewrite bytes
+outcome_of (Some commands.Audit) bytes = outcome_of_input Audit bytes
+outcome_of (Some commands.Recover) bytes = outcome_of_input Recover bytes
+outcome_of (Some (commands.Make n seed)) bytes = made_answer n seed
+outcome_of (Some (commands.Drill n)) bytes = drill_answer n
 
 -- what the program answers: output bytes, note bytes and status
 abbrev pub outcome : List (List ℕ) → List ℕ → Answer

@@ -14,7 +14,7 @@ asked requests.Usage = noted usage_note Usage
 asked requests.TooLong = noted too_long_note TooLong
 asked (requests.Make n seed) = made_answer n seed
 asked (requests.Drill n) = drill_answer n
-asked (requests.Read command bytes) = outcome_within command bytes
+asked (requests.Read reading bytes) = outcome_within reading bytes
 
 -- the bytes that are read are within the limit
 abbrev pub IsWithin : Request → Type 0
@@ -22,4 +22,4 @@ IsWithin requests.Usage = ⊤
 IsWithin requests.TooLong = ⊤
 IsWithin (requests.Make n seed) = ⊤
 IsWithin (requests.Drill n) = ⊤
-IsWithin (requests.Read command bytes) = length bytes ≤ MOST_BYTES
+IsWithin (requests.Read reading bytes) = length bytes ≤ MOST_BYTES

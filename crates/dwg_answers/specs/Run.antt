@@ -86,13 +86,35 @@ pub record AnswersTo (words : List (List ℕ)) (came : List ℕ) (status : Statu
   pub ends : status ≡ (outcome words came).status
   pub sends : Delivers (outcome words came) output output' notes notes'
 
--- how an answer that is sent ends: its status, where both sinks took it; else at a write fault, where one of them failed, or at want of memory
-abbrev pub Sent : Answer → Status → Option (List ℕ) → Option (List ℕ) → Option (List ℕ) → Option (List ℕ) → ℕ → ℕ → ℕ → ℕ → Type 0
-Sent answer status output output' notes notes' faults faults' note_faults note_faults' =
-    IsWhole ⊎ IsBroken
+-- what output and notes tell at one moment: the bytes that each took, and its count of faults
+pub record Sinks : Type 0 where
+  pub output : Option (List ℕ)
+  pub output_faults : ℕ
+  pub notes : Option (List ℕ)
+  pub note_faults : ℕ
+
+-- two sinks, by the functions that say what each tells
+abbrev pub sinks : {W N : Type 0} → (W → Option (List ℕ)) → (W → ℕ) → W → (N → Option (List ℕ)) → (N → ℕ) → N → Sinks
+sinks taken faults output notes_taken note_faults notes = record {
+  output = taken output;
+  output_faults = faults output;
+  notes = notes_taken notes;
+  note_faults = note_faults notes;
+}
+
+-- how an answer that is sent ends: its status, where both sinks took it; else at a write fault, where one of them failed, or at want of memory; and counts of faults never fall
+abbrev pub Sent : Answer → Status → Sinks → Sinks → Type 0
+Sent answer status before behind = NeverFall × (IsWhole ⊎ IsBroken)
   where
+    NeverFall : Type 0
+    NeverFall = (before.output_faults ≤ behind.output_faults) × (before.note_faults ≤ behind.note_faults)
+
     IsWhole : Type 0
-    IsWhole = (status ≡ answer.status) × Delivers answer output output' notes notes' × (faults' ≡ faults) × (note_faults' ≡ note_faults)
+    IsWhole =
+        (status ≡ answer.status) × Delivers answer before.output behind.output before.notes behind.notes
+        × (behind.output_faults ≡ before.output_faults) × (behind.note_faults ≡ before.note_faults)
 
     IsBroken : Type 0
-    IsBroken = IsStopped status × IsCut answer output output' notes notes' × (status ≡ WriteFault → Rose faults faults' ⊎ Rose note_faults note_faults')
+    IsBroken =
+        IsStopped status × IsCut answer before.output behind.output before.notes behind.notes
+        × (status ≡ WriteFault → Rose before.output_faults behind.output_faults ⊎ Rose before.note_faults behind.note_faults)

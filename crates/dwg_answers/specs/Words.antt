@@ -2,9 +2,12 @@
 use Rattle.std.specs.Prelude.{◌≡◌, ◌⊎◌, ⊤, ℕ, ◌^◌, ◌<◌, Bool, not, ◌&&◌, ◌||◌, ◌==◌, nat_lt, nat_le, List, [], ◌∷◌, length, Option, Some, None, String, map, codes, bytes_eq, string_bytes, slice_index, if◌then◌else◌}
 use Rattle.std.specs.Char.{is_ascii_digit}
 use Rattle.std.specs.List.{list_all}
+use Rattle.std.specs.Option.{option_map}
 use Rattle.std.specs.Str.Parse.{digits_value}
 use Rattle.dwg_answers.specs.declared.words.Command.{Command}
-use Rattle.dwg_answers.specs.declared.words.Command.TheVariants.{Sections, Classes, Show, Rewrite, Audit, Recover, Make, Drill}
+use Rattle.dwg_answers.specs.declared.words.Command.TheVariants as commands
+use Rattle.dwg_answers.specs.declared.words.Reading.{Reading}
+use Rattle.dwg_answers.specs.declared.words.Reading.TheVariants.{Sections, Classes, Show, Rewrite, Audit, Recover}
 use Rattle.dwg_make.specs.Made.{MOST_ENTITIES}
 
 -- the words as lists of bytes
@@ -21,25 +24,38 @@ number_of word = if is_numeral word && nat_lt (digits_value 10 word) (2 ^ 32) th
 
 -- the command that makes a drawing of two numbers
 abbrev pub make_of : Option ℕ → Option ℕ → Option Command
-make_of (Some n) (Some seed) = Some (Make n seed)
+make_of (Some n) (Some seed) = Some (commands.Make n seed)
 make_of (Some n) None = None
 make_of None seed = None
 
 -- the command that makes a drawing of a number, and drills with it
 abbrev pub drill_of : Option ℕ → Option Command
-drill_of (Some n) = Some (Drill n)
+drill_of (Some n) = Some (commands.Drill n)
 drill_of None = None
 
--- the command that the words name, if they stand in a line of the command table
-unfoldable pub command_of : List (List ℕ) → Option Command
-command_of [] = None
-command_of (word ∷ []) =
+-- the word of each command that reads
+unfoldable pub reading_of : List ℕ → Option Reading
+reading_of word =
     if bytes_eq word (codes "sections") then Some Sections
     else (if bytes_eq word (codes "classes") then Some Classes
     else (if bytes_eq word (codes "show") then Some Show
     else (if bytes_eq word (codes "rewrite") then Some Rewrite
     else (if bytes_eq word (codes "audit") then Some Audit
     else (if bytes_eq word (codes "recover") then Some Recover else None)))))
+
+-- the command that is each of those
+abbrev pub reads : Reading → Command
+reads Sections = commands.Sections
+reads Classes = commands.Classes
+reads Show = commands.Show
+reads Rewrite = commands.Rewrite
+reads Audit = commands.Audit
+reads Recover = commands.Recover
+
+-- the command that the words name, if they stand in a line of the command table
+unfoldable pub command_of : List (List ℕ) → Option Command
+command_of [] = None
+command_of (word ∷ []) = option_map reads (reading_of word)
 command_of (word ∷ one ∷ []) = if bytes_eq word (codes "drill") then drill_of (number_of one) else None
 command_of (word ∷ one ∷ other ∷ []) = if bytes_eq word (codes "make") then make_of (number_of one) (number_of other) else None
 command_of (word ∷ one ∷ other ∷ more ∷ rest) = None
@@ -47,23 +63,23 @@ command_of (word ∷ one ∷ other ∷ more ∷ rest) = None
 -- the words name a command that reads the input
 abbrev pub IsReading : Option Command → Type 0
 IsReading None = ⊥
-IsReading (Some Sections) = ⊤
-IsReading (Some Classes) = ⊤
-IsReading (Some Show) = ⊤
-IsReading (Some Rewrite) = ⊤
-IsReading (Some Audit) = ⊤
-IsReading (Some Recover) = ⊤
-IsReading (Some (Make n seed)) = ⊥
-IsReading (Some (Drill n)) = ⊥
+IsReading (Some commands.Sections) = ⊤
+IsReading (Some commands.Classes) = ⊤
+IsReading (Some commands.Show) = ⊤
+IsReading (Some commands.Rewrite) = ⊤
+IsReading (Some commands.Audit) = ⊤
+IsReading (Some commands.Recover) = ⊤
+IsReading (Some (commands.Make n seed)) = ⊥
+IsReading (Some (commands.Drill n)) = ⊥
 
 -- the words can't be heeded: they name no command, or one that makes a drawing, with a size that no such drawing has
 abbrev pub IsUsage : Option Command → Type 0
 IsUsage None = ⊤
-IsUsage (Some Sections) = ⊥
-IsUsage (Some Classes) = ⊥
-IsUsage (Some Show) = ⊥
-IsUsage (Some Rewrite) = ⊥
-IsUsage (Some Audit) = ⊥
-IsUsage (Some Recover) = ⊥
-IsUsage (Some (Make n seed)) = (n ≡ 0) ⊎ (MOST_ENTITIES < n)
-IsUsage (Some (Drill n)) = (n ≡ 0) ⊎ (MOST_ENTITIES < n)
+IsUsage (Some commands.Sections) = ⊥
+IsUsage (Some commands.Classes) = ⊥
+IsUsage (Some commands.Show) = ⊥
+IsUsage (Some commands.Rewrite) = ⊥
+IsUsage (Some commands.Audit) = ⊥
+IsUsage (Some commands.Recover) = ⊥
+IsUsage (Some (commands.Make n seed)) = (n ≡ 0) ⊎ (MOST_ENTITIES < n)
+IsUsage (Some (commands.Drill n)) = (n ≡ 0) ⊎ (MOST_ENTITIES < n)

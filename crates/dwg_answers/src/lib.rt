@@ -4,6 +4,10 @@
 
 mod answer;
 mod answering;
+mod laws;
+mod making;
+mod reading;
+mod reply;
 mod request;
 mod sending;
 mod status;
@@ -11,6 +15,7 @@ mod words;
 
 pub use answer::Answer;
 pub use answering::answer_request;
+pub use laws::outcome_laws;
 pub use request::{Request, Stop, request_for};
 pub use status::Status;
-pub use words::{Command, read_words};
+pub use words::{Command, Reading, read_words};

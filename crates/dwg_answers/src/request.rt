@@ -8,7 +8,7 @@ ghost use Rattle.dwg_answers.specs.Requests.{asked, IsWithin};
 ghost use Rattle.dwg_answers.specs.Run.{Feeds, Came, IsSettled, IsDrained, IsDrainedSource};
 
 use crate::status::Status;
-use crate::words::{Command, read_words};
+use crate::words::{Command, Reading, read_words};
 use dwg_base::{ByteRun, Intake, LIMIT, Source, read_all};
 use std::alloc::Global;
 
@@ -34,7 +34,7 @@ pub enum Request {
     /// What a command that reads says to an input within the limit.
     Read {
         /// The command.
-        command: Command,
+        reading: Reading,
         /// The input.
         bytes: ByteRun,
     },
@@ -50,10 +50,9 @@ pub enum Stop {
 }
 
 /// What a command that reads is asked by its input.
-fn request_from<R: Source>(alloc: Global, command: Command, input: &mut R) -> Result<Request, Stop>
-    requires { IsReading (Some command) }
-    ensures answered { IfOk result (λ request. (bytes : List ℕ) → R.left input.old ≡ Some bytes → asked request ≡ outcome_of_input command bytes) }
-    ensures came { IfOk result (λ request. Came (R.left input.old) (R.left input.new) (λ came. (length came ≤ MOST_BYTES + 1) × (asked request ≡ outcome_of_input command came))) }
+fn request_from<R: Source>(alloc: Global, reading: Reading, input: &mut R) -> Result<Request, Stop>
+    ensures answered { IfOk result (λ request. (bytes : List ℕ) → R.left input.old ≡ Some bytes → asked request ≡ outcome_of_input reading bytes) }
+    ensures came { IfOk result (λ request. Came (R.left input.old) (R.left input.new) (λ came. (length came ≤ MOST_BYTES + 1) × (asked request ≡ outcome_of_input reading came))) }
     ensures gone { OnErr result (Came (R.left input.old) (R.left input.new) (λ came. length came ≤ MOST_BYTES + 1)) }
     ensures within { IfOk result (λ request. IsWithin request) }
     ensures status { IfOk result (λ request. ((asked request).status ≡ Status.TooLong) ⊎ IsDrained (asked request).status) }
@@ -64,7 +63,7 @@ fn request_from<R: Source>(alloc: Global, command: Command, input: &mut R) -> Re
     ensures drained { IfOk result (λ request. IsDrained (asked request).status → IsDrainedSource (R.left input.old) (R.left input.new)) }
 {
     match read_all(alloc, input, LIMIT) {
-        Ok(bytes) => Ok(Request::Read { command, bytes }),
+        Ok(bytes) => Ok(Request::Read { reading, bytes }),
         Err(Intake::TooLong) => Ok(Request::TooLong),
         Err(Intake::ReadFault) => Err(Stop::ReadFault),
         Err(Intake::NoMemory) => Err(Stop::NoMemory),
@@ -98,11 +97,11 @@ pub fn request_for<R: Source>(
         None => Ok(Request::Usage),
         Some(Command::Make { n, seed }) => Ok(Request::Make { n, seed }),
         Some(Command::Drill { n }) => Ok(Request::Drill { n }),
-        Some(Command::Sections) => request_from(alloc, Command::Sections, input),
-        Some(Command::Classes) => request_from(alloc, Command::Classes, input),
-        Some(Command::Show) => request_from(alloc, Command::Show, input),
-        Some(Command::Rewrite) => request_from(alloc, Command::Rewrite, input),
-        Some(Command::Audit) => request_from(alloc, Command::Audit, input),
-        Some(Command::Recover) => request_from(alloc, Command::Recover, input),
+        Some(Command::Sections) => request_from(alloc, Reading::Sections, input),
+        Some(Command::Classes) => request_from(alloc, Reading::Classes, input),
+        Some(Command::Show) => request_from(alloc, Reading::Show, input),
+        Some(Command::Rewrite) => request_from(alloc, Reading::Rewrite, input),
+        Some(Command::Audit) => request_from(alloc, Reading::Audit, input),
+        Some(Command::Recover) => request_from(alloc, Reading::Recover, input),
     }
 }

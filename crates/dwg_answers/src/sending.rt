@@ -1,21 +1,36 @@
 //! Sending what the program answers: first all of the output, and then the note.
 
-ghost use Rattle.std.specs.Prelude.{◌≡◌, ◌≤◌, ℕ, List, Option, IfOk};
+ghost use Rattle.std.specs.Prelude.{◌≡◌, ◌≤◌, ◌⊎◌, ℕ, List, Option};
+ghost use Rattle.std.specs.Io.KnownBytes.{Appends};
+ghost use Rattle.dwg_base.specs.Devices.{AppendsFront, Rose};
 ghost use Rattle.dwg_file.specs.Canonical.{canonical};
 ghost use Rattle.dwg_show.specs.DrawingText.{show_text};
-ghost use Rattle.dwg_text.specs.Notes as texts;
 ghost use Rattle.dwg_answers.specs.Outcome.{filed, noted, printed};
-ghost use Rattle.dwg_answers.specs.Run.{Sent};
+ghost use Rattle.dwg_text.specs.Notes as texts;
+ghost use Rattle.dwg_answers.specs.Replies.{answer_of};
+ghost use Rattle.dwg_answers.specs.Run.{Sent, Sinks, sinks};
 
-use crate::answer::Answer;
+use crate::answer::{Answer, too_large_answer};
+use crate::reply::Reply;
 use crate::status::Status;
-use dwg_base::{NoMemory, Sink, put_all};
+use dwg_base::{NoMemory, Sink, WriteFault, put_all};
 use dwg_file::{Drawing, Plan, PlanFault};
 use dwg_show::{ShowFault, show};
-use dwg_text::too_large_note;
 use std::alloc::Global;
 
-/// Sends an answer: first all of its output, and then its note.
+/// Sends a note, behind the whole output, and says how the run ends.
+fn send_note<N: Sink>(note: &[u8], status: Status, notes: &mut N) -> Status
+    ensures never_falls { N.faults notes.old ≤ N.faults notes.new }
+    ensures ends { (result ≡ status) × Appends (N.taken notes.old) (N.taken notes.new) note.now × (N.faults notes.new ≡ N.faults notes.old)
+        ⊎ (result ≡ Status.WriteFault) × AppendsFront (N.taken notes.old) (N.taken notes.new) note.now × Rose (N.faults notes.old) (N.faults notes.new) }
+{
+    match put_all(notes, note) {
+        Ok(()) => status,
+        Err(WriteFault) => Status::WriteFault,
+    }
+}
+
+/// Sends these bytes, and then a note.
 fn send<W: Sink, N: Sink>(
     text: &[u8],
     note: &[u8],
@@ -23,66 +38,34 @@ fn send<W: Sink, N: Sink>(
     output: &mut W,
     notes: &mut N,
 ) -> Status
-    ensures never_fall { (W.faults output.old ≤ W.faults output.new) × (N.faults notes.old ≤ N.faults notes.new) }
-    ensures sent { Sent (record { output = text.now; note = note.now; status = status }) result (W.taken output.old) (W.taken output.new) (N.taken notes.old) (N.taken notes.new)
-        (W.faults output.old) (W.faults output.new) (N.faults notes.old) (N.faults notes.new) }
+    ensures { Sent (record { output = text.now; note = note.now; status = status }) result
+        (sinks W.taken W.faults output.old N.taken N.faults notes.old) (sinks W.taken W.faults output.new N.taken N.faults notes.new) }
 {
     match put_all(output, text) {
-        Ok(()) => {}
-        Err(_) => return Status::WriteFault,
-    }
-    match put_all(notes, note) {
-        Ok(()) => status,
-        Err(_) => Status::WriteFault,
+        Ok(()) => send_note(note, status, notes),
+        Err(WriteFault) => Status::WriteFault,
     }
 }
 
-/// Sends a note alone.
-pub(crate) fn send_note<W: Sink, N: Sink>(
-    note: &[u8],
-    status: Status,
-    output: &mut W,
-    notes: &mut N,
-) -> Status
-    ensures never_fall { (W.faults output.old ≤ W.faults output.new) × (N.faults notes.old ≤ N.faults notes.new) }
-    ensures sent { Sent (noted note.now status) result (W.taken output.old) (W.taken output.new) (N.taken notes.old) (N.taken notes.new)
-        (W.faults output.old) (W.faults output.new) (N.faults notes.old) (N.faults notes.new) }
+/// Sends an answer.
+fn send_answer<W: Sink, N: Sink>(answer: &Answer, output: &mut W, notes: &mut N) -> Status
+    ensures { Sent answer.now result
+        (sinks W.taken W.faults output.old N.taken N.faults notes.old) (sinks W.taken W.faults output.new N.taken N.faults notes.new) }
 {
-    send(b"", note, status, output, notes)
-}
-
-/// Sends an answer that was made for it, where there was memory.
-#[tactic(auto, using(crate::proofs::Deliveries::sent_same))]
-pub(crate) fn send_answer<W: Sink, N: Sink>(
-    made: Result<Answer, NoMemory>,
-    output: &mut W,
-    notes: &mut N,
-) -> Status
-    ensures never_fall { (W.faults output.old ≤ W.faults output.new) × (N.faults notes.old ≤ N.faults notes.new) }
-    ensures sent { (told : Answer) → IfOk made (λ answer. answer ≡ told) → Sent told result (W.taken output.old) (W.taken output.new) (N.taken notes.old) (N.taken notes.new)
-        (W.faults output.old) (W.faults output.new) (N.faults notes.old) (N.faults notes.new) }
-{
-    match made {
-        Ok(answer) => send(
-            answer.output.as_slice(),
-            answer.note.as_slice(),
-            answer.status,
-            output,
-            notes,
-        ),
-        Err(NoMemory) => Status::NoMemory,
-    }
+    send(
+        answer.output.as_slice(),
+        answer.note.as_slice(),
+        answer.status,
+        output,
+        notes,
+    )
 }
 
 /// Sends the text of a drawing, as it is made.
-pub(crate) fn send_drawing_text<W: Sink>(
-    alloc: Global,
-    drawing: &Drawing<'_>,
-    output: &mut W,
-) -> Status
-    ensures never_falls { W.faults output.old ≤ W.faults output.new }
-    ensures sent { (notes : Option (List ℕ)) (note_faults : ℕ) → Sent (printed (show_text drawing.now)) result (W.taken output.old) (W.taken output.new) notes notes
-        (W.faults output.old) (W.faults output.new) note_faults note_faults }
+fn send_text<W: Sink>(alloc: Global, drawing: &Drawing<'_>, output: &mut W) -> Status
+    ensures { (notes : Option (List ℕ)) (note_faults : ℕ) → Sent (printed (show_text drawing.now)) result
+        (record { output = W.taken output.old; output_faults = W.faults output.old; notes = notes; note_faults = note_faults })
+        (record { output = W.taken output.new; output_faults = W.faults output.new; notes = notes; note_faults = note_faults }) }
 {
     match show(alloc, drawing, output) {
         Ok(()) => Status::Done,
@@ -99,39 +82,34 @@ fn send_plan<W: Sink, N: Sink>(
     output: &mut W,
     notes: &mut N,
 ) -> Status
-    ensures never_fall { (W.faults output.old ≤ W.faults output.new) × (N.faults notes.old ≤ N.faults notes.new) }
-    ensures sent { Sent (record { output = canonical plan.old; note = note.now; status = status }) result (W.taken output.old) (W.taken output.new) (N.taken notes.old) (N.taken notes.new)
-        (W.faults output.old) (W.faults output.new) (N.faults notes.old) (N.faults notes.new) }
+    ensures { Sent (record { output = canonical plan.old; note = note.now; status = status }) result
+        (sinks W.taken W.faults output.old N.taken N.faults notes.old) (sinks W.taken W.faults output.new N.taken N.faults notes.new) }
 {
     match plan.write_to(output) {
-        Ok(()) => {}
-        Err(_) => return Status::WriteFault,
-    }
-    match put_all(notes, note) {
-        Ok(()) => status,
-        Err(_) => Status::WriteFault,
+        Ok(()) => send_note(note, status, notes),
+        Err(WriteFault) => Status::WriteFault,
     }
 }
 
-/// Sends a note on a file that would have so many bytes, too many.
-pub(crate) fn send_too_large<W: Sink, N: Sink>(
+/// Sends the note on a canonical file that would have so many bytes, too many.
+#[tactic(auto, using(crate::proofs::Deliveries::sent_same))]
+fn send_too_large<W: Sink, N: Sink>(
     alloc: Global,
     size: u64,
     output: &mut W,
     notes: &mut N,
 ) -> Status
-    ensures never_fall { (W.faults output.old ≤ W.faults output.new) × (N.faults notes.old ≤ N.faults notes.new) }
-    ensures sent { Sent (noted (texts.too_large_note size) (Status.TooLarge size)) result (W.taken output.old) (W.taken output.new) (N.taken notes.old) (N.taken notes.new)
-        (W.faults output.old) (W.faults output.new) (N.faults notes.old) (N.faults notes.new) }
+    ensures { Sent (noted (texts.too_large_note size) (Status.TooLarge size)) result
+        (sinks W.taken W.faults output.old N.taken N.faults notes.old) (sinks W.taken W.faults output.new N.taken N.faults notes.new) }
 {
-    match too_large_note(alloc, size) {
-        Ok(note) => send_note(note.as_slice(), Status::TooLarge { size }, output, notes),
+    match too_large_answer(alloc, size) {
+        Ok(answer) => send_answer(&answer, output, notes),
         Err(NoMemory) => Status::NoMemory,
     }
 }
 
 /// Sends the canonical file of a drawing and then a note, unless the file would be longer than the limit.
-pub(crate) fn send_file<W: Sink, N: Sink>(
+fn send_file<W: Sink, N: Sink>(
     alloc: Global,
     drawing: &Drawing<'_>,
     note: &[u8],
@@ -139,13 +117,34 @@ pub(crate) fn send_file<W: Sink, N: Sink>(
     output: &mut W,
     notes: &mut N,
 ) -> Status
-    ensures never_fall { (W.faults output.old ≤ W.faults output.new) × (N.faults notes.old ≤ N.faults notes.new) }
-    ensures sent { Sent (filed drawing.now note.now status) result (W.taken output.old) (W.taken output.new) (N.taken notes.old) (N.taken notes.new)
-        (W.faults output.old) (W.faults output.new) (N.faults notes.old) (N.faults notes.new) }
+    ensures { Sent (filed drawing.now note.now status) result
+        (sinks W.taken W.faults output.old N.taken N.faults notes.old) (sinks W.taken W.faults output.new N.taken N.faults notes.new) }
 {
     match Plan::prepare(alloc, drawing) {
         Ok(mut plan) => send_plan(&mut plan, note, status, output, notes),
         Err(PlanFault::TooLarge { size }) => send_too_large(alloc, size, output, notes),
         Err(PlanFault::NoMemory) => Status::NoMemory,
+    }
+}
+
+/// Sends the answer that a reply stands for.
+pub(crate) fn send_reply<W: Sink, N: Sink>(
+    alloc: Global,
+    reply: &Reply<'_>,
+    output: &mut W,
+    notes: &mut N,
+) -> Status
+    ensures { Sent (answer_of reply.now) result
+        (sinks W.taken W.faults output.old N.taken N.faults notes.old) (sinks W.taken W.faults output.new N.taken N.faults notes.new) }
+{
+    match reply {
+        Reply::Whole(answer) => send_answer(answer, output, notes),
+        Reply::Note { note, status } => send(b"", note, *status, output, notes),
+        Reply::Text(drawing) => send_text(alloc, drawing, output),
+        Reply::File {
+            drawing,
+            note,
+            status,
+        } => send_file(alloc, drawing, note.as_slice(), *status, output, notes),
     }
 }

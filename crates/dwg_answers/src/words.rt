@@ -4,7 +4,24 @@ ghost use Rattle.std.specs.Prelude.{◌≡◌, ℕ, ◌<◌, ◌^◌, [], ◌∷
 ghost use Rattle.std.specs.Fmt.{decimal};
 ghost use Rattle.std.specs.List.{list_all};
 ghost use Rattle.std.specs.Char.{is_ascii_digit};
-ghost use Rattle.dwg_answers.specs.Words.{texts, is_numeral, number_of, make_of, drill_of, command_of};
+ghost use Rattle.dwg_answers.specs.Words.{texts, is_numeral, number_of, make_of, drill_of, reading_of, reads, command_of};
+
+/// A command that reads the input, by what it says of it.
+#[derive(Clone, Copy, Debug, PartialEq, Eq)]
+pub enum Reading {
+    /// The text of the file's locators.
+    Sections,
+    /// The text of the file's classes.
+    Classes,
+    /// The text of the drawing.
+    Show,
+    /// The canonical file of the drawing.
+    Rewrite,
+    /// What the references of the drawing fail.
+    Audit,
+    /// The canonical file of the drawing, or of all that is left of it.
+    Recover,
+}
 
 /// What the program is asked for.
 #[derive(Clone, Copy, Debug, PartialEq, Eq)]
@@ -92,25 +109,33 @@ fn read_drill(n: &str) -> Option<Command>
     Some(Command::Drill { n })
 }
 
-/// The command of one word.
-#[tactic(auto, unfolding(crate::specs::Words::command_of))]
-fn command_word(word: &str) -> Option<Command>
-    ensures { result ≡ command_of (word.now ∷ []) }
+/// The command that reads of this word.
+#[tactic(auto, unfolding(crate::specs::Words::reading_of))]
+fn reading_named(word: &str) -> Option<Reading>
+    ensures { result ≡ reading_of word.now }
 {
-    if word == "sections" {
-        Some(Command::Sections)
-    } else if word == "classes" {
-        Some(Command::Classes)
-    } else if word == "show" {
-        Some(Command::Show)
-    } else if word == "rewrite" {
-        Some(Command::Rewrite)
-    } else if word == "audit" {
-        Some(Command::Audit)
-    } else if word == "recover" {
-        Some(Command::Recover)
-    } else {
-        None
+    match word {
+        "sections" => Some(Reading::Sections),
+        "classes" => Some(Reading::Classes),
+        "show" => Some(Reading::Show),
+        "rewrite" => Some(Reading::Rewrite),
+        "audit" => Some(Reading::Audit),
+        "recover" => Some(Reading::Recover),
+        _ => None,
+    }
+}
+
+/// The command that reads so.
+fn command_by(reading: Reading) -> Command
+    ensures { result ≡ reads reading }
+{
+    match reading {
+        Reading::Sections => Command::Sections,
+        Reading::Classes => Command::Classes,
+        Reading::Show => Command::Show,
+        Reading::Rewrite => Command::Rewrite,
+        Reading::Audit => Command::Audit,
+        Reading::Recover => Command::Recover,
     }
 }
 
@@ -120,7 +145,10 @@ fn command_named(words: &[String]) -> Option<Command>
     ensures { result ≡ command_of (texts words.now) }
 {
     match words {
-        [word] => command_word(word.as_str()),
+        [word] => match reading_named(word.as_str()) {
+            Some(reading) => Some(command_by(reading)),
+            None => None,
+        },
         [word, n] => {
             if word.as_str() == "drill" {
                 read_drill(n.as_str())

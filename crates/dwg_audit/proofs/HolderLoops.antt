@@ -8,6 +8,7 @@ use Rattle.std.proofs.lemmas.List.Elements.{filter-append}
 use Rattle.std.proofs.lemmas.List.Sums.{sum_by-cons, sum_by_push, count_by-le-length, length-filter, sum_by_more_le_part, get_or-le-sum_by}
 use Rattle.std.proofs.lemmas.Option.{slice_get_within, get_or_from_slice_get}
 use Rattle.dwg_audit.specs.Claimed.{Adds, IsOpen, claiming, leads_to, leads_down, claims_held, claim_counts, own_counts, reference_count}
+use Rattle.dwg_audit.specs.Counts.{by_holder}
 use Rattle.dwg_audit.proofs.Counting.{stands_there}
 use Rattle.dwg_graph.specs.declared.owner.SpaceHandles.{SpaceHandles}
 use Rattle.dwg_graph.specs.declared.slot.Slot.{Slot}
@@ -145,7 +146,7 @@ all_few x holder =
 own_few : (known : Option SpaceHandles) (x holder : ObjectValue) → own_of known x holder ≤ length (slots holder)
 unfolding own_of all_of
 own_few known x holder =
-    let test : Claim → Bool = λ (claim : Claim). claim.holder == owner_of known x in
+    let test : Claim → Bool = by_holder (owner_of known x) in
     let all : List Claim = claims_of (handle_of x) holder in
     omega (arith, length-filter test all, count_by-le-length test all, all_few x holder)
 
@@ -229,7 +230,7 @@ all_sum objects x = sym (length-flat_map (claims_of (handle_of x)) objects)
 own_sum : (objects : List ObjectValue) (known : Option SpaceHandles) (x : ObjectValue) → sum_by (own_of known x) objects ≡ length (claims_held (owner_of known x) (claims objects (handle_of x)))
 unfolding own_of claims
 own_sum objects known x =
-    let test : Claim → Bool = λ (claim : Claim). claim.holder == owner_of known x in
+    let test : Claim → Bool = by_holder (owner_of known x) in
     sym (ap length (filter_flat test (claims_of (handle_of x)) objects) ∙ length-flat_map (λ holder. filter test (claims_of (handle_of x) holder)) objects)
 
 -- where all holders are counted, the counts are those of the claims

@@ -1,3 +1,8 @@
+pub mod FindingLaws
+pub mod FindingOrder
+pub mod FindingTests
+pub mod ListLemmas
+pub mod SlotFields
 pub mod PlacedObjects
 pub mod PlacedPaths
 pub mod PlacedChains

@@ -16,7 +16,8 @@ use Rattle.dwg_graph.specs.Places.{Ascend, handles_of}
 use Rattle.dwg_object.specs.Objects.{ObjectValue, handle_of, kind_of}
 use Rattle.dwg_paths.specs.ChainLaws.{IsAmong}
 use Rattle.dwg_paths.specs.Paths.{AreDistinct}
-use Rattle.dwg_paths.specs.PlaceLaws.{TestsAgree, chain_seen, contains_of_place, place_of_contained}
+use Rattle.dwg_paths.specs.PlaceLaws.{TestsAgree}
+use Rattle.dwg_paths.proofs.PlaceLaws.{chain_seen, contains_of_place, place_of_contained}
 use Rattle.dwg_paths.specs.Tables.{leads, lives_at, is_at, ends_at, HasChainAt}
 use Rattle.dwg_paths.specs.declared.tables.Ends.{Ends}
 
@@ -161,7 +162,7 @@ handle_within handles p within = (slice_index_or handles p 0, slice_get-get_or h
 
 -- the chain of a block with ends
 seen_chain : (objects : List ObjectValue) (i : ℕ) (x : ObjectValue) (ends : EndHandles) → Ascend (handles_of objects) → slice_get objects i ≡ Some x
-    → HasChainAt (home_table objects (spaces objects)) (next_table objects) i (Some (end_places objects ends)) ↔ HasChainBetween objects x (Some ends)
+    → HasChainAt (home_table objects (spaces objects)) (next_table objects) i (Some (end_places (handles_of objects) ends)) ↔ HasChainBetween objects x (Some ends)
 unfolding next_step
 seen_chain objects i x ends ascend at =
     chain_seen (handles_of objects) (leads (next_table objects)) (next_step objects) (lives_at (home_table objects (spaces objects)) i)
@@ -178,10 +179,10 @@ seen_chain objects i x ends ascend at =
     })
 
 -- the ends that the table gives for a block
-ends_in_table : (objects : List ObjectValue) (i : ℕ) (x : ObjectValue) → slice_get objects i ≡ Some x → ends_at (end_table objects) i ≡ option_map (end_places objects) (ends_of x)
+ends_in_table : (objects : List ObjectValue) (i : ℕ) (x : ObjectValue) → slice_get objects i ≡ Some x → ends_at (end_table objects) i ≡ option_map (end_places (handles_of objects)) (ends_of x)
 ends_in_table objects i x at =
     ap (option_and_then (λ those. those))
-    (slice_get-map (λ (y : ObjectValue). option_map (end_places objects) (ends_of y)) objects i ∙ ap (option_map (λ (y : ObjectValue). option_map (end_places objects) (ends_of y))) at)
+    (slice_get-map (λ (y : ObjectValue). option_map (end_places (handles_of objects)) (ends_of y)) objects i ∙ ap (option_map (λ (y : ObjectValue). option_map (end_places (handles_of objects)) (ends_of y))) at)
 
 -- no place lives at a home exactly where no handle is a member's
 none_lives : (objects : List ObjectValue) (known : Option SpaceHandles) (i : ℕ) (x : ObjectValue) → Ascend (handles_of objects) → slice_get objects i ≡ Some x
@@ -215,6 +216,6 @@ pub chain_placed : (objects : List ObjectValue) (i : ℕ) (x : ObjectValue) → 
 chain_placed objects i x ascend at =
     subst (λ (e : Option Ends). HasChainAt (home_table objects (spaces objects)) (next_table objects) i e ↔ HasMemberChain objects x) (sym (ends_in_table objects i x at)) (go (ends_of x))
   where
-    go : (ends : Option EndHandles) → HasChainAt (home_table objects (spaces objects)) (next_table objects) i (option_map (end_places objects) ends) ↔ HasChainBetween objects x ends
+    go : (ends : Option EndHandles) → HasChainAt (home_table objects (spaces objects)) (next_table objects) i (option_map (end_places (handles_of objects)) ends) ↔ HasChainBetween objects x ends
     go None = none_lives objects (spaces objects) i x ascend at
     go (Some ends) = seen_chain objects i x ends ascend at

@@ -10,7 +10,7 @@ use Rattle.dwg_audit.proofs.PlacedPaths.{in_table, path_placed}
 use Rattle.dwg_audit.specs.declared.tables.Tables.{Tables}
 use Rattle.dwg_audit.specs.Claimed.{claims_held}
 use Rattle.dwg_audit.specs.Findings.{is_chained}
-use Rattle.dwg_audit.specs.FindingTests.{chained_decided}
+use Rattle.dwg_audit.proofs.FindingTests.{chained_decided}
 use Rattle.dwg_audit.specs.Placed.{home_place, owner_place}
 use Rattle.dwg_audit.specs.Standing.{IsStanding}
 use Rattle.dwg_audit.specs.Tabled.{AreTables}

@@ -1,6 +1,7 @@
 -- How often objects are claimed, counted slot by slot. A rule of this project.
 use Rattle.std.specs.Prelude.{◌≡◌, ◌<◌, ◌==◌, ◌&&◌, ◌+◌, ◌^◌, ℕ, Bool, List, length, map, Option, Some}
 use Rattle.std.specs.List.{filter, sum_by, count_by, slice_get, slice_set, slice_index_or}
+use Rattle.dwg_audit.specs.Counts.{by_holder}
 use Rattle.dwg_graph.specs.declared.owner.SpaceHandles.{SpaceHandles}
 use Rattle.dwg_graph.specs.declared.slot.Slot.{Slot}
 use Rattle.dwg_graph.specs.Graph.{Claim, claims, claims_by}
@@ -15,7 +16,7 @@ reference_count objects = sum_by (λ x. length (slots x)) objects
 
 -- the claims on an object by that holder
 abbrev pub claims_held : ℕ → List Claim → List Claim
-claims_held holder all = filter (λ (claim : Claim). claim.holder == holder) all
+claims_held holder all = filter (by_holder holder) all
 
 -- how many claims there are on each object
 abbrev pub claim_counts : List ObjectValue → List ℕ

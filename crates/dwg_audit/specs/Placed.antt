@@ -29,9 +29,9 @@ home_at objects known x place = option_and_then (λ owner. if is_member known ow
 abbrev pub home_place : List ObjectValue → Option SpaceHandles → ObjectValue → Option ℕ
 home_place objects known x = option_and_then (home_at objects known x) (owner_place objects known x)
 
--- where the ends of a block stand
-abbrev pub end_places : List ObjectValue → EndHandles → Ends
-end_places objects ends = record { first = place_in (handles_of objects) ends.first; last = place_in (handles_of objects) ends.last }
+-- where the ends of a block stand among handles
+abbrev pub end_places : List ℕ → EndHandles → Ends
+end_places handles ends = record { first = place_in handles ends.first; last = place_in handles ends.last }
 
 -- the tables of all objects
 abbrev pub owner_table : List ObjectValue → Option SpaceHandles → List (Option ℕ)
@@ -47,4 +47,4 @@ abbrev pub home_table : List ObjectValue → Option SpaceHandles → List (Optio
 home_table objects known = map (home_place objects known) objects
 
 abbrev pub end_table : List ObjectValue → List (Option Ends)
-end_table objects = map (λ x. option_map (end_places objects) (ends_of x)) objects
+end_table objects = map (λ x. option_map (end_places (handles_of objects)) (ends_of x)) objects

@@ -18,10 +18,10 @@ ghost use Rattle.dwg_object.specs.Written.{IsWhole};
 use crate::finding::{Finding, Rule};
 use crate::laws::finding_laws;
 use crate::resolving::push_unresolved;
-use crate::rules::{is_typed, null, push_lost, push_unchained, push_unclaimed, push_unless};
+use crate::rules::{is_typed, push_lost, push_unchained, push_unclaimed, push_unless};
 use crate::standing::{Standing, standing_at};
 use crate::tables::{Tables, tabulate};
-use dwg_base::{Items, NoMemory};
+use dwg_base::{Handle, Items, NoMemory};
 use dwg_graph::{control_count, slot_laws};
 use dwg_object::Object;
 use dwg_steps::Steps;
@@ -35,11 +35,11 @@ fn push_control(objects: &[Object<'_>], found: &mut Items<Finding>) -> Result<()
 {
     let count = control_count(objects);
     let finding = Finding {
-        handle: null(),
+        handle: Handle::NULL,
         rule: Rule::Control,
         field: None,
         position: count,
-        target: null(),
+        target: Handle::NULL,
     };
     push_unless(found, count == 1, finding)
 }

@@ -3,8 +3,7 @@
 ghost use Rattle.std.specs.Prelude.{◌≡◌, ◌==◌, ℕ, List, [], ◌∷◌, ◌++◌, length, map, IfOk, OnOk};
 ghost use Rattle.std.specs.List.{list_any};
 ghost use Rattle.std.specs.Option.{option_and_then, option_map};
-ghost use Rattle.dwg_audit.specs.Placed.{place_in, owner_table, next_table, root_table, home_table, home_at, end_table};
-ghost use Rattle.dwg_audit.specs.EndsPlaced.{places_of_ends};
+ghost use Rattle.dwg_audit.specs.Placed.{place_in, owner_table, next_table, root_table, home_table, home_at, end_places, end_table};
 ghost use Rattle.dwg_graph.specs.Graph.{is_raw, is_header, is_root, is_member, is_member_kind, known_ends, ends_of, TOP_NUMBERS};
 ghost use Rattle.dwg_graph.specs.Owners.{owner_of};
 ghost use Rattle.dwg_graph.specs.Places.{Ascend, handles_of};
@@ -92,17 +91,6 @@ pub(crate) fn next_places<L: Ledger>(
     Ok(places)
 }
 
-/// The type number of an object.
-fn number(object: &Object<'_>) -> u16
-    ensures { result ≡ number_of (value_of object.now) }
-{
-    match object {
-        Object::Typed(typed) => typed.number,
-        Object::Plain(plain) => plain.number,
-        Object::Raw(raw) => raw.number,
-    }
-}
-
 /// Whether objects of a type number stand at the top of a drawing.
 fn is_top(number: u16) -> bool
     ensures { result ≡ list_any (λ other. other == number) TOP_NUMBERS }
@@ -144,7 +132,7 @@ pub(crate) fn is_root(object: &Object<'_>, known: &Option<SpaceHandles>) -> bool
     if is_raw(object) {
         return true;
     }
-    if is_same(Kind::Dictionary, object.kind()) || is_top(number(object)) {
+    if is_same(Kind::Dictionary, object.kind()) || is_top(object.number()) {
         return owner_of(object, *known).value() == 0;
     }
     false
@@ -264,7 +252,7 @@ fn placed_ends<L: Ledger>(
     steps: &mut Steps<L>,
 ) -> Option<Ends>
     requires ascend { Ascend index.now }
-    ensures { result ≡ option_map (places_of_ends index.now) (known_ends ends.now) }
+    ensures { result ≡ option_map (end_places index.now) (known_ends ends.now) }
 {
     if ends.first.target.value() == 0 && ends.last.target.value() == 0 {
         return None;
@@ -278,7 +266,7 @@ fn placed_ends<L: Ledger>(
 #[tactic(auto, unfolding(dwg_graph::specs::Graph::ends_of))]
 fn ends_at<L: Ledger>(object: &Object<'_>, index: &Index, steps: &mut Steps<L>) -> Option<Ends>
     requires ascend { Ascend index.now }
-    ensures { result ≡ option_map (places_of_ends index.now) (ends_of (value_of object.now)) }
+    ensures { result ≡ option_map (end_places index.now) (ends_of (value_of object.now)) }
 {
     match object {
         Object::Typed(typed) => match &typed.body {

@@ -52,16 +52,6 @@ pub(crate) fn push_unless(
     push(found, finding)
 }
 
-/// The null handle.
-pub(crate) fn null() -> Handle
-    ensures { result ≡ 0 }
-{
-    match Handle::new(0) {
-        Some(handle) => handle,
-        None => unreachable!(),
-    }
-}
-
 /// Whether an object is Typed.
 pub(crate) fn is_typed(object: &Object<'_>) -> bool
     ensures { result ≡ is_typed (value_of object.now) }
@@ -155,11 +145,11 @@ fn last_of(object: &Object<'_>) -> Handle
         Object::Typed(typed) => match &typed.body {
             Body::BlockHeader(header) => match header.ends {
                 Some(ends) => ends.last.target,
-                None => null(),
+                None => Handle::NULL,
             },
-            _ => null(),
+            _ => Handle::NULL,
         },
-        _ => null(),
+        _ => Handle::NULL,
     }
 }
 

@@ -1,2 +1,5 @@
+pub mod ByteLists
+pub mod Devices
+pub mod SendingLemmas
 pub mod Sending
 pub mod Giving

@@ -1,6 +1,5 @@
 -- What a call does to a device: to its count of faults, to the bytes that it still gives, and to those that it took. A rule of this project.
 use Rattle.std.specs.Prelude.{◌≡◌, ℕ, ◌+◌, ◌-◌, ◌^◌, ◌<◌, ◌≤◌, ◌⊎◌, min, List, ◌++◌, Option, Result, MatchResult, OnOk, OnErr}
-use Rattle.std.proofs.Common.{arith}
 use Rattle.std.specs.Io.KnownBytes.{Appends}
 
 -- the last value of a count of faults or of calls, at which it stands still
@@ -14,10 +13,6 @@ next_count count = min (count + 1) LAST_COUNT
 -- a count rose in a call: it is greater than at the begin of the call, or stands at its last value
 abbrev pub Rose : ℕ → ℕ → Type 0
 Rose before now = (before < now) ⊎ (now ≡ LAST_COUNT)
-
--- one more is a rise
-pub rose_by_one : (before now : ℕ) → before ≤ LAST_COUNT → now ≡ next_count before → Rose before now
-rose_by_one before now small more = grind arith
 
 -- what a call does to its device's count of faults: it never falls, stays where the call succeeds, rose where it fails, and stands still at its last value
 pub record Counts {T E : Type 0} (before now : ℕ) (result : Result T E) : Type 0 where

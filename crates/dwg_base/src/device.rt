@@ -5,6 +5,8 @@ ghost use Rattle.std.specs.Io.{ReadsAtMost, WritesAtMost};
 ghost use Rattle.std.specs.Io.KnownBytes.{ReadConsumes, WriteAppends};
 ghost use Rattle.dwg_base.specs.Devices.{Counts, Sends};
 
+use crate::slices::bytes_behind;
+
 /// One call of a device failed.
 #[derive(Clone, Copy, Debug, PartialEq, Eq)]
 pub struct Failed;
@@ -50,15 +52,6 @@ pub trait Sink {
         ensures counts { Counts (faults self.old) (faults self.new) result };
 }
 
-/// What is left of a piece behind its front.
-pub(crate) fn behind(piece: &[u8], sent: usize) -> &[u8]
-    requires { sent ≤ length piece.now }
-    ensures rest { result.now ≡ drop sent piece.now }
-    ensures len { length result.now + sent ≡ length piece.now }
-{
-    &piece[sent..]
-}
-
 /// Sends the whole piece. After a fault the sink took a front of it. It takes no memory.
 pub fn put_all<W: Sink>(sink: &mut W, piece: &[u8]) -> Result<(), WriteFault>
     ensures bytes { Sends (W.taken sink.old) (W.taken sink.new) piece.now result }
@@ -66,7 +59,7 @@ pub fn put_all<W: Sink>(sink: &mut W, piece: &[u8]) -> Result<(), WriteFault>
 {
     let mut sent = 0;
     while sent < piece.len() {
-        match sink.write(behind(piece, sent)) {
+        match sink.write(bytes_behind(piece, sent)) {
             Ok(n) => sent += n,
             Err(Failed) => return Err(WriteFault),
         }

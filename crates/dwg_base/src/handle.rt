@@ -27,6 +27,9 @@ impl Model for Handle {
 }
 
 impl Handle {
+    /// The null handle, which names no object.
+    pub const NULL: Handle = Handle { number: 0 };
+
     /// The handle of a number. None exactly where the number is 2^63 or more.
     pub fn new(value: u64) -> Option<Handle>
         ensures { SomeIff result (value < 2 ^ 63) value }

@@ -8,6 +8,7 @@ mod intake;
 mod items;
 mod memory;
 mod refusal;
+mod slices;
 
 pub use bytes::ByteRun;
 pub use device::{Failed, NoMemory, Sink, Source, WriteFault, put_all};
@@ -16,3 +17,4 @@ pub use intake::{Intake, LIMIT, read_all};
 pub use items::Items;
 pub use memory::{MemSink, MemSource};
 pub use refusal::{Fault, Refusal, part_word, reason_word};
+pub use slices::{bounded_bytes, bytes_behind};

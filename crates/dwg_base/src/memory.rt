@@ -7,8 +7,9 @@ ghost use Rattle.dwg_base.specs.Devices.{Counts};
 ghost use Rattle.dwg_base.specs.Memory.{given_count, IsFailingRead, after_read, taken_count, IsFailingWrite, after_write};
 
 use crate::bytes::ByteRun;
-use crate::device::{Failed, NoMemory, Sink, Source, behind};
+use crate::device::{Failed, NoMemory, Sink, Source};
 use crate::items::Items;
+use crate::slices::bytes_behind;
 use std::alloc::Global;
 use std::marker::Model;
 
@@ -81,7 +82,7 @@ impl Source for MemSource {
             self.faults = self.faults.saturating_add(1);
             return Err(Failed);
         }
-        let rest = behind(self.bytes.as_slice(), self.place);
+        let rest = bytes_behind(self.bytes.as_slice(), self.place);
         let n = rest.len().min(buf.len().min(self.most));
         copy_front(rest, buf, n);
         self.place += n;

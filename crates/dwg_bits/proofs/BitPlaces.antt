@@ -7,7 +7,7 @@ use Rattle.std.proofs.lemmas.Nat.{one_shl}
 use Rattle.std.proofs.lemmas.List.{get_or_read, set-append_left, set-append_right}
 use Rattle.std.proofs.lemmas.Bool.{cases_lt}
 use Rattle.dwg_bits.specs.Bits.{is_set, low_bits, bits}
-use Rattle.dwg_bits.specs.BitLaws.{length_of_low_bits, bit_of_bytes}
+use Rattle.dwg_bits.proofs.BitLaws.{length_of_low_bits, bit_of_bytes}
 
 -- the bit at a place, by a shift
 pub bit_at_place : (bytes : List ℕ) (place : ℕ) → place < 8 * length bytes → eqb (bit_and (get_or bytes (place / 8) 0 / 2 ^ (7 - place % 8)) 1) 1 ≡ get_or (bits bytes) place false

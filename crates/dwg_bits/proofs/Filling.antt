@@ -3,7 +3,7 @@ use Rattle.std.proofs.Common.{◌≡◌, refl, sym, ◌∙◌, ap, ap₂, ℕ, s
 use Rattle.std.specs.Int.{from_bool}
 use Rattle.std.proofs.lemmas.List.{length-append, length-replicate, append_assoc, take_at, set_at, append-nil}
 use Rattle.dwg_bits.specs.Bits.{low_bits, bits}
-use Rattle.dwg_bits.specs.BitLaws.{length_of_bits, bits_joined, length_of_bits_between, bits_between_all}
+use Rattle.dwg_bits.proofs.BitLaws.{length_of_bits, bits_joined, length_of_bits_between, bits_between_all}
 use Rattle.dwg_bits.specs.Cursor.{bits_between}
 use Rattle.dwg_bits.specs.Sink.{missing_bits, padding}
 use Rattle.dwg_bits.specs.Filled.{AreFilled, HoldsMore}

@@ -1,3 +1,7 @@
+pub mod BitLaws
+pub mod PaddingLaw
+pub mod SinkLemmas
+pub mod WholeBytes
 pub mod BitPlaces
 pub mod Filling
 pub mod Pushing

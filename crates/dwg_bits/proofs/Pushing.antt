@@ -4,10 +4,10 @@ use Rattle.std.specs.Prelude.{bit_and}
 use Rattle.std.proofs.lemmas.Nat.Bits.{shr_and_one}
 use Rattle.std.proofs.lemmas.List.{append_assoc, append-nil, take_more, take_all}
 use Rattle.dwg_bits.specs.Bits.{is_set, low_bits, bits}
-use Rattle.dwg_bits.specs.BitLaws.{bits_more, bits_between_none, bits_between_more}
+use Rattle.dwg_bits.proofs.BitLaws.{bits_more, bits_between_none, bits_between_more}
 use Rattle.dwg_bits.specs.Cursor.{bits_between}
 use Rattle.dwg_bits.specs.Sink.{Written, Extends}
-use Rattle.dwg_bits.specs.SinkLaws.{extends_by_none, extends_by_both}
+use Rattle.dwg_bits.proofs.SinkLemmas.{extends_by_none, extends_by_both}
 
 -- the low bits are their highest and those below it
 highest_first : (count value : ℕ) → 0 < count → is_set value (count - 1) ∷ low_bits (count - 1) value ≡ low_bits count value

@@ -5,7 +5,7 @@ use Rattle.std.proofs.Math.Nat.{pow-suc}
 use Rattle.std.specs.Int.{from_bool}
 use Rattle.dwg_bits.specs.Bits.{bits, num, low_bits}
 use Rattle.dwg_bits.specs.Cursor.{bits_between}
-use Rattle.dwg_bits.specs.BitLaws.{taken_front, num_push, bits_between_none, bits_between_more}
+use Rattle.dwg_bits.proofs.BitLaws.{taken_front, num_push, bits_between_none, bits_between_more}
 
 -- no bits spell 0
 pub none_taken : (bytes : List ℕ) (place : ℕ) → 0 ≡ num (bits_between bytes place place)

@@ -79,7 +79,7 @@ impl<'a> BitCursor<'a> {
     }
 
     /// Takes the next `count` bits as a span of the same bytes. None, with nothing moved, exactly where fewer are left.
-    #[tactic(auto, using(crate::specs::BitLaws::bits_between_joined))]
+    #[tactic(auto, using(crate::proofs::BitLaws::bits_between_joined))]
     pub fn run(&mut self, count: u64) -> Option<BitSpan<'a>>
         ensures there { IsSome result ↔ (count ≤ self.old.end - self.old.place) }
         ensures span { IfSome result (λ span. span ≡ bits_between self.old.bytes.now self.old.place (self.old.place + count)) }

@@ -88,7 +88,7 @@ pub enum BitPart<'a> {
 
 impl BitPart<'_> {
     /// How many bits there are.
-    #[tactic(auto, using(crate::specs::BitLaws::length_of_bits_between))]
+    #[tactic(auto, using(crate::proofs::BitLaws::length_of_bits_between))]
     pub fn length(&self) -> u64
         ensures { result ≡ length (part_bits self.now) }
     {

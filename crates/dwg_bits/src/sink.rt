@@ -35,7 +35,7 @@ impl Model for BitSink {
 
 impl BitSink {
     /// An empty sink, which takes no memory yet.
-    #[tactic(auto, using(crate::proofs::Filling::none_filled, crate::specs::BitLaws::bits_between_none))]
+    #[tactic(auto, using(crate::proofs::Filling::none_filled, crate::proofs::BitLaws::bits_between_none))]
     pub fn new(alloc: Global) -> BitSink
         ensures { result.written ≡ [] }
     {
@@ -46,7 +46,7 @@ impl BitSink {
     }
 
     /// An empty sink with room for `bits`. None is want of memory alone.
-    #[tactic(auto, using(crate::proofs::Filling::none_filled, crate::specs::BitLaws::bits_between_none))]
+    #[tactic(auto, using(crate::proofs::Filling::none_filled, crate::proofs::BitLaws::bits_between_none))]
     pub(crate) fn with_room(alloc: Global, bits: u64) -> Option<BitSink>
         ensures empty { IfSome result (λ sink. sink.written ≡ []) }
         ensures room { IfSome result (λ sink. bits ≤ sink.spare) }
@@ -134,7 +134,7 @@ impl BitSink {
     }
 
     /// Takes all bits away and keeps the room.
-    #[tactic(auto, using(crate::proofs::Filling::length_held, crate::proofs::Filling::none_filled, crate::specs::BitLaws::bits_between_none))]
+    #[tactic(auto, using(crate::proofs::Filling::length_held, crate::proofs::Filling::none_filled, crate::proofs::BitLaws::bits_between_none))]
     pub fn clear(&mut self)
         ensures empty { self.new.written ≡ [] }
         ensures room { self.old.spare + length self.old.written ≤ self.new.spare }

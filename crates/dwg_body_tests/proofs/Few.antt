@@ -1,9 +1,9 @@
 -- What is written of a body that was read has no more bits than it was read of.
 use Rattle.std.proofs.Common.{◌≤◌, ℕ, ◌*◌, List, Bool, length, length-append, ap, arith}
-use Rattle.dwg_bits.specs.BitLaws.{length_of_bits_between}
+use Rattle.dwg_bits.proofs.BitLaws.{length_of_bits_between}
 use Rattle.dwg_bits.specs.Cursor.{rest}
 use Rattle.dwg_bits.specs.declared.cursor.BitCursor.{BitCursor}
-use Rattle.dwg_common.specs.Bodies.{BodyGrammar, BeginsWithBody, IsBody}
+use Rattle.dwg_grammar.specs.Bodies.{BodyGrammar, BeginsWithBody, IsBody}
 
 -- of main bits and of reference bits
 pub record AreFew {V : Type 0} (body : BodyGrammar V) (value : V) (main_bits reference_bits : ℕ) : Type 0 where

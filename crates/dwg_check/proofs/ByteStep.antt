@@ -9,7 +9,7 @@ use Rattle.std.proofs.lemmas.Nat.{xor_shr, shr-shr, shr_split, and_mask, mod_bel
 use Rattle.std.proofs.lemmas.List.FromFn.{get_or-map-range_with_len}
 use lib.Bits.{xor_zero_r, xor_shifted}
 use Rattle.dwg_check.specs.CheckWord.{turn, low_bits_first, check_word}
-use Rattle.dwg_check.specs.CheckWordLaws.{shift, shifts, shift_turn, shifts_xor, check_word_cons, check_word_none}
+use Rattle.dwg_check.proofs.CheckWordLaws.{shift, shifts, shift_turn, shifts_xor, check_word_cons, check_word_none}
 use Rattle.dwg_check.specs.declared.table.TheConstants.{TABLE}
 
 -- to shift n times a word that a number is xored into is to turn it by the number's n lowest bits, with the rest of the number left to xor

@@ -1,3 +1,6 @@
+pub mod CheckWordLaws
+pub mod PrefixWords
+pub mod AppliedRows
 pub mod ByteStep
 pub mod Linear
 pub mod Powers

@@ -1,12 +1,12 @@
 -- Maps of words that are linear over xor: what they make of a word follows from what they make of its bits.
-use Rattle.std.proofs.Common.{◌≡◌, refl, sym, ◌∙◌, ap, ap₂, ℕ, zero, suc, ◌+◌, ◌*◌, ◌/◌, ◌%◌, ◌^◌, ◌<◌, ◌≤◌, List, [], ◌∷◌, map, arith, pow-suc, pow-add}
+use Rattle.std.proofs.Common.{◌≡◌, refl, sym, ◌∙◌, ap, ap₂, ℕ, zero, suc, ◌+◌, ◌*◌, ◌/◌, ◌%◌, ◌^◌, ◌<◌, ◌≤◌, List, ◌∷◌, map, arith, pow-suc, pow-add}
 use Rattle.std.specs.Prelude.{bit_xor, ◌==◌, if◌then◌else◌}
 use Rattle.std.specs.List.{range_with_len}
 use Rattle.std.proofs.lemmas.Nat.{xor_comm, mod_below}
 use Rattle.std.proofs.Math.Pow.{pow-lt}
 use Rattle.std.proofs.Math.Nat.{mul-le-mul_right}
 use lib.Bits.{xor_shifted, xor_self}
-use Rattle.dwg_check.specs.Zeros.{applied}
+use Rattle.dwg_check.proofs.AppliedRows.{applied}
 
 -- two words xored become what each becomes, xored
 abbrev pub IsLinear : (ℕ → ℕ) → Type 0

@@ -1,16 +1,14 @@
 -- 32,767 zero bytes leave every word, so their count is taken modulo that and goes by its bits.
-use Rattle.std.proofs.Common.{◌≡◌, refl, sym, ◌∙◌, ap, ap₂, ℕ, zero, suc, ◌+◌, ◌-◌, ◌*◌, ◌/◌, ◌%◌, ◌^◌, ◌<◌, ◌≤◌, List, [], ◌∷◌, map, arith, length, get_or, drop, drop-cons, add-one, pow-add, pow-suc}
-use Rattle.std.specs.Prelude.{bit_xor, replicate, fold}
-use Rattle.std.specs.List.{range_with_len}
-use Rattle.std.proofs.lemmas.List.{drop_all}
-use Rattle.std.proofs.lemmas.Nat.{div-add-mod', mod_below}
+use Rattle.std.proofs.Common.{◌≡◌, refl, sym, ◌∙◌, ap, ℕ, zero, suc, ◌+◌, ◌-◌, ◌*◌, ◌/◌, ◌%◌, ◌^◌, ◌<◌, ◌≤◌, List, [], ◌∷◌, arith, length, get_or, drop, drop-cons, add-one, pow-add}
+use Rattle.std.specs.Prelude.{replicate, fold}
+use Rattle.std.proofs.lemmas.Nat.{div-add-mod'}
 use Rattle.std.proofs.Math.Pow.{pow-lt, pow_mono}
 use Rattle.std.proofs.Math.Nat.{mul-le-mul_right, lt_of_not-le}
-use Rattle.dwg_check.specs.CheckWord.{check_word}
-use Rattle.dwg_check.specs.CheckWordLaws.{CheckWordIsPeriodic, check_word_fits}
-use Rattle.dwg_check.specs.Zeros.{applied}
+use Rattle.dwg_check.specs.CheckWordLaws.{CheckWordIsPeriodic}
+use Rattle.dwg_check.proofs.CheckWordLaws.{check_word_fits}
+use Rattle.dwg_check.proofs.AppliedRows.{applied}
 use Rattle.dwg_check.specs.declared.zeros.TheConstants.{POWERS}
-use Rattle.dwg_check.proofs.Linear.{IsLinear, row_of, linear_applied, same_rows}
+use Rattle.dwg_check.proofs.Linear.{row_of, linear_applied, same_rows}
 use Rattle.dwg_check.proofs.Powers.{after, after_none, after_more, after_linear, power_applied}
 
 -- all rows applied in turn

@@ -1,19 +1,18 @@
 -- The rows of the powers of one zero byte.
-use Rattle.std.proofs.Common.{◌≡◌, refl, sym, ◌∙◌, ap, ap₂, subst, ℕ, zero, suc, ◌+◌, ◌-◌, ◌*◌, ◌/◌, ◌%◌, ◌^◌, ◌<◌, ◌≤◌, List, [], ◌∷◌, map, arith, length, get_or, drop, take, drop-cons, add-one, pow-add, pow-suc}
-use Rattle.std.specs.Prelude.{bit_xor, replicate, fold, ◌==◌, if◌then◌else◌}
+use Rattle.std.proofs.Common.{◌≡◌, refl, sym, ◌∙◌, ap, ap₂, ℕ, zero, suc, ◌+◌, ◌*◌, ◌/◌, ◌%◌, ◌^◌, ◌<◌, ◌≤◌, List, [], ◌∷◌, map, arith, length, get_or, drop, take, drop-cons, add-one, pow-suc}
+use Rattle.std.specs.Prelude.{bit_xor, replicate, ◌==◌, if◌then◌else◌}
 use Rattle.std.specs.List.{range_with_len}
 use Rattle.std.proofs.lemmas.List.{replicate-append-replicate, drop_all, get_or-map, get_or-take, length-take-le}
 use Rattle.std.proofs.lemmas.List.FromFn.{length-map-range_with_len}
 use lib.Bits.{xor_assoc, xor_zero_r}
 use Rattle.std.proofs.lemmas.Grind.{get_or_after_one}
 use Rattle.std.proofs.lemmas.Simd.{map-map}
-use Rattle.std.proofs.lemmas.Nat.{div-add-mod'}
-use Rattle.std.proofs.Math.Pow.{pow-lt, pow_mono}
+use Rattle.std.proofs.Math.Pow.{pow-lt}
 use Rattle.dwg_check.specs.CheckWord.{turn, check_word}
-use Rattle.dwg_check.specs.CheckWordLaws.{shift, shifts, shifts_xor, check_word_none, check_word_append, check_word_zeros, check_word_fits}
-use Rattle.dwg_check.specs.Zeros.{applied}
+use Rattle.dwg_check.proofs.CheckWordLaws.{shifts_xor, check_word_none, check_word_append, check_word_zeros, check_word_fits}
+use Rattle.dwg_check.proofs.AppliedRows.{applied}
 use Rattle.dwg_check.specs.declared.zeros.TheConstants.{POWERS}
-use Rattle.dwg_check.proofs.Linear.{IsLinear, row_of, linear_applied, same_rows}
+use Rattle.dwg_check.proofs.Linear.{IsLinear, row_of, linear_applied}
 
 -- what so many zero bytes make of a word
 abbrev pub after : ℕ → ℕ → ℕ

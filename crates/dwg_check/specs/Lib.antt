@@ -1,4 +1,6 @@
+-- The check word of sections, map pages and object frames, bit by bit.
 pub mod CheckWord
+-- What holds of every check word: its range, runs that are joined, and words that are xored.
 pub mod CheckWordLaws
-pub mod Zeros
+-- The check words of the fronts of a run of bytes, and of its spans (a rule of this project).
 pub mod Spans

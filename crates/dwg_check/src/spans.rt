@@ -13,7 +13,7 @@ use std::marker::Model;
 use std::sync::ledger::Ledger;
 
 /// The check word of each front of the bytes, begun as 0, from the empty one to all. The only refusal is want of memory.
-#[tactic(auto, using(crate::specs::Spans::one_prefix_more, crate::specs::Spans::one_byte_more))]
+#[tactic(auto, using(crate::proofs::PrefixWords::one_prefix_more, crate::proofs::PrefixWords::one_byte_more))]
 fn words_of(alloc: Global, bytes: &[u8]) -> Result<Vec<u16>, NoMemory>
     ensures { IfOk result (λ words. words.items ≡ prefix_words bytes.now) }
 {
@@ -63,7 +63,7 @@ impl<'a> SpanChecks<'a> {
 
     /// The check word, begun as `start`, of the bytes from the place `from` to before the place `to`. A step is one power of a zero byte
     /// that is applied to a word: there are at most 15, however long the span.
-    #[tactic(auto, using(crate::specs::Spans::words_length))]
+    #[tactic(auto, using(crate::proofs::PrefixWords::words_length))]
     pub fn of<L: Ledger>(&self, start: u16, from: usize, to: usize, steps: &mut Steps<L>) -> u16
         requires order { from ≤ to }
         requires within { to ≤ length self.now }

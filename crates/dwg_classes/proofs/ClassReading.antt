@@ -5,15 +5,15 @@ use Rattle.std.proofs.lemmas.Bool.Decides.{nat_tests}
 use Rattle.dwg_base.specs.Refusals.{IfRefused}
 use Rattle.dwg_base.specs.declared.refusal.Fault.{Fault}
 use Rattle.dwg_base.specs.declared.refusal.Fault.TheVariants.{Refused}
-use Rattle.dwg_codes.specs.CodeLaws.{reads_some, reads_none}
+use Rattle.dwg_grammar.proofs.CodeLemmas.{reads_some, reads_none}
 use Rattle.dwg_classes.specs.declared.class.Class.{Class}
 use Rattle.dwg_classes.specs.Class.{any_class, numbered_class, LEAST_NUMBER}
-use Rattle.dwg_classes.specs.ClassCode.{any_class_is_code}
+use Rattle.dwg_classes.proofs.ClassCode.{any_class_is_code}
 use Rattle.dwg_classes.specs.ClassLines.{spelling_refusal, number_refusal, ClassFails}
-use Rattle.dwg_codes.specs.Grammar.{Grammar, IsCode, AnyLetters, BeginsWith, Reads}
-use Rattle.dwg_codes.specs.Codes.{bs, tv}
-use Rattle.dwg_codes.specs.TableLaws.{bs_is_code, tv_is_code}
-use Rattle.dwg_codes.specs.TruthCode.{b, b_is_code}
+use Rattle.dwg_grammar.specs.Grammar.{Grammar, IsCode, AnyLetters, BeginsWith, Reads}
+use Rattle.dwg_grammar.specs.Codes.{bs, tv, b}
+use Rattle.dwg_grammar.proofs.TableLemmas.{bs_is_code, tv_is_code}
+use Rattle.dwg_grammar.proofs.TruthCode.{b_is_code}
 
 -- letters that begin with no value are parsed as none
 unparsed : {A V : Type 0} (code : Grammar A V) (letters : List A) (found : Option (V × List A)) → IsCode AnyLetters code → (BeginsWith code letters → ⊥) → code.parse letters ≡ found → found ≡ None

@@ -4,11 +4,10 @@ use Rattle.std.specs.Prelude.{false, replicate}
 use Rattle.std.proofs.lemmas.Bool.Decides.{nat_tests}
 use Rattle.std.proofs.lemmas.List.{append_assoc, append-nil, length-append, drop_more, drop_all}
 use Rattle.dwg_bits.specs.Sink.{Written, Extends, padding, missing_bits}
-use Rattle.dwg_bits.specs.SinkLaws.{extends_by_none, extends_by_both}
-use Rattle.dwg_codes.specs.Codes.{bs, tv}
-use Rattle.dwg_codes.specs.TruthCode.{b}
+use Rattle.dwg_bits.proofs.SinkLemmas.{extends_by_none, extends_by_both}
+use Rattle.dwg_grammar.specs.Codes.{bs, tv, b}
 use Rattle.dwg_classes.specs.declared.class.Class.{Class}
-use Rattle.dwg_codes.specs.ToEnd.{AreValues, short_all}
+use Rattle.dwg_grammar.specs.ToEnd.{AreValues, short_all}
 use Rattle.dwg_classes.specs.Class.{IsClass, any_class, numbered_class, LEAST_NUMBER}
 use Rattle.dwg_classes.specs.WrittenClasses.{IsWritable, AreWritable, padded}
 

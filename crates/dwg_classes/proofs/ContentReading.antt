@@ -7,16 +7,16 @@ use Rattle.dwg_base.specs.declared.refusal.Refusal.{Refusal}
 use Rattle.dwg_base.specs.declared.refusal.Fault.{Fault}
 use Rattle.dwg_base.specs.declared.refusal.Fault.TheVariants.{NoMemory, Refused}
 use Rattle.dwg_bits.specs.Bits.{bits}
-use Rattle.dwg_bits.specs.BitLaws.{bits_between_all}
+use Rattle.dwg_bits.proofs.BitLaws.{bits_between_all}
 use Rattle.dwg_bits.specs.Cursor.{bits_between}
-use Rattle.dwg_codes.specs.Grammar.{Reads}
-use Rattle.dwg_codes.specs.ToEnd.{SpellsAll}
-use Rattle.dwg_codes.specs.ToEndLaws.{all_to_end, spells_one_more}
+use Rattle.dwg_grammar.specs.Grammar.{Reads}
+use Rattle.dwg_grammar.specs.ToEnd.{SpellsAll}
+use Rattle.dwg_grammar.proofs.ToEndLemmas.{all_to_end, spells_one_more}
 use Rattle.dwg_classes.specs.declared.class.Class.{Class}
 use Rattle.dwg_classes.specs.Class.{numbered_class, LEAST_BITS, AreClasses}
-use Rattle.dwg_classes.specs.ClassCode.{class_least}
+use Rattle.dwg_classes.proofs.ClassCode.{class_least}
 use Rattle.dwg_classes.specs.ClassLines.{ClassFails, RefusesClass, tried_classes}
-use Rattle.dwg_classes.specs.ClassLineLaws.{tried_ok, tried_err}
+use Rattle.dwg_classes.proofs.ClassLineLemmas.{tried_ok, tried_err}
 
 -- the classes so far are spelled by so many bits of the content, and these are left
 pub record AreReadSoFar (content : List ℕ) (classes : List Class) (first : ℕ) (left : List Bool) : Type 0 where

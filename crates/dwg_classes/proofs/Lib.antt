@@ -1,3 +1,6 @@
+pub mod ClassCode
+pub mod ClassLineLemmas
+pub mod WrittenClasses
 pub mod ClassReading
 pub mod ContentReading
 pub mod ClassWriting

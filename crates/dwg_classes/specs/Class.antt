@@ -2,11 +2,10 @@
 use Rattle.std.specs.Prelude.{ℕ, ◌^◌, ◌<◌, ◌≤◌, Bool, List, length, nat_le}
 use Rattle.dwg_base.specs.Bytes.{AreBytes}
 use Rattle.dwg_bits.specs.Bits.{bits}
-use Rattle.dwg_codes.specs.Grammar.{Grammar}
-use Rattle.dwg_codes.specs.Combinators.{seq, image, restrict}
-use Rattle.dwg_codes.specs.Codes.{bs, tv}
-use Rattle.dwg_codes.specs.TruthCode.{b}
-use Rattle.dwg_codes.specs.ToEnd.{SpellsToEnd}
+use Rattle.dwg_grammar.specs.Grammar.{Grammar}
+use Rattle.dwg_grammar.specs.Combinators.{seq, image, restrict}
+use Rattle.dwg_grammar.specs.Codes.{bs, tv, b}
+use Rattle.dwg_grammar.specs.ToEnd.{SpellsToEnd}
 use Rattle.dwg_classes.specs.declared.class.Class.{Class}
 
 -- a text is one of a drawing

@@ -3,8 +3,8 @@ use Rattle.std.specs.Prelude.{◌≡◌, ◌⊎◌, ℕ, zero, suc, ◌+◌, ◌
 use Rattle.dwg_base.specs.Refusals.{Tried}
 use Rattle.dwg_base.specs.declared.refusal.Refusal.{Refusal}
 use Rattle.dwg_bits.specs.Bits.{bits}
-use Rattle.dwg_codes.specs.Grammar.{BeginsWith}
-use Rattle.dwg_codes.specs.ToEnd.{SpellsAll}
+use Rattle.dwg_grammar.specs.Grammar.{BeginsWith}
+use Rattle.dwg_grammar.specs.ToEnd.{SpellsAll}
 use Rattle.dwg_classes.specs.declared.class.Class.{Class}
 use Rattle.dwg_classes.specs.Class.{any_class, numbered_class, LEAST_BITS, LEAST_NUMBER}
 

@@ -1,8 +1,12 @@
+-- Classes: what one spells, and what the content of the classes section is cut into.
 pub mod Class
+-- The lines of the table of refusals on classes, tried class by class.
 pub mod ClassLines
-pub mod ClassCode
-pub mod ClassLineLaws
+-- Classes that are written: which lists of classes have spellings, and that what is written of them, padded, is cut into them.
 pub mod WrittenClasses
+-- The first class of a number in a list of classes.
 pub mod FirstClass
+-- What the classes of a drawing say of a type number: the first class with it decides.
 pub mod Hints
+-- A map from type numbers to what the first class of each says.
 pub mod Firsts

@@ -4,8 +4,8 @@ ghost use Rattle.std.specs.Prelude.{◌≡◌, ◌*◌, ◌≤◌, ◌↔◌, �
 ghost use Rattle.std.specs.List.{AllByRecursion};
 ghost use Rattle.dwg_base.specs.declared.refusal.Refusal.{Refusal};
 ghost use Rattle.dwg_bits.specs.Bits.{bits};
-ghost use Rattle.dwg_codes.specs.CodeLaws.{IsLawful};
-ghost use Rattle.dwg_codes.specs.ToEnd.{AreValues, HaveLeast, short_all};
+ghost use Rattle.dwg_grammar.specs.Grammar.{IsLawful};
+ghost use Rattle.dwg_grammar.specs.ToEnd.{AreValues, HaveLeast, short_all};
 ghost use Rattle.dwg_classes.specs.declared.class.Class.{Class};
 ghost use Rattle.dwg_classes.specs.Class.{any_class, numbered_class, AreClasses};
 ghost use Rattle.dwg_classes.specs.ClassLines.{RefusesClass, tried_classes};

@@ -3,8 +3,7 @@
 ghost use Rattle.std.specs.Prelude.{◌≡◌, IfOk};
 ghost use Rattle.std.specs.Option.{option_map};
 ghost use Rattle.dwg_bits.specs.Cursor.{rest};
-ghost use Rattle.dwg_codes.specs.Codes.{bs, tv};
-ghost use Rattle.dwg_codes.specs.TruthCode.{b};
+ghost use Rattle.dwg_grammar.specs.Codes.{bs, tv, b};
 
 use dwg_base::{ByteRun, NoMemory};
 use dwg_bits::BitCursor;

@@ -4,8 +4,8 @@ ghost use Rattle.std.specs.Prelude.{◌≡◌, ◌+◌, ◌*◌, ◌/◌, ◌^�
 ghost use Rattle.std.specs.Option.{option_map};
 ghost use Rattle.dwg_base.specs.Refusals.{Answers, IfRefused, IsFaultOfTable};
 ghost use Rattle.dwg_bits.specs.Cursor.{rest};
-ghost use Rattle.dwg_codes.specs.Grammar.{Reads};
-ghost use Rattle.dwg_codes.specs.ToEnd.{short_all};
+ghost use Rattle.dwg_grammar.specs.Grammar.{Reads};
+ghost use Rattle.dwg_grammar.specs.ToEnd.{short_all};
 ghost use Rattle.dwg_classes.specs.Class.{any_class, numbered_class, AreClasses};
 ghost use Rattle.dwg_classes.specs.ClassLines.{ClassFails, RefusesClass, tried_classes};
 ghost use Rattle.dwg_classes.specs.WrittenClasses.{AreWritable};

@@ -2,8 +2,8 @@
 
 ghost use Rattle.std.specs.Prelude.{◌≡◌, ◌+◌, ◌*◌, ◌%◌, ◌^◌, ◌<◌, ◌≤◌, length};
 ghost use Rattle.dwg_bits.specs.Sink.{Extends};
-ghost use Rattle.dwg_codes.specs.Codes.{tv};
-ghost use Rattle.dwg_codes.specs.ToEnd.{AreValues, short_all};
+ghost use Rattle.dwg_grammar.specs.Codes.{tv};
+ghost use Rattle.dwg_grammar.specs.ToEnd.{AreValues, short_all};
 ghost use Rattle.dwg_classes.specs.Class.{IsClassText, IsClass, any_class, numbered_class};
 ghost use Rattle.dwg_classes.specs.WrittenClasses.{IsWritable, AreWritable, padded};
 
@@ -13,7 +13,7 @@ use dwg_bits::BitSink;
 use dwg_codes::{BitCode, CodeB, CodeBS, text_length, write_text};
 
 /// How many bits a text of a class is written by.
-#[tactic(auto, using(dwg_base::specs::Bytes::are_bytes))]
+#[tactic(auto, using(dwg_base::proofs::ByteLists::are_bytes))]
 fn text_bits(text: &[u8]) -> u64
     requires { length text.now ≤ 65535 }
     ensures length { result ≡ length (tv.short text.now) }

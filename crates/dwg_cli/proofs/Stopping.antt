@@ -1,10 +1,9 @@
 -- What a run that stopped left on output and notes.
-use Rattle.std.proofs.Common.{◌≡◌, subst, sym, ℕ, List, inl, inr}
-use Rattle.std.specs.Prelude.{Option}
+use Rattle.std.proofs.Common.{◌≡◌, subst, sym, inl, inr}
 use Rattle.dwg_answers.specs.declared.status.Status.{Status}
 use Rattle.dwg_answers.specs.declared.status.Status.TheVariants.{Done, Found, Usage, Refused, ReadFault, WriteFault, NoMemory, TooLong, TooLarge}
 use Rattle.dwg_answers.specs.declared.answer.Answer.{Answer}
-use Rattle.dwg_answers.specs.Run.{IsSettled, IsStopped, IsCut, Sent}
+use Rattle.dwg_answers.specs.Run.{IsSettled, IsStopped, IsCut, Sent, Sinks}
 
 -- a status that is settled isn't one at which the run stopped
 settled_goes_on : (status : Status) → IsSettled status → IsStopped status → ⊥
@@ -19,11 +18,10 @@ settled_goes_on TooLong settled stopped = stopped
 settled_goes_on (TooLarge size) settled stopped = stopped
 
 -- a run that stopped as it sent its answer left a front of what was told
-pub stopped_is_cut : (answer told : Answer) (status : Status) (output output' notes notes' : Option (List ℕ)) (faults faults' note_faults note_faults' : ℕ)
-    → answer ≡ told → IsSettled answer.status → Sent answer status output output' notes notes' faults faults' note_faults note_faults' → IsStopped status
-    → IsCut told output output' notes notes'
-stopped_is_cut answer told status output output' notes notes' faults faults' note_faults note_faults' is settled sent stopped =
-    elim sent [
+pub stopped_is_cut : (answer told : Answer) (status : Status) (before behind : Sinks) → answer ≡ told → IsSettled answer.status → Sent answer status before behind → IsStopped status
+    → IsCut told before.output behind.output before.notes behind.notes
+stopped_is_cut answer told status before behind is settled sent stopped =
+    elim sent.1 [
       | inl whole ↦ absurd (settled_goes_on status (subst IsSettled (sym whole.0) settled) stopped)
-      | inr broken ↦ subst (λ (one : Answer). IsCut one output output' notes notes') is broken.1
+      | inr broken ↦ subst (λ (one : Answer). IsCut one before.output behind.output before.notes behind.notes) is broken.1
     ]

@@ -1,9 +1,9 @@
 //! The audit over devices in memory: the made drawing, and what is found where its references are changed.
 
 use crate::test_inputs::input_of;
-use crate::test_runs::{Answers, PLENTY, Wanted, first_failing_paragraph, in_pieces, leaves};
+use crate::test_runs::{Answers, PLENTY, Wanted, every_line, every_paragraph, in_pieces, leaves};
 use dwg_answers::Status;
-use dwg_samples::{Case, first_failing};
+use dwg_samples::Case;
 use std::alloc::Global;
 use std::test::Fail;
 
@@ -383,87 +383,58 @@ audit no 22";
 #[test]
 fn finds_nothing_in_made_drawings(rt: HostRuntime) -> Result<(), Fail> {
     // The second has all kinds of further entities, and those of the third go on from handle to handle.
-    assert_eq!(rt;
-        first_failing::<Answers>(
-            rt.alloc(),
-            "\
+    every_line::<Answers>(
+        rt.alloc(),
+        "\
 dwg audit | made/1/7 | Done | audit yes | -
 dwg audit | made/6/47 | Done | audit yes | -
 dwg audit | made/40/0 | Done | audit yes | -
-dwg audit | more | Done | audit yes | -"
-        ),
-        None
-    );
-    Ok(())
+dwg audit | more | Done | audit yes | -",
+    )
 }
 
 #[test]
 fn finds_what_the_specification_tells(rt: HostRuntime) -> Result<(), Fail> {
-    assert_eq!(rt;
-        first_failing::<Answers>(
-            rt.alloc(),
-            "\
+    every_line::<Answers>(
+        rt.alloc(),
+        "\
 dwg audit | smallest | Found | finding 0 control - 0 0; audit no 1 | -
 dwg audit | dictionaries | Found | finding 50 path - 0 51; finding 51 path - 0 50; audit no 2 | -
-dwg audit | made/2/7 1345=8988D280A2B7 | Found | finding 18 chain - 0 31; audit no 1 | -"
-        ),
-        None
-    );
-    Ok(())
+dwg audit | made/2/7 1345=8988D280A2B7 | Found | finding 18 chain - 0 31; audit no 1 | -",
+    )
 }
 
 #[test]
 fn refuses_to_audit_what_is_no_drawing(rt: HostRuntime) -> Result<(), Fail> {
-    assert_eq!(rt;
-        first_failing::<Answers>(
-            rt.alloc(),
-            "\
+    every_line::<Answers>(
+        rt.alloc(),
+        "\
 dwg audit | nothing | Refused 1 0 0 | - | dwg: refused: header 0 at 0: short
-dwg audit | smallest #183 | Refused 21 0 183 | - | dwg: refused: map 0 at 183: short"
-        ),
-        None
-    );
-    Ok(())
+dwg audit | smallest #183 | Refused 21 0 183 | - | dwg: refused: map 0 at 183: short",
+    )
 }
 
 #[test]
 fn resolves_the_owners_of_all_kinds(rt: HostRuntime) -> Result<(), Fail> {
-    assert_eq!(rt;
-        first_failing_paragraph::<Audited>(rt.alloc(), ALL_KINDS),
-        None
-    );
-    Ok(())
+    every_paragraph::<Audited>(rt.alloc(), ALL_KINDS)
 }
 
 #[test]
 fn counts_claims(rt: HostRuntime) -> Result<(), Fail> {
-    assert_eq!(rt;
-        first_failing_paragraph::<Audited>(rt.alloc(), CLAIMS),
-        None
-    );
-    Ok(())
+    every_paragraph::<Audited>(rt.alloc(), CLAIMS)
 }
 
 #[test]
 fn follows_chains(rt: HostRuntime) -> Result<(), Fail> {
-    assert_eq!(rt;
-        first_failing_paragraph::<Audited>(rt.alloc(), CHAINS),
-        None
-    );
-    Ok(())
+    every_paragraph::<Audited>(rt.alloc(), CHAINS)
 }
 
 #[test]
 fn follows_paths(rt: HostRuntime) -> Result<(), Fail> {
-    assert_eq!(rt; first_failing_paragraph::<Audited>(rt.alloc(), PATHS), None);
-    Ok(())
+    every_paragraph::<Audited>(rt.alloc(), PATHS)
 }
 
 #[test]
 fn knows_one_control_of_blocks(rt: HostRuntime) -> Result<(), Fail> {
-    assert_eq!(rt;
-        first_failing_paragraph::<Audited>(rt.alloc(), CONTROLS),
-        None
-    );
-    Ok(())
+    every_paragraph::<Audited>(rt.alloc(), CONTROLS)
 }

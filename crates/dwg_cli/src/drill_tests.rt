@@ -1,9 +1,9 @@
 //! The drill over devices in memory.
 
 use crate::test_inputs::input_of;
-use crate::test_runs::Answers;
+use crate::test_runs::{Answers, every_line};
 use crate::tests::Used;
-use dwg_samples::{Case, bytes_of, first_failing};
+use dwg_samples::{Case, bytes_of};
 use std::alloc::Global;
 use std::test::Fail;
 
@@ -52,63 +52,46 @@ fn check_word(bytes: &[u8]) -> u16 {
 #[test]
 fn drills(rt: HostRuntime) -> Result<(), Fail> {
     let alloc = rt.alloc();
-    assert_eq!(rt;
-        first_failing::<Answers>(
-            alloc,
-            "\
+    every_line::<Answers>(
+        alloc,
+        "\
 dwg drill 1 | nothing | Done | drill 1; objects 30; bytes 1923; check 8976; changed 961 objects 12 at 713: check; findings 0 | -
 dwg drill 17 | nothing | Done | drill 17; objects 46; bytes 2810; check B040; changed 1405 objects 18 at 1404: length; findings 0 | -
-dwg drill 2000 | nothing | Done | drill 2000; objects 2029; bytes 110844; check B3DD; changed 55422 objects 1068 at 55402: check; findings 0 | -"
-        ),
-        None
-    );
+dwg drill 2000 | nothing | Done | drill 2000; objects 2029; bytes 110844; check B3DD; changed 55422 objects 1068 at 55402: check; findings 0 | -",
+    )?;
     // The file that was drilled is the one that is made of the same size and seed 1.
-    assert_eq!(rt;
-        first_failing::<Measured>(
-            alloc,
-            "\
+    every_line::<Measured>(
+        alloc,
+        "\
 made/1/1 | 1923 | 8976
 made/17/1 | 2810 | B040
-made/2000/1 | 110844 | B3DD"
-        ),
-        None
-    );
+made/2000/1 | 110844 | B3DD",
+    )?;
     // The changed byte is the middle one. In the second file it is the high one of a frame's length.
-    assert_eq!(rt;
-        first_failing::<Answers>(
-            alloc,
-            "\
+    every_line::<Answers>(
+        alloc,
+        "\
 dwg rewrite | made/1/1 ~961 | Refused 30 12 713 | - | dwg: refused: objects 12 at 713: check
 dwg rewrite | made/17/1 ~1405 | Refused 28 18 1404 | - | dwg: refused: objects 18 at 1404: length
-dwg rewrite | made/2000/1 ~55422 | Refused 30 1068 55402 | - | dwg: refused: objects 1068 at 55402: check"
-        ),
-        None
-    );
-    Ok(())
+dwg rewrite | made/2000/1 ~55422 | Refused 30 1068 55402 | - | dwg: refused: objects 1068 at 55402: check",
+    )
 }
 
 #[test]
 fn tells_how_a_drill_is_asked_for(rt: HostRuntime) -> Result<(), Fail> {
     let alloc = rt.alloc();
-    assert_eq!(rt;
-        first_failing::<Used>(
-            alloc,
-            "\
+    every_line::<Used>(
+        alloc,
+        "\
 dwg drill
 dwg drill x
 dwg drill 01
-dwg drill 1 2"
-        ),
-        None
-    );
-    assert_eq!(rt;
-        first_failing::<Answers>(
-            alloc,
-            "\
+dwg drill 1 2",
+    )?;
+    every_line::<Answers>(
+        alloc,
+        "\
 dwg drill 0 | smallest | Usage | - | dwg: size must be 1 to 200000
-dwg drill 200001 | smallest | Usage | - | dwg: size must be 1 to 200000"
-        ),
-        None
-    );
-    Ok(())
+dwg drill 200001 | smallest | Usage | - | dwg: size must be 1 to 200000",
+    )
 }

@@ -2,10 +2,10 @@
 
 use crate::test_inputs::input_of;
 use crate::test_runs::{
-    Answers, PLENTY, Wanted, answers_text, in_pieces, leaves_in_pieces, lines_of, ran,
+    Answers, PLENTY, Wanted, answers_text, every_line, in_pieces, leaves_in_pieces, lines_of, ran,
 };
 use dwg_answers::Status;
-use dwg_samples::{Case, first_failing};
+use dwg_samples::Case;
 use std::alloc::Global;
 use std::test::Fail;
 
@@ -58,14 +58,15 @@ place of a pair behind the end | one_object 200=06 202=C0843D7D39000201 +D0 | on
 pair in the page behind a lost page | one_object 204=0000 207=050CB7 +012E77000201D0 | one_object | dwg: refused: map 0 at 204: check; lost: map page 0 at 199; kept 1
 two frames of a handle that no pair leads to | one_object 44=D8 52=94DD 199=0D004A92800000 207=432A80 +10404C003CDF00050CB7010000000201D0 | one_object | dwg: refused: map 0 at 221: check; lost: map page 0 at 216; found: object C at 183; kept 1";
 
-/// Damages of its frame that leave none.
+/// Damages that leave no object.
 const OBJECT_LOST: &str = "\
 check word of a frame | one_object 198=48 | smallest | dwg: refused: objects 0 at 183: check; lost: object C at 183; kept 0
 type of an object | one_object 185=4B | smallest | dwg: refused: objects 0 at 183: check; lost: object C at 183; kept 0
 bits of a body | one_object 196=01 | smallest | dwg: refused: objects 0 at 183: check; lost: object C at 183; kept 0
 length of a frame | one_object 183=0B | smallest | dwg: refused: objects 0 at 183: check; lost: object C at 183; kept 0
 no length of a frame | one_object 183=00 | smallest | dwg: refused: objects 0 at 183: check; lost: object C at 183; kept 0
-longest length of a frame | one_object 183=FF7F | smallest | dwg: refused: objects 0 at 183: length; lost: object C at 183; kept 0";
+longest length of a frame | one_object 183=FF7F | smallest | dwg: refused: objects 0 at 183: length; lost: object C at 183; kept 0
+check word of the map of no objects | smallest 186=D1 | smallest | dwg: refused: map 0 at 185: check; lost: map page 0 at 183; kept 0";
 
 /// Damages of the map in pages; all three objects are kept.
 const OF_THE_MAP: &str = "\
@@ -204,65 +205,50 @@ fn first_failing_cut(alloc: Global, made: &[u8]) -> Option<usize> {
 
 #[test]
 fn recovers_a_drawing_as_it_stands(rt: HostRuntime) -> Result<(), Fail> {
-    assert_eq!(rt;
-        first_failing::<Answers>(
-            rt.alloc(),
-            "\
+    every_line::<Answers>(
+        rt.alloc(),
+        "\
 dwg recover | smallest | Done | file smallest | -
 dwg recover | one_class | Done | file one_class | -
-dwg recover | one_object | Done | file one_object | -"
-        ),
-        None
-    );
-    Ok(())
+dwg recover | one_object | Done | file one_object | -",
+    )
 }
 
 #[test]
 fn recovers_the_smallest_file_of_nothing(rt: HostRuntime) -> Result<(), Fail> {
-    assert_eq!(rt;
-        first_failing::<Recovered>(
-            rt.alloc(),
-            "\
+    every_line::<Recovered>(
+        rt.alloc(),
+        "\
 all | nothing | smallest | \
-dwg: refused: header 0 at 0: short; lost: file header; lost: header variables; lost: classes; kept 0"
-        ),
-        None
-    );
-    Ok(())
+dwg: refused: header 0 at 0: short; lost: file header; lost: header variables; lost: classes; kept 0",
+    )
 }
 
 #[test]
 fn keeps_the_object(rt: HostRuntime) -> Result<(), Fail> {
-    assert_eq!(rt; first_failing::<Recovered>(rt.alloc(), OBJECT_KEPT), None);
-    Ok(())
+    every_line::<Recovered>(rt.alloc(), OBJECT_KEPT)
 }
 
 #[test]
 fn loses_the_object(rt: HostRuntime) -> Result<(), Fail> {
-    assert_eq!(rt; first_failing::<Recovered>(rt.alloc(), OBJECT_LOST), None);
-    Ok(())
+    every_line::<Recovered>(rt.alloc(), OBJECT_LOST)
 }
 
 #[test]
 fn walks_the_map_past_its_damages(rt: HostRuntime) -> Result<(), Fail> {
-    assert_eq!(rt; first_failing::<Recovered>(rt.alloc(), OF_THE_MAP), None);
-    Ok(())
+    every_line::<Recovered>(rt.alloc(), OF_THE_MAP)
 }
 
 #[test]
 fn keeps_one_of_two_frames_that_share_bytes(rt: HostRuntime) -> Result<(), Fail> {
-    assert_eq!(rt;
-        first_failing::<Recovered>(
-            rt.alloc(),
-            "\
+    every_line::<Recovered>(
+        rt.alloc(),
+        "\
 nothing else | overlap | outer | dwg: refused: objects 1 at 194: overlap; lost: object C at 194; kept 1
 map | overlap 222=91 | outer | dwg: refused: map 0 at 222: check; lost: map page 0 at 215; found: object A at 183; kept 1
 outer frame | overlap 213=87 | one_object | dwg: refused: objects 0 at 183: check; lost: object A at 183; kept 1
-outer frame and map | overlap 213=87 222=91 | one_object | dwg: refused: map 0 at 222: check; lost: map page 0 at 215; found: object C at 194; kept 1"
-        ),
-        None
-    );
-    Ok(())
+outer frame and map | overlap 213=87 222=91 | one_object | dwg: refused: map 0 at 222: check; lost: map page 0 at 215; found: object C at 194; kept 1",
+    )
 }
 
 #[test]
@@ -270,13 +256,9 @@ fn finds_the_frames_in_front_of_a_cut(rt: HostRuntime) -> Result<(), Fail> {
     let alloc = rt.alloc();
     let made = input_of(alloc, "made/1/7").ok_or("no drawing")?;
     assert_eq!(rt; first_failing_cut(alloc, &made), None);
-    assert_eq!(rt;
-        first_failing::<Recovered>(
-            alloc,
-            "\
-end of the map | made/1/7 #1920 | made/1/7 | dwg: refused: map 1 at 1919: short; lost: map end at 1919; kept 30"
-        ),
-        None
-    );
-    Ok(())
+    every_line::<Recovered>(
+        alloc,
+        "\
+end of the map | made/1/7 #1920 | made/1/7 | dwg: refused: map 1 at 1919: short; lost: map end at 1919; kept 30",
+    )
 }

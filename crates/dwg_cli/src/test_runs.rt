@@ -4,8 +4,9 @@ use crate::run::run;
 use crate::test_inputs::input_of;
 use dwg_answers::Status;
 use dwg_base::{ByteRun, Items, MemSink, MemSource, Refusal};
-use dwg_samples::Case;
+use dwg_samples::{Case, first_failing};
 use std::alloc::Global;
+use std::test::Fail;
 
 /// How much a call of a device gives or takes at the most, and how much a sink holds, where nothing holds it back.
 pub(crate) const PLENTY: usize = 1_000_000;
@@ -252,11 +253,29 @@ fn is_answered(alloc: Global, line: &str) -> Option<bool> {
 }
 
 /// The first paragraph of a table that doesn't tell the truth; an empty line stands between two.
-pub(crate) fn first_failing_paragraph<C: Case>(alloc: Global, table: &str) -> Option<&str> {
+fn first_failing_paragraph<C: Case>(alloc: Global, table: &str) -> Option<&str> {
     for paragraph in table.split("\n\n") {
         if !C::holds(alloc, paragraph) {
             return Some(paragraph);
         }
     }
     None
+}
+
+/// Fails by the first case of some that doesn't tell the truth.
+fn passes_unless(failing: Option<&str>) -> Result<(), Fail> {
+    match failing {
+        None => Ok(()),
+        Some(case) => Err(Fail::new(case)),
+    }
+}
+
+/// Fails by the first line of a table that doesn't tell the truth.
+pub(crate) fn every_line<C: Case>(alloc: Global, table: &str) -> Result<(), Fail> {
+    passes_unless(first_failing::<C>(alloc, table))
+}
+
+/// Fails by the first paragraph of a table that doesn't tell the truth.
+pub(crate) fn every_paragraph<C: Case>(alloc: Global, table: &str) -> Result<(), Fail> {
+    passes_unless(first_failing_paragraph::<C>(alloc, table))
 }

@@ -2,12 +2,12 @@
 
 use crate::test_inputs::input_of;
 use crate::test_runs::{
-    Answers, Devices, PLENTY, Wanted, answers_text, first_failing_paragraph, leaves,
+    Answers, Devices, PLENTY, Wanted, answers_text, every_line, every_paragraph, leaves,
     leaves_in_pieces, status_of, wanted_of, written,
 };
 use dwg_answers::Status;
 use dwg_base::{ByteRun, LIMIT};
-use dwg_samples::{Case, bytes_of, first_failing};
+use dwg_samples::{Case, bytes_of};
 use std::alloc::Global;
 use std::test::Fail;
 
@@ -245,94 +245,72 @@ fn text_of_made(alloc: Global) -> Option<ByteRun> {
 
 #[test]
 fn inputs_are_spelled_as_told(rt: HostRuntime) -> Result<(), Fail> {
-    assert_eq!(rt; first_failing::<Spelled>(rt.alloc(), SPELLED), None);
-    Ok(())
+    every_line::<Spelled>(rt.alloc(), SPELLED)
 }
 
 #[test]
 fn prints_the_sections(rt: HostRuntime) -> Result<(), Fail> {
-    assert_eq!(rt;
-        first_failing::<Answers>(
-            rt.alloc(),
-            "\
+    every_line::<Answers>(
+        rt.alloc(),
+        "\
 dwg sections | smallest | Done | \
-version AC1015; codepage 0; preview 146; section 0 at 70 size 38; section 1 at 108 size 38; section 2 at 183 size 4 | -"
-        ),
-        None
-    );
-    Ok(())
+version AC1015; codepage 0; preview 146; section 0 at 70 size 38; section 1 at 108 size 38; section 2 at 183 size 4 | -",
+    )
 }
 
 #[test]
 fn names_the_first_fault_of_the_header(rt: HostRuntime) -> Result<(), Fail> {
-    assert_eq!(rt;
-        first_failing::<OfEachCommand>(
-            rt.alloc(),
-            "\
+    every_line::<OfEachCommand>(
+        rt.alloc(),
+        "\
 smallest 5=38 | Refused 2 0 0 | - | dwg: refused: header 0 at 0: version
 smallest 26=47 | Refused 5 0 52 | - | dwg: refused: header 0 at 52: check
 smallest 34=00 52=805D | Refused 7 1 34 | - | dwg: refused: header 1 at 34: repeated
 smallest 43=09 52=A291 | Refused 8 2 21 | - | dwg: refused: header 2 at 21: missing
 nothing | Refused 1 0 0 | - | dwg: refused: header 0 at 0: short
-smallest #69 | Refused 4 0 69 | - | dwg: refused: header 0 at 69: short"
-        ),
-        None
-    );
-    Ok(())
+smallest #69 | Refused 4 0 69 | - | dwg: refused: header 0 at 69: short",
+    )
 }
 
 #[test]
 fn prints_the_classes(rt: HostRuntime) -> Result<(), Fail> {
     // The map of the third is out of reach.
-    assert_eq!(rt;
-        first_failing::<Answers>(
-            rt.alloc(),
-            "\
+    every_line::<Answers>(
+        rt.alloc(),
+        "\
 dwg classes | smallest | Done | classes 0 | -
 dwg classes | one_class | Done | classes 1; class 500 version 0 proxy 0 item 498 app \"A\" cpp \"B\" dxf \"C\" | -
 dwg classes | smallest #146 | Done | classes 0 | -
-dwg classes | smallest #140 | Refused 16 0 124 | - | dwg: refused: classes 0 at 124: length"
-        ),
-        None
-    );
-    Ok(())
+dwg classes | smallest #140 | Refused 16 0 124 | - | dwg: refused: classes 0 at 124: length",
+    )
 }
 
 #[test]
 fn rewrites_drawings(rt: HostRuntime) -> Result<(), Fail> {
     // What stands behind the last part is in no drawing.
-    assert_eq!(rt;
-        first_failing::<Answers>(
-            rt.alloc(),
-            "\
+    every_line::<Answers>(
+        rt.alloc(),
+        "\
 dwg rewrite | smallest | Done | file smallest | -
 dwg rewrite | one_object | Done | file one_object | -
 dwg rewrite | sections | Done | file sections | -
-dwg rewrite | one_object +414243 | Done | file one_object | -"
-        ),
-        None
-    );
-    Ok(())
+dwg rewrite | one_object +414243 | Done | file one_object | -",
+    )
 }
 
 #[test]
 fn shows_drawings(rt: HostRuntime) -> Result<(), Fail> {
-    assert_eq!(rt; first_failing_paragraph::<Shown>(rt.alloc(), SHOWN), None);
-    Ok(())
+    every_paragraph::<Shown>(rt.alloc(), SHOWN)
 }
 
 #[test]
 fn makes_and_rewrites(rt: HostRuntime) -> Result<(), Fail> {
-    assert_eq!(rt;
-        first_failing::<Answers>(
-            rt.alloc(),
-            "\
+    every_line::<Answers>(
+        rt.alloc(),
+        "\
 dwg make 1 7 | nothing | Done | file made/1/7 | -
-dwg rewrite | made/1/7 | Done | file made/1/7 | -"
-        ),
-        None
-    );
-    Ok(())
+dwg rewrite | made/1/7 | Done | file made/1/7 | -",
+    )
 }
 
 #[test]
@@ -355,57 +333,44 @@ fn makes_the_largest_drawing(rt: HostRuntime) -> Result<(), Fail> {
 
 #[test]
 fn makes_no_other_sizes(rt: HostRuntime) -> Result<(), Fail> {
-    assert_eq!(rt;
-        first_failing::<Answers>(
-            rt.alloc(),
-            "\
+    every_line::<Answers>(
+        rt.alloc(),
+        "\
 dwg make 0 1 | smallest | Usage | - | dwg: size must be 1 to 200000
 dwg make 200001 1 | smallest | Usage | - | dwg: size must be 1 to 200000
-dwg make 4294967295 1 | smallest | Usage | - | dwg: size must be 1 to 200000"
-        ),
-        None
-    );
-    Ok(())
+dwg make 4294967295 1 | smallest | Usage | - | dwg: size must be 1 to 200000",
+    )
 }
 
 #[test]
 fn names_the_first_fault_of_a_drawing(rt: HostRuntime) -> Result<(), Fail> {
-    assert_eq!(rt;
-        first_failing::<Answers>(
-            rt.alloc(),
-            "\
+    every_line::<Answers>(
+        rt.alloc(),
+        "\
 dwg rewrite | smallest #140 | Refused 16 0 124 | - | dwg: refused: classes 0 at 124: length
 dwg rewrite | null | Refused 25 0 201 | - | dwg: refused: map 0 at 201: null
 dwg rewrite | twice | Refused 26 0 204 | - | dwg: refused: map 0 at 204: duplicate
 dwg rewrite | one_object 204=2F | Refused 23 0 204 | - | dwg: refused: map 0 at 204: check
 dwg rewrite | one_object 196=01 | Refused 30 0 183 | - | dwg: refused: objects 0 at 183: check
 dwg rewrite | overlap | Refused 29 1 194 | - | dwg: refused: objects 1 at 194: overlap
-dwg rewrite | sections #198 | Refused 33 3 196 | - | dwg: refused: sections 3 at 196: short"
-        ),
-        None
-    );
-    Ok(())
+dwg rewrite | sections #198 | Refused 33 3 196 | - | dwg: refused: sections 3 at 196: short",
+    )
 }
 
 #[test]
 fn refuses_a_drawing_that_is_too_large(rt: HostRuntime) -> Result<(), Fail> {
-    assert_eq!(rt;
-        first_failing::<OverDevices>(
-            rt.alloc(),
-            "\
-dwg rewrite | 1000000 0 1000000 0 | two_sections | TooLarge 34000205 | - | dwg: drawing too large: 34000205 bytes"
-        ),
-        None
-    );
-    Ok(())
+    every_line::<OverDevices>(
+        rt.alloc(),
+        "\
+dwg rewrite | 1000000 0 1000000 0 | two_sections | TooLarge 34000205 | - | dwg: drawing too large: 34000205 bytes",
+    )
 }
 
 #[test]
 fn tells_how_it_is_used(rt: HostRuntime) -> Result<(), Fail> {
-    assert_eq!(rt;
-        first_failing::<Used>(
-            rt.alloc(),
-            "\
+    every_line::<Used>(
+        rt.alloc(),
+        "\
 dwg audit extra
 dwg sections extra
 dwg classes classes
@@ -417,19 +382,15 @@ dwg make 1 ''
 dwg make 1 4294967296
 dwg make 1 1 1
 dwg --help
-dwg"
-        ),
-        None
-    );
-    Ok(())
+dwg",
+    )
 }
 
 #[test]
 fn ends_with_the_status_of_the_table(rt: HostRuntime) -> Result<(), Fail> {
-    assert_eq!(rt;
-        first_failing::<Codes>(
-            rt.alloc(),
-            "\
+    every_line::<Codes>(
+        rt.alloc(),
+        "\
 Done | 0
 Found | 1
 Usage | 2
@@ -438,52 +399,37 @@ ReadFault | 4
 WriteFault | 5
 NoMemory | 6
 TooLong | 7
-TooLarge 34000205 | 8"
-        ),
-        None
-    );
-    Ok(())
+TooLarge 34000205 | 8",
+    )
 }
 
 #[test]
 fn tells_a_failing_input(rt: HostRuntime) -> Result<(), Fail> {
-    assert_eq!(rt;
-        first_failing::<OverDevices>(
-            rt.alloc(),
-            "\
-dwg sections | 100 2 1000000 0 | smallest | ReadFault | - | dwg: read fault"
-        ),
-        None
-    );
-    Ok(())
+    every_line::<OverDevices>(
+        rt.alloc(),
+        "\
+dwg sections | 100 2 1000000 0 | smallest | ReadFault | - | dwg: read fault",
+    )
 }
 
 #[test]
 fn stops_at_a_failing_output(rt: HostRuntime) -> Result<(), Fail> {
-    assert_eq!(rt;
-        first_failing::<OverDevices>(
-            rt.alloc(),
-            "\
+    every_line::<OverDevices>(
+        rt.alloc(),
+        "\
 dwg sections | 1000000 0 10 3 | smallest | WriteFault | version AC1015; codep.. | -
 dwg show | 1000000 0 10 3 | smallest | WriteFault | drawing AC1015 codep.. | -
-dwg rewrite | 1000000 0 10 3 | smallest | WriteFault | file smallest #20 | -"
-        ),
-        None
-    );
-    Ok(())
+dwg rewrite | 1000000 0 10 3 | smallest | WriteFault | file smallest #20 | -",
+    )
 }
 
 #[test]
 fn refuses_more_than_the_limit(rt: HostRuntime) -> Result<(), Fail> {
     // The limit is 2^25 bytes.
-    assert_eq!(rt;
-        first_failing::<OverDevices>(
-            rt.alloc(),
-            "\
+    every_line::<OverDevices>(
+        rt.alloc(),
+        "\
 dwg sections | 1000000 0 1000000 0 | nothing #33554433 | TooLong | - | dwg: input too long
-dwg sections | 1000000 0 1000000 0 | nothing #33554432 | Refused 2 0 0 | - | dwg: refused: header 0 at 0: version"
-        ),
-        None
-    );
-    Ok(())
+dwg sections | 1000000 0 1000000 0 | nothing #33554432 | Refused 2 0 0 | - | dwg: refused: header 0 at 0: version",
+    )
 }

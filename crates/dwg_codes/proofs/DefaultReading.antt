@@ -1,10 +1,10 @@
 -- Reading and writing six bytes of a word against a default.
 use Rattle.std.proofs.Common.{◌≡◌, refl, ℕ, ◌+◌, ◌*◌, ◌/◌, ◌^◌, Bool, List, ◌++◌, length, Option, Some, None, arith}
 use Rattle.std.proofs.lemmas.List.{length-append}
-use Rattle.dwg_codes.specs.Grammar.{Grammar, BeginsWith, Reads}
-use Rattle.dwg_codes.specs.Combinators.{seq}
-use Rattle.dwg_codes.specs.Codes.{rc, rl, dd_by}
-use Rattle.dwg_codes.specs.NumberLaws.{rc_is_code, length_of_rc, length_of_rl}
+use Rattle.dwg_grammar.specs.Grammar.{Grammar, BeginsWith, Reads}
+use Rattle.dwg_grammar.specs.Combinators.{seq}
+use Rattle.dwg_grammar.specs.Codes.{rc, rl, dd_by}
+use Rattle.dwg_grammar.proofs.NumberLemmas.{rc_is_code, length_of_rc, length_of_rl}
 use Rattle.dwg_codes.proofs.SeqReading.{unread_through, seq_read, first_unread, second_unread}
 
 -- the sixth byte and then the four low ones

@@ -3,10 +3,10 @@ use Rattle.std.proofs.Common.{◌≡◌, sym, ◌∙◌, ap, ap₂, ℕ, ◌^◌
 use Rattle.std.proofs.lemmas.List.{length-append}
 use Rattle.std.specs.Prelude.{IfSome, IfNone}
 use Rattle.dwg_bits.specs.Bits.{low_bits}
-use Rattle.dwg_bits.specs.BitLaws.{length_of_low_bits, num_of_low_bits}
+use Rattle.dwg_bits.proofs.BitLaws.{length_of_low_bits, num_of_low_bits}
 use Rattle.dwg_bits.specs.Cursor.{bits_between}
-use Rattle.dwg_codes.specs.Grammar.{Grammar, BeginsWith, Reads}
-use Rattle.dwg_codes.specs.Combinators.{fixed}
+use Rattle.dwg_grammar.specs.Grammar.{Grammar, BeginsWith, Reads}
+use Rattle.dwg_grammar.specs.Combinators.{fixed}
 
 -- the bits taken spell their number
 fixed_read : (count value : ℕ) (old new : List Bool) → value < 2 ^ count → old ≡ low_bits count value ++ new → Reads (fixed count) (Some value) old new

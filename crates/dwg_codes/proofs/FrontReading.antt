@@ -4,12 +4,13 @@ use Rattle.std.specs.Prelude.{IfNone, nat_lt, if◌then◌else◌}
 use Rattle.std.specs.Option.{option_and_then}
 use Rattle.std.proofs.lemmas.Bool.Decides.{nat_tests}
 use Rattle.std.proofs.lemmas.List.{take-append-drop, append_cancel_right}
-use Rattle.dwg_base.specs.Bytes.{AreBytes, are_bytes}
-use Rattle.dwg_codes.specs.Grammar.{Grammar, IsCode, ReadsFront}
-use Rattle.dwg_codes.specs.Combinators.{restrict}
-use Rattle.dwg_codes.specs.CodeLaws.{reads_none}
-use Rattle.dwg_codes.specs.ModularCodes.{mc_within, mc}
-use Rattle.dwg_codes.specs.ModularLaws.{mc_is_code}
+use Rattle.dwg_base.specs.Bytes.{AreBytes}
+use Rattle.dwg_base.proofs.ByteLists.{are_bytes}
+use Rattle.dwg_grammar.specs.Grammar.{Grammar, IsCode, ReadsFront}
+use Rattle.dwg_grammar.specs.Combinators.{restrict}
+use Rattle.dwg_grammar.proofs.CodeLemmas.{reads_none}
+use Rattle.dwg_grammar.specs.ModularCodes.{mc_within, mc}
+use Rattle.dwg_grammar.proofs.ModularLemmas.{mc_is_code}
 
 -- what holds anyway holds of no result
 pub if_none : {X : Type 0} (result : Option X) (P : Type 0) → P → IfNone result P

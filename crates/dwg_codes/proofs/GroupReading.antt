@@ -4,9 +4,9 @@ use Rattle.std.specs.Prelude.{nat_lt}
 use Rattle.std.specs.Option.{option_map}
 use Rattle.std.proofs.Math.Nat.{pow-suc, one-le-pow, pow-le-pow_right}
 use Rattle.std.proofs.lemmas.Bool.Decides.{nat_tests}
-use Rattle.dwg_codes.specs.Grammar.{Grammar}
-use Rattle.dwg_codes.specs.Combinators.{always, choose}
-use Rattle.dwg_codes.specs.ModularCodes.{behind_group, mc_within}
+use Rattle.dwg_grammar.specs.Grammar.{Grammar}
+use Rattle.dwg_grammar.specs.Combinators.{always, choose}
+use Rattle.dwg_grammar.specs.ModularCodes.{behind_group, mc_within}
 
 -- what is parsed behind a group
 pub behind_parse : (worth low : ℕ) (code : Grammar ℕ ℕ) (rest : List ℕ) (found : Option (ℕ × List ℕ)) → code.parse rest ≡ found

@@ -7,9 +7,9 @@ use Rattle.std.proofs.lemmas.List.{append-nil}
 use Rattle.std.proofs.lemmas.Bool.Decides.{nat_tests}
 use Rattle.dwg_bits.specs.Bits.{low_bits, bits}
 use Rattle.dwg_bits.specs.Sink.{Written, Extends}
-use Rattle.dwg_bits.specs.SinkLaws.{extends_by_both}
-use Rattle.dwg_codes.specs.Combinators.{always, choose}
-use Rattle.dwg_codes.specs.ModularCodes.{behind_group, mc_within}
+use Rattle.dwg_bits.proofs.SinkLemmas.{extends_by_both}
+use Rattle.dwg_grammar.specs.Combinators.{always, choose}
+use Rattle.dwg_grammar.specs.ModularCodes.{behind_group, mc_within}
 
 -- a byte behind a front is written by its bits
 pub byte_written : (old mid new : Written) (byte : ℕ) (others : List ℕ) → Extends old mid (low_bits 8 byte) → Extends mid new (bits others) → Extends old new (bits (byte ∷ others))

@@ -1,10 +1,10 @@
 -- Values read one behind the other.
 use Rattle.std.proofs.Common.{◌≡◌, refl, sym, ◌∙◌, ap, subst, ℕ, ◌+◌, ◌<◌, ◌≤◌, Bool, List, [], ◌∷◌, ◌++◌, length, Some, None, arith}
 use Rattle.std.proofs.lemmas.List.{append_assoc, length-append}
-use Rattle.dwg_codes.specs.Grammar.{Grammar, IsCode, AnyLetters, BeginsWith, Reads}
-use Rattle.dwg_codes.specs.Combinators.{items, chain}
-use Rattle.dwg_codes.specs.ToEnd.{SpellsAll, AreValues, HaveLeast, ReadsToEnd}
-use Rattle.dwg_codes.specs.ToEndLaws.{value_all, spells_one_more, all_to_end, no_more_all, no_cut_to_end}
+use Rattle.dwg_grammar.specs.Grammar.{Grammar, IsCode, AnyLetters, BeginsWith, Reads}
+use Rattle.dwg_grammar.specs.Combinators.{items, chain}
+use Rattle.dwg_grammar.specs.ToEnd.{SpellsAll, AreValues, HaveLeast, ReadsToEnd}
+use Rattle.dwg_grammar.proofs.ToEndLemmas.{value_all, spells_one_more, all_to_end, no_more_all, no_cut_to_end}
 
 -- the values were read at the front of the old bits, and the new bits are left
 pub record AreRead {V : Type 0} (code : Grammar Bool V) (values : List V) (old new : List Bool) : Type 0 where

@@ -1,8 +1,8 @@
 -- Values written one behind the other, and their bits counted.
 use Rattle.std.proofs.Common.{◌≡◌, ℕ, ◌+◌, Bool, List, ◌++◌, length}
 use Rattle.dwg_bits.specs.Sink.{Written, Extends}
-use Rattle.dwg_codes.specs.Grammar.{Grammar}
-use Rattle.dwg_codes.specs.ToEnd.{AreValues, short_all}
+use Rattle.dwg_grammar.specs.Grammar.{Grammar}
+use Rattle.dwg_grammar.specs.ToEnd.{AreValues, short_all}
 
 -- values are counted up to those that are left: so many bits so far and theirs are all
 pub record AreCounted {V : Type 0} (code : Grammar Bool V) (values left : List V) (count : ℕ) : Type 0 where

@@ -1,10 +1,10 @@
 -- Reading and writing three BDs.
 use Rattle.std.proofs.Common.{◌≡◌, refl, subst, ℕ, Bool, List, Option, Some, None}
-use Rattle.dwg_codes.specs.declared.points.Point3.{Point3}
-use Rattle.dwg_codes.specs.Grammar.{Grammar, BeginsWith, Reads}
-use Rattle.dwg_codes.specs.Combinators.{seq}
-use Rattle.dwg_codes.specs.Codes.{bd, bd3, be_by, IsPoint3}
-use Rattle.dwg_codes.specs.TableLaws.{bd_is_code}
+use Rattle.dwg_grammar.specs.declared.points.Point3.{Point3}
+use Rattle.dwg_grammar.specs.Grammar.{Grammar, BeginsWith, Reads}
+use Rattle.dwg_grammar.specs.Combinators.{seq}
+use Rattle.dwg_grammar.specs.Codes.{bd, bd3, be_by, IsPoint3}
+use Rattle.dwg_grammar.proofs.TableLemmas.{bd_is_code}
 use Rattle.dwg_codes.proofs.SeqReading.{unread_through, seq_read, first_unread, second_unread}
 
 -- two BDs

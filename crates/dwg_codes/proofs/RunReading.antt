@@ -3,13 +3,13 @@ use Rattle.std.proofs.Common.{◌≡◌, refl, sym, ◌∙◌, ap, subst, ℕ, �
 use Rattle.std.proofs.lemmas.List.{append_assoc, length-append}
 use Rattle.dwg_base.specs.Bytes.{AreBytes}
 use Rattle.dwg_bits.specs.Bits.{low_bits, bits}
-use Rattle.dwg_bits.specs.BitLaws.{bits_more, length_of_bits}
+use Rattle.dwg_bits.proofs.BitLaws.{bits_more, length_of_bits}
 use Rattle.dwg_bits.specs.Sink.{Written, Extends}
-use Rattle.dwg_codes.specs.Grammar.{BeginsWith, Reads}
-use Rattle.dwg_codes.specs.Combinators.{items, chain}
-use Rattle.dwg_codes.specs.Codes.{rc}
-use Rattle.dwg_codes.specs.ToEnd.{short_all}
-use Rattle.dwg_codes.specs.ByteRunLaws.{short_of_bytes, values_of_bytes}
+use Rattle.dwg_grammar.specs.Grammar.{BeginsWith, Reads}
+use Rattle.dwg_grammar.specs.Combinators.{items, chain}
+use Rattle.dwg_grammar.specs.Codes.{rc}
+use Rattle.dwg_grammar.specs.ToEnd.{short_all}
+use Rattle.dwg_grammar.proofs.ByteRunLemmas.{short_of_bytes, values_of_bytes}
 use Rattle.dwg_codes.proofs.WordReading.{bytes_spelled, spelling_counted}
 
 -- a byte behind bytes

@@ -1,9 +1,9 @@
 -- Reading one code and then another.
 use Rattle.std.proofs.Common.{◌≡◌, refl, sym, ◌∙◌, ap, subst, Bool, List, ◌++◌, Option, Some, None}
 use Rattle.std.proofs.lemmas.List.{append_assoc, append_cancel_left}
-use Rattle.dwg_codes.specs.Grammar.{Grammar, IsCode, AnyLetters, BeginsWith, Reads}
-use Rattle.dwg_codes.specs.Combinators.{seq}
-use Rattle.dwg_codes.specs.CodeLaws.{unique_of_code}
+use Rattle.dwg_grammar.specs.Grammar.{Grammar, IsCode, AnyLetters, BeginsWith, Reads}
+use Rattle.dwg_grammar.specs.Combinators.{seq}
+use Rattle.dwg_grammar.proofs.CodeLemmas.{unique_of_code}
 
 -- where no value is read, none is read by a code whose spellings are all spellings of a value
 pub unread_through : {V W : Type 0} (code : Grammar Bool V) (seen : Grammar Bool W) (result : Option W) (old new : List Bool)

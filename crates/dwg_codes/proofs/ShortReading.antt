@@ -7,13 +7,13 @@ use Rattle.std.proofs.Math.Nat.{pow-le-pow_right}
 use Rattle.std.proofs.lemmas.List.{append-nil, length-append, drop-drop}
 use Rattle.std.proofs.lemmas.Bool.Decides.{nat_tests}
 use Rattle.dwg_bits.specs.Bits.{low_bits, bits}
-use Rattle.dwg_bits.specs.BitLaws.{bits_joined, length_of_bits}
+use Rattle.dwg_bits.proofs.BitLaws.{bits_joined, length_of_bits}
 use Rattle.dwg_bits.specs.Sink.{Written, Extends}
-use Rattle.dwg_bits.specs.SinkLaws.{extends_by_both}
-use Rattle.dwg_codes.specs.Grammar.{ReadsFront}
-use Rattle.dwg_codes.specs.Combinators.{always, choose, chain}
-use Rattle.dwg_codes.specs.ModularCodes.{behind_group, unit, ms_within, ms}
-use Rattle.dwg_codes.specs.ModularLaws.{ms_is_code, length_of_unit}
+use Rattle.dwg_bits.proofs.SinkLemmas.{extends_by_both}
+use Rattle.dwg_grammar.specs.Grammar.{ReadsFront}
+use Rattle.dwg_grammar.specs.Combinators.{always, choose, chain}
+use Rattle.dwg_grammar.specs.ModularCodes.{behind_group, unit, ms_within, ms}
+use Rattle.dwg_grammar.proofs.ModularLemmas.{ms_is_code, length_of_unit}
 use Rattle.dwg_codes.proofs.GroupReading.{behind_parse}
 use Rattle.dwg_codes.proofs.GroupWriting.{byte_written, one_byte_written}
 use Rattle.dwg_codes.proofs.FrontReading.{front_read, front_unread}
@@ -116,7 +116,7 @@ unit_written old mid new group small first second =
     (byte_written old mid new (group % 256) (group / 256 ∷ []) first (one_byte_written mid new (group / 256) second))
 
 -- a number of one group is written by itself
-ms_short_last : (more value : ℕ) → 0 < more → value < 32768 → (ms_within more).short value ≡ unit.short value
+pub ms_short_last : (more value : ℕ) → 0 < more → value < 32768 → (ms_within more).short value ≡ unit.short value
 unfolding ms_within
 ms_short_last zero value some small = absurd (omega arith)
 ms_short_last (suc more) value some small =
@@ -129,7 +129,7 @@ ms_short_last (suc more) value some small =
     ∙ append-nil (unit.short value)
 
 -- a greater one by its low group and the number above it
-ms_short_more : (more value : ℕ) → 0 < more → 32768 ≤ value
+pub ms_short_more : (more value : ℕ) → 0 < more → 32768 ≤ value
     → (ms_within more).short value ≡ unit.short (32768 + value % 32768) ++ (ms_within (more - 1)).short (value / 32768)
 unfolding ms_within
 ms_short_more zero value some big = absurd (omega arith)

@@ -6,10 +6,10 @@ use Rattle.std.proofs.Math.Nat.{pow-suc}
 use Rattle.std.proofs.lemmas.Bool.Decides.{nat_tests}
 use Rattle.dwg_bits.specs.Bits.{low_bits, bits}
 use Rattle.dwg_bits.specs.Sink.{Written, Extends}
-use Rattle.dwg_codes.specs.Grammar.{Grammar, ReadsFront}
-use Rattle.dwg_codes.specs.Combinators.{always, choose, restrict}
-use Rattle.dwg_codes.specs.ModularCodes.{Signed, last_of, signed_mc_within, signed_number, signed_mc}
-use Rattle.dwg_codes.specs.SignedLaws.{behind_signed, signed_by, signed_byte, signed_mc_is_code}
+use Rattle.dwg_grammar.specs.Grammar.{Grammar, ReadsFront}
+use Rattle.dwg_grammar.specs.Combinators.{always, choose, restrict}
+use Rattle.dwg_grammar.specs.ModularCodes.{Signed, last_of, signed_mc_within, signed_number, signed_mc}
+use Rattle.dwg_grammar.proofs.SignedLemmas.{behind_signed, signed_by, signed_byte, signed_mc_is_code}
 use Rattle.dwg_codes.proofs.GroupWriting.{byte_written, one_byte_written}
 use Rattle.dwg_codes.proofs.FrontReading.{front_read, front_unread, passed, refused, missing}
 

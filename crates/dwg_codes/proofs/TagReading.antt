@@ -1,15 +1,12 @@
 -- Reading and writing a tag and what is behind it.
-use Rattle.std.proofs.Common.{◌≡◌, refl, sym, ◌∙◌, ap, ap₂, subst, ℕ, ◌+◌, ◌≤◌, Bool, true, false, List, [], ◌++◌, length, Option, Some, None, arith}
-use Rattle.std.specs.Prelude.{◌==◌, if◌then◌else◌}
+use Rattle.std.proofs.Common.{◌≡◌, refl, sym, ◌∙◌, ap, ap₂, subst, ℕ, ◌+◌, ◌≤◌, Bool, List, ◌++◌, length, Option, Some, None, arith}
 use Rattle.std.proofs.lemmas.List.{length-append, append_assoc, append_cancel_left}
 use Rattle.dwg_bits.specs.Bits.{low_bits}
-use Rattle.dwg_bits.specs.BitLaws.{length_of_low_bits}
-use Rattle.dwg_codes.specs.Grammar.{Grammar, BeginsWith, Reads, AnyLetters}
-use Rattle.dwg_codes.specs.Combinators.{fixed, tagged}
-use Rattle.dwg_codes.specs.Codes.{rd, bd, bd_by, ONE}
-use Rattle.dwg_codes.specs.NumberLaws.{length_of_rd}
-use Rattle.dwg_codes.specs.CodeLaws.{unique_of_code}
-use Rattle.dwg_codes.specs.CombinatorLaws.{fixed_is_code}
+use Rattle.dwg_bits.proofs.BitLaws.{length_of_low_bits}
+use Rattle.dwg_grammar.specs.Grammar.{Grammar, BeginsWith, Reads, AnyLetters}
+use Rattle.dwg_grammar.specs.Combinators.{fixed, tagged}
+use Rattle.dwg_grammar.proofs.CodeLemmas.{unique_of_code}
+use Rattle.dwg_grammar.proofs.CombinatorLemmas.{fixed_is_code}
 
 -- what is read behind a known tag is read by the line of this tag
 pub read_at : {V : Type 0} (by : ℕ → Grammar Bool V) (tag known : ℕ) (result read : Option V) (old new : List Bool)
@@ -50,12 +47,3 @@ tagged_length by value width tag picked first second one same two =
 -- room for a tag and what is behind it is room for the tag
 pub tag_room : (count width picked spare : ℕ) (more : List Bool) → count ≡ width → length (low_bits width picked ++ more) ≤ spare → count ≤ spare
 tag_room count width picked spare more same room = omega (arith, length-append (low_bits width picked) more, length_of_low_bits width picked)
-
--- what is written of a BD has at most a tag and a word
-pub length_of_bd : (value : ℕ) → length (bd.short value) ≤ 66
-length_of_bd value = of_tests (value == 0) (value == ONE)
-  where
-    of_tests : (zero one : Bool) → length (low_bits 2 (if zero then 2 else (if one then 1 else 0)) ++ (bd_by (if zero then 2 else (if one then 1 else 0))).short value) ≤ 66
-    of_tests true one = omega (arith, length-append (low_bits 2 2) [], length_of_low_bits 2 2)
-    of_tests false true = omega (arith, length-append (low_bits 2 1) [], length_of_low_bits 2 1)
-    of_tests false false = omega (arith, length-append (low_bits 2 0) (rd.short value), length_of_low_bits 2 0, length_of_rd value)

@@ -1,18 +1,16 @@
 -- Texts, read and written by their length and their bytes.
-use Rattle.std.proofs.Common.{◌≡◌, refl, ◌∙◌, ap, subst, ℕ, ◌+◌, ◌*◌, ◌≤◌, Bool, true, false, List, [], ◌++◌, length, Option, Some, None, arith}
-use Rattle.std.specs.Prelude.{◌==◌, nat_lt, if◌then◌else◌}
+use Rattle.std.proofs.Common.{◌≡◌, refl, ◌∙◌, ap, subst, ℕ, ◌+◌, ◌*◌, Bool, List, ◌++◌, length, Option, Some, None}
 use Rattle.std.proofs.lemmas.List.{length-append}
-use Rattle.dwg_bits.specs.Bits.{low_bits, bits}
-use Rattle.dwg_bits.specs.BitLaws.{length_of_bits, length_of_low_bits}
+use Rattle.dwg_bits.specs.Bits.{bits}
+use Rattle.dwg_bits.proofs.BitLaws.{length_of_bits}
 use Rattle.dwg_bits.specs.Sink.{Written, Extends}
-use Rattle.dwg_bits.specs.SinkLaws.{extends_by_both}
-use Rattle.dwg_codes.specs.Grammar.{Reads}
-use Rattle.dwg_codes.specs.Combinators.{seq, items, chain}
-use Rattle.dwg_codes.specs.Codes.{rc, bs, bs_by, tv}
-use Rattle.dwg_codes.specs.ToEnd.{short_all}
-use Rattle.dwg_codes.specs.NumberLaws.{length_of_rs}
-use Rattle.dwg_codes.specs.ByteRunLaws.{short_of_bytes}
-use Rattle.dwg_codes.specs.TableLaws.{bs_is_code}
+use Rattle.dwg_bits.proofs.SinkLemmas.{extends_by_both}
+use Rattle.dwg_grammar.specs.Grammar.{Reads}
+use Rattle.dwg_grammar.specs.Combinators.{seq, items, chain}
+use Rattle.dwg_grammar.specs.Codes.{rc, bs, tv}
+use Rattle.dwg_grammar.specs.ToEnd.{short_all}
+use Rattle.dwg_grammar.proofs.ByteRunLemmas.{short_of_bytes}
+use Rattle.dwg_grammar.proofs.TableLemmas.{bs_is_code}
 use Rattle.dwg_codes.proofs.SeqReading.{unread_through, seq_read, first_unread, second_unread}
 
 -- a text is written by its length and its bytes
@@ -57,14 +55,3 @@ pub tv_cut : (result found : Option (List ℕ)) (count wide : ℕ) (old mid left
 tv_cut result found count wide old mid left none same is first second =
     unread_through (seq bs (λ n. items rc n)) tv result old old text_through none
     (second_unread bs (λ n. items rc n) count old mid bs_is_code first (run_behind count wide found None mid left same is second).0) refl
-
--- a length is written by at most 18 bits
-pub length_of_bs : (value : ℕ) → length (bs.short value) ≤ 18
-length_of_bs value = of_tests (value == 0) (value == 256) (nat_lt value 256)
-  where
-    of_tests : (none big small : Bool)
-        → length (low_bits 2 (if none then 2 else (if big then 3 else (if small then 1 else 0))) ++ (bs_by (if none then 2 else (if big then 3 else (if small then 1 else 0)))).short value) ≤ 18
-    of_tests true big small = omega (arith, length-append (low_bits 2 2) [], length_of_low_bits 2 2)
-    of_tests false true small = omega (arith, length-append (low_bits 2 3) [], length_of_low_bits 2 3)
-    of_tests false false true = omega (arith, length-append (low_bits 2 1) (low_bits 8 value), length_of_low_bits 2 1, length_of_low_bits 8 value)
-    of_tests false false false = omega (arith, length-append (low_bits 2 0) ((bs_by 0).short value), length_of_low_bits 2 0, length_of_rs value)

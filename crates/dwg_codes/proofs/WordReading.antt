@@ -6,12 +6,12 @@ use Rattle.std.proofs.lemmas.Nat.{pow-add}
 use Rattle.std.proofs.lemmas.List.{length-append}
 use Rattle.dwg_base.specs.Bytes.{AreBytes}
 use Rattle.dwg_bits.specs.Bits.{low_bits, bits}
-use Rattle.dwg_bits.specs.BitLaws.{length_of_low_bits, num_of_low_bits, low_bits_joined, low_bits_of_remainder}
+use Rattle.dwg_bits.proofs.BitLaws.{length_of_low_bits, num_of_low_bits, low_bits_joined, low_bits_of_remainder}
 use Rattle.dwg_bits.specs.Sink.{Written, Extends}
-use Rattle.dwg_codes.specs.Grammar.{Grammar, Reads}
-use Rattle.dwg_codes.specs.Combinators.{image, items, chain, SpellsChain}
-use Rattle.dwg_codes.specs.Codes.{rc}
-use Rattle.dwg_codes.specs.ByteRunLaws.{short_of_bytes}
+use Rattle.dwg_grammar.specs.Grammar.{Grammar, Reads}
+use Rattle.dwg_grammar.specs.Combinators.{image, items, chain, SpellsChain}
+use Rattle.dwg_grammar.specs.Codes.{rc}
+use Rattle.dwg_grammar.proofs.ByteRunLemmas.{short_of_bytes}
 use Rattle.dwg_codes.proofs.FixedReading.{none_read}
 
 -- the bytes of a number are bytes

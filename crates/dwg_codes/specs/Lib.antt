@@ -1,21 +1,2 @@
-pub mod Grammar
-pub mod Combinators
-pub mod ToEnd
-pub mod Codes
-pub mod ModularCodes
-pub mod CodeLaws
-pub mod CombinatorLaws
-pub mod ListLaws
-pub mod ToEndLaws
-pub mod ToEndDecided
-pub mod NumberLaws
-pub mod ByteRunLaws
-pub mod TableLaws
-pub mod DefaultLaws
-pub mod ModularLaws
-pub mod SignedLaws
-pub mod ModularBytes
-pub mod TruthCode
+-- Lists of bytes in hand: owned, or lent from a slice.
 pub mod Parts
-pub mod PlainSpellings
-pub mod PlainLaws

@@ -4,9 +4,8 @@ ghost use Rattle.std.specs.Prelude.{◌≡◌, ◌^◌, ◌<◌, ◌≤◌, ◌+
 ghost use Rattle.dwg_bits.specs.Bits.{low_bits};
 ghost use Rattle.dwg_bits.specs.Cursor.{rest};
 ghost use Rattle.dwg_bits.specs.Sink.{Extends};
-ghost use Rattle.dwg_codes.specs.Combinators.{fixed};
-ghost use Rattle.dwg_codes.specs.Grammar.{Grammar, IsCode, AnyLetters, Reads};
-ghost use Rattle.dwg_codes.specs.CodeLaws.{IsLawful};
+ghost use Rattle.dwg_grammar.specs.Combinators.{fixed};
+ghost use Rattle.dwg_grammar.specs.Grammar.{Grammar, IsCode, AnyLetters, Reads, IsLawful};
 
 use dwg_bits::{BitCursor, BitSink};
 
@@ -60,7 +59,7 @@ pub fn code_laws<C: BitCode>(context: &C::Context)
 {}
 
 /// Reads so many bits as a number, the first of them highest. None, with nothing moved, where fewer are left.
-#[tactic(auto, using(crate::proofs::FixedReading::rest_stays, dwg_bits::specs::BitLaws::length_of_bits_between))]
+#[tactic(auto, using(crate::proofs::FixedReading::rest_stays, dwg_bits::proofs::BitLaws::length_of_bits_between))]
 pub(crate) fn take_bits(cursor: &mut BitCursor<'_>, count: u32) -> Option<u64>
     requires { count ≤ 64 }
     ensures reads { Reads (fixed count) result (rest cursor.old) (rest cursor.new) }

@@ -1,12 +1,12 @@
 //! DD, a word against a default (Open Design Specification, "Bit codes").
 
-ghost use Rattle.std.specs.Prelude.{◌==◌, if◌then◌else◌, ◌≡◌, ◌/◌, ◌%◌, ◌^◌, ◌<◌, ◌≤◌, ◌++◌, ℕ, length, IfSome};
+ghost use Rattle.std.specs.Prelude.{◌≡◌, ◌/◌, ◌%◌, ◌^◌, ◌<◌, ◌≤◌, ◌++◌, ℕ, length, IfSome};
 ghost use Rattle.std.proofs.Common.{lit≤};
 ghost use Rattle.dwg_bits.specs.Cursor.{rest};
 ghost use Rattle.dwg_bits.specs.Sink.{Extends};
-ghost use Rattle.dwg_codes.specs.Codes.{dd, dd_by};
-ghost use Rattle.dwg_codes.specs.Grammar.{Reads};
-ghost use Rattle.dwg_codes.specs.DefaultLaws.{dd_is_code};
+ghost use Rattle.dwg_grammar.specs.Codes.{dd, dd_by, dd_tag};
+ghost use Rattle.dwg_grammar.specs.Grammar.{Reads};
+ghost use Rattle.dwg_grammar.proofs.DefaultLemmas.{dd_is_code};
 
 use crate::code::BitCode;
 use crate::fixed::{CodeRC, CodeRD, CodeRL};
@@ -54,7 +54,7 @@ fn read_six_bytes(default: u64, cursor: &mut BitCursor<'_>) -> Option<u64>
 }
 
 /// Writes the fifth and the sixth byte of a word and then its four low bytes; these are the same against any default.
-#[tactic(auto, using(crate::specs::NumberLaws::length_of_rl, crate::specs::NumberLaws::length_of_rc))]
+#[tactic(auto, using(dwg_grammar::proofs::NumberLemmas::length_of_rl, dwg_grammar::proofs::NumberLemmas::length_of_rc))]
 fn write_six_bytes(value: u64, sink: &mut BitSink)
     requires { 48 ≤ sink.old.spare }
     ensures { Extends sink.old sink.new ((dd_by value 2).short value) }
@@ -81,7 +81,7 @@ impl Tagged for CodeDD {
 
     ghost IsTagged = { λ default. (dd default).IsValue };
 
-    ghost pick = { λ default value. if value == default then 0 else (if value / 2 ^ 32 == default / 2 ^ 32 then 1 else (if value / 2 ^ 48 == default / 2 ^ 48 then 2 else 3)) };
+    ghost pick = { dd_tag };
 
     fn read_behind(context: &u64, tag: u64, cursor: &mut BitCursor<'_>) -> Option<u64> {
         match tag {
@@ -105,7 +105,7 @@ impl Tagged for CodeDD {
         3
     }
 
-    #[tactic(auto, using(crate::specs::NumberLaws::length_of_rl, crate::specs::NumberLaws::length_of_rd, crate::proofs::DefaultReading::six_counted))]
+    #[tactic(auto, using(dwg_grammar::proofs::NumberLemmas::length_of_rl, dwg_grammar::proofs::NumberLemmas::length_of_rd, crate::proofs::DefaultReading::six_counted))]
     fn length_behind(_context: &u64, tag: u64, value: &u64) -> u64 {
         match tag {
             0 => 0,

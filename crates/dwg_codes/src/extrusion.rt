@@ -1,53 +1,15 @@
-//! Points by three words, and extrusions (Open Design Specification, "Bit codes").
+//! Extrusions (Open Design Specification, "Bit codes").
 
-ghost use Rattle.std.specs.Prelude.{◌==◌, if◌then◌else◌, ◌≡◌, ◌≤◌, ⊤, length, IfSome};
+ghost use Rattle.std.specs.Prelude.{⊤};
 ghost use Rattle.std.proofs.Common.{lit≤};
-ghost use Rattle.dwg_bits.specs.Cursor.{rest};
-ghost use Rattle.dwg_bits.specs.Sink.{Extends};
-ghost use Rattle.dwg_codes.specs.Codes.{bd3, be, be_by, IsPoint3, ONE};
-ghost use Rattle.dwg_codes.specs.Grammar.{Reads};
-ghost use Rattle.dwg_codes.specs.TableLaws.{be_is_code};
+ghost use Rattle.dwg_grammar.specs.Codes.{be, be_by, be_tag};
+ghost use Rattle.dwg_grammar.proofs.TableLemmas.{be_is_code};
 
 use crate::code::BitCode;
-use crate::points::Point3;
-use crate::tagged::{CodeBD, ONE_WORD, Tagged, length_tagged, read_tagged, write_tagged};
+use crate::points::Code3BD;
+use crate::tagged::{ONE_WORD, Tagged, length_tagged, read_tagged, write_tagged};
 use dwg_bits::{BitCursor, BitSink};
-
-/// Reads three BDs.
-fn read_point(cursor: &mut BitCursor<'_>) -> Option<Point3>
-    ensures reads { Reads bd3 result (rest cursor.old) (rest cursor.new) }
-    ensures value { IfSome result IsPoint3 }
-    ensures same_bytes { cursor.new.bytes.now ≡ cursor.old.bytes.now }
-    ensures same_end { cursor.new.end ≡ cursor.old.end }
-{
-    let mut ahead = *cursor;
-    let x = CodeBD::read(&(), &mut ahead)?;
-    let y = CodeBD::read(&(), &mut ahead)?;
-    let z = CodeBD::read(&(), &mut ahead)?;
-    *cursor = ahead;
-    Some(Point3 { x, y, z })
-}
-
-/// How many bits three BDs are written by.
-#[tactic(auto, using(crate::proofs::TagReading::length_of_bd))]
-fn point_length(point: &Point3) -> u64
-    requires { IsPoint3 point.now }
-    ensures length { result ≡ length (bd3.short point.now) }
-    ensures few { result ≤ 198 }
-{
-    CodeBD::length(&(), &point.x) + CodeBD::length(&(), &point.y) + CodeBD::length(&(), &point.z)
-}
-
-/// Writes three BDs.
-fn write_point(point: &Point3, sink: &mut BitSink)
-    requires point { IsPoint3 point.now }
-    requires room { length (bd3.short point.now) ≤ sink.old.spare }
-    ensures { Extends sink.old sink.new (bd3.short point.now) }
-{
-    CodeBD::write(&(), &point.x, sink);
-    CodeBD::write(&(), &point.y, sink);
-    CodeBD::write(&(), &point.z, sink);
-}
+use dwg_grammar::Point3;
 
 /// BE: 1 for (0, 0, 1.0), 0 and three BDs.
 pub struct CodeBE;
@@ -65,11 +27,11 @@ impl Tagged for CodeBE {
 
     ghost IsTagged = { λ context. be.IsValue };
 
-    ghost pick = { λ context point. if point.x == 0 then (if point.y == 0 then (if point.z == ONE then 1 else 0) else 0) else 0 };
+    ghost pick = { λ context. be_tag };
 
     fn read_behind(_context: &(), tag: u64, cursor: &mut BitCursor<'_>) -> Option<Point3> {
         match tag {
-            0 => read_point(cursor),
+            0 => Code3BD::read(&(), cursor),
             _ => Some(Point3 {
                 x: 0,
                 y: 0,
@@ -91,10 +53,10 @@ impl Tagged for CodeBE {
         1
     }
 
-    #[tactic(auto, using(crate::proofs::PointReading::point_at))]
+    #[tactic(auto, using(crate::proofs::PointReading::point_at, dwg_grammar::proofs::Bounds::bd3_at_most))]
     fn length_behind(_context: &(), tag: u64, value: &Point3) -> u64 {
         match tag {
-            0 => point_length(value),
+            0 => Code3BD::length(&(), value),
             _ => 0,
         }
     }
@@ -102,7 +64,7 @@ impl Tagged for CodeBE {
     #[tactic(auto, using(crate::proofs::PointReading::point_at))]
     fn write_behind(_context: &(), tag: u64, value: &Point3, sink: &mut BitSink) {
         match tag {
-            0 => write_point(value, sink),
+            0 => Code3BD::write(&(), value, sink),
             _ => {}
         }
     }

@@ -1,9 +1,9 @@
 //! Codes of fixed length (Open Design Specification, "Bit codes").
 
 ghost use Rattle.std.specs.Prelude.{◌≡◌, ◌≤◌, ⊤};
-ghost use Rattle.dwg_codes.specs.Codes.{bb, rc, rs, rl, rd};
-ghost use Rattle.dwg_codes.specs.TruthCode.{b, b_is_code};
-ghost use Rattle.dwg_codes.specs.NumberLaws.{bb_is_code, rc_is_code, rs_is_code, rl_is_code, rd_is_code};
+ghost use Rattle.dwg_grammar.specs.Codes.{bb, rc, rs, rl, rd, b};
+ghost use Rattle.dwg_grammar.proofs.TruthCode.{b_is_code};
+ghost use Rattle.dwg_grammar.proofs.NumberLemmas.{bb_is_code, rc_is_code, rs_is_code, rl_is_code, rd_is_code};
 
 use crate::code::{BitCode, take_bits};
 use dwg_bits::{BitCursor, BitSink};
@@ -25,12 +25,12 @@ impl BitCode for CodeBB {
         Some(bits as u8)
     }
 
-    #[tactic(auto, using(dwg_bits::specs::BitLaws::length_of_low_bits))]
+    #[tactic(auto, using(dwg_bits::proofs::BitLaws::length_of_low_bits))]
     fn length(_context: &(), _value: &u8) -> u64 {
         2
     }
 
-    #[tactic(auto, using(dwg_bits::specs::BitLaws::length_of_low_bits))]
+    #[tactic(auto, using(dwg_bits::proofs::BitLaws::length_of_low_bits))]
     fn write(_context: &(), value: &u8, sink: &mut BitSink) {
         sink.push(u64::from(*value), 2);
     }
@@ -55,12 +55,12 @@ impl BitCode for CodeRC {
         Some(bits as u8)
     }
 
-    #[tactic(auto, using(dwg_bits::specs::BitLaws::length_of_low_bits))]
+    #[tactic(auto, using(dwg_bits::proofs::BitLaws::length_of_low_bits))]
     fn length(_context: &(), _value: &u8) -> u64 {
         8
     }
 
-    #[tactic(auto, using(dwg_bits::specs::BitLaws::length_of_low_bits))]
+    #[tactic(auto, using(dwg_bits::proofs::BitLaws::length_of_low_bits))]
     fn write(_context: &(), value: &u8, sink: &mut BitSink) {
         sink.push(u64::from(*value), 8);
     }
@@ -85,12 +85,12 @@ impl BitCode for CodeB {
         Some(bit == 1)
     }
 
-    #[tactic(auto, using(dwg_bits::specs::BitLaws::length_of_low_bits))]
+    #[tactic(auto, using(dwg_bits::proofs::BitLaws::length_of_low_bits))]
     fn length(_context: &(), _value: &bool) -> u64 {
         1
     }
 
-    #[tactic(auto, using(dwg_bits::specs::BitLaws::length_of_low_bits))]
+    #[tactic(auto, using(dwg_bits::proofs::BitLaws::length_of_low_bits))]
     fn write(_context: &(), value: &bool, sink: &mut BitSink) {
         sink.push(u64::from(*value), 1);
     }
@@ -115,12 +115,12 @@ impl BitCode for CodeRS {
         Some(u16::from_le_bytes(bits.to_be_bytes()))
     }
 
-    #[tactic(auto, using(crate::specs::NumberLaws::length_of_rs))]
+    #[tactic(auto, using(dwg_grammar::proofs::NumberLemmas::length_of_rs))]
     fn length(_context: &(), _value: &u16) -> u64 {
         16
     }
 
-    #[tactic(auto, using(crate::specs::NumberLaws::length_of_rs))]
+    #[tactic(auto, using(dwg_grammar::proofs::NumberLemmas::length_of_rs))]
     fn write(_context: &(), value: &u16, sink: &mut BitSink) {
         let bits = u16::from_be_bytes(value.to_le_bytes());
         sink.push(u64::from(bits), 16);
@@ -146,12 +146,12 @@ impl BitCode for CodeRL {
         Some(u32::from_le_bytes(bits.to_be_bytes()))
     }
 
-    #[tactic(auto, using(crate::specs::NumberLaws::length_of_rl))]
+    #[tactic(auto, using(dwg_grammar::proofs::NumberLemmas::length_of_rl))]
     fn length(_context: &(), _value: &u32) -> u64 {
         32
     }
 
-    #[tactic(auto, using(crate::specs::NumberLaws::length_of_rl))]
+    #[tactic(auto, using(dwg_grammar::proofs::NumberLemmas::length_of_rl))]
     fn write(_context: &(), value: &u32, sink: &mut BitSink) {
         let bits = u32::from_be_bytes(value.to_le_bytes());
         sink.push(u64::from(bits), 32);
@@ -177,12 +177,12 @@ impl BitCode for CodeRD {
         Some(u64::from_le_bytes(bits.to_be_bytes()))
     }
 
-    #[tactic(auto, using(crate::specs::NumberLaws::length_of_rd))]
+    #[tactic(auto, using(dwg_grammar::proofs::NumberLemmas::length_of_rd))]
     fn length(_context: &(), _value: &u64) -> u64 {
         64
     }
 
-    #[tactic(auto, using(crate::specs::NumberLaws::length_of_rd))]
+    #[tactic(auto, using(dwg_grammar::proofs::NumberLemmas::length_of_rd))]
     fn write(_context: &(), value: &u64, sink: &mut BitSink) {
         let bits = u64::from_be_bytes(value.to_le_bytes());
         sink.push(bits, 64);

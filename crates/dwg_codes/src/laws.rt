@@ -2,10 +2,10 @@
 
 ghost use Rattle.std.specs.Prelude.{◌^◌, ◌<◌, ◌≤◌, ◌↔◌, ℕ, ℤ, List, length};
 ghost use Rattle.dwg_base.specs.Bytes.{AreBytes};
-ghost use Rattle.dwg_codes.specs.Codes.{tv};
-ghost use Rattle.dwg_codes.specs.CodeLaws.{IsLawful};
-ghost use Rattle.dwg_codes.specs.ModularCodes.{mc, ms, signed_mc, sign_and_magnitude};
-ghost use Rattle.dwg_codes.specs.PlainSpellings.{McSpells, SignedMcSpells, MsSpells, RsSpells, RlSpells, RdSpells, TvSpells};
+ghost use Rattle.dwg_grammar.specs.Codes.{tv};
+ghost use Rattle.dwg_grammar.specs.Grammar.{IsLawful};
+ghost use Rattle.dwg_grammar.specs.ModularCodes.{mc, ms, signed_mc, sign_and_magnitude};
+ghost use Rattle.dwg_grammar.specs.PlainSpellings.{McSpells, SignedMcSpells, MsSpells, RsSpells, RlSpells, RdSpells, TvSpells};
 
 /// What holds of MC, signed MC, MS and TV: letters spell at most one value, and no spelling is a proper front of another; the
 /// spelling that is written of a value spells it, and no other is shorter; and which values have spellings.

@@ -19,6 +19,7 @@ mod text;
 pub use byte_part::BytePart;
 pub use code::{BitCode, code_laws};
 pub use default::CodeDD;
+pub use dwg_grammar::{Point2, Point3};
 pub use extrusion::CodeBE;
 pub use fixed::{CodeB, CodeBB, CodeRC, CodeRD, CodeRL, CodeRS};
 pub use laws::{byte_code_laws, plain_spellings};
@@ -28,7 +29,7 @@ pub use modular::{
     write_signed_mc,
 };
 pub use option::{length_when, read_when, write_when};
-pub use points::{Point2, Point3};
+pub use points::Code3BD;
 pub use run::{byte_run_laws, bytes_length, read_bytes, write_bytes};
-pub use tagged::{CodeBD, CodeBL, CodeBS, CodeBT};
+pub use tagged::{CodeBD, CodeBL, CodeBS, CodeBT, ONE_WORD};
 pub use text::{read_text, text_length, write_text};

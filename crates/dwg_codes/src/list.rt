@@ -4,10 +4,9 @@
 ghost use Rattle.std.specs.Prelude.{◌≡◌, ◌^◌, ◌<◌, ◌≤◌, Ok, None, length, IfOk, IfErr, IfSome};
 ghost use Rattle.dwg_bits.specs.Cursor.{rest};
 ghost use Rattle.dwg_bits.specs.Sink.{Extends};
-ghost use Rattle.dwg_codes.specs.Combinators.{items};
-ghost use Rattle.dwg_codes.specs.Grammar.{Reads};
-ghost use Rattle.dwg_codes.specs.CodeLaws.{IsLawful};
-ghost use Rattle.dwg_codes.specs.ToEnd.{AreValues, HaveLeast, IsCutUniquely, ReadsToEnd, short_all};
+ghost use Rattle.dwg_grammar.specs.Combinators.{items};
+ghost use Rattle.dwg_grammar.specs.Grammar.{Reads, IsLawful};
+ghost use Rattle.dwg_grammar.specs.ToEnd.{AreValues, HaveLeast, IsCutUniquely, ReadsToEnd, short_all};
 
 use crate::code::BitCode;
 use dwg_base::{Items, NoMemory};

@@ -4,8 +4,8 @@
 ghost use Rattle.std.specs.Prelude.{◌≡◌, ◌+◌, ◌-◌, ◌*◌, ◌^◌, ◌<◌, ◌≤◌, Some, None, drop, length, IfSome, IfNone, if◌then◌else◌};
 ghost use Rattle.dwg_bits.specs.Bits.{bits};
 ghost use Rattle.dwg_bits.specs.Sink.{Extends};
-ghost use Rattle.dwg_codes.specs.Grammar.{ReadsFront};
-ghost use Rattle.dwg_codes.specs.ModularCodes.{mc, mc_within, signed_mc, signed_mc_within, signed_number, sign_and_magnitude, unit, ms, ms_within};
+ghost use Rattle.dwg_grammar.specs.Grammar.{ReadsFront};
+ghost use Rattle.dwg_grammar.specs.ModularCodes.{mc, mc_within, signed_mc, signed_mc_within, signed_number, sign_and_magnitude, unit, ms, ms_within};
 
 use dwg_bits::BitSink;
 
@@ -68,7 +68,7 @@ pub fn mc_bytes(value: u64) -> usize
 }
 
 /// Writes a number of at most `more` groups.
-#[tactic(auto, using(crate::proofs::GroupWriting::mc_last_written, crate::proofs::GroupWriting::mc_more_written, crate::proofs::GroupWriting::mc_length_last, crate::proofs::GroupWriting::mc_length_more, crate::proofs::GroupWriting::above_below, crate::proofs::GroupWriting::groups_left, dwg_bits::specs::BitLaws::length_of_low_bits))]
+#[tactic(auto, using(crate::proofs::GroupWriting::mc_last_written, crate::proofs::GroupWriting::mc_more_written, crate::proofs::GroupWriting::mc_length_last, crate::proofs::GroupWriting::mc_length_more, crate::proofs::GroupWriting::above_below, crate::proofs::GroupWriting::groups_left, dwg_bits::proofs::BitLaws::length_of_low_bits))]
 fn write_mc_within(value: u64, more: u32, sink: &mut BitSink)
     requires some { 0 < more }
     requires value { value < 128 ^ more }
@@ -271,7 +271,7 @@ pub fn ms_bytes(value: u64) -> usize
 }
 
 /// Writes a unit of two bytes, the low one first.
-#[tactic(auto, using(crate::proofs::ShortReading::unit_written, dwg_bits::specs::BitLaws::length_of_low_bits))]
+#[tactic(auto, using(crate::proofs::ShortReading::unit_written, dwg_bits::proofs::BitLaws::length_of_low_bits))]
 fn push_unit(group: u64, sink: &mut BitSink)
     requires value { group < 65536 }
     requires room { 16 ≤ sink.old.spare }

@@ -3,8 +3,8 @@
 ghost use Rattle.std.specs.Prelude.{◌≡◌, ◌^◌, ◌<◌, ◌≤◌, length, IfSome, IfNone};
 ghost use Rattle.dwg_bits.specs.Cursor.{rest};
 ghost use Rattle.dwg_bits.specs.Sink.{Extends};
-ghost use Rattle.dwg_codes.specs.Combinators.{when};
-ghost use Rattle.dwg_codes.specs.Grammar.{Reads};
+ghost use Rattle.dwg_grammar.specs.Combinators.{when};
+ghost use Rattle.dwg_grammar.specs.Grammar.{Reads};
 
 use crate::code::BitCode;
 use dwg_bits::{BitCursor, BitSink};

@@ -5,10 +5,10 @@ ghost use Rattle.dwg_base.specs.Bytes.{AreBytes};
 ghost use Rattle.dwg_bits.specs.Bits.{bits};
 ghost use Rattle.dwg_bits.specs.Cursor.{rest};
 ghost use Rattle.dwg_bits.specs.Sink.{Extends};
-ghost use Rattle.dwg_codes.specs.Codes.{rc};
-ghost use Rattle.dwg_codes.specs.Combinators.{items};
-ghost use Rattle.dwg_codes.specs.Grammar.{Reads};
-ghost use Rattle.dwg_codes.specs.ToEnd.{short_all};
+ghost use Rattle.dwg_grammar.specs.Codes.{rc};
+ghost use Rattle.dwg_grammar.specs.Combinators.{items};
+ghost use Rattle.dwg_grammar.specs.Grammar.{Reads};
+ghost use Rattle.dwg_grammar.specs.ToEnd.{short_all};
 
 use dwg_base::{ByteRun, NoMemory};
 use dwg_bits::{BitCursor, BitSink};

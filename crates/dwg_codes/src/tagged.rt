@@ -1,20 +1,20 @@
 //! Codes that begin with a tag (Open Design Specification, "Bit codes").
 
-ghost use Rattle.std.specs.Prelude.{◌==◌, nat_lt, if◌then◌else◌, ◌≡◌, ◌+◌, ◌^◌, ◌<◌, ◌≤◌, ◌++◌, ⊤, ℕ, Bool, length, IfSome, IfNone};
+ghost use Rattle.std.specs.Prelude.{◌≡◌, ◌+◌, ◌^◌, ◌<◌, ◌≤◌, ◌++◌, ⊤, ℕ, Bool, length, IfSome, IfNone};
 ghost use Rattle.std.proofs.Common.{lit≤};
 ghost use Rattle.dwg_bits.specs.Cursor.{rest};
 ghost use Rattle.dwg_bits.specs.Sink.{Extends};
-ghost use Rattle.dwg_codes.specs.Codes.{bs, bs_by, bl, bl_by, bd, bd_by, bt, bt_by, ONE};
-ghost use Rattle.dwg_codes.specs.Combinators.{fixed, tagged};
-ghost use Rattle.dwg_codes.specs.Grammar.{Grammar, Reads};
-ghost use Rattle.dwg_codes.specs.TableLaws.{bs_is_code, bl_is_code, bd_is_code, bt_is_code};
+ghost use Rattle.dwg_grammar.specs.Codes.{bs, bs_by, bs_tag, bl, bl_by, bl_tag, bd, bd_by, bd_tag, bt, bt_by, bt_tag};
+ghost use Rattle.dwg_grammar.specs.Combinators.{fixed, tagged};
+ghost use Rattle.dwg_grammar.specs.Grammar.{Grammar, Reads};
+ghost use Rattle.dwg_grammar.proofs.TableLemmas.{bs_is_code, bl_is_code, bd_is_code, bt_is_code};
 
 use crate::code::{BitCode, take_bits};
 use crate::fixed::{CodeRC, CodeRD, CodeRL, CodeRS};
 use dwg_bits::{BitCursor, BitSink};
 
-/// The word of 1.0.
-pub(crate) const ONE_WORD: u64 = 0x3FF0_0000_0000_0000;
+/// The word of 1.0: the 64-bit floating-point number by its bits.
+pub const ONE_WORD: u64 = 0x3FF0_0000_0000_0000;
 
 /// A tag of a few bits, and what is spelled behind each tag.
 pub(crate) trait Tagged {
@@ -129,7 +129,7 @@ impl Tagged for CodeBS {
 
     ghost IsTagged = { λ context. bs.IsValue };
 
-    ghost pick = { λ context value. if value == 0 then 2 else (if value == 256 then 3 else (if nat_lt value 256 then 1 else 0)) };
+    ghost pick = { λ context. bs_tag };
 
     fn read_behind(_context: &(), tag: u64, cursor: &mut BitCursor<'_>) -> Option<u16> {
         match tag {
@@ -149,7 +149,7 @@ impl Tagged for CodeBS {
         }
     }
 
-    #[tactic(auto, using(crate::specs::NumberLaws::length_of_rs, crate::specs::NumberLaws::length_of_rc))]
+    #[tactic(auto, using(dwg_grammar::proofs::NumberLemmas::length_of_rs, dwg_grammar::proofs::NumberLemmas::length_of_rc))]
     fn length_behind(_context: &(), tag: u64, value: &u16) -> u64 {
         match tag {
             0 => CodeRS::length(&(), value),
@@ -209,7 +209,7 @@ impl Tagged for CodeBL {
 
     ghost IsTagged = { λ context. bl.IsValue };
 
-    ghost pick = { λ context value. if value == 0 then 2 else (if nat_lt value 256 then 1 else 0) };
+    ghost pick = { λ context. bl_tag };
 
     fn read_behind(_context: &(), tag: u64, cursor: &mut BitCursor<'_>) -> Option<u32> {
         match tag {
@@ -228,7 +228,7 @@ impl Tagged for CodeBL {
         }
     }
 
-    #[tactic(auto, using(crate::specs::NumberLaws::length_of_rl, crate::specs::NumberLaws::length_of_rc))]
+    #[tactic(auto, using(dwg_grammar::proofs::NumberLemmas::length_of_rl, dwg_grammar::proofs::NumberLemmas::length_of_rc))]
     fn length_behind(_context: &(), tag: u64, value: &u32) -> u64 {
         match tag {
             0 => CodeRL::length(&(), value),
@@ -288,7 +288,7 @@ impl Tagged for CodeBD {
 
     ghost IsTagged = { λ context. bd.IsValue };
 
-    ghost pick = { λ context value. if value == 0 then 2 else (if value == ONE then 1 else 0) };
+    ghost pick = { λ context. bd_tag };
 
     fn read_behind(_context: &(), tag: u64, cursor: &mut BitCursor<'_>) -> Option<u64> {
         match tag {
@@ -307,7 +307,7 @@ impl Tagged for CodeBD {
         }
     }
 
-    #[tactic(auto, using(crate::specs::NumberLaws::length_of_rd))]
+    #[tactic(auto, using(dwg_grammar::proofs::NumberLemmas::length_of_rd))]
     fn length_behind(_context: &(), tag: u64, value: &u64) -> u64 {
         match tag {
             0 => CodeRD::length(&(), value),
@@ -365,7 +365,7 @@ impl Tagged for CodeBT {
 
     ghost IsTagged = { λ context. bt.IsValue };
 
-    ghost pick = { λ context value. if value == 0 then 1 else 0 };
+    ghost pick = { λ context. bt_tag };
 
     fn read_behind(_context: &(), tag: u64, cursor: &mut BitCursor<'_>) -> Option<u64> {
         match tag {
@@ -381,7 +381,7 @@ impl Tagged for CodeBT {
         }
     }
 
-    #[tactic(auto, using(crate::proofs::TagReading::length_of_bd))]
+    #[tactic(auto, using(dwg_grammar::proofs::Bounds::bd_at_most))]
     fn length_behind(_context: &(), tag: u64, value: &u64) -> u64 {
         match tag {
             0 => CodeBD::length(&(), value),

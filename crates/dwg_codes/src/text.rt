@@ -3,8 +3,8 @@
 ghost use Rattle.std.specs.Prelude.{◌≡◌, ◌+◌, ◌*◌, ◌≤◌, Ok, None, length, IfOk, IfErr, IfSome};
 ghost use Rattle.dwg_bits.specs.Cursor.{rest};
 ghost use Rattle.dwg_bits.specs.Sink.{Extends};
-ghost use Rattle.dwg_codes.specs.Codes.{tv};
-ghost use Rattle.dwg_codes.specs.Grammar.{Reads};
+ghost use Rattle.dwg_grammar.specs.Codes.{tv};
+ghost use Rattle.dwg_grammar.specs.Grammar.{Reads};
 
 use crate::code::BitCode;
 use crate::run::{bytes_length, read_bytes, write_bytes};
@@ -35,7 +35,7 @@ pub fn read_text(alloc: Global, cursor: &mut BitCursor<'_>) -> Result<Option<Byt
 }
 
 /// How many bits a text is written by.
-#[tactic(auto, using(crate::proofs::TextReading::length_of_tv, crate::proofs::TextReading::length_of_bs))]
+#[tactic(auto, using(crate::proofs::TextReading::length_of_tv, dwg_grammar::proofs::Bounds::bs_at_most))]
 pub fn text_length(text: &[u8]) -> u64
     requires { length text.now ≤ 65535 }
     ensures length { result ≡ length (tv.short text.now) }
@@ -45,7 +45,7 @@ pub fn text_length(text: &[u8]) -> u64
 }
 
 /// Writes a text of at most 65,535 bytes.
-#[tactic(auto, using(crate::proofs::TextReading::tv_written, crate::proofs::TextReading::length_of_tv, crate::proofs::TextReading::length_of_bs))]
+#[tactic(auto, using(crate::proofs::TextReading::tv_written, crate::proofs::TextReading::length_of_tv, dwg_grammar::proofs::Bounds::bs_at_most))]
 pub fn write_text(text: &[u8], sink: &mut BitSink)
     requires value { length text.now ≤ 65535 }
     requires room { length (tv.short text.now) ≤ sink.old.spare }

@@ -3,16 +3,16 @@ use Rattle.std.proofs.Common.{◌≡◌, refl, sym, ◌∙◌, ap, subst, ℕ, �
 use Rattle.std.specs.Prelude.{◌≢◌}
 use Rattle.std.specs.Option.{option_map}
 use Rattle.std.proofs.lemmas.List.{append_assoc, append-nil, append_cancel_left, length-append}
-use Rattle.dwg_codes.specs.Codes.{bs}
-use Rattle.dwg_codes.specs.CodeLaws.{unique_of_code}
-use Rattle.dwg_codes.specs.Combinators.{until}
-use Rattle.dwg_codes.specs.Grammar.{AnyLetters, BeginsWith, Reads}
-use Rattle.dwg_codes.specs.TableLaws.{bs_is_code}
-use Rattle.dwg_codes.specs.ToEndLaws.{bs_least}
+use Rattle.dwg_grammar.specs.Codes.{bs}
+use Rattle.dwg_grammar.proofs.CodeLemmas.{unique_of_code}
+use Rattle.dwg_grammar.specs.Combinators.{until}
+use Rattle.dwg_grammar.specs.Grammar.{AnyLetters, BeginsWith, Reads}
+use Rattle.dwg_grammar.proofs.TableLemmas.{bs_is_code}
+use Rattle.dwg_grammar.proofs.ToEndLemmas.{bs_least}
 use Rattle.dwg_common.specs.declared.app_data.AppData.{AppData}
 use Rattle.dwg_common.specs.AppList.{app_item, app_list}
 use Rattle.dwg_common.specs.AppListLaws.{app_item_is_code, app_list_is_code}
-use Rattle.dwg_common.specs.BodyReading.{parsed, parsed_read, parsed_unread}
+use Rattle.dwg_grammar.proofs.BodyReading.{parsed, parsed_read, parsed_unread}
 
 -- the items so far were read at the front of the old bits: a list that is read of the new bits goes on behind them, and where none begins the new bits none begins the old ones
 pub record IsBegun (base : ℕ) (found : List AppData) (old new : List Bool) : Type 0 where

@@ -1,17 +1,18 @@
 -- Application data tried, counted and written, item by item.
 use Rattle.std.proofs.Common.{◌≡◌, refl, sym, ◌∙◌, ap, subst, ℕ, ◌+◌, ◌*◌, ◌<◌, ◌≤◌, Bool, List, [], ◌∷◌, ◌++◌, length, drop, get_or, arith}
 use Rattle.std.proofs.lemmas.List.{append_assoc, append-nil, length-append, drop_more, drop_all}
-use Rattle.dwg_bits.specs.BitLaws.{length_of_bits}
+use Rattle.dwg_bits.proofs.BitLaws.{length_of_bits}
 use Rattle.dwg_bits.specs.Sink.{Written, Extends}
-use Rattle.dwg_bits.specs.SinkLaws.{extends_by_none, extends_by_both}
-use Rattle.dwg_codes.specs.ByteRunLaws.{short_of_bytes}
-use Rattle.dwg_codes.specs.Codes.{bs, rc}
-use Rattle.dwg_codes.specs.Combinators.{chain, until}
-use Rattle.dwg_codes.specs.ToEnd.{short_all}
-use Rattle.dwg_handles.specs.ReferenceCodes.{reference}
+use Rattle.dwg_bits.proofs.SinkLemmas.{extends_by_none, extends_by_both}
+use Rattle.dwg_grammar.proofs.ByteRunLemmas.{short_of_bytes}
+use Rattle.dwg_grammar.specs.Codes.{bs, rc}
+use Rattle.dwg_grammar.specs.Combinators.{chain, until}
+use Rattle.dwg_grammar.specs.ToEnd.{short_all}
+use Rattle.dwg_grammar.specs.ReferenceCodes.{reference}
 use Rattle.dwg_common.specs.declared.app_data.AppData.{AppData}
 use Rattle.dwg_common.specs.AppList.{IsAppData, app_list}
-use Rattle.dwg_common.specs.AppShort.{item_short, items_short, list_short}
+use Rattle.dwg_common.specs.AppShort.{item_short, items_short}
+use Rattle.dwg_common.proofs.AppShort.{list_short}
 
 -- the list is a value exactly where the items that are left are
 pub record AreTried (base : ℕ) (app left : List AppData) : Type 0 where

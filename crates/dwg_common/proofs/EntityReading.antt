@@ -1,7 +1,7 @@
 -- Reading the parts of an entity: what was read where a test holds is what is parsed, and links that are parsed are read.
 use Rattle.std.proofs.Common.{◌≡◌, ℕ, ◌^◌, ◌<◌, Bool, List, Some, None}
-use Rattle.dwg_codes.specs.CodeLaws.{reads_some, reads_none}
-use Rattle.dwg_codes.specs.Grammar.{AnyLetters, Reads}
+use Rattle.dwg_grammar.proofs.CodeLemmas.{reads_some, reads_none}
+use Rattle.dwg_grammar.specs.Grammar.{AnyLetters, Reads}
 use Rattle.dwg_common.specs.declared.entity.Links.{Links}
 use Rattle.dwg_common.specs.CommonLaws.{links_is_part}
 use Rattle.dwg_common.specs.Entities.{links}

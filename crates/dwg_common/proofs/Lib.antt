@@ -1,7 +1,9 @@
+pub mod AppShort
 pub mod AppReading
 pub mod AppWriting
 pub mod ObjectParts
 pub mod EntityReading
-pub mod GraphicParts
+pub mod SizedParts
+pub mod MemberLaws
 pub mod PointReading
 pub mod TextReading

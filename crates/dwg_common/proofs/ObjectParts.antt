@@ -2,12 +2,12 @@
 use Rattle.std.proofs.Common.{◌≡◌, refl, sym, ◌∙◌, ap, ap₂, subst, ℕ, ◌+◌, ◌^◌, ◌<◌, List, ◌++◌, length, true, arith}
 use Rattle.std.proofs.lemmas.List.{length-append}
 use Rattle.dwg_bits.specs.Sink.{Written, Extends}
-use Rattle.dwg_bits.specs.SinkLaws.{extends_by_both}
-use Rattle.dwg_codes.specs.Codes.{bl}
-use Rattle.dwg_codes.specs.Combinators.{chain}
-use Rattle.dwg_codes.specs.ToEnd.{AreValues, short_all}
-use Rattle.dwg_handles.specs.Reference.{Reference, reaches}
-use Rattle.dwg_handles.specs.ReferenceCodes.{reference}
+use Rattle.dwg_bits.proofs.SinkLemmas.{extends_by_both}
+use Rattle.dwg_grammar.specs.Codes.{bl}
+use Rattle.dwg_grammar.specs.Combinators.{chain}
+use Rattle.dwg_grammar.specs.ToEnd.{AreValues, short_all}
+use Rattle.dwg_grammar.specs.Reference.{Reference, reaches}
+use Rattle.dwg_grammar.specs.ReferenceCodes.{reference}
 use Rattle.dwg_common.specs.declared.app_data.AppData.{AppData}
 use Rattle.dwg_common.specs.declared.object.ObjectCommon.{ObjectCommon}
 use Rattle.dwg_common.specs.AppList.{app_list}

@@ -1,24 +1,11 @@
 -- Points that are parsed are read.
 use Rattle.std.proofs.Common.{◌≡◌, sym, subst, ◌^◌, ◌<◌, Bool, List, Option, Some, None}
-use Rattle.dwg_codes.specs.CodeLaws.{reads_some, reads_none}
-use Rattle.dwg_codes.specs.Codes.{bd3}
-use Rattle.dwg_codes.specs.Grammar.{AnyLetters, Reads}
-use Rattle.dwg_codes.specs.TableLaws.{bd3_is_code}
-use Rattle.dwg_codes.specs.declared.points.Point2.{Point2}
-use Rattle.dwg_codes.specs.declared.points.Point3.{Point3}
-use Rattle.dwg_common.specs.BodyReading.{parsed_value}
-use Rattle.dwg_common.specs.PointLaws.{rd2_is_code, dd2_is_code}
-use Rattle.dwg_common.specs.Points.{rd2, dd2}
-
--- three BDs
-pub bd3_read : (value : Point3) (old new : List Bool) → bd3.parse old ≡ Some (value, new) → Reads bd3 (Some value) old new
-bd3_read value old new found = reads_some AnyLetters bd3 old new value bd3_is_code tt found
-
-pub bd3_value : (value : Point3) (old new : List Bool) → bd3.parse old ≡ Some (value, new) → bd3.IsValue value
-bd3_value value old new found = parsed_value bd3 value old new bd3_is_code found
-
-pub bd3_unread : (old : List Bool) → bd3.parse old ≡ None → Reads bd3 None old old
-bd3_unread old none = reads_none AnyLetters bd3 old bd3_is_code none
+use Rattle.dwg_grammar.proofs.CodeLemmas.{reads_some, reads_none}
+use Rattle.dwg_grammar.specs.Grammar.{AnyLetters, Reads}
+use Rattle.dwg_grammar.specs.declared.points.Point2.{Point2}
+use Rattle.dwg_grammar.proofs.BodyReading.{parsed_value}
+use Rattle.dwg_grammar.proofs.PointLemmas.{rd2_is_code, dd2_is_code}
+use Rattle.dwg_grammar.specs.Points.{rd2, dd2}
 
 -- two RDs
 pub rd2_read : (value : Point2) (old new : List Bool) → rd2.parse old ≡ Some (value, new) → Reads rd2 (Some value) old new

@@ -1,13 +1,12 @@
 -- The application data of an object, which stand in its main bits (Open Design Specification, "Extended object data").
 use Rattle.std.specs.Prelude.{◌≡◌, ◌==◌, ℕ, ◌^◌, ◌<◌, ◌≤◌, Bool, true, List, length}
 use Rattle.dwg_base.specs.Bytes.{AreBytes}
-use Rattle.dwg_codes.specs.Codes.{bs, rc}
-use Rattle.dwg_codes.specs.Combinators.{seq, items, until}
-use Rattle.dwg_codes.specs.Grammar.{Grammar}
-use Rattle.dwg_handles.specs.Reference.{reaches}
-use Rattle.dwg_handles.specs.ReferenceCodes.{reference}
+use Rattle.dwg_grammar.specs.Codes.{bs, rc}
+use Rattle.dwg_grammar.specs.Combinators.{seq, items, until, shaped}
+use Rattle.dwg_grammar.specs.Grammar.{Grammar}
+use Rattle.dwg_grammar.specs.Reference.{reaches}
+use Rattle.dwg_grammar.specs.ReferenceCodes.{reference}
 use Rattle.dwg_common.specs.declared.app_data.AppData.{AppData}
-use Rattle.dwg_common.specs.Shaped.{shaped}
 
 -- the parts of one item lie in their ranges: a reference that the object can make, and some bytes
 pub record IsAppData (base : ℕ) (item : AppData) : Type 0 where

@@ -2,19 +2,19 @@
 use Rattle.std.proofs.Common.{◌≡◌, refl, ℕ, ◌^◌, ◌<◌, ◌≤◌, length, arith}
 use Rattle.std.specs.Prelude.{◌==◌, ◌≢◌}
 use Rattle.std.proofs.lemmas.Bool.Decides.{nat_tests}
-use Rattle.dwg_codes.specs.Codes.{bs, rc}
-use Rattle.dwg_codes.specs.Combinators.{seq, chain, items}
-use Rattle.dwg_codes.specs.CombinatorLaws.{any_letters_closed, seq_is_code}
-use Rattle.dwg_codes.specs.Grammar.{IsCode, AnyLetters}
-use Rattle.dwg_codes.specs.ListLaws.{items_is_code, until_is_code}
-use Rattle.dwg_codes.specs.NumberLaws.{rc_is_code, bytes_of_items, items_of_bytes}
-use Rattle.dwg_codes.specs.TableLaws.{bs_is_code}
-use Rattle.dwg_codes.specs.ToEndLaws.{bs_least}
-use Rattle.dwg_handles.specs.ReferenceCodes.{reference}
-use Rattle.dwg_handles.specs.ReferenceLaws.{reference_is_code}
+use Rattle.dwg_grammar.specs.Codes.{bs, rc}
+use Rattle.dwg_grammar.specs.Combinators.{seq, chain, items}
+use Rattle.dwg_grammar.proofs.CombinatorLemmas.{any_letters_closed, seq_is_code}
+use Rattle.dwg_grammar.specs.Grammar.{IsCode, AnyLetters}
+use Rattle.dwg_grammar.proofs.ListLemmas.{items_is_code, until_is_code}
+use Rattle.dwg_grammar.proofs.NumberLemmas.{rc_is_code, bytes_of_items, items_of_bytes}
+use Rattle.dwg_grammar.proofs.TableLemmas.{bs_is_code}
+use Rattle.dwg_grammar.proofs.ToEndLemmas.{bs_least}
+use Rattle.dwg_grammar.specs.ReferenceCodes.{reference}
+use Rattle.dwg_grammar.proofs.ReferenceLemmas.{reference_is_code}
 use Rattle.dwg_common.specs.declared.app_data.AppData.{AppData}
 use Rattle.dwg_common.specs.AppList.{IsAppData, app_item, app_list}
-use Rattle.dwg_common.specs.Shaped.{shaped_is_code}
+use Rattle.dwg_grammar.proofs.Shaped.{shaped_is_code}
 
 -- an item of so many bytes is a code
 pub app_item_is_code : (base size : ℕ) → base < 2 ^ 63 → IsCode AnyLetters (app_item base size)

@@ -1,10 +1,8 @@
 -- What is written of application data, item by item.
-use Rattle.std.proofs.Common.{◌≡◌, refl, sym, ◌∙◌, ap, ℕ, Bool, List, [], ◌∷◌, ◌++◌, length}
-use Rattle.std.proofs.lemmas.List.{append_assoc}
-use Rattle.dwg_codes.specs.Codes.{bs}
-use Rattle.dwg_codes.specs.Combinators.{until}
+use Rattle.std.proofs.Common.{ℕ, Bool, List, [], ◌∷◌, ◌++◌, length}
+use Rattle.dwg_grammar.specs.Codes.{bs}
 use Rattle.dwg_common.specs.declared.app_data.AppData.{AppData}
-use Rattle.dwg_common.specs.AppList.{app_item, app_list}
+use Rattle.dwg_common.specs.AppList.{app_item}
 
 -- an item behind its size
 abbrev pub item_short : ℕ → AppData → List Bool
@@ -14,10 +12,3 @@ item_short base item = bs.short (length item.bytes) ++ (app_item base (length it
 abbrev pub items_short : ℕ → List AppData → List Bool
 items_short base [] = []
 items_short base (item ∷ items) = item_short base item ++ items_short base items
-
--- the list is written by its items and the mark
-pub list_short : (base : ℕ) (items : List AppData) → (app_list base).short items ≡ items_short base items ++ bs.short 0
-unfolding app_list until
-list_short base [] = refl
-list_short base (item ∷ items) =
-    ap (λ behind. item_short base item ++ behind) (list_short base items) ∙ sym (append_assoc (item_short base item) (items_short base items) (bs.short 0))

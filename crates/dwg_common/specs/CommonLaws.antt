@@ -1,15 +1,15 @@
 -- The common parts meet the laws of bodies.
 use Rattle.std.proofs.Common.{◌≡◌, refl, ap, ap₂, ℕ, ◌^◌, ◌<◌, Bool, true, false, List, length, Option}
 use Rattle.std.specs.Prelude.{◌==◌, is_some, is_none, not, nat_lt}
-use Rattle.dwg_codes.specs.Codes.{bb, rc, rl, bs, bl, bd}
-use Rattle.dwg_codes.specs.Combinators.{seq, when, chain, counted}
-use Rattle.dwg_codes.specs.CombinatorLaws.{any_letters_closed, seq_is_code, restrict_is_code}
-use Rattle.dwg_codes.specs.Grammar.{Grammar, IsCode, AnyLetters}
-use Rattle.dwg_codes.specs.ListLaws.{counted_is_code, when_is_code}
-use Rattle.dwg_codes.specs.NumberLaws.{bb_is_code, rc_is_code, rl_is_code}
-use Rattle.dwg_codes.specs.TableLaws.{bs_is_code, bl_is_code, bd_is_code}
-use Rattle.dwg_codes.specs.TruthCode.{b, b_is_code}
-use Rattle.dwg_handles.specs.Reference.{Reference}
+use Rattle.dwg_grammar.specs.Codes.{bb, rc, rl, bs, bl, bd, b}
+use Rattle.dwg_grammar.specs.Combinators.{seq, when, chain, counted}
+use Rattle.dwg_grammar.proofs.CombinatorLemmas.{any_letters_closed, seq_is_code, restrict_is_code}
+use Rattle.dwg_grammar.specs.Grammar.{Grammar, IsCode, AnyLetters}
+use Rattle.dwg_grammar.proofs.ListLemmas.{counted_is_code, when_is_code}
+use Rattle.dwg_grammar.proofs.NumberLemmas.{bb_is_code, rc_is_code, rl_is_code}
+use Rattle.dwg_grammar.proofs.TableLemmas.{bs_is_code, bl_is_code, bd_is_code}
+use Rattle.dwg_grammar.proofs.TruthCode.{b_is_code}
+use Rattle.dwg_grammar.specs.Reference.{Reference}
 use Rattle.dwg_common.specs.declared.app_data.AppData.{AppData}
 use Rattle.dwg_common.specs.declared.entity.Links.{Links}
 use Rattle.dwg_common.specs.declared.entity.Look.{Look}
@@ -17,13 +17,13 @@ use Rattle.dwg_common.specs.declared.entity.Named.{Named}
 use Rattle.dwg_common.specs.declared.entity.Start.{Start}
 use Rattle.dwg_common.specs.AppList.{app_list}
 use Rattle.dwg_common.specs.AppListLaws.{app_list_is_code}
-use Rattle.dwg_common.specs.Bodies.{IsBody}
+use Rattle.dwg_grammar.specs.Bodies.{IsBody}
 use Rattle.dwg_common.specs.Entities.{graphic, entity_mode, entity_start, entity_look, entity_main, links, entity_refs, entity_of, main_of_entity, named_of_entity, entity_common}
-use Rattle.dwg_common.specs.MadeBodies.{body_is_body}
+use Rattle.dwg_grammar.proofs.MadeBodies.{body_is_body}
 use Rattle.dwg_common.specs.NonEntities.{object_main, object_refs, object_common}
-use Rattle.dwg_common.specs.References.{one_ref, then_refs}
-use Rattle.dwg_common.specs.ReferenceParts.{IsReferencePart, one_is_part, some_is_part, maybe_is_part, then_is_part, seen_is_part}
-use Rattle.dwg_common.specs.Shaped.{shaped_is_code}
+use Rattle.dwg_grammar.specs.References.{one_ref, then_refs, IsReferencePart}
+use Rattle.dwg_grammar.proofs.ReferenceParts.{one_is_part, some_is_part, maybe_is_part, then_is_part, seen_is_part}
+use Rattle.dwg_grammar.proofs.Shaped.{shaped_is_code}
 
 -- a value that is there by a test is there exactly where the test holds
 pub there_by_test : {V : Type 0} (test : Bool) (code : Grammar Bool V) (value : Option V) → (when test code).IsValue value → is_some value ≡ test

@@ -1,19 +1,17 @@
 -- What all entities have (Open Design Specification, "Common entity data"). Which values of the mode there are is a rule of this project.
 use Rattle.std.specs.Prelude.{◌==◌, ℕ, Bool, List, length, Option, nat_lt, is_some, is_none, not}
-use Rattle.dwg_codes.specs.Codes.{bb, rc, rl, bs, bl, bd}
-use Rattle.dwg_codes.specs.Combinators.{seq, restrict, when, counted}
-use Rattle.dwg_codes.specs.Grammar.{Grammar}
-use Rattle.dwg_codes.specs.TruthCode.{b}
+use Rattle.dwg_grammar.specs.Codes.{bb, rc, rl, bs, bl, bd, b}
+use Rattle.dwg_grammar.specs.Combinators.{seq, restrict, when, counted, shaped}
+use Rattle.dwg_grammar.specs.Grammar.{Grammar}
 use Rattle.dwg_common.specs.declared.entity.EntityCommon.{EntityCommon}
 use Rattle.dwg_common.specs.declared.entity.Links.{Links}
 use Rattle.dwg_common.specs.declared.entity.Look.{Look}
 use Rattle.dwg_common.specs.declared.entity.Named.{Named}
 use Rattle.dwg_common.specs.declared.entity.Start.{Start}
 use Rattle.dwg_common.specs.AppList.{app_list}
-use Rattle.dwg_common.specs.Bodies.{BodyGrammar}
-use Rattle.dwg_common.specs.MakingBodies.{body}
-use Rattle.dwg_common.specs.References.{ReferencePart, one_ref, some_refs, maybe_refs, then_refs, seen_refs}
-use Rattle.dwg_common.specs.Shaped.{shaped}
+use Rattle.dwg_grammar.specs.Bodies.{BodyGrammar}
+use Rattle.dwg_grammar.specs.MakingBodies.{body}
+use Rattle.dwg_grammar.specs.References.{ReferencePart, one_ref, some_refs, maybe_refs, then_refs, seen_refs}
 
 -- B, and where it is 1 RL size and so many bytes
 unfoldable pub graphic : Grammar Bool (Option (List ℕ))

@@ -1,18 +1,14 @@
-pub mod Shaped
-pub mod Bodies
-pub mod BodyLaws
-pub mod References
-pub mod ReferenceParts
-pub mod MakingBodies
-pub mod MadeBodies
-pub mod ToEndBodies
-pub mod Points
-pub mod PointLaws
+-- Members of a list of which the main bits tell one part each and the references name another.
+pub mod Members
+-- The application data of an object, which stand in its main bits.
 pub mod AppList
+-- What all entities have.
 pub mod Entities
+-- What all objects have that are no entities.
 pub mod NonEntities
+-- What is written of application data, item by item.
 pub mod AppShort
+-- Application data are a code.
 pub mod AppListLaws
+-- The common parts meet the laws of bodies.
 pub mod CommonLaws
-pub mod MainBodies
-pub mod BodyReading

@@ -1,15 +1,15 @@
 -- What all objects have that are no entities (Open Design Specification, "Common non-entity object format").
 use Rattle.std.specs.Prelude.{ℕ, Bool, List, length}
-use Rattle.dwg_codes.specs.Codes.{bl}
-use Rattle.dwg_codes.specs.Combinators.{seq}
-use Rattle.dwg_codes.specs.Grammar.{Grammar}
-use Rattle.dwg_handles.specs.Reference.{Reference}
+use Rattle.dwg_grammar.specs.Codes.{bl}
+use Rattle.dwg_grammar.specs.Combinators.{seq}
+use Rattle.dwg_grammar.specs.Grammar.{Grammar}
+use Rattle.dwg_grammar.specs.Reference.{Reference}
 use Rattle.dwg_common.specs.declared.app_data.AppData.{AppData}
 use Rattle.dwg_common.specs.declared.object.ObjectCommon.{ObjectCommon}
 use Rattle.dwg_common.specs.AppList.{app_list}
-use Rattle.dwg_common.specs.Bodies.{BodyGrammar}
-use Rattle.dwg_common.specs.MakingBodies.{body}
-use Rattle.dwg_common.specs.References.{ReferencePart, one_ref, some_refs, then_refs}
+use Rattle.dwg_grammar.specs.Bodies.{BodyGrammar}
+use Rattle.dwg_grammar.specs.MakingBodies.{body}
+use Rattle.dwg_grammar.specs.References.{ReferencePart, one_ref, some_refs, then_refs}
 
 -- application data; BL count of reactors
 abbrev pub object_main : ℕ → Grammar Bool (List AppData × ℕ)

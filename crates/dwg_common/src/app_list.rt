@@ -71,7 +71,7 @@ pub(crate) fn read_items(
 }
 
 /// Whether an item has 1 to 65,535 bytes.
-#[tactic(auto, using(dwg_base::specs::Bytes::are_bytes))]
+#[tactic(auto, using(dwg_base::proofs::ByteLists::are_bytes))]
 fn size_fits(bytes: &[u8]) -> bool
     ensures size { IsTrue result ↔ (1 ≤ length bytes.now) × (length bytes.now < 2 ^ 16) }
     ensures bytes { AreBytes bytes.now }

@@ -3,8 +3,7 @@
 ghost use Rattle.std.specs.Prelude.{◌≡◌, ◌^◌, ◌<◌, ◌≤◌, ◌↔◌, ℕ, Ok, None, length, IfOk, IfSome, IsTrue};
 ghost use Rattle.dwg_bits.specs.Cursor.{rest};
 ghost use Rattle.dwg_bits.specs.Sink.{Extends};
-ghost use Rattle.dwg_common.specs.Bodies.{BodyGrammar, IsBody, ReadsBody};
-ghost use Rattle.dwg_common.specs.BodyLaws.{IsLawfulBody};
+ghost use Rattle.dwg_grammar.specs.Bodies.{BodyGrammar, IsBody, ReadsBody, IsLawfulBody};
 
 use dwg_base::{Handle, NoMemory};
 use dwg_bits::{BitCursor, BitSink};

@@ -4,18 +4,16 @@ ghost use Rattle.std.specs.Prelude.{◌≡◌, ◌^◌, ◌<◌, ◌≤◌, ◌�
 ghost use Rattle.std.specs.Option.{option_map};
 ghost use Rattle.dwg_bits.specs.Cursor.{rest};
 ghost use Rattle.dwg_bits.specs.Sink.{Extends};
-ghost use Rattle.dwg_codes.specs.Codes.{rc, rl};
-ghost use Rattle.dwg_codes.specs.Combinators.{counted};
+ghost use Rattle.dwg_grammar.specs.Codes.{rc, rl};
+ghost use Rattle.dwg_grammar.specs.Combinators.{counted};
 ghost use Rattle.dwg_common.specs.Entities.{graphic};
 
+use crate::counts::TOO_MANY;
 use crate::parts::{parse_bytes, parse_code};
 use dwg_base::{ByteRun, NoMemory};
 use dwg_bits::{BitCursor, BitSink};
 use dwg_codes::{BitCode, CodeB, CodeRL, bytes_length, write_bytes};
 use std::alloc::Global;
-
-/// How many bytes can't be told: their size is an RL.
-const TOO_MANY: usize = 1 << 32;
 
 /// Reads a size and so many bytes.
 fn read_sized(alloc: Global, cursor: &mut BitCursor<'_>) -> Result<Option<ByteRun>, NoMemory>
@@ -56,7 +54,7 @@ pub(crate) fn read_graphic(
 }
 
 /// Whether a size of 32 bits can tell how many bytes there are.
-#[tactic(auto, using(dwg_base::specs::Bytes::are_bytes, crate::proofs::GraphicParts::sized_value))]
+#[tactic(auto, using(dwg_base::proofs::ByteLists::are_bytes, crate::proofs::SizedParts::rl_value))]
 fn sized_fits(bytes: &[u8]) -> bool
     ensures { IsTrue result ↔ (counted rl rc).IsValue bytes.now }
 {
@@ -75,7 +73,7 @@ pub(crate) fn graphic_fits(picture: &Option<ByteRun>) -> bool
 }
 
 /// How many bits a size and so many bytes are written by.
-#[tactic(auto, using(crate::proofs::GraphicParts::sized_length, dwg_codes::specs::NumberLaws::length_of_rl))]
+#[tactic(auto, using(crate::proofs::SizedParts::rl_length, dwg_grammar::proofs::NumberLemmas::length_of_rl))]
 fn sized_bits(bytes: &[u8]) -> u64
     requires { (counted rl rc).IsValue bytes.now }
     ensures length { result ≡ length ((counted rl rc).short bytes.now) }
@@ -98,7 +96,7 @@ pub(crate) fn graphic_bits(picture: &Option<ByteRun>) -> u64
 }
 
 /// Writes a size and so many bytes.
-#[tactic(auto, using(crate::proofs::GraphicParts::sized_length, dwg_codes::specs::NumberLaws::length_of_rl))]
+#[tactic(auto, using(crate::proofs::SizedParts::rl_length, dwg_grammar::proofs::NumberLemmas::length_of_rl))]
 fn write_sized(bytes: &[u8], sink: &mut BitSink)
     requires value { (counted rl rc).IsValue bytes.now }
     requires room { length ((counted rl rc).short bytes.now) ≤ sink.old.spare }

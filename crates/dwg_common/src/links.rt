@@ -27,7 +27,7 @@ fn read_links(cursor: &mut BitCursor<'_>, base: Handle) -> Option<Links>
 }
 
 /// Whether both entities can be told from the entity of the handle `base`.
-#[tactic(auto, unfolding(dwg_handles::specs::ReferenceCodes::reference))]
+#[tactic(auto, unfolding(dwg_grammar::specs::ReferenceCodes::reference))]
 pub(crate) fn links_fit(value: &Links, base: Handle) -> bool
     ensures { IsTrue result ↔ (links base).grammar.IsValue value.now }
 {
@@ -59,7 +59,7 @@ impl BitCode for CodeLinks {
         Some(links)
     }
 
-    #[tactic(auto, unfolding(dwg_handles::specs::ReferenceCodes::reference))]
+    #[tactic(auto, unfolding(dwg_grammar::specs::ReferenceCodes::reference))]
     fn length(context: &Handle, value: &Links) -> u64 {
         ref_bits(value.previous, *context) + ref_bits(value.next, *context)
     }

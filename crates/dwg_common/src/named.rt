@@ -4,10 +4,10 @@ ghost use Rattle.std.specs.Prelude.{◌≡◌, ◌==◌, ◌^◌, ◌<◌, ◌�
 ghost use Rattle.std.specs.Option.{option_map};
 ghost use Rattle.dwg_bits.specs.Cursor.{rest};
 ghost use Rattle.dwg_bits.specs.Sink.{Extends};
-ghost use Rattle.dwg_codes.specs.Combinators.{items, when};
-ghost use Rattle.dwg_handles.specs.ReferenceCodes.{reference};
+ghost use Rattle.dwg_grammar.specs.Combinators.{items, when};
+ghost use Rattle.dwg_grammar.specs.ReferenceCodes.{reference};
 ghost use Rattle.dwg_common.specs.Entities.{entity_refs, links, main_of_entity, named_of_entity};
-ghost use Rattle.dwg_common.specs.References.{maybe_refs, one_ref, then_refs};
+ghost use Rattle.dwg_grammar.specs.References.{maybe_refs, one_ref, then_refs};
 
 use crate::entity::{EntityCommon, Links, Look, Named, Start};
 use crate::links::{CodeLinks, links_fit};
@@ -86,7 +86,7 @@ pub(crate) fn read_named(
 }
 
 /// Whether a reference is there exactly where it is present, and can be told from the object of the handle `base`.
-#[tactic(auto, unfolding(dwg_handles::specs::ReferenceCodes::reference))]
+#[tactic(auto, unfolding(dwg_grammar::specs::ReferenceCodes::reference))]
 fn ref_fits_when(present: bool, value: &Option<Ref>, base: Handle) -> bool
     ensures { IsTrue result ↔ (when present (reference base)).IsValue value.now }
 {
@@ -102,7 +102,7 @@ fn ref_fits_when(present: bool, value: &Option<Ref>, base: Handle) -> bool
 }
 
 /// Whether each of so many references can be told from the object of the handle `base`.
-#[tactic(auto, unfolding(dwg_codes::specs::Combinators::chain))]
+#[tactic(auto, unfolding(dwg_grammar::specs::Combinators::chain))]
 fn reactors_fit(refs: &[Ref], base: Handle) -> bool
     ensures { IsTrue result ↔ (items (reference base) (length refs.now)).IsValue refs.now }
 {
@@ -121,7 +121,7 @@ fn links_fit_where_there(value: &Option<Links>, base: Handle) -> bool
 
 /// Whether what an entity names can be told from it: its owner is there exactly where its mode is 0, its linetype and its
 /// plot style exactly where their flags are 3, and each reference reaches its target.
-#[tactic(auto, unfolding(dwg_handles::specs::ReferenceCodes::reference))]
+#[tactic(auto, unfolding(dwg_grammar::specs::ReferenceCodes::reference))]
 pub(crate) fn names_fit(common: &EntityCommon, base: Handle) -> bool
     ensures { IsTrue result ↔ (entity_refs base (main_of_entity common.now)).grammar.IsValue (named_of_entity common.now) }
 {
@@ -147,7 +147,7 @@ pub(crate) fn names_fit(common: &EntityCommon, base: Handle) -> bool
 }
 
 /// How many bits what an entity names is written by.
-#[tactic(auto, unfolding(dwg_codes::specs::Combinators::chain))]
+#[tactic(auto, unfolding(dwg_grammar::specs::Combinators::chain))]
 pub(crate) fn names_bits(common: &EntityCommon, base: Handle) -> u64
     requires value { (entity_refs base (main_of_entity common.now)).grammar.IsValue (named_of_entity common.now) }
     requires few { length ((entity_refs base (main_of_entity common.now)).grammar.short (named_of_entity common.now)) < 2 ^ 62 }
@@ -165,7 +165,7 @@ pub(crate) fn names_bits(common: &EntityCommon, base: Handle) -> u64
 }
 
 /// Writes what an entity names.
-#[tactic(auto, unfolding(dwg_codes::specs::Combinators::chain))]
+#[tactic(auto, unfolding(dwg_grammar::specs::Combinators::chain))]
 pub(crate) fn write_names(common: &EntityCommon, base: Handle, sink: &mut BitSink)
     requires value { (entity_refs base (main_of_entity common.now)).grammar.IsValue (named_of_entity common.now) }
     requires room { length ((entity_refs base (main_of_entity common.now)).grammar.short (named_of_entity common.now)) ≤ sink.old.spare }

@@ -9,15 +9,13 @@ ghost use Rattle.dwg_common.specs.NonEntities.{object_common};
 use crate::app_data::AppData;
 use crate::app_list::{app_fits, app_length, read_items, write_app};
 use crate::body::{BodyCode, Lengths};
+use crate::counts::TOO_MANY;
 use crate::parts::{parse_code, parse_ref, parse_refs};
 use dwg_base::{Handle, Items, NoMemory};
 use dwg_bits::{BitCursor, BitSink};
 use dwg_codes::{BitCode, CodeBL};
 use dwg_handles::{Ref, ref_bits, refs_bits, refs_fit, write_ref, write_refs};
 use std::alloc::Global;
-
-/// How many objects can't be told to watch one: their count is a BL.
-const TOO_MANY: usize = 1 << 32;
 
 /// What all objects have that are no entities (Open Design Specification, "Common non-entity object format").
 #[derive(Drop)]

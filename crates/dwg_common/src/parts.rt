@@ -3,9 +3,9 @@
 ghost use Rattle.std.specs.Prelude.{◌≡◌, IfOk};
 ghost use Rattle.std.specs.Option.{option_map};
 ghost use Rattle.dwg_bits.specs.Cursor.{rest};
-ghost use Rattle.dwg_codes.specs.Codes.{rc};
-ghost use Rattle.dwg_codes.specs.Combinators.{items, when};
-ghost use Rattle.dwg_handles.specs.ReferenceCodes.{reference};
+ghost use Rattle.dwg_grammar.specs.Codes.{rc};
+ghost use Rattle.dwg_grammar.specs.Combinators.{items, when};
+ghost use Rattle.dwg_grammar.specs.ReferenceCodes.{reference};
 
 use dwg_base::{ByteRun, Handle, Items, NoMemory};
 use dwg_bits::BitCursor;
@@ -24,7 +24,7 @@ pub fn parse_code<C: BitCode>(context: &C::Context, cursor: &mut BitCursor<'_>) 
 }
 
 /// Reads a reference of the object of the handle `base`. None exactly where no front of the rest spells one.
-#[tactic(auto, using(crate::specs::BodyReading::ref_parsed))]
+#[tactic(auto, using(dwg_grammar::proofs::BodyReading::ref_parsed))]
 pub fn parse_ref(cursor: &mut BitCursor<'_>, base: Handle) -> Option<Ref>
     ensures parsed { (reference base).parse (rest cursor.old) ≡ option_map (λ found. (found, rest cursor.new)) result }
     ensures same_bytes { cursor.new.bytes.now ≡ cursor.old.bytes.now }
@@ -37,7 +37,7 @@ pub fn parse_ref(cursor: &mut BitCursor<'_>, base: Handle) -> Option<Ref>
 
 /// Reads so many references of the object of the handle `base`. None exactly where one of them isn't spelled; the only refusal
 /// is want of memory, which is taken only for references that are there.
-#[tactic(auto, using(crate::specs::BodyReading::refs_parsed))]
+#[tactic(auto, using(dwg_grammar::proofs::BodyReading::refs_parsed))]
 pub fn parse_refs(
     alloc: Global,
     cursor: &mut BitCursor<'_>,
@@ -74,7 +74,7 @@ where
 
 /// Reads so many bytes. None exactly where fewer are left; the only refusal is want of memory, which is taken only for bytes
 /// that are there.
-#[tactic(auto, using(crate::specs::BodyReading::bytes_parsed))]
+#[tactic(auto, using(dwg_grammar::proofs::BodyReading::bytes_parsed))]
 pub fn parse_bytes(
     alloc: Global,
     count: u32,

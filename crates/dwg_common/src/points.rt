@@ -3,61 +3,21 @@
 ghost use Rattle.std.specs.Prelude.{◌≡◌, ◌^◌, ◌<◌, ⊤};
 ghost use Rattle.std.specs.Option.{option_map};
 ghost use Rattle.dwg_bits.specs.Cursor.{rest};
-ghost use Rattle.dwg_codes.specs.Codes.{bd3};
-ghost use Rattle.dwg_codes.specs.TableLaws.{bd3_is_code};
-ghost use Rattle.dwg_common.specs.PointLaws.{rd2_is_code, dd2_is_code};
-ghost use Rattle.dwg_common.specs.Points.{IsPoint2, rd2, dd2};
+ghost use Rattle.dwg_grammar.specs.Codes.{IsPoint3};
+ghost use Rattle.dwg_grammar.proofs.PointLemmas.{rd2_is_code, dd2_is_code};
+ghost use Rattle.dwg_grammar.specs.Points.{IsPoint2, rd2, dd2};
 
 use crate::parts::parse_code;
 use dwg_bits::{BitCursor, BitSink};
-use dwg_codes::{BitCode, CodeBD, CodeDD, CodeRD, Point2, Point3};
+use dwg_codes::{BitCode, CodeDD, CodeRD, Point2, Point3};
 
-/// Reads three BDs, as they are parsed.
-fn read_three(cursor: &mut BitCursor<'_>) -> Option<Point3>
-    ensures parsed { bd3.parse (rest cursor.old) ≡ option_map (λ point. (point, rest cursor.new)) result }
-    ensures same_bytes { cursor.new.bytes.now ≡ cursor.old.bytes.now }
-    ensures same_end { cursor.new.end ≡ cursor.old.end }
+/// The words of a point lie in the range of their type: it finds nothing out, and tells the proof what holds of every point.
+pub fn known_point(point: &Point3)
+    ensures { IsPoint3 point.now }
 {
-    let x = parse_code::<CodeBD>(&(), cursor)?;
-    let y = parse_code::<CodeBD>(&(), cursor)?;
-    let z = parse_code::<CodeBD>(&(), cursor)?;
-    Some(Point3 { x, y, z })
-}
-
-/// 3BD: a BD for each word of a point of space, x first.
-pub struct Code3BD;
-
-impl BitCode for Code3BD {
-    type Context = ();
-
-    type Value = Point3;
-
-    ghost grammar = { λ context. bd3 };
-
-    ghost IsContext = { λ context. ⊤ };
-
-    #[tactic(auto, using(crate::proofs::PointReading::bd3_read, crate::proofs::PointReading::bd3_unread, crate::proofs::PointReading::bd3_value))]
-    fn read(_context: &(), cursor: &mut BitCursor<'_>) -> Option<Point3> {
-        let mut ahead = *cursor;
-        let point = read_three(&mut ahead)?;
-        *cursor = ahead;
-        Some(point)
-    }
-
-    #[tactic(auto, using(crate::specs::PointLaws::bd_at_most))]
-    fn length(_context: &(), value: &Point3) -> u64 {
-        CodeBD::length(&(), &value.x)
-            + CodeBD::length(&(), &value.y)
-            + CodeBD::length(&(), &value.z)
-    }
-
-    fn write(_context: &(), value: &Point3, sink: &mut BitSink) {
-        CodeBD::write(&(), &value.x, sink);
-        CodeBD::write(&(), &value.y, sink);
-        CodeBD::write(&(), &value.z, sink);
-    }
-
-    ghost laws = { λ context is. bd3_is_code };
+    let _x = point.x;
+    let _y = point.y;
+    let _z = point.z;
 }
 
 /// Reads two RDs, as they are parsed.
@@ -91,7 +51,7 @@ impl BitCode for Code2RD {
         Some(point)
     }
 
-    #[tactic(auto, using(dwg_codes::specs::NumberLaws::length_of_rd))]
+    #[tactic(auto, using(dwg_grammar::proofs::NumberLemmas::length_of_rd))]
     fn length(_context: &(), value: &Point2) -> u64 {
         CodeRD::length(&(), &value.x) + CodeRD::length(&(), &value.y)
     }
@@ -138,7 +98,7 @@ impl BitCode for Code2DD {
         Some(point)
     }
 
-    #[tactic(auto, using(crate::specs::PointLaws::dd_at_most))]
+    #[tactic(auto, using(dwg_grammar::proofs::Bounds::dd_at_most))]
     fn length(context: &Point2, value: &Point2) -> u64 {
         CodeDD::length(&context.x, &value.x) + CodeDD::length(&context.y, &value.y)
     }

@@ -7,6 +7,7 @@ ghost use Rattle.dwg_bits.specs.Sink.{Extends};
 ghost use Rattle.dwg_common.specs.Entities.{entity_mode, entity_start, main_of_entity};
 
 use crate::app_list::{app_fits, app_length, read_items, write_app};
+use crate::counts::TOO_MANY;
 use crate::entity::{EntityCommon, Start};
 use crate::graphic::{graphic_bits, graphic_fits, read_graphic, write_graphic};
 use crate::parts::parse_code;
@@ -17,9 +18,6 @@ use std::alloc::Global;
 
 /// The last of the modes: to the model space.
 const LAST_MODE: u8 = 2;
-
-/// How many objects can't be told to watch one: their count is a BL.
-const TOO_MANY: usize = 1 << 32;
 
 /// Reads where an entity belongs, as it is parsed: 0, 1 or 2.
 fn read_mode(cursor: &mut BitCursor<'_>) -> Option<u8>

@@ -4,7 +4,7 @@ ghost use Rattle.std.specs.Prelude.{◌≡◌, ◌^◌, ◌<◌, ◌≤◌, ◌�
 ghost use Rattle.std.specs.Option.{option_map};
 ghost use Rattle.dwg_bits.specs.Cursor.{rest};
 ghost use Rattle.dwg_bits.specs.Sink.{Extends};
-ghost use Rattle.dwg_codes.specs.Codes.{tv};
+ghost use Rattle.dwg_grammar.specs.Codes.{tv};
 
 use dwg_base::{ByteRun, NoMemory};
 use dwg_bits::{BitCursor, BitSink};
@@ -25,7 +25,7 @@ pub fn parse_tv(alloc: Global, cursor: &mut BitCursor<'_>) -> Result<Option<Byte
 }
 
 /// Whether bytes can be told by a TV: they are at most 65,535.
-#[tactic(auto, using(dwg_base::specs::Bytes::are_bytes, dwg_codes::specs::TableLaws::tv_has, dwg_codes::specs::TableLaws::tv_bytes))]
+#[tactic(auto, using(dwg_base::proofs::ByteLists::are_bytes, dwg_grammar::proofs::TableLemmas::tv_has, dwg_grammar::proofs::TableLemmas::tv_bytes))]
 pub fn tv_fits(text: &[u8]) -> bool
     ensures { IsTrue result ↔ tv.IsValue text.now }
 {
@@ -33,7 +33,7 @@ pub fn tv_fits(text: &[u8]) -> bool
 }
 
 /// How many bits a TV is written by.
-#[tactic(auto, using(dwg_codes::specs::TableLaws::tv_bytes))]
+#[tactic(auto, using(dwg_grammar::proofs::TableLemmas::tv_bytes))]
 pub fn tv_bits(text: &[u8]) -> u64
     requires { tv.IsValue text.now }
     ensures length { result ≡ length (tv.short text.now) }
@@ -43,7 +43,7 @@ pub fn tv_bits(text: &[u8]) -> u64
 }
 
 /// Writes a TV.
-#[tactic(auto, using(dwg_codes::specs::TableLaws::tv_bytes))]
+#[tactic(auto, using(dwg_grammar::proofs::TableLemmas::tv_bytes))]
 pub fn write_tv(text: &[u8], sink: &mut BitSink)
     requires value { tv.IsValue text.now }
     requires room { length (tv.short text.now) ≤ sink.old.spare }

@@ -1,9 +1,9 @@
 -- A control is read as its entries are, and as what it names beside them.
 use Rattle.std.proofs.Common.{◌≡◌, ℕ, Bool, List}
 use Rattle.std.specs.Option.{option_map}
-use Rattle.dwg_codes.specs.Codes.{bl}
-use Rattle.dwg_common.specs.References.{some_refs}
-use Rattle.dwg_handles.specs.Reference.{Reference}
+use Rattle.dwg_grammar.specs.Codes.{bl}
+use Rattle.dwg_grammar.specs.References.{some_refs}
+use Rattle.dwg_grammar.specs.Reference.{Reference}
 use Rattle.dwg_dicts.specs.declared.appid_control.AppIdControl.{AppIdControl}
 use Rattle.dwg_dicts.specs.declared.block_control.BlockControl.{BlockControl}
 use Rattle.dwg_dicts.specs.declared.layer_control.LayerControl.{LayerControl}

@@ -2,11 +2,11 @@
 use Rattle.std.proofs.Common.{◌≡◌, refl, ◌∙◌, ap, ℕ, suc, ◌^◌, ◌<◌, Bool, List, ◌++◌, length, Option, Some, None, arith}
 use Rattle.std.specs.Option.{option_map}
 use Rattle.std.proofs.lemmas.List.{length-append}
-use Rattle.dwg_codes.specs.ToEnd.{SpellsToEnd, ReadsToEnd}
-use Rattle.dwg_common.specs.ToEndBodies.{to_end_sound, to_end_complete}
-use Rattle.dwg_handles.specs.Reference.{Reference}
-use Rattle.dwg_handles.specs.ReferenceCodes.{reference}
-use Rattle.dwg_handles.specs.ReferenceLaws.{reference_is_code, reference_least}
+use Rattle.dwg_grammar.specs.ToEnd.{SpellsToEnd, ReadsToEnd}
+use Rattle.dwg_grammar.proofs.ToEndBodies.{to_end_sound, to_end_complete}
+use Rattle.dwg_grammar.specs.Reference.{Reference}
+use Rattle.dwg_grammar.specs.ReferenceCodes.{reference}
+use Rattle.dwg_grammar.proofs.ReferenceLemmas.{reference_is_code, reference_least}
 use Rattle.dwg_dicts.specs.XRecords.{all_targets}
 
 -- letters that aren't cut to the end are parsed as none

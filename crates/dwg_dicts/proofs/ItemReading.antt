@@ -3,13 +3,13 @@ use Rattle.std.proofs.Common.{◌≡◌, refl, sym, ◌∙◌, ap, ap₂, ℕ, z
 use Rattle.std.specs.Prelude.{option_and_then}
 use Rattle.std.specs.Option.{option_map}
 use Rattle.std.proofs.lemmas.List.{append_assoc, append-nil}
-use Rattle.dwg_codes.specs.Codes.{tv}
-use Rattle.dwg_codes.specs.Combinators.{items, chain}
-use Rattle.dwg_handles.specs.Reference.{Reference}
-use Rattle.dwg_handles.specs.ReferenceCodes.{reference}
+use Rattle.dwg_grammar.specs.Codes.{tv}
+use Rattle.dwg_grammar.specs.Combinators.{items, chain}
+use Rattle.dwg_grammar.specs.Reference.{Reference}
+use Rattle.dwg_grammar.specs.ReferenceCodes.{reference}
 use Rattle.dwg_dicts.specs.declared.dictionary.DictItem.{DictItem}
 use Rattle.dwg_dicts.specs.declared.dictionary.Dictionary.{Dictionary}
-use Rattle.dwg_dicts.specs.Dictionaries.{dictionary_start, named_items, items_alone, dictionary_body}
+use Rattle.dwg_dicts.specs.Dictionaries.{dictionary_start, item_of, named_items, items_alone, dictionary_body}
 
 -- items that are found behind others
 abbrev pub found_behind : List DictItem → List DictItem × (List Bool × List Bool) → List DictItem × (List Bool × List Bool)
@@ -22,9 +22,6 @@ both_found names targets = (named_items names.0 targets.0, (names.1, targets.1))
 -- one more in front
 abbrev pub in_front : {V : Type 0} → V → List V × List Bool → List V × List Bool
 in_front {V} value others = (value ∷ others.0, others.1)
-
-abbrev pub item_of : List ℕ → Reference → DictItem
-item_of name target = record { name = name; target = target }
 
 -- a name in front of names and a target in front of targets are an item in front of items
 front_found : (name : List ℕ) (target : Reference) (names : Option (List (List ℕ) × List Bool)) (targets : Option (List Reference × List Bool))
@@ -117,31 +114,32 @@ one_begun base count done found more named reached name target main main_now mai
     one_more base count done so_far.left found more name target main main_now main_new references references_now references_new so_far.counted fewer pushed
     (was_name ∙ ap (option_map (λ (one : List ℕ). (one, main_new))) is_name) (was_target ∙ ap (option_map (λ (one : Reference). (one, references_new))) is_target) so_far.goes_on
 
+-- where no item is parsed of what is left, none are parsed of all
+none_behind : (base count done : ℕ) (found : List DictItem) (main main_now references references_now : List Bool) → done < count
+    → ((left : ℕ) → (items_alone base (suc left)).parse main_now references_now ≡ None) → AreBegun base count done found main main_now references references_now
+    → (items_alone base count).parse main references ≡ None
+none_behind base count done found main main_now references references_now fewer missing so_far = by_left so_far.left so_far.counted so_far.goes_on
+  where
+    by_left : (left : ℕ) → done + left ≡ count → (items_alone base count).parse main references ≡ option_map (found_behind found) ((items_alone base left).parse main_now references_now)
+        → (items_alone base count).parse main references ≡ None
+    by_left zero counted goes_on = absurd (omega arith)
+    by_left (suc left) counted goes_on = goes_on ∙ ap (option_map (found_behind found)) (missing left)
+
 -- where a name isn't there, the items aren't
 pub name_missing : (base count done : ℕ) (found : List DictItem) (named : Option (List ℕ)) (main main_now main_new references references_now : List Bool) → done < count → named ≡ None
     → tv.parse main_now ≡ option_map (λ (one : List ℕ). (one, main_new)) named → AreBegun base count done found main main_now references references_now
     → (items_alone base count).parse main references ≡ None
 name_missing base count done found named main main_now main_new references references_now fewer missing was so_far =
-    by_left so_far.left so_far.counted so_far.goes_on
-  where
-    by_left : (left : ℕ) → done + left ≡ count → (items_alone base count).parse main references ≡ option_map (found_behind found) ((items_alone base left).parse main_now references_now)
-        → (items_alone base count).parse main references ≡ None
-    by_left zero counted goes_on = absurd (omega arith)
-    by_left (suc left) counted goes_on =
-        goes_on ∙ ap (option_map (found_behind found)) (name_unparsed base left main_now references_now (was ∙ ap (option_map (λ (one : List ℕ). (one, main_new))) missing))
+    none_behind base count done found main main_now references references_now fewer
+    (λ left. name_unparsed base left main_now references_now (was ∙ ap (option_map (λ (one : List ℕ). (one, main_new))) missing)) so_far
 
 -- nor where a target isn't there
 pub target_missing : (base count done : ℕ) (found : List DictItem) (reached : Option Reference) (main main_now references references_now references_new : List Bool) → done < count → reached ≡ None
     → (reference base).parse references_now ≡ option_map (λ (one : Reference). (one, references_new)) reached → AreBegun base count done found main main_now references references_now
     → (items_alone base count).parse main references ≡ None
 target_missing base count done found reached main main_now references references_now references_new fewer missing was so_far =
-    by_left so_far.left so_far.counted so_far.goes_on
-  where
-    by_left : (left : ℕ) → done + left ≡ count → (items_alone base count).parse main references ≡ option_map (found_behind found) ((items_alone base left).parse main_now references_now)
-        → (items_alone base count).parse main references ≡ None
-    by_left zero counted goes_on = absurd (omega arith)
-    by_left (suc left) counted goes_on =
-        goes_on ∙ ap (option_map (found_behind found)) (target_unparsed base left main_now references_now (was ∙ ap (option_map (λ (one : Reference). (one, references_new))) missing))
+    none_behind base count done found main main_now references references_now fewer
+    (λ left. target_unparsed base left main_now references_now (was ∙ ap (option_map (λ (one : Reference). (one, references_new))) missing)) so_far
 
 -- no items are parsed of no bits
 none_left : (base : ℕ) (main references : List Bool) → (items_alone base 0).parse main references ≡ Some ([], (main, references))

@@ -1,7 +1,7 @@
+pub mod DictionaryLaws
 pub mod SeenReading
 pub mod ControlReading
 pub mod ItemReading
 pub mod PartWriting
 pub mod ItemFitting
-pub mod SizedParts
 pub mod EndReading

@@ -3,9 +3,9 @@ use Rattle.std.proofs.Common.{◌≡◌, refl, sym, ◌∙◌, ap, subst, ℕ, �
 use Rattle.std.specs.Prelude.{map}
 use Rattle.std.proofs.lemmas.List.{append_assoc, append-nil, length-append, drop_more, drop_all}
 use Rattle.dwg_bits.specs.Sink.{Written, Extends}
-use Rattle.dwg_bits.specs.SinkLaws.{extends_by_none, extends_by_both}
-use Rattle.dwg_codes.specs.Grammar.{Grammar}
-use Rattle.dwg_codes.specs.ToEnd.{AreValues, short_all}
+use Rattle.dwg_bits.proofs.SinkLemmas.{extends_by_none, extends_by_both}
+use Rattle.dwg_grammar.specs.Grammar.{Grammar}
+use Rattle.dwg_grammar.specs.ToEnd.{AreValues, short_all}
 
 -- what is left from a place on is the value there and what is left behind it
 pub left_at : {T : Type 0} (values : List T) (i : ℕ) (value : T) → i < length values → value ≡ get_or values i value → drop i values ≡ value ∷ drop (i + 1) values

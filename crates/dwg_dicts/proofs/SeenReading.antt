@@ -2,8 +2,8 @@
 use Rattle.std.proofs.Common.{◌≡◌, refl, ◌∙◌, ap, ℕ, Bool, List, Option, Some, None}
 use Rattle.std.specs.Prelude.{option_and_then}
 use Rattle.std.specs.Option.{option_map}
-use Rattle.dwg_common.specs.Bodies.{BodyGrammar, BeginsWithBody, IsBody, ReadsBody}
-use Rattle.dwg_common.specs.BodyReading.{body_read, body_value, body_missing}
+use Rattle.dwg_grammar.specs.Bodies.{BodyGrammar, BeginsWithBody, IsBody, ReadsBody}
+use Rattle.dwg_grammar.proofs.BodyReading.{body_read, body_value, body_missing}
 
 -- what main bits tell, what references tell and the struct that both are seen as
 abbrev pub seen_found : {V W : Type 0} → (W → V) → W × (List Bool × List Bool) → V × (List Bool × List Bool)

@@ -1,22 +1,22 @@
 -- These bodies meet the laws of bodies.
 use Rattle.std.proofs.Common.{◌≡◌, refl, sym, ◌∙◌, ap, ap₂, ℕ, ◌^◌, ◌<◌, List, length}
-use Rattle.dwg_codes.specs.Codes.{bl, bs, rc, tv}
-use Rattle.dwg_codes.specs.Combinators.{items, chain, counted}
-use Rattle.dwg_codes.specs.CombinatorLaws.{any_letters_closed, seq_is_code}
-use Rattle.dwg_codes.specs.Grammar.{IsCode, AnyLetters}
-use Rattle.dwg_codes.specs.ListLaws.{items_is_code, counted_is_code}
-use Rattle.dwg_codes.specs.NumberLaws.{rc_is_code}
-use Rattle.dwg_codes.specs.TableLaws.{bs_is_code, bl_is_code, tv_is_code}
-use Rattle.dwg_common.specs.Bodies.{IsBody}
-use Rattle.dwg_common.specs.MadeBodies.{body_is_body}
-use Rattle.dwg_common.specs.ToEndBodies.{to_end_is_body}
-use Rattle.dwg_common.specs.References.{one_ref, some_refs, then_refs}
-use Rattle.dwg_common.specs.ReferenceParts.{IsReferencePart, one_is_part, some_is_part, then_is_part}
-use Rattle.dwg_handles.specs.Reference.{Reference}
+use Rattle.dwg_common.proofs.MemberLaws.{joined_counted, told_of_joined, names_of_joined, joined_again}
+use Rattle.dwg_grammar.specs.Codes.{bl, bs, rc, tv}
+use Rattle.dwg_grammar.specs.Combinators.{items, chain, counted}
+use Rattle.dwg_grammar.proofs.CombinatorLemmas.{any_letters_closed, seq_is_code}
+use Rattle.dwg_grammar.specs.Grammar.{IsCode, AnyLetters}
+use Rattle.dwg_grammar.proofs.ListLemmas.{items_is_code, counted_is_code}
+use Rattle.dwg_grammar.proofs.NumberLemmas.{rc_is_code}
+use Rattle.dwg_grammar.proofs.TableLemmas.{bs_is_code, bl_is_code, tv_is_code}
+use Rattle.dwg_grammar.specs.Bodies.{IsBody}
+use Rattle.dwg_grammar.proofs.MadeBodies.{body_is_body}
+use Rattle.dwg_grammar.proofs.ToEndBodies.{to_end_is_body}
+use Rattle.dwg_grammar.specs.References.{one_ref, some_refs, then_refs, IsReferencePart}
+use Rattle.dwg_grammar.proofs.ReferenceParts.{one_is_part, some_is_part, then_is_part}
+use Rattle.dwg_grammar.specs.Reference.{Reference}
 use Rattle.dwg_dicts.specs.declared.dictionary.DictItem.{DictItem}
 use Rattle.dwg_dicts.specs.declared.dictionary.Dictionary.{Dictionary}
-use Rattle.dwg_dicts.specs.Dictionaries.{dictionary_start, dictionary_main, names_of, targets_of, named_items, dictionary_body}
-use Rattle.dwg_dicts.specs.DictionaryLaws.{items_counted, names_kept, targets_kept, items_kept}
+use Rattle.dwg_dicts.specs.Dictionaries.{dictionary_start, dictionary_main, names_of, targets_of, item_of, named_items, dictionary_body}
 use Rattle.dwg_dicts.specs.Entries.{entries_body, layer_control_body, style_control_body, appid_control_body}
 use Rattle.dwg_dicts.specs.EntriesAndTwo.{entries_and_two, two_more_body, block_control_body, ltype_control_body}
 use Rattle.dwg_dicts.specs.XRecords.{xrecord_main, xrecord_body}
@@ -84,9 +84,10 @@ dictionary_told : (base : ℕ) (told : (ℕ × (ℕ × ℕ)) × List (List ℕ))
     × (targets_of (named_items told.1 named) ≡ named)
 unfolding chain
 dictionary_told base told named fits names =
-    let same : length told.1 ≡ length named = fits.1.0 ∙ sym names.0 in (
-      ap₂ (λ (count : ℕ) (all : List (List ℕ)). ((count, told.0.1), all)) (items_counted told.1 named same ∙ fits.1.0) (names_kept told.1 named same),
-      targets_kept told.1 named same,
+    let as_many : length named ≡ length told.1 = names.0 ∙ sym fits.1.0 in (
+      ap₂ (λ (count : ℕ) (all : List (List ℕ)). ((count, told.0.1), all)) (joined_counted item_of told.1 named as_many ∙ fits.1.0)
+          (told_of_joined item_of (λ item. item.name) (λ name target. refl) told.1 named as_many),
+      names_of_joined item_of (λ item. item.target) (λ name target. refl) told.1 named as_many,
     )
 
 -- a dictionary is a body
@@ -95,7 +96,7 @@ unfolding dictionary_body
 dictionary_is_body base small =
     body_is_body base dictionary_main (λ told. some_refs base told.0.0) _ _ _ dictionary_main_is_code
     (λ told fits. some_is_part base told.0.0 small) (λ told named fits names. dictionary_told base told named fits names)
-    (λ dictionary. ap (λ (listed : List DictItem). let kept : Dictionary = record { cloning = dictionary.cloning; hard_owner = dictionary.hard_owner; items = listed } in kept) (items_kept dictionary.items))
+    (λ dictionary. ap (λ (listed : List DictItem). let kept : Dictionary = record { cloning = dictionary.cloning; hard_owner = dictionary.hard_owner; items = listed } in kept) (joined_again item_of (λ item. item.name) (λ item. item.target) (λ item. refl) dictionary.items))
 
 -- what the main bits of a record tell is a code
 pub xrecord_main_is_code : IsCode AnyLetters xrecord_main

@@ -1,14 +1,15 @@
 -- Dictionaries: names of objects (Open Design Specification, "DICTIONARY").
-use Rattle.std.specs.Prelude.{ℕ, Bool, List, [], ◌∷◌, length, map}
-use Rattle.dwg_codes.specs.Codes.{bl, bs, rc, tv}
-use Rattle.dwg_codes.specs.Combinators.{seq, items}
-use Rattle.dwg_codes.specs.Grammar.{Grammar}
-use Rattle.dwg_codes.specs.ToEnd.{AreValues}
-use Rattle.dwg_common.specs.Bodies.{BodyGrammar}
-use Rattle.dwg_common.specs.MakingBodies.{body}
-use Rattle.dwg_common.specs.References.{some_refs}
-use Rattle.dwg_handles.specs.Reference.{Reference}
-use Rattle.dwg_handles.specs.ReferenceCodes.{reference}
+use Rattle.std.specs.Prelude.{ℕ, Bool, List, length, map}
+use Rattle.dwg_common.specs.Members.{joined}
+use Rattle.dwg_grammar.specs.Codes.{bl, bs, rc, tv}
+use Rattle.dwg_grammar.specs.Combinators.{seq, items}
+use Rattle.dwg_grammar.specs.Grammar.{Grammar}
+use Rattle.dwg_grammar.specs.ToEnd.{AreValues}
+use Rattle.dwg_grammar.specs.Bodies.{BodyGrammar}
+use Rattle.dwg_grammar.specs.MakingBodies.{body}
+use Rattle.dwg_grammar.specs.References.{some_refs}
+use Rattle.dwg_grammar.specs.Reference.{Reference}
+use Rattle.dwg_grammar.specs.ReferenceCodes.{reference}
 use Rattle.dwg_dicts.specs.declared.dictionary.DictItem.{DictItem}
 use Rattle.dwg_dicts.specs.declared.dictionary.Dictionary.{Dictionary}
 
@@ -27,11 +28,13 @@ names_of listed = map (λ item. item.name) listed
 abbrev pub targets_of : List DictItem → List Reference
 targets_of listed = map (λ item. item.target) listed
 
+-- an item of a name and a target
+abbrev pub item_of : List ℕ → Reference → DictItem
+item_of name target = record { name = name; target = target }
+
 -- an item of each name and of the target that stands in its place
 abbrev pub named_items : List (List ℕ) → List Reference → List DictItem
-named_items [] targets = []
-named_items (name ∷ names) [] = []
-named_items (name ∷ names) (target ∷ targets) = record { name = name; target = target } ∷ named_items names targets
+named_items names targets = joined item_of names targets
 
 -- so many items by themselves: TV per name; target per item
 abbrev pub items_alone : ℕ → ℕ → BodyGrammar (List DictItem)

@@ -1,10 +1,10 @@
 -- Controls that name the entries of their table and nothing else (Open Design Specification, "LAYER CONTROL", "STYLE CONTROL" and "APPID CONTROL").
 use Rattle.std.specs.Prelude.{ℕ, List, length}
-use Rattle.dwg_codes.specs.Codes.{bl}
-use Rattle.dwg_common.specs.Bodies.{BodyGrammar}
-use Rattle.dwg_common.specs.MakingBodies.{body}
-use Rattle.dwg_common.specs.References.{some_refs}
-use Rattle.dwg_handles.specs.Reference.{Reference}
+use Rattle.dwg_grammar.specs.Codes.{bl}
+use Rattle.dwg_grammar.specs.Bodies.{BodyGrammar}
+use Rattle.dwg_grammar.specs.MakingBodies.{body}
+use Rattle.dwg_grammar.specs.References.{some_refs}
+use Rattle.dwg_grammar.specs.Reference.{Reference}
 use Rattle.dwg_dicts.specs.declared.appid_control.AppIdControl.{AppIdControl}
 use Rattle.dwg_dicts.specs.declared.layer_control.LayerControl.{LayerControl}
 use Rattle.dwg_dicts.specs.declared.style_control.StyleControl.{StyleControl}

@@ -1,10 +1,10 @@
 -- Controls that name two objects behind the entries of their table (Open Design Specification, "BLOCK CONTROL" and "LTYPE CONTROL").
 use Rattle.std.specs.Prelude.{ℕ, List, length}
-use Rattle.dwg_codes.specs.Codes.{bl}
-use Rattle.dwg_common.specs.Bodies.{BodyGrammar}
-use Rattle.dwg_common.specs.MakingBodies.{body}
-use Rattle.dwg_common.specs.References.{ReferencePart, one_ref, some_refs, then_refs}
-use Rattle.dwg_handles.specs.Reference.{Reference}
+use Rattle.dwg_grammar.specs.Codes.{bl}
+use Rattle.dwg_grammar.specs.Bodies.{BodyGrammar}
+use Rattle.dwg_grammar.specs.MakingBodies.{body}
+use Rattle.dwg_grammar.specs.References.{ReferencePart, one_ref, some_refs, then_refs}
+use Rattle.dwg_grammar.specs.Reference.{Reference}
 use Rattle.dwg_dicts.specs.declared.block_control.BlockControl.{BlockControl}
 use Rattle.dwg_dicts.specs.declared.ltype_control.LtypeControl.{LtypeControl}
 

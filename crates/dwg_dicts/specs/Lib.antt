@@ -1,6 +1,10 @@
+-- Controls that name the entries of their table and nothing else.
 pub mod Entries
+-- Controls that name two objects behind the entries of their table.
 pub mod EntriesAndTwo
+-- Dictionaries: names of objects.
 pub mod Dictionaries
-pub mod DictionaryLaws
+-- Records: bytes of an application, and objects that they name.
 pub mod XRecords
+-- These bodies meet the laws of bodies.
 pub mod DictLaws

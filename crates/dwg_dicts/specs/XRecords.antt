@@ -1,12 +1,12 @@
 -- Records: bytes of an application, and objects that they name (Open Design Specification, "XRECORD"). That the references go to the end of the object, while a byte is left, is a rule of this project.
 use Rattle.std.specs.Prelude.{ℕ, suc, Bool, List, length, Option}
-use Rattle.dwg_codes.specs.Codes.{bl, bs, rc}
-use Rattle.dwg_codes.specs.Combinators.{seq, counted}
-use Rattle.dwg_codes.specs.Grammar.{Grammar}
-use Rattle.dwg_common.specs.Bodies.{BodyGrammar}
-use Rattle.dwg_common.specs.ToEndBodies.{parse_to_end, to_end}
-use Rattle.dwg_handles.specs.Reference.{Reference}
-use Rattle.dwg_handles.specs.ReferenceCodes.{reference}
+use Rattle.dwg_grammar.specs.Codes.{bl, bs, rc}
+use Rattle.dwg_grammar.specs.Combinators.{seq, counted}
+use Rattle.dwg_grammar.specs.Grammar.{Grammar}
+use Rattle.dwg_grammar.specs.Bodies.{BodyGrammar}
+use Rattle.dwg_grammar.specs.MakingBodies.{parse_to_end, to_end}
+use Rattle.dwg_grammar.specs.Reference.{Reference}
+use Rattle.dwg_grammar.specs.ReferenceCodes.{reference}
 use Rattle.dwg_dicts.specs.declared.xrecord.XRecord.{XRecord}
 
 -- BL size and the bytes; BS cloning

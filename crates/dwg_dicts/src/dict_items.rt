@@ -5,9 +5,9 @@ ghost use Rattle.std.specs.Prelude.{◌≡◌, ◌^◌, ◌<◌, ◌≤◌, ◌�
 ghost use Rattle.std.specs.Option.{option_map};
 ghost use Rattle.dwg_bits.specs.Cursor.{rest};
 ghost use Rattle.dwg_bits.specs.Sink.{Extends};
-ghost use Rattle.dwg_codes.specs.Codes.{tv};
-ghost use Rattle.dwg_codes.specs.ToEnd.{AreValues, short_all};
-ghost use Rattle.dwg_handles.specs.ReferenceCodes.{reference};
+ghost use Rattle.dwg_grammar.specs.Codes.{tv};
+ghost use Rattle.dwg_grammar.specs.ToEnd.{AreValues, short_all};
+ghost use Rattle.dwg_grammar.specs.ReferenceCodes.{reference};
 ghost use Rattle.dwg_dicts.specs.Dictionaries.{AreItems, IsItem, items_alone, names_of, targets_of};
 
 use crate::dictionary::DictItem;
@@ -49,7 +49,7 @@ pub(crate) fn read_items(
 }
 
 /// Whether an item can be told from the dictionary of the handle `base`.
-#[tactic(auto, unfolding(dwg_handles::specs::ReferenceCodes::reference))]
+#[tactic(auto, unfolding(dwg_grammar::specs::ReferenceCodes::reference))]
 fn item_fits(item: &DictItem, base: Handle) -> bool
     ensures { IsTrue result ↔ IsItem base item.now }
 {
@@ -87,7 +87,7 @@ pub(crate) fn names_bits(items: &[DictItem]) -> u64
 }
 
 /// How many bits the targets of items are written by.
-#[tactic(auto, unfolding(dwg_handles::specs::ReferenceCodes::reference))]
+#[tactic(auto, unfolding(dwg_grammar::specs::ReferenceCodes::reference))]
 pub(crate) fn targets_bits(items: &[DictItem], base: Handle) -> u64
     requires targets { AreValues (reference base) (targets_of items.now) }
     requires few { length (short_all (reference base) (targets_of items.now)) < 2 ^ 62 }
@@ -112,7 +112,7 @@ pub(crate) fn write_names(items: &[DictItem], sink: &mut BitSink)
 }
 
 /// Writes the targets of items, one behind the other.
-#[tactic(auto, unfolding(dwg_handles::specs::ReferenceCodes::reference))]
+#[tactic(auto, unfolding(dwg_grammar::specs::ReferenceCodes::reference))]
 pub(crate) fn write_targets(items: &[DictItem], base: Handle, sink: &mut BitSink)
     requires targets { AreValues (reference base) (targets_of items.now) }
     requires room { length (short_all (reference base) (targets_of items.now)) ≤ sink.old.spare }

@@ -6,14 +6,13 @@ ghost use Rattle.dwg_bits.specs.Cursor.{rest};
 ghost use Rattle.dwg_dicts.specs.DictLaws.{dictionary_is_body};
 ghost use Rattle.dwg_dicts.specs.Dictionaries.{dictionary_body, dictionary_start};
 
-use crate::counts::{count_bits, count_fits, write_count};
 use crate::dict_items::{
     items_fit, names_bits, read_items, targets_bits, write_names, write_targets,
 };
 use dwg_base::{ByteRun, Handle, Items, NoMemory};
 use dwg_bits::{BitCursor, BitSink};
 use dwg_codes::{BitCode, CodeBL, CodeBS, CodeRC};
-use dwg_common::{BodyCode, Lengths, parse_code};
+use dwg_common::{BodyCode, Lengths, count_bits, count_fits, parse_code, write_count};
 use dwg_handles::Ref;
 use std::alloc::Global;
 
@@ -96,7 +95,7 @@ impl BodyCode for Dictionary {
         Ok(Some(dictionary))
     }
 
-    #[tactic(auto, unfolding(crate::specs::Dictionaries::dictionary_body, dwg_codes::specs::Combinators::chain), using(crate::specs::DictionaryLaws::names_counted, crate::specs::DictionaryLaws::targets_counted))]
+    #[tactic(auto, unfolding(crate::specs::Dictionaries::dictionary_body, dwg_grammar::specs::Combinators::chain), using(crate::proofs::DictionaryLaws::names_counted, crate::proofs::DictionaryLaws::targets_counted))]
     fn fits(&self, base: Handle) -> bool {
         // Each number of their types can be told.
         let _cloning = self.cloning;
@@ -108,7 +107,7 @@ impl BodyCode for Dictionary {
         items_fit(items, base)
     }
 
-    #[tactic(auto, unfolding(crate::specs::Dictionaries::dictionary_body, dwg_codes::specs::Combinators::chain))]
+    #[tactic(auto, unfolding(crate::specs::Dictionaries::dictionary_body, dwg_grammar::specs::Combinators::chain))]
     fn lengths(&self, base: Handle) -> Lengths {
         let items = self.items.as_slice();
         Lengths {
@@ -120,7 +119,7 @@ impl BodyCode for Dictionary {
         }
     }
 
-    #[tactic(auto, unfolding(crate::specs::Dictionaries::dictionary_body, dwg_codes::specs::Combinators::chain))]
+    #[tactic(auto, unfolding(crate::specs::Dictionaries::dictionary_body, dwg_grammar::specs::Combinators::chain))]
     fn write_main(&self, _base: Handle, sink: &mut BitSink) {
         let items = self.items.as_slice();
         write_count(items, sink);
@@ -129,7 +128,7 @@ impl BodyCode for Dictionary {
         write_names(items, sink);
     }
 
-    #[tactic(auto, unfolding(crate::specs::Dictionaries::dictionary_body, dwg_codes::specs::Combinators::chain))]
+    #[tactic(auto, unfolding(crate::specs::Dictionaries::dictionary_body, dwg_grammar::specs::Combinators::chain))]
     fn write_refs(&self, base: Handle, sink: &mut BitSink) {
         write_targets(self.items.as_slice(), base, sink);
     }

@@ -7,11 +7,10 @@ ghost use Rattle.dwg_bits.specs.Cursor.{rest};
 ghost use Rattle.dwg_bits.specs.Sink.{Extends};
 ghost use Rattle.dwg_dicts.specs.Entries.{entries_alone};
 
-use crate::counts::{count_bits, count_fits};
 use dwg_base::{Handle, Items, NoMemory};
 use dwg_bits::{BitCursor, BitSink};
 use dwg_codes::CodeBL;
-use dwg_common::{Lengths, parse_code, parse_refs};
+use dwg_common::{Lengths, count_bits, count_fits, parse_code, parse_refs};
 use dwg_handles::{Ref, refs_bits, refs_fit, write_refs};
 use std::alloc::Global;
 
@@ -38,7 +37,7 @@ pub(crate) fn read_entries(
 }
 
 /// Whether entries can be told from the object of the handle `base`: fewer than 2^32, each by a code that reaches it.
-#[tactic(auto, unfolding(dwg_codes::specs::Combinators::chain))]
+#[tactic(auto, unfolding(dwg_grammar::specs::Combinators::chain))]
 pub(crate) fn entries_fit(entries: &[Ref], base: Handle) -> bool
     ensures { IsTrue result ↔ (entries_alone base).Fits entries.now }
 {
@@ -49,7 +48,7 @@ pub(crate) fn entries_fit(entries: &[Ref], base: Handle) -> bool
 }
 
 /// By how many bits entries are written.
-#[tactic(auto, unfolding(dwg_codes::specs::Combinators::chain))]
+#[tactic(auto, unfolding(dwg_grammar::specs::Combinators::chain))]
 pub(crate) fn entries_lengths(entries: &[Ref], base: Handle) -> Lengths
     requires fits { (entries_alone base).Fits entries.now }
     requires refs_few { length ((entries_alone base).short_references entries.now) < 2 ^ 62 }
@@ -63,7 +62,7 @@ pub(crate) fn entries_lengths(entries: &[Ref], base: Handle) -> Lengths
 }
 
 /// Writes entries as references.
-#[tactic(auto, unfolding(dwg_codes::specs::Combinators::chain))]
+#[tactic(auto, unfolding(dwg_grammar::specs::Combinators::chain))]
 pub(crate) fn write_entries(entries: &[Ref], base: Handle, sink: &mut BitSink)
     requires fits { (entries_alone base).Fits entries.now }
     requires room { length ((entries_alone base).short_references entries.now) ≤ sink.old.spare }

@@ -7,11 +7,10 @@ ghost use Rattle.dwg_bits.specs.Cursor.{rest};
 ghost use Rattle.dwg_bits.specs.Sink.{Extends};
 ghost use Rattle.dwg_dicts.specs.EntriesAndTwo.{two_more_alone};
 
-use crate::counts::{count_bits, count_fits};
 use dwg_base::{Handle, Items, NoMemory};
 use dwg_bits::{BitCursor, BitSink};
 use dwg_codes::CodeBL;
-use dwg_common::{Lengths, parse_code, parse_ref, parse_refs};
+use dwg_common::{Lengths, count_bits, count_fits, parse_code, parse_ref, parse_refs};
 use dwg_handles::{Ref, ref_bits, refs_bits, refs_fit, write_ref, write_refs};
 use std::alloc::Global;
 
@@ -46,7 +45,7 @@ pub(crate) fn read_entries_and_two(
 
 /// Whether entries and two more can be told from the object of the handle `base`: fewer than 2^32 entries, and each by a code
 /// that reaches it.
-#[tactic(auto, unfolding(dwg_codes::specs::Combinators::chain, dwg_handles::specs::ReferenceCodes::reference))]
+#[tactic(auto, unfolding(dwg_grammar::specs::Combinators::chain, dwg_grammar::specs::ReferenceCodes::reference))]
 pub(crate) fn entries_and_two_fit(entries: &[Ref], first: Ref, second: Ref, base: Handle) -> bool
     ensures { IsTrue result ↔ (two_more_alone base).Fits (entries.now, (first, second)) }
 {
@@ -63,7 +62,7 @@ pub(crate) fn entries_and_two_fit(entries: &[Ref], first: Ref, second: Ref, base
 }
 
 /// By how many bits they are written.
-#[tactic(auto, unfolding(dwg_codes::specs::Combinators::chain, dwg_handles::specs::ReferenceCodes::reference))]
+#[tactic(auto, unfolding(dwg_grammar::specs::Combinators::chain, dwg_grammar::specs::ReferenceCodes::reference))]
 pub(crate) fn entries_and_two_lengths(
     entries: &[Ref],
     first: Ref,
@@ -82,7 +81,7 @@ pub(crate) fn entries_and_two_lengths(
 }
 
 /// Writes them as references.
-#[tactic(auto, unfolding(dwg_codes::specs::Combinators::chain, dwg_handles::specs::ReferenceCodes::reference))]
+#[tactic(auto, unfolding(dwg_grammar::specs::Combinators::chain, dwg_grammar::specs::ReferenceCodes::reference))]
 pub(crate) fn write_entries_and_two(
     entries: &[Ref],
     first: Ref,

@@ -1,7 +1,7 @@
 //! Laws of these bodies, as the contract of a function without code.
 
 ghost use Rattle.std.specs.Prelude.{◌^◌, ◌<◌, ◌↔◌, ℕ};
-ghost use Rattle.dwg_common.specs.BodyLaws.{IsFreeBody, IsLawfulBody};
+ghost use Rattle.dwg_grammar.specs.Bodies.{IsFreeBody, IsLawfulBody};
 ghost use Rattle.dwg_dicts.specs.Dictionaries.{dictionary_body};
 ghost use Rattle.dwg_dicts.specs.Entries.{appid_control_body, layer_control_body, style_control_body};
 ghost use Rattle.dwg_dicts.specs.EntriesAndTwo.{block_control_body, ltype_control_body};

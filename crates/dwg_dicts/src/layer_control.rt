@@ -3,11 +3,10 @@
 ghost use Rattle.dwg_dicts.specs.DictLaws.{layer_control_is_body};
 ghost use Rattle.dwg_dicts.specs.Entries.{layer_control_body};
 
-use crate::counts::write_count;
 use crate::entries::{entries_fit, entries_lengths, read_entries, write_entries};
 use dwg_base::{Handle, Items, NoMemory};
 use dwg_bits::{BitCursor, BitSink};
-use dwg_common::{BodyCode, Lengths};
+use dwg_common::{BodyCode, Lengths, write_count};
 use dwg_handles::Ref;
 use std::alloc::Global;
 

@@ -4,7 +4,6 @@
 
 mod appid_control;
 mod block_control;
-mod counts;
 mod dict_items;
 mod dictionary;
 mod entries;
@@ -12,7 +11,6 @@ mod entries_and_two;
 mod laws;
 mod layer_control;
 mod ltype_control;
-mod sized;
 mod style_control;
 mod xrecord;
 

@@ -3,13 +3,12 @@
 ghost use Rattle.dwg_dicts.specs.DictLaws.{ltype_control_is_body};
 ghost use Rattle.dwg_dicts.specs.EntriesAndTwo.{ltype_control_body};
 
-use crate::counts::write_count;
 use crate::entries_and_two::{
     entries_and_two_fit, entries_and_two_lengths, read_entries_and_two, write_entries_and_two,
 };
 use dwg_base::{Handle, Items, NoMemory};
 use dwg_bits::{BitCursor, BitSink};
-use dwg_common::{BodyCode, Lengths};
+use dwg_common::{BodyCode, Lengths, write_count};
 use dwg_handles::Ref;
 use std::alloc::Global;
 

@@ -6,11 +6,10 @@ ghost use Rattle.dwg_bits.specs.Cursor.{rest};
 ghost use Rattle.dwg_dicts.specs.DictLaws.{xrecord_is_body};
 ghost use Rattle.dwg_dicts.specs.XRecords.{all_targets, xrecord_body, xrecord_main};
 
-use crate::sized::{read_sized, sized_bits, sized_fits, write_sized};
 use dwg_base::{ByteRun, Handle, Items, NoMemory};
 use dwg_bits::{BitCursor, BitSink};
 use dwg_codes::{BitCode, CodeBS};
-use dwg_common::{BodyCode, Lengths, parse_code};
+use dwg_common::{BodyCode, Lengths, parse_code, parse_sized, sized_bits, sized_fits, write_sized};
 use dwg_handles::{Ref, read_refs_to_end, refs_bits, refs_fit, write_refs};
 use std::alloc::Global;
 
@@ -32,7 +31,7 @@ fn read_told(alloc: Global, cursor: &mut BitCursor<'_>) -> Result<Option<(ByteRu
     ensures same_bytes { cursor.new.bytes.now ≡ cursor.old.bytes.now }
     ensures same_end { cursor.new.end ≡ cursor.old.end }
 {
-    let Some(bytes) = read_sized(alloc, cursor)? else {
+    let Some(bytes) = parse_sized(alloc, cursor)? else {
         return Ok(None);
     };
     let Some(cloning) = parse_code::<CodeBS>(&(), cursor) else {

@@ -1,13 +1,15 @@
 -- The objects of a valid drawing can be audited.
-use Rattle.std.proofs.Common.{◌≡◌, sym, subst, ◌+◌, ◌<◌, ◌≤◌, ◌^◌, List, [], ◌∷◌, length, length-append, arith}
+use Rattle.std.proofs.Common.{◌≡◌, sym, subst, ◌+◌, ◌≤◌, List, [], ◌∷◌, length, length-append, arith}
 use Rattle.std.specs.List.{AllByRecursion}
 use Rattle.std.proofs.lemmas.List.{length-map, get_or-map, get_or_default}
 use Rattle.std.proofs.lemmas.List.Sums.{sum_by-cons}
 use Rattle.dwg_audit.specs.Claimed.{reference_count}
+use Rattle.dwg_drill.specs.Auditable.{CanBeAudited}
 use Rattle.dwg_file.specs.Canonical.{frames_bytes}
 use Rattle.dwg_file.specs.Contents.{Contents}
 use Rattle.dwg_file.specs.Spelled.{AreAscending}
 use Rattle.dwg_file.specs.Valid.{IsValid}
+use Rattle.dwg_graph.proofs.SlotCounts.{slots_are_few}
 use Rattle.dwg_graph.specs.Places.{Ascend, handles_of}
 use Rattle.dwg_graph.specs.SlotLaws.{SlotsAreFew}
 use Rattle.dwg_graph.specs.Slots.{slots}
@@ -59,19 +61,17 @@ references_few few drawing (object ∷ objects) are =
       length-append (frame_bytes object) (frames_bytes objects),
     )
 
--- what an audit asks of objects
-pub record CanBeAudited (objects : List ObjectValue) : Type 0 where
-  pub ascending : Ascend (handles_of objects)
-  pub whole : AllByRecursion IsWhole objects
-  pub few : length objects + reference_count objects < 2 ^ 58
-
--- the objects of a valid drawing can be audited
-pub can_be_audited : SlotsAreFew → (drawing : Contents) → IsValid drawing → CanBeAudited drawing.objects
+-- the objects of a valid drawing can be audited, since their slots are few
+can_be_audited : SlotsAreFew → (drawing : Contents) → IsValid drawing → CanBeAudited drawing.objects
 can_be_audited few drawing is = record {
   ascending = handles_ascend drawing.objects is.ascending;
   whole = objects_are_whole drawing drawing.objects is.objects;
   few = let small = is.size in omega (arith, references_few few drawing drawing.objects is.objects);
 }
+
+-- the same as a law, which asks for nothing
+pub valid_is_auditable : (drawing : Contents) → IsValid drawing → CanBeAudited drawing.objects
+valid_is_auditable drawing is = can_be_audited slots_are_few drawing is
 
 -- and so can objects in hand that stand for them
 pub are_auditable : SlotsAreFew → (drawing : Contents) (objects : List ObjectValue) → objects ≡ drawing.objects → IsValid drawing → CanBeAudited objects

@@ -3,9 +3,11 @@
 
 mod drilling;
 mod fault;
+mod laws;
 mod made;
 mod whole;
 
 pub use drilling::drill;
 pub use fault::DrillFault;
+pub use laws::auditable_laws;
 pub use whole::audit_drawing;

@@ -1,18 +1,18 @@
 -- The begin of a block that is parsed is read, and its end and the end of a sequence are read of no bits.
 use Rattle.std.proofs.Common.{◌≡◌, refl, ℕ, Bool, List, [], Option, Some, None}
 use Rattle.std.specs.Option.{option_map}
-use Rattle.dwg_codes.specs.CodeLaws.{reads_some}
-use Rattle.dwg_codes.specs.Grammar.{AnyLetters}
-use Rattle.dwg_common.specs.Bodies.{ReadsBody}
-use Rattle.dwg_common.specs.BodyReading.{parsed_unread}
-use Rattle.dwg_common.specs.MainBodies.{main_read}
+use Rattle.dwg_grammar.proofs.CodeLemmas.{reads_some}
+use Rattle.dwg_grammar.specs.Grammar.{AnyLetters}
+use Rattle.dwg_grammar.specs.Bodies.{ReadsBody}
+use Rattle.dwg_grammar.proofs.BodyReading.{parsed_unread}
+use Rattle.dwg_grammar.proofs.MainBodies.{main_read}
 use Rattle.dwg_entities.specs.BlockBody.{block_main, block_body}
 use Rattle.dwg_entities.specs.BlockEnds.{endblk_main, endblk_body, seqend_main, seqend_body}
 use Rattle.dwg_entities.specs.BodiesLaws.{block_main_is_code}
 use Rattle.dwg_entities.specs.declared.block.Block.{Block}
 use Rattle.dwg_entities.specs.declared.ends.EndBlk.{EndBlk}
 use Rattle.dwg_entities.specs.declared.ends.SeqEnd.{SeqEnd}
-use Rattle.dwg_common.specs.BodyReading.{parsed_value}
+use Rattle.dwg_grammar.proofs.BodyReading.{parsed_value}
 
 -- a begin of a block
 pub block_read : (base : ℕ) (value : Block) (old new references : List Bool) → block_main.parse old ≡ Some (value, new) → ReadsBody (block_body base) (Some value) old new references references

@@ -1,11 +1,11 @@
 -- Attributes of an insert that are parsed are read.
 use Rattle.std.proofs.Common.{◌≡◌, ℕ, ◌^◌, ◌<◌, Bool, List, Some, None}
-use Rattle.dwg_codes.specs.CodeLaws.{reads_some, reads_none}
-use Rattle.dwg_codes.specs.Grammar.{AnyLetters, Reads}
+use Rattle.dwg_grammar.proofs.CodeLemmas.{reads_some, reads_none}
+use Rattle.dwg_grammar.specs.Grammar.{AnyLetters, Reads}
 use Rattle.dwg_entities.specs.BodiesLaws.{attributes_is_part}
 use Rattle.dwg_entities.specs.InsertBody.{attributes}
 use Rattle.dwg_entities.specs.declared.insert.Attributes.{Attributes}
-use Rattle.dwg_common.specs.BodyReading.{parsed_value}
+use Rattle.dwg_grammar.proofs.BodyReading.{parsed_value}
 
 -- attributes
 pub attributes_read : (base : ℕ) (value : Attributes) (old new : List Bool) → base < 2 ^ 63 → (attributes base).grammar.parse old ≡ Some (value, new)

@@ -1,12 +1,12 @@
 -- A scale that is parsed is read.
 use Rattle.std.proofs.Common.{◌≡◌, refl, ℕ, zero, suc, Bool, List, Some, None}
 use Rattle.std.specs.Prelude.{◌≢◌}
-use Rattle.dwg_codes.specs.CodeLaws.{reads_some, reads_none}
-use Rattle.dwg_codes.specs.Grammar.{AnyLetters, Reads}
-use Rattle.dwg_codes.specs.declared.points.Point3.{Point3}
+use Rattle.dwg_grammar.proofs.CodeLemmas.{reads_some, reads_none}
+use Rattle.dwg_grammar.specs.Grammar.{AnyLetters, Reads}
+use Rattle.dwg_grammar.specs.declared.points.Point3.{Point3}
 use Rattle.dwg_entities.specs.Scale.{scale, scale_by}
 use Rattle.dwg_entities.specs.ScaleLaws.{scale_is_code}
-use Rattle.dwg_common.specs.BodyReading.{parsed_value}
+use Rattle.dwg_grammar.proofs.BodyReading.{parsed_value}
 
 -- behind no other tag stands a scale
 pub none_behind : (tag : ℕ) (letters : List Bool) → tag ≢ 0 → tag ≢ 1 → tag ≢ 2 → tag ≢ 3 → (scale_by tag).parse letters ≡ None

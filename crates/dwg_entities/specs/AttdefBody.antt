@@ -1,11 +1,11 @@
 -- The definition of an attribute (Open Design Specification, "ATTDEF").
 use Rattle.std.specs.Prelude.{ℕ, Bool, List}
-use Rattle.dwg_codes.specs.Codes.{tv}
-use Rattle.dwg_codes.specs.Combinators.{seq}
-use Rattle.dwg_codes.specs.Grammar.{Grammar}
-use Rattle.dwg_common.specs.Bodies.{BodyGrammar}
-use Rattle.dwg_common.specs.MakingBodies.{body}
-use Rattle.dwg_common.specs.References.{one_ref}
+use Rattle.dwg_grammar.specs.Codes.{tv}
+use Rattle.dwg_grammar.specs.Combinators.{seq}
+use Rattle.dwg_grammar.specs.Grammar.{Grammar}
+use Rattle.dwg_grammar.specs.Bodies.{BodyGrammar}
+use Rattle.dwg_grammar.specs.MakingBodies.{body}
+use Rattle.dwg_grammar.specs.References.{one_ref}
 use Rattle.dwg_entities.specs.declared.attdef.Attdef.{Attdef}
 use Rattle.dwg_entities.specs.declared.attrib.Label.{Label}
 use Rattle.dwg_entities.specs.AttribBody.{attrib_main, label_of, attrib_of}

@@ -1,19 +1,19 @@
 -- These bodies meet the laws of bodies.
 use Rattle.std.proofs.Common.{◌≡◌, refl, ap, ℕ, ◌^◌, ◌<◌, Bool, Option, arith}
-use Rattle.dwg_codes.specs.Codes.{rc, rd, bs, bd, bd3, be, tv}
-use Rattle.dwg_codes.specs.CombinatorLaws.{any_letters_closed, always_is_code, seq_is_code}
-use Rattle.dwg_codes.specs.Grammar.{Grammar, IsCode, AnyLetters}
-use Rattle.dwg_codes.specs.ListLaws.{when_is_code}
-use Rattle.dwg_codes.specs.NumberLaws.{rc_is_code, rd_is_code}
-use Rattle.dwg_codes.specs.TableLaws.{bs_is_code, bt_is_code, bd_is_code, bd3_is_code, be_is_code, tv_is_code}
-use Rattle.dwg_codes.specs.TruthCode.{b_is_code}
-use Rattle.dwg_common.specs.Bodies.{IsBody}
+use Rattle.dwg_grammar.specs.Codes.{rc, rd, bs, bd, bd3, be, tv}
+use Rattle.dwg_grammar.proofs.CombinatorLemmas.{any_letters_closed, always_is_code, seq_is_code}
+use Rattle.dwg_grammar.specs.Grammar.{Grammar, IsCode, AnyLetters}
+use Rattle.dwg_grammar.proofs.ListLemmas.{when_is_code}
+use Rattle.dwg_grammar.proofs.NumberLemmas.{rc_is_code, rd_is_code}
+use Rattle.dwg_grammar.proofs.TableLemmas.{bs_is_code, bt_is_code, bd_is_code, bd3_is_code, be_is_code, tv_is_code}
+use Rattle.dwg_grammar.proofs.TruthCode.{b_is_code}
+use Rattle.dwg_grammar.specs.Bodies.{IsBody}
 use Rattle.dwg_common.specs.CommonLaws.{there_by_test}
-use Rattle.dwg_common.specs.MadeBodies.{body_is_body, main_is_body}
-use Rattle.dwg_common.specs.References.{one_ref}
-use Rattle.dwg_common.specs.ReferenceParts.{IsReferencePart, one_is_part, maybe_is_part, then_is_part, seen_is_part}
-use Rattle.dwg_common.specs.Shaped.{shaped_is_code}
-use Rattle.dwg_handles.specs.Reference.{Reference}
+use Rattle.dwg_grammar.proofs.MadeBodies.{body_is_body, main_is_body}
+use Rattle.dwg_grammar.specs.References.{one_ref, IsReferencePart}
+use Rattle.dwg_grammar.proofs.ReferenceParts.{one_is_part, maybe_is_part, then_is_part, seen_is_part}
+use Rattle.dwg_grammar.proofs.Shaped.{shaped_is_code}
+use Rattle.dwg_grammar.specs.Reference.{Reference}
 use Rattle.dwg_entities.specs.declared.insert.Attributes.{Attributes}
 use Rattle.dwg_entities.specs.declared.insert.Setting.{Setting}
 use Rattle.dwg_entities.specs.declared.text.Lettering.{Lettering}
@@ -26,8 +26,8 @@ use Rattle.dwg_entities.specs.BlockEnds.{endblk_main, endblk_body, seqend_main, 
 use Rattle.dwg_entities.specs.FlagLaws.{worth_told}
 use Rattle.dwg_entities.specs.Flags.{unless}
 use Rattle.dwg_entities.specs.InsertBody.{insert_main, attributes, insert_refs, setting_of, named_of_insert, insert_of, insert_body}
-use Rattle.dwg_common.specs.PointLaws.{rd2_is_code, dd2_is_code}
-use Rattle.dwg_common.specs.Points.{rd2, dd2}
+use Rattle.dwg_grammar.proofs.PointLemmas.{rd2_is_code, dd2_is_code}
+use Rattle.dwg_grammar.specs.Points.{rd2, dd2}
 use Rattle.dwg_entities.specs.Scale.{scale}
 use Rattle.dwg_entities.specs.ScaleLaws.{scale_is_code}
 use Rattle.dwg_entities.specs.TextBody.{text_placing, text_lettering, text_wording, flags_of, text_main, inscription_of, text_of, text_body}

@@ -1,8 +1,8 @@
 -- A flag is set exactly where its part is missing.
 use Rattle.std.proofs.Common.{◌≡◌, ◌∙◌, ap, ℕ, zero, suc, ◌*◌, ◌/◌, ◌%◌, ◌<◌, Bool, true, false, Option, arith}
 use Rattle.std.specs.Prelude.{◌==◌, is_none, not, if◌then◌else◌}
-use Rattle.dwg_codes.specs.Combinators.{when}
-use Rattle.dwg_codes.specs.Grammar.{Grammar}
+use Rattle.dwg_grammar.specs.Combinators.{when}
+use Rattle.dwg_grammar.specs.Grammar.{Grammar}
 use Rattle.dwg_entities.specs.Flags.{is_set, unless, worth_unless}
 
 -- where a part stands unless a test holds, it is missing where it holds

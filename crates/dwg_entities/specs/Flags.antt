@@ -1,7 +1,7 @@
 -- Parts that stand unless a flag is set (Open Design Specification, "TEXT").
 use Rattle.std.specs.Prelude.{ℕ, ◌/◌, ◌%◌, ◌==◌, Bool, Option, is_none, not, if◌then◌else◌}
-use Rattle.dwg_codes.specs.Combinators.{when}
-use Rattle.dwg_codes.specs.Grammar.{Grammar}
+use Rattle.dwg_grammar.specs.Combinators.{when}
+use Rattle.dwg_grammar.specs.Grammar.{Grammar}
 
 -- the bit of this worth is set
 abbrev pub is_set : ℕ → ℕ → Bool

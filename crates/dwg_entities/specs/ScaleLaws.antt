@@ -1,17 +1,17 @@
 -- The scale of an insert is a code.
 use Rattle.std.proofs.Common.{◌≡◌, refl, sym, ◌∙◌, ap, subst, ℕ, zero, suc, ◌^◌, ◌<◌, ◌≤◌, Bool, true, false, ◌++◌, length, arith}
-use Rattle.std.specs.Prelude.{◌==◌, if◌then◌else◌}
+use Rattle.std.specs.Prelude.{◌==◌}
 use Rattle.std.proofs.lemmas.Bool.Decides.{Decides-eqb}
 use Rattle.std.proofs.lemmas.List.{length-append}
-use Rattle.dwg_codes.specs.Codes.{rd, dd, ONE, IsPoint3}
-use Rattle.dwg_codes.specs.Combinators.{seq}
-use Rattle.dwg_codes.specs.CombinatorLaws.{any_letters_closed, always_is_code, never_is_code, seq_is_code, struct_is_code}
-use Rattle.dwg_codes.specs.DefaultLaws.{dd_is_code}
-use Rattle.dwg_codes.specs.Grammar.{IsCode, AnyLetters}
-use Rattle.dwg_codes.specs.NumberLaws.{rd_is_code}
-use Rattle.dwg_codes.specs.TableLaws.{bit_tagged_is_code}
-use Rattle.dwg_codes.specs.declared.points.Point3.{Point3}
-use Rattle.dwg_entities.specs.Scale.{WHOLE, scale_free, scale_beside_one, scale_even, scale_by, scale}
+use Rattle.dwg_grammar.specs.Codes.{rd, dd, ONE, IsPoint3}
+use Rattle.dwg_grammar.specs.Combinators.{seq}
+use Rattle.dwg_grammar.proofs.CombinatorLemmas.{any_letters_closed, always_is_code, never_is_code, seq_is_code, struct_is_code}
+use Rattle.dwg_grammar.proofs.DefaultLemmas.{dd_is_code}
+use Rattle.dwg_grammar.specs.Grammar.{IsCode, AnyLetters}
+use Rattle.dwg_grammar.proofs.NumberLemmas.{rd_is_code}
+use Rattle.dwg_grammar.proofs.TableLemmas.{bit_tagged_is_code}
+use Rattle.dwg_grammar.specs.declared.points.Point3.{Point3}
+use Rattle.dwg_entities.specs.Scale.{WHOLE, scale_free, scale_beside_one, scale_even, scale_by, tag_by, scale_tag, scale}
 
 -- 1.0 is a word
 one_is_word : ONE < 2 ^ 64
@@ -59,10 +59,6 @@ scale_by_value (suc (suc zero)) point fits =
     record { x = fits.0; y = subst (λ (word : ℕ). word < 2 ^ 64) (sym fits.1) fits.0; z = subst (λ (word : ℕ). word < 2 ^ 64) (sym fits.2) fits.0 }
 scale_by_value (suc (suc (suc zero))) point fits = subst IsPoint3 (sym fits) whole_is_point
 scale_by_value (suc (suc (suc (suc tag)))) point fits = absurd fits
-
--- the tag that is written of a scale, by what the tests say
-abbrev tag_by : Bool → Bool → Bool → Bool → Bool → ℕ
-tag_by x_one y_one z_one y_same z_same = if x_one then (if y_one then (if z_one then 3 else 1) else 1) else (if y_same then (if z_same then 2 else 0) else 0)
 
 -- numbers that are told apart differ
 apart : {P : Type 0} (one other : ℕ) → (one == other) ≡ false → one ≡ other → P
@@ -122,7 +118,7 @@ scale_least point (suc (suc (suc (suc tag)))) x_one y_one z_one y_same z_same x 
 pub scale_is_code : IsCode AnyLetters scale
 unfolding scale
 scale_is_code =
-    bit_tagged_is_code 2 scale_by IsPoint3 (λ point. tag_by (point.x == ONE) (point.y == ONE) (point.z == ONE) (point.y == point.x) (point.z == point.x))
+    bit_tagged_is_code 2 scale_by IsPoint3 scale_tag
     (λ tag in_range. scale_by_is_code tag) (λ tag point in_range fits. scale_by_value tag point fits)
     (λ point fits. scale_picked point (point.x == ONE) (point.y == ONE) (point.z == ONE) (point.y == point.x) (point.z == point.x) refl refl refl refl refl fits)
     (λ tag point in_range fits. scale_least point tag (point.x == ONE) (point.y == ONE) (point.z == ONE) (point.y == point.x) (point.z == point.x) refl refl refl refl refl fits)

@@ -1,20 +1,19 @@
 -- A line of text (Open Design Specification, "TEXT").
 use Rattle.std.specs.Prelude.{ℕ, ◌+◌, Bool}
-use Rattle.dwg_codes.specs.Codes.{rc, rd, bs, bt, be, tv}
-use Rattle.dwg_codes.specs.Combinators.{seq}
-use Rattle.dwg_codes.specs.Grammar.{Grammar}
-use Rattle.dwg_common.specs.Bodies.{BodyGrammar}
-use Rattle.dwg_common.specs.MakingBodies.{body}
-use Rattle.dwg_common.specs.References.{one_ref}
-use Rattle.dwg_common.specs.Shaped.{shaped}
-use Rattle.dwg_handles.specs.Reference.{Reference}
+use Rattle.dwg_grammar.specs.Codes.{rc, rd, bs, bt, be, tv}
+use Rattle.dwg_grammar.specs.Combinators.{seq, shaped}
+use Rattle.dwg_grammar.specs.Grammar.{Grammar}
+use Rattle.dwg_grammar.specs.Bodies.{BodyGrammar}
+use Rattle.dwg_grammar.specs.MakingBodies.{body}
+use Rattle.dwg_grammar.specs.References.{one_ref}
+use Rattle.dwg_grammar.specs.Reference.{Reference}
 use Rattle.dwg_entities.specs.declared.text.Inscription.{Inscription}
 use Rattle.dwg_entities.specs.declared.text.Lettering.{Lettering}
 use Rattle.dwg_entities.specs.declared.text.Placing.{Placing}
 use Rattle.dwg_entities.specs.declared.text.Text.{Text}
 use Rattle.dwg_entities.specs.declared.text.Wording.{Wording}
 use Rattle.dwg_entities.specs.Flags.{unless, worth_unless}
-use Rattle.dwg_common.specs.Points.{rd2, dd2}
+use Rattle.dwg_grammar.specs.Points.{rd2, dd2}
 
 -- RD elevation unless 01; 2RD insertion; 2DD alignment against it unless 02; BE extrusion; BT thickness
 abbrev pub text_placing : ℕ → Grammar Bool Placing

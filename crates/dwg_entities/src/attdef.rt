@@ -74,7 +74,7 @@ impl BodyCode for Attdef {
         Ok(Some(attdef))
     }
 
-    #[tactic(auto, unfolding(crate::specs::AttdefBody::attdef_body, dwg_handles::specs::ReferenceCodes::reference))]
+    #[tactic(auto, unfolding(crate::specs::AttdefBody::attdef_body, dwg_grammar::specs::ReferenceCodes::reference))]
     fn fits(&self, base: Handle) -> bool {
         if !label_fits(&self.attrib) {
             return false;
@@ -85,7 +85,7 @@ impl BodyCode for Attdef {
         self.attrib.text.style.fits(base)
     }
 
-    #[tactic(auto, unfolding(crate::specs::AttdefBody::attdef_body, dwg_handles::specs::ReferenceCodes::reference))]
+    #[tactic(auto, unfolding(crate::specs::AttdefBody::attdef_body, dwg_grammar::specs::ReferenceCodes::reference))]
     fn lengths(&self, base: Handle) -> Lengths {
         Lengths {
             main: label_bits(&self.attrib) + tv_bits(self.prompt.as_slice()),
@@ -99,7 +99,7 @@ impl BodyCode for Attdef {
         write_tv(self.prompt.as_slice(), sink);
     }
 
-    #[tactic(auto, unfolding(crate::specs::AttdefBody::attdef_body, dwg_handles::specs::ReferenceCodes::reference))]
+    #[tactic(auto, unfolding(crate::specs::AttdefBody::attdef_body, dwg_grammar::specs::ReferenceCodes::reference))]
     fn write_refs(&self, base: Handle, sink: &mut BitSink) {
         write_ref(self.attrib.text.style, base, sink);
     }

@@ -96,7 +96,7 @@ impl BodyCode for Attrib {
         Ok(Some(attrib))
     }
 
-    #[tactic(auto, unfolding(crate::specs::AttribBody::attrib_body, dwg_handles::specs::ReferenceCodes::reference))]
+    #[tactic(auto, unfolding(crate::specs::AttribBody::attrib_body, dwg_grammar::specs::ReferenceCodes::reference))]
     fn fits(&self, base: Handle) -> bool {
         if !label_fits(self) {
             return false;
@@ -104,7 +104,7 @@ impl BodyCode for Attrib {
         self.text.style.fits(base)
     }
 
-    #[tactic(auto, unfolding(crate::specs::AttribBody::attrib_body, dwg_handles::specs::ReferenceCodes::reference))]
+    #[tactic(auto, unfolding(crate::specs::AttribBody::attrib_body, dwg_grammar::specs::ReferenceCodes::reference))]
     fn lengths(&self, base: Handle) -> Lengths {
         Lengths {
             main: label_bits(self),
@@ -117,7 +117,7 @@ impl BodyCode for Attrib {
         write_label(self, sink);
     }
 
-    #[tactic(auto, unfolding(crate::specs::AttribBody::attrib_body, dwg_handles::specs::ReferenceCodes::reference))]
+    #[tactic(auto, unfolding(crate::specs::AttribBody::attrib_body, dwg_grammar::specs::ReferenceCodes::reference))]
     fn write_refs(&self, base: Handle, sink: &mut BitSink) {
         write_ref(self.text.style, base, sink);
     }

@@ -3,7 +3,7 @@
 ghost use Rattle.std.specs.Prelude.{◌≡◌, ◌^◌, ◌<◌, ◌↔◌, is_some, IsTrue};
 ghost use Rattle.std.specs.Option.{option_map};
 ghost use Rattle.dwg_bits.specs.Cursor.{rest};
-ghost use Rattle.dwg_codes.specs.Combinators.{when};
+ghost use Rattle.dwg_grammar.specs.Combinators.{when};
 ghost use Rattle.dwg_entities.specs.BodiesLaws.{attributes_is_part};
 ghost use Rattle.dwg_entities.specs.InsertBody.{attributes};
 
@@ -33,7 +33,7 @@ fn read_attributes(cursor: &mut BitCursor<'_>, base: Handle) -> Option<Attribute
 }
 
 /// Whether attributes can be told from the insert of the handle `base`: each reference reaches its target.
-#[tactic(auto, unfolding(dwg_handles::specs::ReferenceCodes::reference))]
+#[tactic(auto, unfolding(dwg_grammar::specs::ReferenceCodes::reference))]
 fn attributes_fit(value: &Attributes, base: Handle) -> bool
     ensures { IsTrue result ↔ (attributes base).grammar.IsValue value.now }
 {
@@ -78,7 +78,7 @@ impl BitCode for CodeAttributes {
         Some(attributes)
     }
 
-    #[tactic(auto, unfolding(dwg_handles::specs::ReferenceCodes::reference))]
+    #[tactic(auto, unfolding(dwg_grammar::specs::ReferenceCodes::reference))]
     fn length(context: &Handle, value: &Attributes) -> u64 {
         ref_bits(value.first, *context)
             + ref_bits(value.last, *context)

@@ -67,7 +67,7 @@ impl BodyCode for Block {
         write_tv(self.name.as_slice(), sink);
     }
 
-    #[tactic(auto, unfolding(crate::specs::BlockBody::block_body), using(dwg_bits::specs::SinkLaws::extends_by_none))]
+    #[tactic(auto, unfolding(crate::specs::BlockBody::block_body), using(dwg_bits::proofs::SinkLemmas::extends_by_none))]
     fn write_refs(&self, _base: Handle, _sink: &mut BitSink) {}
 
     ghost laws = { λ base small. block_is_body base small };

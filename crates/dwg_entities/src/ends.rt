@@ -39,10 +39,10 @@ impl BodyCode for EndBlk {
         Lengths { main: 0, refs: 0 }
     }
 
-    #[tactic(auto, unfolding(crate::specs::BlockEnds::endblk_body), using(dwg_bits::specs::SinkLaws::extends_by_none))]
+    #[tactic(auto, unfolding(crate::specs::BlockEnds::endblk_body), using(dwg_bits::proofs::SinkLemmas::extends_by_none))]
     fn write_main(&self, _base: Handle, _sink: &mut BitSink) {}
 
-    #[tactic(auto, unfolding(crate::specs::BlockEnds::endblk_body), using(dwg_bits::specs::SinkLaws::extends_by_none))]
+    #[tactic(auto, unfolding(crate::specs::BlockEnds::endblk_body), using(dwg_bits::proofs::SinkLemmas::extends_by_none))]
     fn write_refs(&self, _base: Handle, _sink: &mut BitSink) {}
 
     ghost laws = { λ base small. endblk_is_body base small };
@@ -71,10 +71,10 @@ impl BodyCode for SeqEnd {
         Lengths { main: 0, refs: 0 }
     }
 
-    #[tactic(auto, unfolding(crate::specs::BlockEnds::seqend_body), using(dwg_bits::specs::SinkLaws::extends_by_none))]
+    #[tactic(auto, unfolding(crate::specs::BlockEnds::seqend_body), using(dwg_bits::proofs::SinkLemmas::extends_by_none))]
     fn write_main(&self, _base: Handle, _sink: &mut BitSink) {}
 
-    #[tactic(auto, unfolding(crate::specs::BlockEnds::seqend_body), using(dwg_bits::specs::SinkLaws::extends_by_none))]
+    #[tactic(auto, unfolding(crate::specs::BlockEnds::seqend_body), using(dwg_bits::proofs::SinkLemmas::extends_by_none))]
     fn write_refs(&self, _base: Handle, _sink: &mut BitSink) {}
 
     ghost laws = { λ base small. seqend_is_body base small };

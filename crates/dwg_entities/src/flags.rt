@@ -4,7 +4,7 @@ ghost use Rattle.std.specs.Prelude.{◌≡◌, ◌^◌, ◌<◌, ◌≤◌, ◌�
 ghost use Rattle.std.specs.Option.{option_map};
 ghost use Rattle.dwg_bits.specs.Cursor.{rest};
 ghost use Rattle.dwg_bits.specs.Sink.{Extends};
-ghost use Rattle.dwg_codes.specs.Codes.{bs, rd};
+ghost use Rattle.dwg_grammar.specs.Codes.{bs, rd};
 ghost use Rattle.dwg_entities.specs.Flags.{is_set, unless, worth_unless};
 
 use dwg_bits::{BitCursor, BitSink};

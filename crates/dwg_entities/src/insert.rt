@@ -10,8 +10,8 @@ use crate::attributes::{CodeAttributes, attributes_fit_where_there};
 use crate::scale::CodeScale;
 use dwg_base::{Handle, NoMemory};
 use dwg_bits::{BitCursor, BitSink};
-use dwg_codes::{BitCode, CodeB, CodeBD, Point3, length_when, write_when};
-use dwg_common::{BodyCode, Code3BD, Lengths, parse_code, parse_ref, parse_when};
+use dwg_codes::{BitCode, Code3BD, CodeB, CodeBD, Point3, length_when, write_when};
+use dwg_common::{BodyCode, Lengths, parse_code, parse_ref, parse_when};
 use dwg_handles::{CodeH, Ref};
 use std::alloc::Global;
 
@@ -158,7 +158,7 @@ impl BodyCode for Insert {
         Ok(Some(insert))
     }
 
-    #[tactic(auto, unfolding(crate::specs::InsertBody::insert_body, dwg_handles::specs::ReferenceCodes::reference))]
+    #[tactic(auto, unfolding(crate::specs::InsertBody::insert_body, dwg_grammar::specs::ReferenceCodes::reference))]
     fn fits(&self, base: Handle) -> bool {
         setting_fits(setting_of(self));
         if !self.block.fits(base) {

@@ -1,7 +1,7 @@
 //! Laws of these bodies, as the contract of a function without code.
 
 ghost use Rattle.std.specs.Prelude.{◌^◌, ◌<◌, ℕ};
-ghost use Rattle.dwg_common.specs.BodyLaws.{IsFreeBody};
+ghost use Rattle.dwg_grammar.specs.Bodies.{IsFreeBody};
 ghost use Rattle.dwg_entities.specs.AttdefBody.{attdef_body};
 ghost use Rattle.dwg_entities.specs.AttribBody.{attrib_body};
 ghost use Rattle.dwg_entities.specs.BlockBody.{block_body};

@@ -5,7 +5,7 @@ ghost use Rattle.std.specs.Option.{option_map};
 ghost use Rattle.dwg_bits.specs.Cursor.{rest};
 ghost use Rattle.dwg_bits.specs.Sink.{Extends};
 ghost use Rattle.dwg_entities.specs.Flags.{unless};
-ghost use Rattle.dwg_common.specs.Points.{dd2};
+ghost use Rattle.dwg_grammar.specs.Points.{dd2};
 ghost use Rattle.dwg_entities.specs.TextBody.{text_placing};
 
 use crate::flags::{is_set, length_unless, parse_unless, word_fits, write_unless};

@@ -4,16 +4,13 @@ ghost use Rattle.std.specs.Prelude.{◌≡◌, ◌^◌, ◌<◌, ◌≤◌, ⊤,
 ghost use Rattle.std.specs.Option.{option_map};
 ghost use Rattle.dwg_bits.specs.Cursor.{rest};
 ghost use Rattle.dwg_bits.specs.Sink.{Extends};
-ghost use Rattle.dwg_codes.specs.Codes.{IsPoint3};
+ghost use Rattle.dwg_grammar.specs.Codes.{IsPoint3};
 ghost use Rattle.dwg_entities.specs.Scale.{scale, scale_beside_one, scale_by, scale_even, scale_free, scale_tag};
 ghost use Rattle.dwg_entities.specs.ScaleLaws.{scale_is_code};
 
 use dwg_bits::{BitCursor, BitSink};
-use dwg_codes::{BitCode, CodeBB, CodeDD, CodeRD, Point3};
+use dwg_codes::{BitCode, CodeBB, CodeDD, CodeRD, ONE_WORD, Point3};
 use dwg_common::parse_code;
-
-/// The word of 1.0.
-const ONE_WORD: u64 = 0x3FF0_0000_0000_0000;
 
 /// The tag of a scale of any words.
 const FREE: u8 = 0;
@@ -115,7 +112,7 @@ fn scale_tag(point: &Point3) -> u8
 }
 
 /// How many bits are written of a scale behind a tag.
-#[tactic(auto, using(dwg_common::specs::PointLaws::dd_at_most, dwg_codes::specs::NumberLaws::length_of_rd))]
+#[tactic(auto, using(dwg_grammar::proofs::Bounds::dd_at_most, dwg_grammar::proofs::NumberLemmas::length_of_rd))]
 fn bits_behind(tag: u8, point: &Point3) -> u64
     requires tag { tag < 4 }
     requires point { IsPoint3 point.now }
@@ -177,7 +174,7 @@ impl BitCode for CodeScale {
         Some(point)
     }
 
-    #[tactic(auto, unfolding(crate::specs::Scale::scale), using(dwg_bits::specs::BitLaws::length_of_low_bits))]
+    #[tactic(auto, unfolding(crate::specs::Scale::scale), using(dwg_bits::proofs::BitLaws::length_of_low_bits))]
     fn length(_context: &(), value: &Point3) -> u64 {
         let tag = scale_tag(value);
         CodeBB::length(&(), &tag) + bits_behind(tag, value)

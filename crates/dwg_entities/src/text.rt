@@ -165,7 +165,7 @@ impl BodyCode for Text {
         Ok(Some(text))
     }
 
-    #[tactic(auto, unfolding(crate::specs::TextBody::text_body, dwg_handles::specs::ReferenceCodes::reference))]
+    #[tactic(auto, unfolding(crate::specs::TextBody::text_body, dwg_grammar::specs::ReferenceCodes::reference))]
     fn fits(&self, base: Handle) -> bool {
         if !inscription_fits(self) {
             return false;
@@ -173,7 +173,7 @@ impl BodyCode for Text {
         self.style.fits(base)
     }
 
-    #[tactic(auto, unfolding(crate::specs::TextBody::text_body, dwg_handles::specs::ReferenceCodes::reference))]
+    #[tactic(auto, unfolding(crate::specs::TextBody::text_body, dwg_grammar::specs::ReferenceCodes::reference))]
     fn lengths(&self, base: Handle) -> Lengths {
         Lengths {
             main: inscription_bits(self),
@@ -186,7 +186,7 @@ impl BodyCode for Text {
         write_inscription(self, sink);
     }
 
-    #[tactic(auto, unfolding(crate::specs::TextBody::text_body, dwg_handles::specs::ReferenceCodes::reference))]
+    #[tactic(auto, unfolding(crate::specs::TextBody::text_body, dwg_grammar::specs::ReferenceCodes::reference))]
     fn write_refs(&self, base: Handle, sink: &mut BitSink) {
         write_ref(self.style, base, sink);
     }

@@ -18,7 +18,8 @@ use Rattle.dwg_objmap.specs.declared.pair.Pair.{Pair}
 use Rattle.dwg_objmap.specs.Pages.{handles_of}
 use Rattle.dwg_file.specs.declared.frames.Frames.{Frames}
 use Rattle.dwg_file.specs.FileLines.{FoundFrame, with_found, tried_pair, frames_behind}
-use Rattle.dwg_file.specs.FrameReading.{AreTaken, IsFrameFound, values_of, HasRead, GoesOn, AnswersFrames, IsAlong}
+use Rattle.dwg_file.specs.FrameReading.{AreTaken, IsFrameFound, values_of, HasRead, GoesOn, AnswersFrames}
+use Rattle.dwg_file.proofs.FrameReading.{IsAlong}
 use Rattle.dwg_file.specs.ReadAs.{AreFormsOf}
 use Rattle.dwg_file.specs.Taken.{Run, meets, shares}
 

@@ -1,90 +1,67 @@
--- Objects sorted by their handles, which are distinct, ascend.
-use Rattle.std.proofs.Common.{◌≡◌, ◌≢◌, refl, sym, ◌∙◌, ap, subst, ℕ, ◌<◌, ◌≤◌, List, [], ◌∷◌, length, map, get_or, ◌==◌, arith}
-use Rattle.std.specs.Prelude.{AllPairs, Ok, Err}
-use Rattle.std.specs.List.Sorted.{IsPermutation, IsNonDecreasingBy}
-use Rattle.std.proofs.lemmas.Bool.Decides.{Decides-eqb, nat_tests}
-use Rattle.std.proofs.lemmas.List.{get_or-map, get_or_default, length-map}
-use Rattle.std.proofs.lemmas.List.Sorted.{IsPermutation-map}
-use Rattle.std.proofs.lemmas.Map.Keys.{IsDistinct-IsPermutation}
-use Rattle.std.proofs.lemmas.Map.Made.{AllPairs-from_IsDistinct, IsDistinct-from_AllPairs}
-use Rattle.dwg_base.specs.Refusals.{Tried}
-use Rattle.dwg_base.specs.declared.refusal.Fault.{Fault}
-use Rattle.dwg_base.specs.declared.refusal.Fault.TheVariants.{NoMemory, Refused}
-use Rattle.dwg_classes.specs.declared.class.Class.{Class}
-use Rattle.dwg_object.specs.declared.object.Object.{Object}
-use Rattle.dwg_object.specs.Objects.{ObjectValue, value_of, handle_of}
-use Rattle.dwg_objmap.specs.Pages.{AreHandles}
-use Rattle.dwg_file.specs.declared.frames.Frames.{Frames}
-use Rattle.dwg_file.specs.FileLines.{FoundFrame}
-use Rattle.dwg_file.specs.FrameReading.{values_of, AnswersFrames, AnswersObjects}
-use Rattle.dwg_file.specs.ObjectOrder.{order_once}
-use Rattle.dwg_file.specs.SortedObjects.{sorted, sorted_same, sorted_ascends, distinct_objects}
+-- Objects in ascending order of handle: there is one such order. A rule of this project.
+use Rattle.std.proofs.Common.{◌≡◌, refl, sym, ap, ap₂, subst, zero, suc, ◌<◌, ◌≤◌, List, [], ◌∷◌, inl, inr, arith}
+use Rattle.std.specs.Prelude.{◌⊎◌, Contains}
+use Rattle.std.specs.List.Sorted.{IsPermutation}
+use Rattle.std.proofs.lemmas.List.Sorted.{IsPermutation-sym, Contains-permutation}
+use Rattle.dwg_object.specs.Objects.{ObjectValue, handle_of}
 use Rattle.dwg_file.specs.Spelled.{AreAscending}
 
--- handles no two of which are the same
-apart_handles : (handles : List ℕ) → AreHandles handles → AllPairs (λ x y. x ≢ y) handles
-apart_handles handles are i j d before within same =
-    are.distinct i j before within (get_or_default handles i 0 d (omega arith) ∙ same ∙ get_or_default handles j d 0 within)
+-- what a list contains is its first, or is contained behind it
+contained : (first : ObjectValue) (rest : List ObjectValue) (object : ObjectValue) → Contains (first ∷ rest) object → (first ≡ object) ⊎ Contains rest object
+contained first rest object (zero, within, is) = inl is
+contained first rest object (suc k, within, is) = inr (k, omega arith, is)
 
--- the test of numbers turns around
-turned : (x y : ℕ) → (x == y) ≡ (y == x)
-turned x y = grind (arith, nat_tests)
+-- what is contained behind the first has a greater handle
+above : (first : ObjectValue) (rest : List ObjectValue) (object : ObjectValue) → AreAscending (first ∷ rest) → Contains rest object → handle_of first < handle_of object
+above first rest object up (k, within, is) = subst (λ (other : ObjectValue). handle_of first < handle_of other) is (up 0 (suc k) object (omega arith) (omega arith))
 
--- and they stay so in any order
-apart_ordered : (handles others : List ℕ) → AreHandles handles → IsPermutation handles others → AllPairs (λ x y. x ≢ y) others
-apart_ordered handles others are same =
-    AllPairs-from_IsDistinct {eq = ◌==◌} Decides-eqb others
-    (IsDistinct-IsPermutation (◌==◌) turned handles others same (IsDistinct-from_AllPairs {eq = ◌==◌} Decides-eqb handles (apart_handles handles are)))
+-- what is contained in a list has no lower a handle than its first
+least : (first : ObjectValue) (rest : List ObjectValue) (object : ObjectValue) → AreAscending (first ∷ rest) → Contains (first ∷ rest) object → handle_of first ≤ handle_of object
+least first rest object up has = of_cases (contained first rest object has)
+  where
+    of_cases : (first ≡ object) ⊎ Contains rest object → handle_of first ≤ handle_of object
+    of_cases (inl same) = omega (arith, ap handle_of same)
+    of_cases (inr behind) = omega (arith, above first rest object up behind)
 
--- the handles of values do not fall where those of objects do not
-not_falling : (objects : List Object) → IsNonDecreasingBy (λ object. handle_of (value_of object)) objects → (i j : ℕ) (d : ObjectValue) → i < j → j < length (values_of objects)
-    → handle_of (get_or (values_of objects) i d) ≤ handle_of (get_or (values_of objects) j d)
-not_falling [] all i j d before within = absurd (omega arith)
-not_falling (first ∷ objects) all i j d before within =
-    let there : j < length (first ∷ objects) = omega (arith, length-map (first ∷ objects) value_of) in
-    let one : get_or (values_of (first ∷ objects)) i d ≡ value_of (get_or (first ∷ objects) i first) = get_or-map value_of (first ∷ objects) i first d (omega arith) in
-    let other : get_or (values_of (first ∷ objects)) j d ≡ value_of (get_or (first ∷ objects) j first) = get_or-map value_of (first ∷ objects) j first d there in
-    omega (arith, ap handle_of one, ap handle_of other, all i j first (omega arith) there)
+-- what stands behind the first ascends
+ascending_behind : (first : ObjectValue) (rest : List ObjectValue) → AreAscending (first ∷ rest) → AreAscending rest
+ascending_behind first rest up = λ i j d before within. up (suc i) (suc j) d (omega arith) (omega arith)
 
--- objects that do not fall, with distinct handles, ascend
-pub ascending_objects : (objects ordered : List Object) (handles : List ℕ) → AreHandles handles → map handle_of (values_of objects) ≡ handles → IsPermutation objects ordered
-    → IsNonDecreasingBy (λ object. handle_of (value_of object)) ordered → AreAscending (values_of ordered)
-ascending_objects objects ordered handles are own same ascend i j d before within =
-    let moved : IsPermutation handles (map handle_of (values_of ordered)) =
-    subst (λ (h : List ℕ). IsPermutation h (map handle_of (values_of ordered))) own
-    (IsPermutation-map handle_of (values_of objects) (values_of ordered) (IsPermutation-map value_of objects ordered same)) in
-    let there : j < length (map handle_of (values_of ordered)) = omega (arith, length-map (values_of ordered) handle_of) in
-    let one : get_or (map handle_of (values_of ordered)) i 0 ≡ handle_of (get_or (values_of ordered) i d) = get_or-map handle_of (values_of ordered) i d 0 (omega arith) in
-    let other : get_or (map handle_of (values_of ordered)) j 0 ≡ handle_of (get_or (values_of ordered) j d) = get_or-map handle_of (values_of ordered) j d 0 within in
-    let differ : get_or (map handle_of (values_of ordered)) i 0 ≢ get_or (map handle_of (values_of ordered)) j 0 = apart_ordered handles (map handle_of (values_of ordered)) are moved i j 0 before there in
-    omega (arith, one, other, differ, not_falling ordered ascend i j d before within)
+-- the firsts of ascending lists that contain each other are one
+firsts_same : (one other : ObjectValue) (ones others : List ObjectValue) → AreAscending (one ∷ ones) → AreAscending (other ∷ others)
+    → Contains (other ∷ others) one → Contains (one ∷ ones) other → one ≡ other
+firsts_same one other ones others up also has had = of_cases (contained other others one has)
+  where
+    of_cases : (other ≡ one) ⊎ Contains others one → one ≡ other
+    of_cases (inl same) = sym same
+    of_cases (inr behind) = absurd (omega (arith, above other others one also behind, least one ones other up had))
 
--- objects in an order
-pub record AreOrdered (objects list : List Object) : Type 0 where
-  pub same : IsPermutation (values_of objects) (values_of list)
-  pub ascending : AreAscending (values_of list)
-  pub is_sorted : values_of list ≡ sorted (values_of objects)
+-- each object of a list is contained in another
+abbrev AreWithin : List ObjectValue → List ObjectValue → Type 0
+AreWithin objects others = (object : ObjectValue) → Contains objects object → Contains others object
 
--- objects that do not fall, with distinct handles, are those that are put in their places
-pub objects_ordered : (objects ordered list : List Object) → AreHandles (map handle_of (values_of objects)) → IsPermutation objects ordered
-    → IsNonDecreasingBy (λ object. handle_of (value_of object)) ordered → list ≡ ordered → AreOrdered objects list
-objects_ordered objects ordered list are same ascend is =
-    let values : List ObjectValue = values_of objects in
-    let moved : IsPermutation values (values_of ordered) = IsPermutation-map value_of objects ordered same in
-    let up : AreAscending (values_of ordered) = ascending_objects objects ordered (map handle_of values) are refl same ascend in
-    subst (AreOrdered objects) (sym is) (record {
-      same = moved;
-      ascending = up;
-      is_sorted = order_once values (values_of ordered) (sorted values) moved (sorted_same values) up (sorted_ascends values (distinct_objects values are.distinct));
-    })
+-- what stands behind firsts that are one is contained in what stands behind
+within_behind : (one other : ObjectValue) (ones others : List ObjectValue) → one ≡ other → AreAscending (one ∷ ones) → AreWithin (one ∷ ones) (other ∷ others) → AreWithin ones others
+within_behind one other ones others same up within object (k, inside, is) = of_cases (contained other others object (within object (suc k, omega arith, is)))
+  where
+    of_cases : (other ≡ object) ⊎ Contains others object → Contains others object
+    of_cases (inl here) = absurd (omega (arith, above one ones object up (k, inside, is), ap handle_of same, ap handle_of here))
+    of_cases (inr behind) = behind
 
--- objects of frames that were read, in order, are those of the frames
-pub objects_answered : (classes : List Class) (bytes : List ℕ) (tried : Tried (List FoundFrame)) (frames : Frames) (list : List Object) → AnswersFrames classes bytes tried (Ok frames)
-    → IsPermutation (values_of frames.objects.items) (values_of list) → AreAscending (values_of list) → AnswersObjects classes bytes tried (Ok list)
-objects_answered classes bytes tried frames list answers same ascend =
-    (answers.0, answers.1, record { values = values_of frames.objects.items; forms = answers.2; same = same; ascending = ascend })
+-- ascending lists that contain each other are one
+within_once : (ones others : List ObjectValue) → AreAscending ones → AreAscending others → AreWithin ones others → AreWithin others ones → ones ≡ others
+within_once [] [] up also within had = refl
+within_once [] (other ∷ others) up also within had = let none = had other (0, omega arith, refl) in absurd (omega (arith, none.1))
+within_once (one ∷ ones) [] up also within had = let none = within one (0, omega arith, refl) in absurd (omega (arith, none.1))
+within_once (one ∷ ones) (other ∷ others) up also within had =
+    let same = firsts_same one other ones others up also (within one (0, omega arith, refl)) (had other (0, omega arith, refl)) in
+    ap₂ (λ first back. first ∷ back) same
+    (within_once ones others (ascending_behind one ones up) (ascending_behind other others also) (within_behind one other ones others same up within)
+    (within_behind other one others ones (sym same) also had))
 
--- a fault of reading frames is one of reading objects
-pub objects_refused : (classes : List Class) (bytes : List ℕ) (tried : Tried (List FoundFrame)) (fault : Fault) → AnswersFrames classes bytes tried (Err fault) → AnswersObjects classes bytes tried (Err fault)
-objects_refused classes bytes tried NoMemory answers = tt
-objects_refused classes bytes tried (Refused refusal) answers = answers
+-- objects have one ascending order
+pub order_once : (values ones others : List ObjectValue) → IsPermutation values ones → IsPermutation values others → AreAscending ones → AreAscending others → ones ≡ others
+order_once values ones others one other up also =
+    within_once ones others up also
+    (λ object has. Contains-permutation values others object other (Contains-permutation ones values object (IsPermutation-sym values ones one) has))
+    (λ object has. Contains-permutation values ones object one (Contains-permutation others values object (IsPermutation-sym values others other) has))

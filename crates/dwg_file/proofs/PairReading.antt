@@ -4,7 +4,7 @@ use Rattle.std.specs.Bool.{then_some}
 use Rattle.std.specs.Prelude.{Result, Ok, Err, if◌then◌else◌}
 use Rattle.std.proofs.lemmas.Bool.Decides.{nat_tests}
 use Rattle.std.proofs.lemmas.Option.{same_Some}
-use Rattle.dwg_base.specs.Bytes.{are_bytes}
+use Rattle.dwg_base.proofs.ByteLists.{are_bytes}
 use Rattle.dwg_base.specs.declared.refusal.Refusal.{Refusal}
 use Rattle.dwg_base.specs.declared.refusal.Fault.{Fault}
 use Rattle.dwg_base.specs.declared.refusal.Fault.TheVariants.{NoMemory, Refused}
@@ -14,11 +14,11 @@ use Rattle.dwg_object.specs.declared.span.Span.{Span}
 use Rattle.dwg_object.specs.Forms.{FormOf}
 use Rattle.dwg_object.specs.FoundFrames.{IsTried, AnswersFrame}
 use Rattle.dwg_object.specs.FrameCauses.{IsFramed}
-use Rattle.dwg_object.specs.FrameLaws.{tried_frame_means, frames_same}
+use Rattle.dwg_object.proofs.FrameLaws.{tried_frame_means, frames_same}
 use Rattle.dwg_object.specs.FrameLines.{frame_refusal, span_body, tried_span, tried_frame}
 use Rattle.dwg_object.specs.Frames.{FrameAt, SpanAt}
 use Rattle.dwg_object.specs.Objects.{value_of, handle_of}
-use Rattle.dwg_object.specs.SpanLaws.{spans_same}
+use Rattle.dwg_object.proofs.SpanLaws.{spans_same}
 use Rattle.dwg_objmap.specs.declared.pair.Pair.{Pair}
 use Rattle.dwg_file.specs.FileLines.{FoundFrame, touches, with_handle, with_span, tried_pair}
 use Rattle.dwg_file.specs.FrameReading.{IsFrameFound, AnswersPair}

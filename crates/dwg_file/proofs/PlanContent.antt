@@ -2,15 +2,16 @@
 use Rattle.std.proofs.Common.{◌≡◌, sym, ◌∙◌, ap, ℕ, ◌+◌, ◌*◌, ◌<◌, ◌≤◌, Bool, List, length, length-append, arith}
 use Rattle.dwg_base.specs.Bytes.{AreBytes}
 use Rattle.dwg_bits.specs.Bits.{bits}
-use Rattle.dwg_bits.specs.PaddingLaw.{padding_fills}
+use Rattle.dwg_bits.proofs.PaddingLaw.{padding_fills}
 use Rattle.dwg_bits.specs.Sink.{padding}
-use Rattle.dwg_bits.specs.WholeBytes.{whole_bytes, whole_of_bits, length_of_whole}
+use Rattle.dwg_bits.specs.WholeBytes.{whole_bytes}
+use Rattle.dwg_bits.proofs.WholeBytes.{whole_of_bits, length_of_whole}
 use Rattle.dwg_classes.specs.declared.class.Class.{Class}
 use Rattle.dwg_classes.specs.Class.{numbered_class}
 use Rattle.dwg_classes.specs.WrittenClasses.{padded}
-use Rattle.dwg_codes.specs.ToEnd.{short_all}
+use Rattle.dwg_grammar.specs.ToEnd.{short_all}
 use Rattle.dwg_file.specs.Canonical.{class_content}
-use Rattle.dwg_file.specs.CanonicalParts.{padded_whole}
+use Rattle.dwg_file.proofs.CanonicalParts.{padded_whole}
 
 -- the content has the bits of the classes, and fewer than eight more
 pub record IsPadded (count content : ℕ) : Type 0 where

@@ -2,17 +2,18 @@
 use Rattle.std.proofs.Common.{◌≡◌, sym, ◌∙◌, ap, ap₂, subst, ℕ, ◌+◌, ◌^◌, ◌<◌, ◌≤◌, List, [], ◌∷◌, length, length-append, arith}
 use Rattle.std.specs.List.{AllByRecursion}
 use Rattle.dwg_classes.specs.declared.class.Class.{Class}
-use Rattle.dwg_classes.specs.WrittenClasses.{AreWritable, read_are_writable}
+use Rattle.dwg_classes.specs.WrittenClasses.{AreWritable}
+use Rattle.dwg_classes.proofs.WrittenClasses.{read_are_writable}
 use Rattle.dwg_object.specs.Written.{IsValidObject}
-use Rattle.dwg_object.specs.FormLaws.{valid_fits, length_of_frame}
+use Rattle.dwg_object.proofs.FormLaws.{valid_fits, length_of_frame}
 use Rattle.dwg_object.specs.Frames.{frame_bytes}
 use Rattle.dwg_object.specs.Objects.{ObjectValue}
 use Rattle.dwg_objmap.specs.declared.pair.Pair.{Pair}
 use Rattle.dwg_objmap.specs.Writing.{Ascend}
 use Rattle.dwg_file.specs.Contents.{Contents}
 use Rattle.dwg_file.specs.Canonical.{class_content, frames_bytes, placed, objects_place}
-use Rattle.dwg_file.specs.CanonicalLaws.{canonical_ascends}
-use Rattle.dwg_file.specs.CanonicalParts.{content_is_classes}
+use Rattle.dwg_file.proofs.CanonicalLaws.{canonical_ascends}
+use Rattle.dwg_file.proofs.CanonicalParts.{content_is_classes}
 use Rattle.dwg_file.specs.Plans.{CanBeFramed}
 use Rattle.dwg_file.specs.Valid.{IsValid}
 

@@ -2,10 +2,11 @@
 use Rattle.std.proofs.Common.{◌≡◌, sym, ◌∙◌, ap, subst, ℕ, ◌+◌, ◌*◌, ◌≤◌, List, [], ◌++◌, length, length-append, append_assoc, arith}
 use Rattle.dwg_base.specs.Devices.{MOST_BYTES}
 use Rattle.dwg_bits.specs.Bits.{bits}
-use Rattle.dwg_bits.specs.BitLaws.{bits_joined, length_of_bits}
+use Rattle.dwg_bits.proofs.BitLaws.{bits_joined, length_of_bits}
 use Rattle.dwg_bits.specs.Sink.{Written, Extends}
-use Rattle.dwg_bits.specs.SinkLaws.{extends_by_both}
-use Rattle.dwg_bits.specs.WholeBytes.{whole_bytes, whole_of_bits}
+use Rattle.dwg_bits.proofs.SinkLemmas.{extends_by_both}
+use Rattle.dwg_bits.specs.WholeBytes.{whole_bytes}
+use Rattle.dwg_bits.proofs.WholeBytes.{whole_of_bits}
 use Rattle.dwg_classes.specs.declared.class.Class.{Class}
 use Rattle.dwg_object.specs.Objects.{ObjectValue}
 use Rattle.dwg_objmap.specs.declared.pair.Pair.{Pair}
@@ -16,9 +17,9 @@ use Rattle.dwg_sections.specs.FileHeader.{header_bytes, LocateSections}
 use Rattle.dwg_sections.specs.Framed.{framed_bytes}
 use Rattle.dwg_file.specs.Contents.{OtherValue, Contents}
 use Rattle.dwg_file.specs.Canonical.{PREVIEW, class_content, frames_bytes, placed, others_bytes, variables_place, objects_place, others_place, map_of, header_of, canonical, size_of}
-use Rattle.dwg_file.specs.CanonicalHeader.{header_fits, length_of_located}
-use Rattle.dwg_file.specs.CanonicalLaws.{header_reaches, canonical_is_counted}
-use Rattle.dwg_file.specs.CanonicalParts.{length_of_framed, length_of_preview}
+use Rattle.dwg_file.proofs.CanonicalHeader.{header_fits, length_of_located}
+use Rattle.dwg_file.proofs.CanonicalLaws.{header_reaches, canonical_is_counted}
+use Rattle.dwg_file.proofs.CanonicalParts.{length_of_framed, length_of_preview}
 use Rattle.dwg_file.specs.Plans.{IsPlan, front_bytes, back_bytes}
 use Rattle.dwg_file.specs.Valid.{IsValid}
 

@@ -4,7 +4,7 @@ use Rattle.dwg_bits.specs.Sink.{padding}
 use Rattle.dwg_bits.specs.WholeBytes.{whole_bytes}
 use Rattle.dwg_classes.specs.declared.class.Class.{Class}
 use Rattle.dwg_classes.specs.Class.{numbered_class}
-use Rattle.dwg_codes.specs.ToEnd.{short_all}
+use Rattle.dwg_grammar.specs.ToEnd.{short_all}
 use Rattle.dwg_object.specs.Objects.{ObjectValue, handle_of}
 use Rattle.dwg_object.specs.Frames.{frame_bytes}
 use Rattle.dwg_objmap.specs.declared.pair.Pair.{Pair}
@@ -12,8 +12,8 @@ use Rattle.dwg_objmap.specs.Writing.{map_bytes}
 use Rattle.dwg_sections.specs.declared.framed.Framed.TheVariants.{Variables, Classes}
 use Rattle.dwg_sections.specs.declared.header.Locator.{Locator}
 use Rattle.dwg_sections.specs.declared.header.FileHeader.{FileHeader}
-use Rattle.dwg_sections.specs.FileHeader.{header_bytes}
-use Rattle.dwg_sections.specs.Framed.{framed_bytes, complemented}
+use Rattle.dwg_sections.specs.FileHeader.{OF_LOCATOR, WITHOUT_LOCATORS, header_bytes}
+use Rattle.dwg_sections.specs.Framed.{WITHOUT_CONTENT, complemented, framed_bytes}
 use Rattle.dwg_file.specs.Contents.{OtherValue, Contents}
 
 -- the sixteen bytes before the size of the preview
@@ -23,6 +23,10 @@ PREVIEW_SENTINEL = 0x1F ∷ 0x25 ∷ 0x6D ∷ 0x07 ∷ 0xD4 ∷ 0x36 ∷ 0x28 �
 -- a preview section without a picture: begin sentinel, RL 1, RC 0, end sentinel
 abbrev pub PREVIEW : List ℕ
 PREVIEW = PREVIEW_SENTINEL ++ (1 ∷ 0 ∷ 0 ∷ 0 ∷ 0 ∷ []) ++ complemented PREVIEW_SENTINEL
+
+-- how many bytes it has
+abbrev pub OF_PREVIEW : ℕ
+OF_PREVIEW = 37
 
 -- the content of the classes: what is written of them, padded with zero bits to a byte
 abbrev pub class_content : List Class → List ℕ
@@ -43,16 +47,16 @@ others_bytes others = flat_map (λ (other : OtherValue). other.bytes) others
 
 -- where each part of the canonical file stands
 abbrev pub variables_place : Contents → ℕ
-variables_place drawing = 43 + 9 * (3 + length drawing.others)
+variables_place drawing = WITHOUT_LOCATORS + OF_LOCATOR * (3 + length drawing.others)
 
 abbrev pub classes_place : Contents → ℕ
-classes_place drawing = variables_place drawing + 38 + length drawing.variables
+classes_place drawing = variables_place drawing + WITHOUT_CONTENT + length drawing.variables
 
 abbrev pub preview_place : Contents → ℕ
-preview_place drawing = classes_place drawing + 38 + length (class_content drawing.classes)
+preview_place drawing = classes_place drawing + WITHOUT_CONTENT + length (class_content drawing.classes)
 
 abbrev pub objects_place : Contents → ℕ
-objects_place drawing = preview_place drawing + 37
+objects_place drawing = preview_place drawing + OF_PREVIEW
 
 abbrev pub map_place : Contents → ℕ
 map_place drawing = objects_place drawing + length (frames_bytes drawing.objects)
@@ -82,8 +86,8 @@ header_of drawing = record {
   mark = drawing.mark;
   code_page = drawing.code_page;
   locators =
-      record { number = 0; place = variables_place drawing; size = 38 + length drawing.variables }
-      ∷ record { number = 1; place = classes_place drawing; size = 38 + length (class_content drawing.classes) }
+      record { number = 0; place = variables_place drawing; size = WITHOUT_CONTENT + length drawing.variables }
+      ∷ record { number = 1; place = classes_place drawing; size = WITHOUT_CONTENT + length (class_content drawing.classes) }
       ∷ record { number = 2; place = map_place drawing; size = length (map_of drawing) }
       ∷ others_located (others_place drawing) drawing.others;
 }

@@ -1,24 +1,9 @@
--- The frames, the map and the unknown sections of the canonical file: each stands at its place.
-use Rattle.std.proofs.Common.{◌≡◌, refl, ap, inl, inr, ℕ, ◌+◌, ◌^◌, ◌<◌, ◌≤◌, List, [], ◌∷◌, length, length-append, arith}
-use Rattle.std.specs.Prelude.{map, AllPairs}
-use Rattle.std.specs.List.{AllByRecursion}
-use Rattle.std.proofs.lemmas.List.Elements.{All-from_recursion}
-use Rattle.std.proofs.lemmas.List.Kept.{AllPairs-cons}
-use Rattle.dwg_base.specs.Bytes.{AreBytes, StandsAt}
-use Rattle.dwg_classes.specs.declared.class.Class.{Class}
-use Rattle.dwg_object.specs.Written.{IsValidObject, body_bytes}
-use Rattle.dwg_object.specs.FormLaws.{valid_handle, valid_is_form, valid_fits, written_frame, frame_is_bytes}
+-- Frames of objects that stand one behind the other from a place on. A rule of this project.
+use Rattle.std.proofs.Common.{ℕ, ◌+◌, List, [], ◌∷◌, length}
+use Rattle.dwg_object.specs.Written.{body_bytes}
 use Rattle.dwg_object.specs.Frames.{frame_bytes}
-use Rattle.dwg_object.specs.LengthLaws.{bytes_joined}
 use Rattle.dwg_object.specs.Objects.{ObjectValue, handle_of}
-use Rattle.dwg_object.specs.StandingLaws.{stands_first, stands_next}
-use Rattle.dwg_objmap.specs.declared.pair.Pair.{Pair}
-use Rattle.dwg_objmap.specs.Writing.{Ascend}
-use Rattle.dwg_file.specs.Contents.{OtherValue}
-use Rattle.dwg_file.specs.Canonical.{frames_bytes, placed, others_bytes, others_located}
-use Rattle.dwg_file.specs.CanonicalHeader.{pairs_head, pairs_tail}
-use Rattle.dwg_file.specs.Spelled.{PairFrame, IsFrameOfPair, AreApart, AreAscending, AreSectionsOf}
-use Rattle.dwg_file.specs.Valid.{IsOther}
+use Rattle.dwg_file.specs.Spelled.{PairFrame}
 
 -- the frames of objects that stand one behind the other from a place
 abbrev pub frames_from : ℕ → List ObjectValue → List PairFrame
@@ -29,97 +14,3 @@ frames_from place (object ∷ objects) = record {
   end = place + length (frame_bytes object);
   object = object;
 } ∷ frames_from (place + length (frame_bytes object)) objects
-
--- their pairs are those that are written
-pub pairs_of_frames : (objects : List ObjectValue) (place : ℕ) → placed place objects ≡ map (λ (frame : PairFrame). frame.pair) (frames_from place objects)
-pairs_of_frames [] place = refl
-pairs_of_frames (object ∷ objects) place =
-    ap (λ (pairs : List Pair). record { handle = handle_of object; place = place } ∷ pairs) (pairs_of_frames objects (place + length (frame_bytes object)))
-
--- and their objects are the objects
-pub objects_of_frames : (objects : List ObjectValue) (place : ℕ) → map (λ (frame : PairFrame). frame.object) (frames_from place objects) ≡ objects
-objects_of_frames [] place = refl
-objects_of_frames (object ∷ objects) place = ap (λ others. object ∷ others) (objects_of_frames objects (place + length (frame_bytes object)))
-
--- each stands at its place
-pub frames_stand : (classes : List Class) (bytes : List ℕ) (objects : List ObjectValue) (place : ℕ) → AllByRecursion (IsValidObject classes) objects
-    → StandsAt bytes place (frames_bytes objects) → AllByRecursion (IsFrameOfPair classes bytes) (frames_from place objects)
-frames_stand classes bytes [] place are stands = tt
-frames_stand classes bytes (object ∷ objects) place are stands = (
-  record {
-    stands = written_frame bytes place object (valid_fits classes object are.0).2 (stands_first bytes place (frame_bytes object) (frames_bytes objects) stands);
-    form = valid_is_form classes object are.0;
-    own = refl;
-  },
-  frames_stand classes bytes objects (place + length (frame_bytes object)) are.1 (stands_next bytes place (frame_bytes object) (frames_bytes objects) stands),
-)
-
--- each begins at the first place or behind it
-frames_behind : (objects : List ObjectValue) (end place : ℕ) → end ≤ place → AllByRecursion (λ (frame : PairFrame). end ≤ frame.pair.place) (frames_from place objects)
-frames_behind [] end place before = tt
-frames_behind (object ∷ objects) end place before = (before, frames_behind objects end (place + length (frame_bytes object)) (omega arith))
-
--- a frame is apart from those that begin behind its end
-apart_behind : (one : PairFrame) (frames : List PairFrame) → AllByRecursion (λ (frame : PairFrame). one.end ≤ frame.pair.place) frames → AllByRecursion (AreApart one) frames
-apart_behind one [] behind = tt
-apart_behind one (frame ∷ frames) behind = (inl behind.0, apart_behind one frames behind.1)
-
--- so no two share a byte
-pub frames_apart : (objects : List ObjectValue) (place : ℕ) → AllPairs AreApart (frames_from place objects)
-frames_apart [] place = λ i j d before inside. absurd (omega arith)
-frames_apart (object ∷ objects) place =
-    let end : ℕ = place + length (frame_bytes object) in
-    let one : PairFrame = record { pair = record { handle = handle_of object; place = place }; body = body_bytes object; end = end; object = object } in
-    AllPairs-cons AreApart one (frames_from end objects)
-    (All-from_recursion (AreApart one) (frames_from end objects) (apart_behind one (frames_from end objects) (frames_behind objects end end (omega arith))))
-    (frames_apart objects end)
-
--- pairs of ascending objects ascend, where the frames end in range
-placed_ascend : (classes : List Class) (objects : List ObjectValue) (place handle : ℕ) → AllByRecursion (IsValidObject classes) objects → AreAscending objects
-    → AllByRecursion (λ (object : ObjectValue). handle < handle_of object) objects → place + length (frames_bytes objects) < 2 ^ 63 → Ascend handle (placed place objects)
-placed_ascend classes [] place handle are ascending above below = tt
-placed_ascend classes (object ∷ objects) place handle are ascending above below =
-    let long : length (frames_bytes (object ∷ objects)) ≡ length (frame_bytes object) + length (frames_bytes objects) = length-append (frame_bytes object) (frames_bytes objects) in (
-      above.0,
-      (valid_handle classes object are.0).1,
-      omega arith,
-      placed_ascend classes objects (place + length (frame_bytes object)) (handle_of object) are.1
-          (pairs_tail (λ one other. handle_of one < handle_of other) object objects ascending)
-          (pairs_head (λ one other. handle_of one < handle_of other) object objects ascending) (omega (arith, long)),
-    )
-
--- all handles are above 0
-handles_positive : (classes : List Class) (objects : List ObjectValue) → AllByRecursion (IsValidObject classes) objects → AllByRecursion (λ (object : ObjectValue). 0 < handle_of object) objects
-handles_positive classes [] are = tt
-handles_positive classes (object ∷ objects) are = ((valid_handle classes object are.0).0, handles_positive classes objects are.1)
-
--- so a map is written of them
-pub pairs_ascend : (classes : List Class) (objects : List ObjectValue) (place : ℕ) → AllByRecursion (IsValidObject classes) objects → AreAscending objects
-    → place + length (frames_bytes objects) < 2 ^ 63 → Ascend 0 (placed place objects)
-pairs_ascend classes objects place are ascending below = placed_ascend classes objects place 0 are ascending (handles_positive classes objects are) below
-
--- frames are written in bytes
-pub frames_are_bytes : (classes : List Class) (objects : List ObjectValue) → AllByRecursion (IsValidObject classes) objects → AreBytes (frames_bytes objects)
-frames_are_bytes classes [] are = tt
-frames_are_bytes classes (object ∷ objects) are =
-    let whole = valid_fits classes object are.0 in
-    bytes_joined (frame_bytes object) (frames_bytes objects) (frame_is_bytes object whole.1 whole.2) (frames_are_bytes classes objects are.1)
-
--- unknown sections are written in bytes
-pub others_are_bytes : (others : List OtherValue) → AllByRecursion IsOther others → AreBytes (others_bytes others)
-others_are_bytes [] are = tt
-others_are_bytes (other ∷ others) are = bytes_joined other.bytes (others_bytes others) are.0.bytes (others_are_bytes others are.1)
-
--- each unknown section stands at its place
-pub others_stand : (bytes : List ℕ) (others : List OtherValue) (place : ℕ) → AllByRecursion IsOther others → StandsAt bytes place (others_bytes others)
-    → AreSectionsOf bytes (others_located place others) others
-others_stand bytes [] place are stands = refl
-others_stand bytes (other ∷ others) place are stands =
-    inr (
-      are.0.least,
-      other,
-      others,
-      refl,
-      record { number = refl; size = refl; stands = inr (stands_first bytes place other.bytes (others_bytes others) stands) },
-      others_stand bytes others (place + length other.bytes) are.1 (stands_next bytes place other.bytes (others_bytes others) stands),
-    )

@@ -3,7 +3,7 @@ use Rattle.std.specs.Prelude.{ℕ, List, [], map}
 use Rattle.std.specs.Result.{result_unwrap_or}
 use Rattle.dwg_classes.specs.declared.class.Class.{Class}
 use Rattle.dwg_object.specs.Objects.{ObjectValue}
-use Rattle.dwg_object.specs.FormLaws.{form_at}
+use Rattle.dwg_object.proofs.FormLaws.{form_at}
 use Rattle.dwg_object.specs.FrameLines.{span_body}
 use Rattle.dwg_sections.specs.HeaderLines.{header_at}
 use Rattle.dwg_sections.specs.FramedLines.{content_at}

@@ -1,5 +1,5 @@
 -- What the steps of reading frames do to what is left to try. A rule of this project.
-use Rattle.std.specs.Prelude.{◌≡◌, ⊤, ℕ, List, [], ◌∷◌, ◌++◌, map, take, drop, Result, Ok, Err}
+use Rattle.std.specs.Prelude.{◌≡◌, ⊤, ℕ, List, [], ◌∷◌, ◌++◌, map, Result, Ok, Err}
 use Rattle.std.specs.List.Sorted.{IsPermutation}
 use Rattle.dwg_base.specs.Refusals.{Tried}
 use Rattle.dwg_base.specs.declared.refusal.Fault.{Fault}
@@ -11,9 +11,8 @@ use Rattle.dwg_object.specs.Forms.{FormOf}
 use Rattle.dwg_object.specs.FrameLines.{span_body}
 use Rattle.dwg_object.specs.Objects.{ObjectValue, value_of, handle_of}
 use Rattle.dwg_objmap.specs.declared.pair.Pair.{Pair}
-use Rattle.dwg_objmap.specs.Pages.{handles_of}
 use Rattle.dwg_file.specs.declared.frames.Frames.{Frames}
-use Rattle.dwg_file.specs.FileLines.{FoundFrame, touches, frames_behind, frames_tried}
+use Rattle.dwg_file.specs.FileLines.{FoundFrame, touches, frames_tried}
 use Rattle.dwg_file.specs.ReadAs.{AreFormsOf}
 use Rattle.dwg_file.specs.Spelled.{AreAscending}
 use Rattle.dwg_file.specs.Taken.{Run, shares}
@@ -59,12 +58,6 @@ abbrev pub AnswersFrames : List Class → List ℕ → Tried (List FoundFrame) �
 AnswersFrames classes bytes tried (Ok frames) = (found : List FoundFrame) × (tried ≡ Ok found) × AreFormsOf classes bytes found (values_of frames.objects.items)
 AnswersFrames classes bytes tried (Err NoMemory) = ⊤
 AnswersFrames classes bytes tried (Err (Refused refusal)) = tried ≡ Err refusal
-
--- the frames of so many pairs were read, and what is left gives the whole
-pub record IsAlong (classes : List Class) (bytes : List ℕ) (pairs : List Pair) (index : ℕ) (taken : List Run) (objects : List Object) : Type 0 where
-  pub earlier : List FoundFrame
-  pub read : HasRead classes bytes earlier (handles_of (take index pairs)) taken objects
-  pub left : frames_behind bytes index earlier (drop index pairs) ≡ frames_behind bytes 0 [] pairs
 
 -- objects are those that the bodies of frames are read as, in ascending order of handle
 pub record AreObjectsOf (classes : List Class) (bytes : List ℕ) (found : List FoundFrame) (objects : List ObjectValue) : Type 0 where

@@ -1,32 +1,38 @@
+-- What a drawing says, as a plain value, whoever holds its bytes.
 pub mod Contents
+-- What an input spells: the drawing that its parts, each at its place, say.
 pub mod Spelled
+-- The lines of the table of refusals over a whole file, in their order.
 pub mod FileLines
+-- The canonical file of a drawing: its parts one behind the other without gaps.
 pub mod Canonical
+-- Which drawings are valid: those that can be written and read again.
 pub mod Valid
+-- What is read of an input in which no line fails: its parts, by their places.
 pub mod ReadAs
+-- The bytes that frames took so far, as runs.
 pub mod Taken
+-- What the steps of reading frames do to what is left to try.
 pub mod FrameReading
-pub mod PassingLines
-pub mod SectionPlaces
-pub mod FramesFound
+-- How the header variables, the classes and the map of an input with a header are refused, each by the first thing in it that fails.
+pub mod PartRefusals
+-- Which pair of a map is the first whose frame fails a line, said without going along the map.
 pub mod FrameRefusals
+-- Which unknown section of a file is the first that passes its end.
 pub mod SectionRefusals
-pub mod SectionRefusalLaws
-pub mod FramesSpelled
-pub mod ObjectOrder
-pub mod ReadingLaws
-pub mod MapSize
+-- Unknown sections of an input, and when two of them differ.
 pub mod SectionNumbers
+-- Objects that are read of a body of an input.
 pub mod ObjectSize
+-- What is read of an input makes a valid drawing.
 pub mod ValidLaws
+-- Objects put in order of handle.
 pub mod SortedObjects
+-- The drawing that is read of an input, as a function of its bytes.
 pub mod DrawingAt
-pub mod PassingLaws
-pub mod FrameRefusalLaws
-pub mod SevenPieces
-pub mod CanonicalParts
-pub mod CanonicalHeader
+-- Frames of objects that stand one behind the other from a place on.
 pub mod CanonicalFrames
-pub mod MapBytes
+-- The canonical file of a valid drawing that isn't too large spells it, has the size that is counted, and is bytes.
 pub mod CanonicalLaws
+-- What a drawing needs to be written: where its parts stand, and the file.
 pub mod Plans

@@ -1,52 +1,10 @@
--- The objects of an input are valid, and their frames are written by few bytes. A rule of this project.
-use Rattle.std.proofs.Common.{◌≡◌, refl, ◌∙◌, ap, ℕ, ◌+◌, ◌*◌, ◌%◌, ◌^◌, ◌<◌, ◌≤◌, Bool, true, false, List, [], ◌∷◌, ◌++◌, length, length-append, arith}
-use Rattle.std.specs.Prelude.{nat_lt, map}
-use Rattle.std.specs.List.{AllByRecursion}
-use Rattle.std.specs.List.Sorted.{IsPermutation}
-use Rattle.std.specs.Int.{w16, to_le_bytes}
-use Rattle.std.proofs.lemmas.Bool.Decides.{nat_tests}
-use Rattle.std.proofs.lemmas.List.Elements.{All-from_recursion, recursion_from_All}
-use Rattle.std.proofs.lemmas.List.Sorted.{All-permutation}
+-- Objects that are read of a body of an input. A rule of this project.
+use Rattle.std.proofs.Common.{ℕ, ◌≤◌, List, length}
 use Rattle.dwg_base.specs.Bytes.{AreBytes}
 use Rattle.dwg_base.specs.Devices.{MOST_BYTES}
-use Rattle.dwg_bits.specs.Sink.{padding}
-use Rattle.dwg_bits.specs.PaddingLaw.{padding_fills}
-use Rattle.dwg_bits.specs.WholeBytes.{length_of_whole}
-use Rattle.dwg_check.specs.CheckWord.{FRAME_START, check_word}
 use Rattle.dwg_classes.specs.declared.class.Class.{Class}
-use Rattle.dwg_classes.specs.Class.{AreClasses, numbered_class}
-use Rattle.dwg_classes.specs.WrittenClasses.{read_are_values}
-use Rattle.dwg_codes.specs.ModularCodes.{ms}
-use Rattle.dwg_codes.specs.ToEnd.{short_all}
 use Rattle.dwg_object.specs.Objects.{ObjectValue}
-use Rattle.dwg_object.specs.Written.{IsValidObject, body_bytes}
 use Rattle.dwg_object.specs.Forms.{FormOf}
-use Rattle.dwg_object.specs.FormLaws.{form_is_valid, length_of_frame}
-use Rattle.dwg_object.specs.Frames.{frame_bytes, FrameAt}
-use Rattle.dwg_object.specs.LengthLaws.{length_of_one, length_of_two}
-use Rattle.dwg_object.specs.StandingLaws.{stands_first, stands_next, stands_bytes, stands_within}
-use Rattle.dwg_file.specs.Canonical.{class_content, frames_bytes, placed}
-use Rattle.dwg_file.specs.Spelled.{PairFrame, IsFrameOfPair}
-
--- a length below 2^30 is written by at most four bytes
-size_short : (long : ℕ) → long < 2 ^ 30 → length (ms.short long) ≤ 4
-size_short long small = of_test (nat_lt long 32768) refl
-  where
-    of_test : (test : Bool) → nat_lt long 32768 ≡ test → length (ms.short long) ≤ 4
-    of_test true one = omega (arith, ap length (length_of_one long (grind (arith, nat_tests))))
-    of_test false more = omega (arith, ap length (length_of_two long (grind (arith, nat_tests)) small))
-
--- an object that a drawing with these classes can have, with a body of no more than so many bytes
-pub record IsSmall (classes : List Class) (most : ℕ) (object : ObjectValue) : Type 0 where
-  pub valid : IsValidObject classes object
-  pub few : length (body_bytes object) ≤ most
-
--- the body of a frame are bytes of the input, and no more than it has
-body_within : (bytes : List ℕ) (place : ℕ) (body : List ℕ) (end : ℕ) → AreBytes bytes → FrameAt bytes place body end → AreBytes body × (length body ≤ length bytes)
-body_within bytes place body end are is =
-    let word : List ℕ = to_le_bytes w16 (check_word FRAME_START (is.size ++ body)) in
-    let stands = stands_next bytes place is.size body (stands_first bytes place (is.size ++ body) word is.stands) in
-    (stands_bytes bytes (place + length is.size) body are stands, omega (arith, stands_within bytes (place + length is.size) body stands))
 
 -- an object is read, under classes, of a body that is bytes, and no more than an input may have
 pub record IsReadOf (classes : List Class) (object : ObjectValue) : Type 0 where
@@ -54,66 +12,3 @@ pub record IsReadOf (classes : List Class) (object : ObjectValue) : Type 0 where
   pub are : AreBytes body
   pub few : length body ≤ MOST_BYTES
   pub form : FormOf classes body object
-
--- the object of a frame in an input is read so
-pub frame_is_read : (classes : List Class) (bytes : List ℕ) (place : ℕ) (body : List ℕ) (end : ℕ) (object : ObjectValue) → AreBytes bytes → length bytes ≤ MOST_BYTES
-    → FrameAt bytes place body end → FormOf classes body object → IsReadOf classes object
-frame_is_read classes bytes place body end object are few stands form =
-    let within = body_within bytes place body end are stands in record { body = body; are = within.0; few = omega (arith, few, within.1); form = form }
-
--- so are the objects of frames
-objects_are_read : (classes : List Class) (bytes : List ℕ) (frames : List PairFrame) → AreBytes bytes → length bytes ≤ MOST_BYTES → AllByRecursion (IsFrameOfPair classes bytes) frames
-    → AllByRecursion (IsReadOf classes) (map (λ (frame : PairFrame). frame.object) frames)
-objects_are_read classes bytes [] are few stand = tt
-objects_are_read classes bytes (frame ∷ frames) are few stand = (
-  frame_is_read classes bytes frame.pair.place frame.body frame.end frame.object are few stand.0.stands stand.0.form,
-  objects_are_read classes bytes frames are few stand.1,
-)
-
--- in any order
-pub ordered_are_read : (classes : List Class) (bytes : List ℕ) (frames : List PairFrame) (objects : List ObjectValue) → AreBytes bytes → length bytes ≤ MOST_BYTES
-    → AllByRecursion (IsFrameOfPair classes bytes) frames → IsPermutation (map (λ (frame : PairFrame). frame.object) frames) objects → AllByRecursion (IsReadOf classes) objects
-ordered_are_read classes bytes frames objects are few stand same =
-    let values : List ObjectValue = map (λ (frame : PairFrame). frame.object) frames in
-    let read = IsReadOf classes in
-    recursion_from_All read objects (All-permutation read values objects same (All-from_recursion read values (objects_are_read classes bytes frames are few stand)))
-
--- objects that are read so are small
-pub read_small : (classes : List Class) (objects : List ObjectValue) → AllByRecursion (IsReadOf classes) objects → AllByRecursion (IsSmall classes MOST_BYTES) objects
-read_small classes [] read = tt
-read_small classes (object ∷ objects) read =
-    let is = form_is_valid classes read.0.body object read.0.are (omega (arith, read.0.few)) read.0.form in
-    (record { valid = is.0; few = omega (arith, is.1, read.0.few) }, read_small classes objects read.1)
-
--- small objects are valid
-pub small_valid : (classes : List Class) (most : ℕ) (objects : List ObjectValue) → AllByRecursion (IsSmall classes most) objects → AllByRecursion (IsValidObject classes) objects
-small_valid classes most [] small = tt
-small_valid classes most (object ∷ objects) small = (small.0.valid, small_valid classes most objects small.1)
-
--- a frame is written by at most six bytes more than its body
-frame_short : (object : ObjectValue) → length (body_bytes object) ≤ MOST_BYTES → length (frame_bytes object) ≤ MOST_BYTES + 6
-frame_short object few = omega (arith, length_of_frame object, size_short (length (body_bytes object)) (omega arith))
-
--- the frames of small objects
-pub frames_short : (classes : List Class) (objects : List ObjectValue) → AllByRecursion (IsSmall classes MOST_BYTES) objects → length (frames_bytes objects) ≤ 33554438 * length objects
-frames_short classes [] small = omega arith
-frames_short classes (object ∷ objects) small =
-    omega (arith, frame_short object small.0.few, length-append (frame_bytes object) (frames_bytes objects), frames_short classes objects small.1)
-
--- as many pairs are placed as there are objects
-pub length_of_placed : (place : ℕ) (objects : List ObjectValue) → length (placed place objects) ≡ length objects
-length_of_placed place [] = refl
-length_of_placed place (object ∷ objects) = omega (arith, length_of_placed (place + length (frame_bytes object)) objects)
-
--- the content of classes is written by no more bytes than it was read of
-pub classes_short : (content : List ℕ) (classes : List Class) → AreClasses content classes → length (class_content classes) ≤ length content
-classes_short content classes are =
-    let all : List Bool = short_all numbered_class classes in
-    let fills = padding_fills all in
-    let joined : length (all ++ padding all) ≡ length all + length (padding all) = length-append all (padding all) in
-    let whole : length (all ++ padding all) % 8 ≡ 0 = ap (λ n. n % 8) joined ∙ fills.0 in
-    let read : length all ≤ 8 * length content = (read_are_values content classes are).1 in
-    shorter (length (class_content classes)) (length content) (length all) (length (padding all)) (length (all ++ padding all)) (length_of_whole (all ++ padding all) whole) joined read fills.1
-  where
-    shorter : (written content all fill both : ℕ) → both ≡ 8 * written → both ≡ all + fill → all ≤ 8 * content → fill < 8 → written ≤ content
-    shorter written content all fill both a b c d = omega arith

@@ -3,7 +3,7 @@ use Rattle.std.specs.Prelude.{◌≡◌, ◌≢◌, ◌^◌, ◌<◌, ◌≤◌,
 use Rattle.std.specs.List.{AllByRecursion}
 use Rattle.dwg_base.specs.Bytes.{AreBytes}
 use Rattle.dwg_classes.specs.Class.{numbered_class}
-use Rattle.dwg_codes.specs.ToEnd.{AreValues}
+use Rattle.dwg_grammar.specs.ToEnd.{AreValues}
 use Rattle.dwg_object.specs.Written.{IsValidObject}
 use Rattle.dwg_file.specs.Contents.{OtherValue, Contents}
 use Rattle.dwg_file.specs.Canonical.{size_of}

@@ -11,17 +11,11 @@ use crate::parts::{Other, Parts};
 use crate::plan_parts::{content_length, others_length, place_objects};
 use dwg_base::{Items, NoMemory};
 use dwg_objmap::{Pair, map_length};
-use dwg_sections::{CLASSES_NUMBER, FileHeader, Locator, OBJECT_MAP_NUMBER, VARIABLES_NUMBER};
+use dwg_sections::{
+    CLASSES_NUMBER, FRAMED_SIZE, FileHeader, HEADER_SIZE, LOCATOR_SIZE, Locator, OBJECT_MAP_NUMBER,
+    VARIABLES_NUMBER,
+};
 use std::alloc::Global;
-
-/// How many bytes a header has without locators.
-const HEADER_SIZE: u64 = 43;
-
-/// How many bytes a locator has.
-const LOCATOR_SIZE: u64 = 9;
-
-/// How many bytes a framed section has beside its content.
-const FRAMED_SIZE: u64 = 38;
 
 /// How many bytes the preview has.
 const PREVIEW_SIZE: u64 = 37;
@@ -51,9 +45,9 @@ pub(crate) fn layout_of(alloc: Global, parts: &Parts<'_>) -> Result<Layout, NoMe
     ensures { IfOk result (λ layout. IsLayout layout (contents_of parts.now)) }
 {
     let sections = parts.others.as_slice();
-    let variables = HEADER_SIZE + LOCATOR_SIZE * (3 + sections.len() as u64);
-    let classes = variables + FRAMED_SIZE + parts.variables.as_slice().len() as u64;
-    let preview = classes + FRAMED_SIZE + content_length(parts.classes.as_slice());
+    let variables = HEADER_SIZE as u64 + LOCATOR_SIZE as u64 * (3 + sections.len() as u64);
+    let classes = variables + FRAMED_SIZE as u64 + parts.variables.as_slice().len() as u64;
+    let preview = classes + FRAMED_SIZE as u64 + content_length(parts.classes.as_slice());
     let frames = place_objects(alloc, parts.objects.as_slice(), preview + PREVIEW_SIZE)?;
     let others = frames.end + map_length(frames.pairs.as_slice());
     let size = others + others_length(sections);

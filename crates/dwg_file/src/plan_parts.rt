@@ -2,7 +2,6 @@
 
 ghost use Rattle.std.specs.Prelude.{◌≡◌, ◌+◌, ◌*◌, ◌%◌, ◌^◌, ◌<◌, ◌≤◌, ◌++◌, length, map, IfOk, OnOk, false};
 ghost use Rattle.std.specs.List.{AllByRecursion};
-ghost use Rattle.dwg_base.specs.Bytes.{AreBytes};
 ghost use Rattle.dwg_bits.specs.Bits.{bits};
 ghost use Rattle.dwg_bits.specs.Sink.{Extends};
 ghost use Rattle.dwg_bits.specs.WholeBytes.{whole_bytes};
@@ -15,7 +14,7 @@ ghost use Rattle.dwg_file.specs.Contents.{other_value};
 ghost use Rattle.dwg_file.specs.Plans.{CanBeFramed};
 
 use crate::parts::Other;
-use dwg_base::{Items, MemSink, NoMemory, WriteFault};
+use dwg_base::{Items, MemSink, NoMemory, WriteFault, bounded_bytes};
 use dwg_bits::BitSink;
 use dwg_classes::{Class, classes_bits, write_classes};
 use dwg_object::{Object, frame_length, write_frame};
@@ -101,20 +100,12 @@ pub(crate) fn write_others(others: &[Other<'_>], file: &mut BitSink)
     }
 }
 
-/// A slice of bytes, of which each is below 256.
-fn small(bytes: &[u8]) -> &[u8]
-    ensures same { result.now ≡ bytes.now }
-    ensures small { AreBytes bytes.now }
-{
-    bytes
-}
-
 /// The bytes of a sink that holds whole bytes.
 pub(crate) fn bytes_of(sink: &BitSink) -> &[u8]
     requires { length sink.now.written % 8 ≡ 0 }
     ensures { result.now ≡ whole_bytes sink.now.written }
 {
-    small(sink.as_bytes())
+    bounded_bytes(sink.as_bytes())
 }
 
 /// Writes the section of the classes. The only refusal is want of memory.

@@ -2,14 +2,14 @@
 use Rattle.std.proofs.Common.{◌≡◌, refl, sym, subst, inl, inr, ℕ, ◌+◌, true, List, [], ◌∷◌, ◌++◌, Option, Some, None}
 use Rattle.std.specs.Prelude.{◌⊎◌, IsTrue, Contains, map}
 use Rattle.std.proofs.lemmas.List.Elements.{Contains-append_cases}
-use Rattle.dwg_paths.specs.MemberLaws.{contains_none, contains_cases}
+use Rattle.dwg_paths.proofs.MemberLemmas.{contains_none, contains_cases}
 use Rattle.dwg_common.specs.declared.entity.EntityCommon.{EntityCommon}
 use Rattle.dwg_common.specs.declared.entity.Links.{Links}
 use Rattle.dwg_common.specs.declared.object.ObjectCommon.{ObjectCommon}
 use Rattle.dwg_entities.specs.declared.insert.Attributes.{Attributes}
 use Rattle.dwg_graph.specs.declared.slot.Slot.{Slot}
 use Rattle.dwg_graph.specs.Slots.{slots_from, listed, one, maybe, link_slots, entity_slots, object_slots, common_slots, attribute_slots, end_slots, body_slots, slots}
-use Rattle.dwg_handles.specs.Reference.{Reference}
+use Rattle.dwg_grammar.specs.Reference.{Reference}
 use Rattle.dwg_kinds.specs.declared.field.Field.{Field}
 use Rattle.dwg_kinds.specs.declared.field.Field.TheVariants as fields
 use Rattle.dwg_kinds.specs.declared.kind.Kind.{Kind}

@@ -4,3 +4,5 @@ pub mod Picking
 pub mod HeldSlots
 pub mod SlotCounts
 pub mod SlotOrder
+pub mod Keyed
+pub mod ObjectPaths

@@ -3,11 +3,11 @@ use Rattle.std.proofs.Common.{◌≡◌, ap, ℕ, ◌+◌, ◌*◌, ◌<◌, ◌
 use Rattle.std.proofs.lemmas.List.{length-map}
 use Rattle.std.specs.Option.{option_map_or}
 use Rattle.dwg_classes.specs.declared.class.Class.{Class}
-use Rattle.dwg_codes.specs.Codes.{bs}
-use Rattle.dwg_codes.specs.Combinators.{until, SpellsUntil}
-use Rattle.dwg_codes.specs.ToEnd.{SpellsAll}
+use Rattle.dwg_grammar.specs.Codes.{bs}
+use Rattle.dwg_grammar.specs.Combinators.{until, SpellsUntil}
+use Rattle.dwg_grammar.specs.ToEnd.{SpellsAll}
 use Rattle.dwg_common.specs.AppList.{app_item, app_list}
-use Rattle.dwg_common.specs.Bodies.{BodyGrammar, IsBody}
+use Rattle.dwg_grammar.specs.Bodies.{BodyGrammar, IsBody}
 use Rattle.dwg_common.specs.declared.app_data.AppData.{AppData}
 use Rattle.dwg_common.specs.declared.entity.EntityCommon.{EntityCommon}
 use Rattle.dwg_common.specs.declared.entity.Links.{Links}
@@ -28,24 +28,24 @@ use Rattle.dwg_entities.specs.declared.insert.Attributes.{Attributes}
 use Rattle.dwg_graph.proofs.Picking.{length_of_slots}
 use Rattle.dwg_graph.specs.Slots.{listed, one, maybe, link_slots, entity_slots, object_slots, common_slots, attribute_slots, end_slots, body_slots, slots}
 use Rattle.dwg_graph.specs.SlotLaws.{NoneIsLeftOut}
-use Rattle.dwg_handles.specs.Reference.{Reference}
-use Rattle.dwg_handles.specs.ReferenceCodes.{reference}
-use Rattle.dwg_handles.specs.ReferenceLaws.{reference_least}
+use Rattle.dwg_grammar.specs.Reference.{Reference}
+use Rattle.dwg_grammar.specs.ReferenceCodes.{reference}
+use Rattle.dwg_grammar.proofs.ReferenceLemmas.{reference_least}
 use Rattle.dwg_kinds.specs.declared.field.Field.{Field}
 use Rattle.dwg_kinds.specs.declared.field.Field.TheVariants as fields
-use Rattle.dwg_object.specs.CommonForms.{common_is_body, common_may_follow}
+use Rattle.dwg_object.proofs.CommonForms.{common_is_body, common_may_follow}
 use Rattle.dwg_object.specs.declared.body.Body.TheVariants as bodies
 use Rattle.dwg_object.specs.declared.body.Body.{Body}
 use Rattle.dwg_object.specs.declared.common.Common.TheVariants as commons
 use Rattle.dwg_object.specs.declared.common.Common.{Common}
 use Rattle.dwg_object.specs.Forms.{common_part}
-use Rattle.dwg_object.specs.FormLaws.{length_of_frame}
+use Rattle.dwg_object.proofs.FormLaws.{length_of_frame}
 use Rattle.dwg_object.specs.Frames.{frame_bytes}
 use Rattle.dwg_object.specs.Objects.{ObjectValue, TypedValue, PlainValue, RawValue, is_of_entity}
 use Rattle.dwg_object.specs.OwnBodies.{body_kind, own_body}
-use Rattle.dwg_object.specs.OwnLaws.{own_is_body}
+use Rattle.dwg_object.proofs.OwnLaws.{own_is_body}
 use Rattle.dwg_object.specs.Written.{IsValidObject, common_main, common_refs, object_bits, own_main, own_refs}
-use Rattle.dwg_object.specs.WrittenLaws.{bytes_padded, length_of_object}
+use Rattle.dwg_object.proofs.WrittenLemmas.{bytes_padded, length_of_object}
 use Rattle.dwg_shapes.specs.Arcs.{arc_body}
 use Rattle.dwg_shapes.specs.Circles.{circle_body}
 use Rattle.dwg_shapes.specs.Lines.{line_body}

@@ -11,7 +11,7 @@ use Rattle.dwg_entities.specs.declared.insert.Attributes.{Attributes}
 use Rattle.dwg_graph.specs.declared.slot.Slot.{Slot}
 use Rattle.dwg_graph.specs.SlotLaws.{StandsBefore}
 use Rattle.dwg_graph.specs.Slots.{slots_from, listed, maybe, link_slots, entity_slots, object_slots, common_slots, attribute_slots, end_slots, body_slots, slots}
-use Rattle.dwg_handles.specs.Reference.{Reference}
+use Rattle.dwg_grammar.specs.Reference.{Reference}
 use Rattle.dwg_kinds.specs.declared.field.Field.{Field}
 use Rattle.dwg_kinds.specs.declared.field.Field.TheVariants as fields
 use Rattle.dwg_kinds.specs.Kinds.{is_entity_kind}
@@ -23,7 +23,7 @@ use Rattle.dwg_object.specs.declared.common.Common.{Common}
 use Rattle.dwg_object.specs.Objects.{ObjectValue, TypedValue, PlainValue, RawValue, is_of_entity}
 use Rattle.dwg_object.specs.OwnBodies.{body_kind}
 use Rattle.dwg_object.specs.Written.{IsWhole}
-use Rattle.dwg_paths.specs.MemberLaws.{contains_none, contains_cases, contains_first, contains_behind}
+use Rattle.dwg_paths.proofs.MemberLemmas.{contains_none, contains_cases, contains_first, contains_behind}
 use Rattle.dwg_tables.specs.declared.block_header.Ends.{Ends}
 
 -- what holds of each thing that a list contains holds all along it

@@ -1,7 +1,16 @@
+-- The references that an object holds beside that to its owner, in the order of the fields.
 pub mod Slots
+-- Who owns an object, and which entity is behind another.
 pub mod Owners
+-- What the references of objects make of them: roots, claims, members of blocks, owner paths and chains.
 pub mod Graph
+-- When the references of a drawing hold together.
 pub mod Sound
+-- Where the object of a handle stands among objects whose handles ascend.
 pub mod Places
+-- Searches along a list of slots: a slot that is found, or how many more are to be passed.
 pub mod Searches
+-- What holds of the slots of objects.
 pub mod SlotLaws
+-- Owner paths and chains of members as lists of the objects themselves, and that they are those over handles.
+pub mod ObjectPaths

@@ -5,7 +5,7 @@ use Rattle.std.specs.Option.{option_map_or}
 use Rattle.dwg_common.specs.declared.entity.EntityCommon.{EntityCommon}
 use Rattle.dwg_common.specs.declared.entity.Links.{Links}
 use Rattle.dwg_graph.specs.declared.owner.SpaceHandles.{SpaceHandles}
-use Rattle.dwg_handles.specs.Reference.{Reference}
+use Rattle.dwg_grammar.specs.Reference.{Reference}
 use Rattle.dwg_object.specs.declared.body.Body.TheVariants as bodies
 use Rattle.dwg_object.specs.declared.body.Body.{Body}
 use Rattle.dwg_object.specs.declared.common.Common.TheVariants as commons

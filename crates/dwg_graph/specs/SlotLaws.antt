@@ -7,7 +7,7 @@ use Rattle.dwg_kinds.specs.declared.field.Field.TheVariants as fields
 use Rattle.dwg_kinds.specs.Needs.{field_number, has_field}
 use Rattle.dwg_common.specs.Entities.{entity_common}
 use Rattle.dwg_common.specs.NonEntities.{object_common}
-use Rattle.dwg_handles.specs.Reference.{Reference}
+use Rattle.dwg_grammar.specs.Reference.{Reference}
 use Rattle.std.specs.Prelude.{[], ◌∷◌}
 use Rattle.std.specs.Option.{option_map_or}
 use Rattle.dwg_object.specs.declared.common.Common.TheVariants as commons

@@ -5,7 +5,7 @@ use Rattle.dwg_common.specs.declared.entity.Links.{Links}
 use Rattle.dwg_common.specs.declared.object.ObjectCommon.{ObjectCommon}
 use Rattle.dwg_entities.specs.declared.insert.Attributes.{Attributes}
 use Rattle.dwg_graph.specs.declared.slot.Slot.{Slot}
-use Rattle.dwg_handles.specs.Reference.{Reference}
+use Rattle.dwg_grammar.specs.Reference.{Reference}
 use Rattle.dwg_kinds.specs.declared.field.Field.{Field}
 use Rattle.dwg_kinds.specs.declared.field.Field.TheVariants.{Application, Reactor, Xdict, Previous, Next, Layer, Linetype, Plotstyle, Style, Block, First, Last, Seqend, Xref, Endblk, Insert, Layout, Entry, Model, Paper, Extra, Item, Target}
 use Rattle.dwg_object.specs.declared.body.Body.TheVariants as bodies

@@ -1,5 +1,6 @@
-//! Laws of slots, as the contract of a function without code.
+//! Laws of slots, and of paths and chains, as the contracts of functions without code.
 
+ghost use Rattle.dwg_graph.specs.ObjectPaths.{PathsAreOfObjects, ChainsAreOfObjects, AscendingAreDistinct};
 ghost use Rattle.dwg_graph.specs.SlotLaws.{SlotsAreHeld, OwnersAreHeld, NoneIsLeftOut, SlotsAreFew, SlotsAscend};
 
 /// What holds of slots: each slot of a whole object is of a field that the object's kind has, and the kind of a Typed object has
@@ -12,4 +13,14 @@ pub fn slot_laws()
     ensures bound { SlotsAreFew }
     ensures ordered { SlotsAscend }
     ensures whole { NoneIsLeftOut }
+{}
+
+/// What holds of paths and chains, which are lists of handles: among objects with distinct handles, an object has an owner path exactly
+/// where there is a list of distinct objects that begins with it, each followed by its owner, and ends with a root; and the members of
+/// a block stand in a chain exactly where there is a list of distinct objects that are exactly the members, from the block's first to
+/// its last, each followed by what follows it. Handles that ascend, as those of a drawing do, are distinct.
+pub fn graph_laws()
+    ensures paths { PathsAreOfObjects }
+    ensures chains { ChainsAreOfObjects }
+    ensures distinct { AscendingAreDistinct }
 {}

@@ -9,7 +9,7 @@ mod slot;
 mod slots;
 
 pub use index::Index;
-pub use laws::slot_laws;
+pub use laws::{graph_laws, slot_laws};
 pub use owner::{SpaceHandles, control_count, next_of, owner_of, spaces};
 pub use slot::Slot;
 pub use slots::{slot_at, slot_count};

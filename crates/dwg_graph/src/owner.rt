@@ -21,23 +21,13 @@ pub struct SpaceHandles {
     pub paper: Handle,
 }
 
-/// The null handle.
-fn null() -> Handle
-    ensures { result ≡ 0 }
-{
-    match Handle::new(0) {
-        Some(handle) => handle,
-        None => unreachable!(),
-    }
-}
-
 /// The handle behind another, null where there is none.
 fn behind(handle: Handle) -> Handle
     ensures { result ≡ handle_behind handle }
 {
     match Handle::new(handle.value() + 1) {
         Some(next) => next,
-        None => null(),
+        None => Handle::NULL,
     }
 }
 
@@ -47,7 +37,7 @@ fn model(spaces: Option<SpaceHandles>) -> Handle
 {
     match spaces {
         Some(known) => known.model,
-        None => null(),
+        None => Handle::NULL,
     }
 }
 
@@ -57,7 +47,7 @@ fn paper(spaces: Option<SpaceHandles>) -> Handle
 {
     match spaces {
         Some(known) => known.paper,
-        None => null(),
+        None => Handle::NULL,
     }
 }
 
@@ -72,7 +62,7 @@ fn owner_of_entity(common: &EntityCommon, spaces: Option<SpaceHandles>) -> Handl
     match common.mode {
         2 => model(spaces),
         1 => paper(spaces),
-        _ => null(),
+        _ => Handle::NULL,
     }
 }
 
@@ -96,7 +86,7 @@ pub fn owner_of(object: &Object<'_>, spaces: Option<SpaceHandles>) -> Handle
     match object {
         Object::Typed(typed) => owner_by(&typed.common, spaces),
         Object::Plain(plain) => owner_by(&plain.common, spaces),
-        Object::Raw(_) => null(),
+        Object::Raw(_) => Handle::NULL,
     }
 }
 

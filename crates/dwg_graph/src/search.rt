@@ -3,7 +3,7 @@
 ghost use Rattle.std.specs.Prelude.{◌≡◌, map};
 ghost use Rattle.dwg_graph.specs.Searches.{pick};
 ghost use Rattle.dwg_graph.specs.Slots as tables;
-ghost use Rattle.dwg_handles.specs.Reference.{Reference};
+ghost use Rattle.dwg_grammar.specs.Reference.{Reference};
 
 use crate::slot::Slot;
 use dwg_common::AppData;

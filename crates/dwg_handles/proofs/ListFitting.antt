@@ -2,9 +2,9 @@
 use Rattle.std.proofs.Common.{◌≡◌, refl, sym, ◌∙◌, ap₂, ℕ, Bool, true, false, List, [], ◌∷◌}
 use Rattle.std.specs.Prelude.{◌&&◌, ◌↔◌, IsTrue}
 use Rattle.std.specs.List.{list_all}
-use Rattle.dwg_codes.specs.ToEnd.{AreValues}
-use Rattle.dwg_handles.specs.Reference.{Reference, reaches}
-use Rattle.dwg_handles.specs.ReferenceCodes.{reference}
+use Rattle.dwg_grammar.specs.ToEnd.{AreValues}
+use Rattle.dwg_grammar.specs.Reference.{Reference, reaches}
+use Rattle.dwg_grammar.specs.ReferenceCodes.{reference}
 
 -- both tests hold where their conjunction does
 both_hold : (one other : Bool) → (one && other) ≡ true → (one ≡ true) × (other ≡ true)

@@ -1,10 +1,10 @@
 -- Own handles, read by their parts.
 use Rattle.std.proofs.Common.{◌≡◌, refl, sym, ◌∙◌, ap, subst, ℕ, ◌*◌, List, Bool, ◌++◌, Option, Some, None, arith}
 use Rattle.dwg_bits.specs.Bits.{low_bits}
-use Rattle.dwg_codes.specs.Grammar.{BeginsWith, Reads}
-use Rattle.dwg_handles.specs.Reference.{OwnSpells}
-use Rattle.dwg_handles.specs.ReferenceCodes.{own_handle}
-use Rattle.dwg_handles.specs.OwnLaws.{own_spelled}
+use Rattle.dwg_grammar.specs.Grammar.{BeginsWith, Reads}
+use Rattle.dwg_grammar.specs.Reference.{OwnSpells}
+use Rattle.dwg_grammar.specs.ReferenceCodes.{own_handle}
+use Rattle.dwg_grammar.proofs.OwnLemmas.{own_spelled}
 use Rattle.dwg_handles.specs.declared.parts.Parts.{Parts}
 use Rattle.dwg_handles.specs.PartsCode.{AreParts, IsOwn, parts}
 use Rattle.dwg_handles.proofs.PartsReading.{parts_bits, parts_spelled, parts_spells, parts_told}

@@ -3,14 +3,14 @@ use Rattle.std.proofs.Common.{◌≡◌, refl, sym, ◌∙◌, ap, ap₂, subst,
 use Rattle.std.proofs.lemmas.List.{append_assoc, append_cancel_left, length-append}
 use Rattle.std.proofs.lemmas.Bool.Decides.{nat_tests}
 use Rattle.dwg_bits.specs.Bits.{low_bits}
-use Rattle.dwg_bits.specs.BitLaws.{length_of_low_bits, length_of_bits_between}
+use Rattle.dwg_bits.proofs.BitLaws.{length_of_low_bits, length_of_bits_between}
 use Rattle.dwg_bits.specs.Cursor.{bits_between}
-use Rattle.dwg_codes.specs.Grammar.{Grammar, IsCode, AnyLetters, BeginsWith, Reads}
-use Rattle.dwg_codes.specs.Combinators.{fixed, seq}
-use Rattle.dwg_codes.specs.CodeLaws.{unique_of_code}
-use Rattle.dwg_codes.specs.CombinatorLaws.{any_letters_closed, fixed_is_code, seq_is_code, struct_is_code}
-use Rattle.dwg_handles.specs.CountedLaws.{fixed_spelled, fixed_spells, byte_counts_is_code}
-use Rattle.dwg_handles.specs.ReferenceCodes.{byte_counts}
+use Rattle.dwg_grammar.specs.Grammar.{Grammar, IsCode, AnyLetters, BeginsWith, Reads}
+use Rattle.dwg_grammar.specs.Combinators.{fixed, seq}
+use Rattle.dwg_grammar.proofs.CodeLemmas.{unique_of_code}
+use Rattle.dwg_grammar.proofs.CombinatorLemmas.{any_letters_closed, fixed_is_code, seq_is_code, struct_is_code}
+use Rattle.dwg_grammar.proofs.CountedLemmas.{fixed_spelled, fixed_spells, byte_counts_is_code}
+use Rattle.dwg_grammar.specs.ReferenceCodes.{byte_counts}
 use Rattle.dwg_handles.specs.declared.parts.Parts.{Parts}
 use Rattle.dwg_handles.specs.PartsCode.{AreParts, parts}
 

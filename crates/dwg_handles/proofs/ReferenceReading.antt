@@ -2,10 +2,10 @@
 use Rattle.std.proofs.Common.{◌≡◌, refl, sym, ◌∙◌, ap, ap₂, subst, ℕ, true, List, Bool, ◌++◌, Option, Some, None, arith}
 use Rattle.std.proofs.lemmas.Bool.Decides.{nat_tests}
 use Rattle.dwg_bits.specs.Bits.{low_bits}
-use Rattle.dwg_codes.specs.Grammar.{BeginsWith, Reads}
-use Rattle.dwg_handles.specs.Reference.{Reference, TellsTarget, reaches}
-use Rattle.dwg_handles.specs.ReferenceCodes.{counted_number, reference_of, reference, number_behind}
-use Rattle.dwg_handles.specs.ReferenceLaws.{reference_spelled, reference_short}
+use Rattle.dwg_grammar.specs.Grammar.{BeginsWith, Reads}
+use Rattle.dwg_grammar.specs.Reference.{Reference, TellsTarget, reaches}
+use Rattle.dwg_grammar.specs.ReferenceCodes.{counted_number, reference_of, reference, number_behind}
+use Rattle.dwg_grammar.proofs.ReferenceLemmas.{reference_spelled, reference_short}
 use Rattle.dwg_handles.specs.declared.parts.Parts.{Parts}
 use Rattle.dwg_handles.specs.PartsCode.{AreParts, parts}
 use Rattle.dwg_handles.proofs.PartsReading.{parts_bits, parts_spelled, parts_spells, parts_told}

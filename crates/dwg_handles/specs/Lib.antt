@@ -1,6 +1,2 @@
-pub mod Reference
-pub mod ReferenceCodes
+-- What references and own handles are spelled by: a code, a count of bytes, and so many bytes of a number.
 pub mod PartsCode
-pub mod CountedLaws
-pub mod ReferenceLaws
-pub mod OwnLaws

@@ -1,9 +1,9 @@
 -- What references and own handles are spelled by: a code, a count of bytes, and so many bytes of a number (Open Design Specification, "Handle references").
 use Rattle.std.specs.Prelude.{◌≡◌, ◌*◌, ◌^◌, ◌<◌, ◌≤◌, Bool}
-use Rattle.dwg_codes.specs.Grammar.{Grammar}
-use Rattle.dwg_codes.specs.Combinators.{fixed, seq, image}
+use Rattle.dwg_grammar.specs.Grammar.{Grammar}
+use Rattle.dwg_grammar.specs.Combinators.{fixed, seq, image}
 use Rattle.dwg_handles.specs.declared.parts.Parts.{Parts}
-use Rattle.dwg_handles.specs.ReferenceCodes.{byte_counts}
+use Rattle.dwg_grammar.specs.ReferenceCodes.{byte_counts}
 
 -- the parts lie in their ranges
 pub record AreParts (parts : Parts) : Type 0 where

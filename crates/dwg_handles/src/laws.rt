@@ -1,11 +1,11 @@
 //! Laws of references and own handles, as the contract of a function without code.
 
 ghost use Rattle.std.specs.Prelude.{◌≡◌, ◌^◌, ◌<◌, ◌↔◌, ℕ, true, Bool, List};
-ghost use Rattle.dwg_codes.specs.Combinators.{items};
-ghost use Rattle.dwg_codes.specs.CodeLaws.{IsLawful};
-ghost use Rattle.dwg_codes.specs.ToEnd.{HaveLeast, IsCutUniquely};
-ghost use Rattle.dwg_handles.specs.Reference.{Reference, RefSpells, OwnSpells, reaches};
-ghost use Rattle.dwg_handles.specs.ReferenceCodes.{reference, own_handle};
+ghost use Rattle.dwg_grammar.specs.Combinators.{items};
+ghost use Rattle.dwg_grammar.specs.Grammar.{IsLawful};
+ghost use Rattle.dwg_grammar.specs.ToEnd.{HaveLeast, IsCutUniquely};
+ghost use Rattle.dwg_grammar.specs.Reference.{Reference, RefSpells, OwnSpells, reaches};
+ghost use Rattle.dwg_grammar.specs.ReferenceCodes.{reference, own_handle};
 
 /// What holds of references, seen from any handle, and of own handles: bits spell at most one, and no spelling is a proper
 /// front of another; the spelling that is written of one spells it, and no other is shorter. The codes spell just what the

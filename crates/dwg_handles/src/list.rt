@@ -4,10 +4,10 @@
 ghost use Rattle.std.specs.Prelude.{◌≡◌, ◌↔◌, ◌^◌, ◌<◌, ◌≤◌, length, Ok, None, IfOk, IfErr, IfSome, IsTrue};
 ghost use Rattle.dwg_bits.specs.Cursor.{rest};
 ghost use Rattle.dwg_bits.specs.Sink.{Extends};
-ghost use Rattle.dwg_codes.specs.Combinators.{items};
-ghost use Rattle.dwg_codes.specs.Grammar.{Reads};
-ghost use Rattle.dwg_codes.specs.ToEnd.{AreValues, ReadsToEnd, short_all};
-ghost use Rattle.dwg_handles.specs.ReferenceCodes.{reference};
+ghost use Rattle.dwg_grammar.specs.Combinators.{items};
+ghost use Rattle.dwg_grammar.specs.Grammar.{Reads};
+ghost use Rattle.dwg_grammar.specs.ToEnd.{AreValues, ReadsToEnd, short_all};
+ghost use Rattle.dwg_grammar.specs.ReferenceCodes.{reference};
 
 use crate::reference::Ref;
 use crate::reference_code::CodeH;
@@ -43,7 +43,7 @@ pub fn read_refs(
 /// Reads references of the object of the handle `base` until fewer than eight bits are left. None, with nothing moved,
 /// exactly where one of them isn't spelled; the only refusal is want of memory, which moves nothing either and is taken
 /// only for references that are there.
-#[tactic(auto, using(crate::specs::ReferenceLaws::reference_least))]
+#[tactic(auto, using(dwg_grammar::proofs::ReferenceLemmas::reference_least))]
 pub fn read_refs_to_end(
     alloc: Global,
     cursor: &mut BitCursor<'_>,

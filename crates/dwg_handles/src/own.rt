@@ -3,8 +3,8 @@
 ghost use Rattle.std.specs.Prelude.{◌≡◌, ◌^◌, ◌<◌, ◌≤◌, length, IfSome, IfNone};
 ghost use Rattle.dwg_bits.specs.Cursor.{rest};
 ghost use Rattle.dwg_bits.specs.Sink.{Extends};
-ghost use Rattle.dwg_codes.specs.Grammar.{Reads};
-ghost use Rattle.dwg_handles.specs.ReferenceCodes.{own_handle};
+ghost use Rattle.dwg_grammar.specs.Grammar.{Reads};
+ghost use Rattle.dwg_grammar.specs.ReferenceCodes.{own_handle};
 
 use crate::parts::{Parts, parts_bits, write_parts};
 use dwg_base::Handle;
@@ -28,7 +28,7 @@ pub fn read_own(cursor: &mut BitCursor<'_>) -> Option<Handle>
 }
 
 /// How many bits an own handle is written by.
-#[tactic(auto, using(crate::specs::OwnLaws::own_short))]
+#[tactic(auto, using(dwg_grammar::proofs::OwnLemmas::own_short))]
 pub fn own_bits(own: Handle) -> u64
     requires { 0 < own }
     ensures length { result ≡ length (own_handle.short own) }
@@ -38,7 +38,7 @@ pub fn own_bits(own: Handle) -> u64
 }
 
 /// Writes a positive own handle by the fewest bytes.
-#[tactic(auto, using(crate::specs::OwnLaws::own_short))]
+#[tactic(auto, using(dwg_grammar::proofs::OwnLemmas::own_short))]
 pub fn write_own(own: Handle, sink: &mut BitSink)
     requires positive { 0 < own }
     requires room { length (own_handle.short own) ≤ sink.old.spare }

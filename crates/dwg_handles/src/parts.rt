@@ -4,10 +4,10 @@ ghost use Rattle.std.specs.Prelude.{◌≡◌, ◌+◌, ◌*◌, ◌^◌, ◌<�
 ghost use Rattle.dwg_bits.specs.Bits.{low_bits};
 ghost use Rattle.dwg_bits.specs.Cursor.{rest};
 ghost use Rattle.dwg_bits.specs.Sink.{Extends};
-ghost use Rattle.dwg_codes.specs.Grammar.{Reads};
+ghost use Rattle.dwg_grammar.specs.Grammar.{Reads};
 ghost use Rattle.dwg_handles.specs.PartsCode.{IsOwn, parts};
-ghost use Rattle.dwg_handles.specs.Reference.{TellsTarget};
-ghost use Rattle.dwg_handles.specs.ReferenceCodes.{byte_count, counted_number};
+ghost use Rattle.dwg_grammar.specs.Reference.{TellsTarget};
+ghost use Rattle.dwg_grammar.specs.ReferenceCodes.{byte_count, counted_number};
 
 use dwg_base::Handle;
 use dwg_bits::{BitCursor, BitSink};
@@ -80,7 +80,7 @@ impl Parts {
 }
 
 /// How many bytes a number is written by: the fewest that hold it, none for 0.
-#[tactic(auto, unfolding(crate::specs::ReferenceCodes::byte_count), using(crate::specs::CountedLaws::byte_count_fits))]
+#[tactic(auto, unfolding(dwg_grammar::specs::ReferenceCodes::byte_count), using(dwg_grammar::proofs::CountedLemmas::byte_count_fits))]
 fn byte_count(number: u64) -> u32
     ensures count { result ≡ byte_count number }
     ensures few { result ≤ 8 }
@@ -109,7 +109,7 @@ pub(crate) fn parts_bits(code: u8, number: u64) -> u64
 }
 
 /// Writes a code, the count of a number's bytes, and these bytes, the most significant first.
-#[tactic(auto, using(crate::proofs::PartsWriting::written_length, dwg_bits::specs::BitLaws::length_of_low_bits))]
+#[tactic(auto, using(crate::proofs::PartsWriting::written_length, dwg_bits::proofs::BitLaws::length_of_low_bits))]
 pub(crate) fn write_parts(code: u8, number: u64, sink: &mut BitSink)
     requires code { code < 16 }
     requires room { length (low_bits 4 code ++ counted_number.short number) ≤ sink.old.spare }

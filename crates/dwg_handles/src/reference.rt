@@ -2,7 +2,7 @@
 
 ghost use Rattle.std.specs.Prelude.{◌≡◌, ◌^◌, ◌<◌, IsTrue};
 ghost use Rattle.std.specs.Option.{SomeIff};
-ghost use Rattle.dwg_handles.specs.Reference.{is_reference_code, reaches};
+ghost use Rattle.dwg_grammar.specs.Reference.{is_reference_code, reaches};
 
 use dwg_base::Handle;
 use std::marker::Model;
@@ -22,7 +22,7 @@ pub struct Ref {
 
 impl Model for Ref {
     ghost use Rattle.std.specs.Prelude.{IsTrue};
-    ghost use Rattle.dwg_handles.specs.Reference.{Reference, is_reference_code};
+    ghost use Rattle.dwg_grammar.specs.Reference.{Reference, is_reference_code};
 
     ghost Value = { Reference };
 

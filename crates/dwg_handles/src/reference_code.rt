@@ -3,10 +3,10 @@
 ghost use Rattle.std.specs.Prelude.{◌≡◌, ◌^◌, ◌<◌, ◌≤◌, true, length, IfSome, IfNone};
 ghost use Rattle.dwg_bits.specs.Cursor.{rest};
 ghost use Rattle.dwg_bits.specs.Sink.{Extends};
-ghost use Rattle.dwg_codes.specs.Grammar.{Reads};
-ghost use Rattle.dwg_handles.specs.Reference.{reaches};
-ghost use Rattle.dwg_handles.specs.ReferenceCodes.{number_behind, reference};
-ghost use Rattle.dwg_handles.specs.ReferenceLaws.{reference_is_code};
+ghost use Rattle.dwg_grammar.specs.Grammar.{Reads};
+ghost use Rattle.dwg_grammar.specs.Reference.{reaches};
+ghost use Rattle.dwg_grammar.specs.ReferenceCodes.{number_behind, reference};
+ghost use Rattle.dwg_grammar.proofs.ReferenceLemmas.{reference_is_code};
 
 use crate::parts::{Parts, parts_bits, write_parts};
 use crate::reference::Ref;
@@ -42,7 +42,7 @@ impl BitCode for CodeH {
 
     ghost IsContext = { λ base. base < 2 ^ 63 };
 
-    #[tactic(auto, using(crate::proofs::ReferenceReading::ref_read, crate::proofs::ReferenceReading::ref_unread, crate::proofs::ReferenceReading::ref_untold, crate::proofs::ReferenceReading::told_reached), unfolding(crate::specs::ReferenceCodes::reference))]
+    #[tactic(auto, using(crate::proofs::ReferenceReading::ref_read, crate::proofs::ReferenceReading::ref_unread, crate::proofs::ReferenceReading::ref_untold, crate::proofs::ReferenceReading::told_reached), unfolding(dwg_grammar::specs::ReferenceCodes::reference))]
     fn read(context: &Handle, cursor: &mut BitCursor<'_>) -> Option<Ref> {
         let mut ahead = *cursor;
         let parts = Parts::read(&mut ahead)?;
@@ -54,12 +54,12 @@ impl BitCode for CodeH {
         })
     }
 
-    #[tactic(auto, using(crate::specs::ReferenceLaws::reference_short))]
+    #[tactic(auto, using(dwg_grammar::proofs::ReferenceLemmas::reference_short))]
     fn length(context: &Handle, value: &Ref) -> u64 {
         parts_bits(value.code, number_behind(value, *context))
     }
 
-    #[tactic(auto, using(crate::specs::ReferenceLaws::reference_short))]
+    #[tactic(auto, using(dwg_grammar::proofs::ReferenceLemmas::reference_short))]
     fn write(context: &Handle, value: &Ref, sink: &mut BitSink) {
         write_parts(value.code, number_behind(value, *context), sink);
     }
@@ -82,7 +82,7 @@ pub fn read_ref(cursor: &mut BitCursor<'_>, base: Handle) -> Option<Ref>
 }
 
 /// How many bits a reference is written by in the object of the handle `base`.
-#[tactic(auto, using(crate::specs::ReferenceLaws::reference_most), unfolding(crate::specs::ReferenceCodes::reference))]
+#[tactic(auto, using(dwg_grammar::proofs::ReferenceLemmas::reference_most), unfolding(dwg_grammar::specs::ReferenceCodes::reference))]
 pub fn ref_bits(value: Ref, base: Handle) -> u64
     requires { reaches base value ≡ true }
     ensures length { result ≡ length ((reference base).short value) }
@@ -94,7 +94,7 @@ pub fn ref_bits(value: Ref, base: Handle) -> u64
 }
 
 /// Writes a reference in the object of the handle `base`, by the fewest bytes.
-#[tactic(auto, unfolding(crate::specs::ReferenceCodes::reference))]
+#[tactic(auto, unfolding(dwg_grammar::specs::ReferenceCodes::reference))]
 pub fn write_ref(value: Ref, base: Handle, sink: &mut BitSink)
     requires value { reaches base value ≡ true }
     requires room { length ((reference base).short value) ≤ sink.old.spare }

@@ -1,18 +1,18 @@
 -- How many bits each code is written by at the most, whatever the value.
 use Rattle.std.proofs.Common.{ℕ, zero, suc, ◌+◌, ◌*◌, ◌≤◌, Bool, true, false, List, [], ◌∷◌, ◌++◌, length, Some, arith}
-use Rattle.std.specs.Prelude.{◌-◌, ◌/◌, ◌%◌, ◌^◌, ◌==◌, nat_lt, find, unwrap_or, cond}
+use Rattle.std.specs.Prelude.{◌-◌, ◌^◌, ◌==◌, nat_lt, find, unwrap_or, cond}
 use Rattle.std.specs.List.{AllByRecursion}
 use Rattle.std.proofs.lemmas.List.{length-append}
 use Rattle.dwg_bits.specs.Bits.{low_bits}
-use Rattle.dwg_bits.specs.BitLaws.{length_of_low_bits}
-use Rattle.dwg_codes.specs.Codes.{rc, rs, rl, rd, bs, bs_by, bl, bl_by, bd, bd_by, dd, dd_by, bt, bt_by, bd3, be, be_by, tv}
-use Rattle.dwg_codes.specs.Combinators.{never, choose, short_chain, chain, items}
-use Rattle.dwg_codes.specs.Grammar.{Grammar}
-use Rattle.dwg_codes.specs.NumberLaws.{length_of_rs, length_of_rl, length_of_rd}
-use Rattle.dwg_codes.specs.TruthCode.{b}
-use Rattle.dwg_codes.specs.declared.points.Point3.{Point3}
-use Rattle.dwg_handles.specs.Reference.{Reference}
-use Rattle.dwg_handles.specs.ReferenceCodes.{byte_count, counted_number, absolute, next_handle, handle_before, ahead, back, by_reference_code, reference}
+use Rattle.dwg_bits.proofs.BitLaws.{length_of_low_bits}
+use Rattle.dwg_grammar.specs.Codes.{rc, rs, rl, rd, bs, bl, bd, dd, bt, bt_by, bd3, be, be_by, tv, b}
+use Rattle.dwg_grammar.specs.Combinators.{never, choose, short_chain, chain, items}
+use Rattle.dwg_grammar.specs.Grammar.{Grammar}
+use Rattle.dwg_grammar.proofs.Bounds.{bs_at_most, bl_at_most, bd_at_most, bd3_at_most, dd_at_most}
+use Rattle.dwg_grammar.proofs.NumberLemmas.{length_of_rs, length_of_rl, length_of_rd}
+use Rattle.dwg_grammar.specs.declared.points.Point3.{Point3}
+use Rattle.dwg_grammar.specs.Reference.{Reference}
+use Rattle.dwg_grammar.specs.ReferenceCodes.{byte_count, counted_number, absolute, next_handle, handle_before, ahead, back, by_reference_code, reference}
 
 -- letters of which there are so many at the most
 pub record Few (most : ℕ) (letters : List Bool) : Type 0 where
@@ -51,49 +51,18 @@ pub b_few : (value : Bool) → Few 1 (b.short value)
 b_few true = low_few 1 1
 b_few false = low_few 1 0
 
--- what stands behind each tag
-bs_line : (tag value : ℕ) → Few 16 ((bs_by tag).short value)
-bs_line zero value = rs_few value
-bs_line (suc zero) value = loosely 16 (omega arith) (rc_few value)
-bs_line (suc (suc zero)) value = loosely 16 (omega arith) no_letters
-bs_line (suc (suc (suc zero))) value = loosely 16 (omega arith) no_letters
-bs_line (suc (suc (suc (suc tag)))) value = loosely 16 (omega arith) no_letters
-
--- so a BS has no more than 18 bits
+-- BS, BL, BD and DD have at most the bits of a tag and of a number
 pub bs_few : (value : ℕ) → Few 18 (bs.short value)
-bs_few value = both (low_few 2 _) (bs_line _ value)
-
--- a BL
-bl_line : (tag value : ℕ) → Few 32 ((bl_by tag).short value)
-bl_line zero value = rl_few value
-bl_line (suc zero) value = loosely 32 (omega arith) (rc_few value)
-bl_line (suc (suc zero)) value = loosely 32 (omega arith) no_letters
-bl_line (suc (suc (suc tag))) value = loosely 32 (omega arith) no_letters
+bs_few value = record { few = bs_at_most value }
 
 pub bl_few : (value : ℕ) → Few 34 (bl.short value)
-bl_few value = both (low_few 2 _) (bl_line _ value)
-
--- a BD
-bd_line : (tag value : ℕ) → Few 64 ((bd_by tag).short value)
-bd_line zero value = rd_few value
-bd_line (suc zero) value = loosely 64 (omega arith) no_letters
-bd_line (suc (suc zero)) value = loosely 64 (omega arith) no_letters
-bd_line (suc (suc (suc tag))) value = loosely 64 (omega arith) no_letters
+bl_few value = record { few = bl_at_most value }
 
 pub bd_few : (value : ℕ) → Few 66 (bd.short value)
-bd_few value = both (low_few 2 _) (bd_line _ value)
-
--- a DD, whatever its default
-dd_line : (default tag value : ℕ) → Few 64 ((dd_by default tag).short value)
-dd_line default zero value = loosely 64 (omega arith) no_letters
-dd_line default (suc zero) value = loosely 64 (omega arith) (rl_few (value % 2 ^ 32))
-dd_line default (suc (suc zero)) value =
-    loosely 64 (omega arith) (both (rc_few (value / 2 ^ 32 % 2 ^ 8)) (both (rc_few (value / 2 ^ 40 % 2 ^ 8)) (rl_few (value % 2 ^ 32))))
-dd_line default (suc (suc (suc zero))) value = rd_few value
-dd_line default (suc (suc (suc (suc tag)))) value = loosely 64 (omega arith) no_letters
+bd_few value = record { few = bd_at_most value }
 
 pub dd_few : (default value : ℕ) → Few 66 ((dd default).short value)
-dd_few default value = both (low_few 2 _) (dd_line default _ value)
+dd_few default value = record { few = dd_at_most default value }
 
 -- a BT
 bt_line : (tag value : ℕ) → Few 66 ((bt_by tag).short value)
@@ -106,7 +75,7 @@ bt_few value = both (low_few 1 _) (bt_line _ value)
 
 -- three BDs
 pub bd3_few : (point : Point3) → Few 198 (bd3.short point)
-bd3_few point = both (bd_few point.x) (both (bd_few point.y) (bd_few point.z))
+bd3_few point = record { few = bd3_at_most point }
 
 -- a BE
 be_line : (tag : ℕ) (point : Point3) → Few 198 ((be_by tag).short point)

@@ -2,14 +2,14 @@
 use Rattle.std.proofs.Common.{◌≡◌, refl, ℕ, ◌^◌, ◌<◌, true, false, [], Option, Some, None, arith}
 use Rattle.std.specs.Prelude.{nat_lt, is_none, ◌==◌, not}
 use Rattle.std.proofs.lemmas.Bool.Decides.{nat_tests}
-use Rattle.dwg_codes.specs.Codes.{ONE}
-use Rattle.dwg_codes.specs.Combinators.{when, chain, until}
+use Rattle.dwg_grammar.specs.Codes.{ONE}
+use Rattle.dwg_grammar.specs.Combinators.{when, chain, until}
 use Rattle.dwg_common.specs.declared.entity.Links.{Links}
 use Rattle.dwg_common.specs.AppList.{app_list}
 use Rattle.dwg_common.specs.Entities as entities
 use Rattle.dwg_common.specs.NonEntities.{object_common}
-use Rattle.dwg_handles.specs.Reference.{Reference}
-use Rattle.dwg_handles.specs.ReferenceCodes.{reference}
+use Rattle.dwg_grammar.specs.Reference.{Reference}
+use Rattle.dwg_grammar.specs.ReferenceCodes.{reference}
 use Rattle.dwg_make.specs.Parts.{soft_pointer, hard_owner, hard_pointer, owned_by, links, entity_common}
 use Rattle.dwg_make.proofs.CodeSizes.{Few, no_letters, both, loosely, low_few, rc_few, bs_few, bl_few, b_few, bd_few, ref_few}
 use Rattle.dwg_make.proofs.PartsMade.{IsMade, ref_fits}

@@ -1,9 +1,9 @@
 -- Controls, dictionaries and records fit and are written by few bits.
 use Rattle.std.proofs.Common.{refl, ℕ, ◌^◌, ◌≤◌, ◌<◌, List, [], ◌∷◌, length, arith}
-use Rattle.dwg_codes.specs.Combinators.{chain}
-use Rattle.dwg_codes.specs.ToEnd.{AreValues}
-use Rattle.dwg_handles.specs.Reference.{Reference}
-use Rattle.dwg_handles.specs.ReferenceCodes.{reference}
+use Rattle.dwg_grammar.specs.Combinators.{chain}
+use Rattle.dwg_grammar.specs.ToEnd.{AreValues}
+use Rattle.dwg_grammar.specs.Reference.{Reference}
+use Rattle.dwg_grammar.specs.ReferenceCodes.{reference}
 use Rattle.dwg_dicts.specs.Dictionaries.{dictionary_body}
 use Rattle.dwg_dicts.specs.Entries.{layer_control_body, style_control_body, appid_control_body}
 use Rattle.dwg_dicts.specs.EntriesAndTwo.{block_control_body, ltype_control_body}

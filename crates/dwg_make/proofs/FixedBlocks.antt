@@ -3,15 +3,15 @@ use Rattle.std.proofs.Common.{refl, ℕ, ◌+◌, ◌^◌, ◌<◌, Bool, true, 
 use Rattle.std.specs.Prelude.{codes, map}
 use Rattle.std.specs.List.{AllByRecursion}
 use Rattle.dwg_base.specs.Devices.{MOST_BYTES}
-use Rattle.dwg_codes.specs.Codes.{ONE, UPWARD}
-use Rattle.dwg_codes.specs.Combinators.{items}
+use Rattle.dwg_grammar.specs.Codes.{ONE, UPWARD}
+use Rattle.dwg_grammar.specs.Combinators.{items}
 use Rattle.dwg_entities.specs.AttdefBody.{attdef_body}
 use Rattle.dwg_entities.specs.AttribBody.{attrib_body}
 use Rattle.dwg_entities.specs.BlockBody.{block_body}
 use Rattle.dwg_entities.specs.BlockEnds.{endblk_body, seqend_body}
 use Rattle.dwg_entities.specs.InsertBody.{insert_body}
-use Rattle.dwg_file.specs.ObjectSize.{IsSmall}
-use Rattle.dwg_handles.specs.ReferenceCodes.{reference}
+use Rattle.dwg_file.proofs.ObjectSize.{IsSmall}
+use Rattle.dwg_grammar.specs.ReferenceCodes.{reference}
 use Rattle.dwg_kinds.specs.Kinds.{TYPED_KINDS, fixed_kind_of, kind_at, is_entity_kind}
 use Rattle.dwg_object.specs.declared.body.Body.TheVariants as bodies
 use Rattle.dwg_object.specs.OwnBodies.{own_body, attrib_inside, attdef_inside, block_inside, endblk_inside, seqend_inside, insert_inside, line_inside, blockheader_inside}

@@ -7,7 +7,7 @@ use Rattle.dwg_dicts.specs.Dictionaries.{dictionary_body}
 use Rattle.dwg_dicts.specs.Entries.{layer_control_body, style_control_body, appid_control_body}
 use Rattle.dwg_dicts.specs.EntriesAndTwo.{block_control_body, ltype_control_body}
 use Rattle.dwg_dicts.specs.XRecords.{xrecord_body}
-use Rattle.dwg_file.specs.ObjectSize.{IsSmall}
+use Rattle.dwg_file.proofs.ObjectSize.{IsSmall}
 use Rattle.dwg_kinds.specs.Kinds.{TYPED_KINDS, fixed_kind_of, kind_at, is_entity_kind}
 use Rattle.dwg_object.specs.declared.body.Body.TheVariants as bodies
 use Rattle.dwg_object.specs.OwnBodies.{own_body, dictionary_inside, blockcontrol_inside, layercontrol_inside, layer_inside, stylecontrol_inside, style_inside, ltypecontrol_inside, ltype_inside, appidcontrol_inside, appid_inside, xrecord_inside}

@@ -2,11 +2,11 @@
 use Rattle.std.proofs.Common.{◌≡◌, refl, ℕ, ◌^◌, ◌<◌, Bool, true, false, [], Option, Some, None, arith}
 use Rattle.std.specs.Prelude.{is_none, not}
 use Rattle.dwg_base.specs.Devices.{MOST_BYTES}
-use Rattle.dwg_codes.specs.Combinators.{when}
+use Rattle.dwg_grammar.specs.Combinators.{when}
 use Rattle.dwg_common.specs.Entities as entities
 use Rattle.dwg_common.specs.NonEntities.{object_common}
 use Rattle.dwg_common.specs.declared.entity.Links.{Links}
-use Rattle.dwg_file.specs.ObjectSize.{IsSmall}
+use Rattle.dwg_file.proofs.ObjectSize.{IsSmall}
 use Rattle.dwg_kinds.specs.Kinds.{is_entity_kind}
 use Rattle.dwg_object.specs.declared.body.Body.{Body}
 use Rattle.dwg_object.specs.declared.common.Common.TheVariants as commons

@@ -3,9 +3,9 @@ use Rattle.std.proofs.Common.{refl, ℕ, zero, suc, ◌+◌, ◌-◌, ◌^◌, �
 use Rattle.std.specs.Prelude.{◌==◌, ◌%◌, codes, decimal, map, if◌then◌else◌}
 use Rattle.std.specs.List.{AllByRecursion, range_with_len}
 use Rattle.dwg_base.specs.Devices.{MOST_BYTES}
-use Rattle.dwg_codes.specs.Codes.{UPWARD, ONE}
+use Rattle.dwg_grammar.specs.Codes.{UPWARD, ONE}
 use Rattle.dwg_entities.specs.TextBody.{text_body}
-use Rattle.dwg_file.specs.ObjectSize.{IsSmall}
+use Rattle.dwg_file.proofs.ObjectSize.{IsSmall}
 use Rattle.dwg_kinds.specs.Kinds.{TYPED_KINDS, fixed_kind_of, kind_at, is_entity_kind}
 use Rattle.dwg_object.specs.declared.body.Body.{Body}
 use Rattle.dwg_object.specs.declared.body.Body.TheVariants as bodies

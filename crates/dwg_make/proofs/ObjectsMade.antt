@@ -3,10 +3,11 @@ use Rattle.std.proofs.Common.{◌≡◌, ◌∙◌, ap, ℕ, ◌+◌, ◌*◌, �
 use Rattle.std.proofs.lemmas.List.{length-append}
 use Rattle.dwg_base.specs.Devices.{MOST_BYTES}
 use Rattle.dwg_bits.specs.Sink.{padding}
-use Rattle.dwg_bits.specs.PaddingLaw.{padding_fills}
-use Rattle.dwg_bits.specs.WholeBytes.{whole_bytes, length_of_whole}
-use Rattle.dwg_file.specs.ObjectSize.{IsSmall}
-use Rattle.dwg_handles.specs.ReferenceCodes.{own_handle}
+use Rattle.dwg_bits.proofs.PaddingLaw.{padding_fills}
+use Rattle.dwg_bits.specs.WholeBytes.{whole_bytes}
+use Rattle.dwg_bits.proofs.WholeBytes.{length_of_whole}
+use Rattle.dwg_file.proofs.ObjectSize.{IsSmall}
+use Rattle.dwg_grammar.specs.ReferenceCodes.{own_handle}
 use Rattle.dwg_kinds.specs.Kinds.{is_entity_kind}
 use Rattle.dwg_object.specs.declared.common.Common.{Common}
 use Rattle.dwg_object.specs.declared.body.Body.{Body}

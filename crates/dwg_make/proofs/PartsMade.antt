@@ -4,12 +4,13 @@ use Rattle.std.specs.Prelude.{nat_lt, nat_le, ◌&&◌, decimal, codes}
 use Rattle.std.specs.Option.{option_map_or}
 use Rattle.std.proofs.lemmas.Bool.Decides.{nat_tests}
 use Rattle.std.proofs.lemmas.Fmt.{length-decimal-le, IsAscii-decimal}
-use Rattle.dwg_base.specs.Bytes.{AreBytes, are_bytes}
-use Rattle.dwg_codes.specs.Codes.{tv}
-use Rattle.dwg_codes.specs.TableLaws.{tv_has}
-use Rattle.dwg_common.specs.Bodies.{BodyGrammar}
-use Rattle.dwg_common.specs.MakingBodies.{variant}
-use Rattle.dwg_handles.specs.ReferenceCodes.{reference}
+use Rattle.dwg_base.specs.Bytes.{AreBytes}
+use Rattle.dwg_base.proofs.ByteLists.{are_bytes}
+use Rattle.dwg_grammar.specs.Codes.{tv}
+use Rattle.dwg_grammar.proofs.TableLemmas.{tv_has}
+use Rattle.dwg_grammar.specs.Bodies.{BodyGrammar}
+use Rattle.dwg_grammar.specs.MakingBodies.{variant}
+use Rattle.dwg_grammar.specs.ReferenceCodes.{reference}
 use Rattle.dwg_make.proofs.CodeSizes.{Few, tv_few}
 
 -- a part of an object that fits, and is written by few bits

@@ -1,10 +1,10 @@
 -- Lines, points, circles, arcs and polylines fit and are written by few bits.
 use Rattle.std.proofs.Common.{refl, ℕ, ◌^◌, ◌<◌, Bool, true, false, [], ◌∷◌, Option, Some, None, arith}
-use Rattle.dwg_codes.specs.Codes.{IsPoint3}
-use Rattle.dwg_codes.specs.Combinators.{chain}
-use Rattle.dwg_codes.specs.declared.points.Point2.{Point2}
-use Rattle.dwg_codes.specs.declared.points.Point3.{Point3}
-use Rattle.dwg_common.specs.Points.{IsPoint2}
+use Rattle.dwg_grammar.specs.Codes.{IsPoint3}
+use Rattle.dwg_grammar.specs.Combinators.{chain}
+use Rattle.dwg_grammar.specs.declared.points.Point2.{Point2}
+use Rattle.dwg_grammar.specs.declared.points.Point3.{Point3}
+use Rattle.dwg_grammar.specs.Points.{IsPoint2}
 use Rattle.dwg_shapes.specs.declared.arc.Arc.{Arc}
 use Rattle.dwg_shapes.specs.declared.circle.Circle.{Circle}
 use Rattle.dwg_shapes.specs.declared.line.Line.{Line}

@@ -1,11 +1,11 @@
 -- Entries of tables fit and are written by few bits.
-use Rattle.std.proofs.Common.{refl, ℕ, zero, suc, ◌^◌, ◌<◌, Bool, false, List, [], ◌∷◌, length, Some, arith}
+use Rattle.std.proofs.Common.{refl, ℕ, zero, suc, ◌^◌, ◌<◌, Bool, false, List, [], ◌∷◌, length, arith}
 use Rattle.std.specs.Prelude.{map, replicate}
 use Rattle.dwg_base.specs.Bytes.{AreBytes}
-use Rattle.dwg_codes.specs.Codes.{ONE, rc}
-use Rattle.dwg_codes.specs.Combinators.{items, until, chain}
-use Rattle.dwg_codes.specs.ByteRunLaws.{values_of_bytes}
-use Rattle.dwg_handles.specs.ReferenceCodes.{reference}
+use Rattle.dwg_grammar.specs.Codes.{ONE, rc}
+use Rattle.dwg_grammar.specs.Combinators.{items, until, chain}
+use Rattle.dwg_grammar.proofs.ByteRunLemmas.{values_of_bytes}
+use Rattle.dwg_grammar.specs.ReferenceCodes.{reference}
 use Rattle.dwg_tables.specs.declared.block_header.InsertMark.{InsertMark}
 use Rattle.dwg_tables.specs.AppIdBody.{app_id_body}
 use Rattle.dwg_tables.specs.BlockHeaderBody.{block_flags, block_content, count_of, target_of, block_header_body}
@@ -14,6 +14,7 @@ use Rattle.dwg_tables.specs.InsertMarks.{mark_counts}
 use Rattle.dwg_tables.specs.LayerBody.{layer_body}
 use Rattle.dwg_tables.specs.LtypeBody.{ltype_main, ltype_body}
 use Rattle.dwg_tables.specs.StyleBody.{style_form, style_body}
+use Rattle.dwg_make.specs.Fixed.{header_of}
 use Rattle.dwg_make.specs.Parts.{soft_pointer, hard_owner, hard_pointer, entry, ORIGIN}
 use Rattle.dwg_make.proofs.CodeSizes.{Few, no_letters, both, loosely, rc_few, bs_few, bl_few, b_few, bd_few, bd3_few, items_few, ref_few}
 use Rattle.dwg_make.proofs.PartsMade.{IsMade, IsWord, word_fits, word_few, ref_fits, no_word}
@@ -124,23 +125,7 @@ pub header_made : (base : ℕ) (name : List ℕ) (has_attributes : Bool) (insert
     → (items (reference base) (length (map count_of inserts))).IsValue (map target_of inserts)
     → Few 100 ((items (reference base) (length (map count_of inserts))).short (map target_of inserts))
     → block < 2 ^ 63 → first < 2 ^ 63 → last < 2 ^ 63 → endblk < 2 ^ 63
-    → IsMade (block_header_body base) (record {
-      entry = entry name;
-      anonymous = false;
-      has_attributes = has_attributes;
-      is_xref = false;
-      overlaid = false;
-      loaded = false;
-      base = ORIGIN;
-      path = [];
-      inserts = inserts;
-      description = [];
-      preview = [];
-      block = hard_owner block;
-      ends = Some (record { first = soft_pointer first; last = soft_pointer last });
-      endblk = hard_owner endblk;
-      layout = hard_pointer 0;
-    })
+    → IsMade (block_header_body base) (header_of name has_attributes inserts block first last endblk)
 unfolding block_header_body block_flags
 header_made base name has_attributes inserts block first last endblk word are few named named_few a b c d = record {
   fits = (

@@ -1,9 +1,9 @@
 -- Texts, attributes, blocks and inserts fit and are written by few bits.
 use Rattle.std.proofs.Common.{refl, ℕ, zero, suc, ◌^◌, ◌<◌, true, List, Some, arith}
-use Rattle.dwg_codes.specs.Codes.{IsPoint3, UPWARD, ONE}
-use Rattle.dwg_codes.specs.declared.points.Point2.{Point2}
-use Rattle.dwg_codes.specs.declared.points.Point3.{Point3}
-use Rattle.dwg_common.specs.Points.{IsPoint2}
+use Rattle.dwg_grammar.specs.Codes.{IsPoint3, UPWARD, ONE}
+use Rattle.dwg_grammar.specs.declared.points.Point2.{Point2}
+use Rattle.dwg_grammar.specs.declared.points.Point3.{Point3}
+use Rattle.dwg_grammar.specs.Points.{IsPoint2}
 use Rattle.dwg_entities.specs.declared.attrib.Attrib.{Attrib}
 use Rattle.dwg_entities.specs.AttdefBody.{attdef_body}
 use Rattle.dwg_entities.specs.AttribBody.{attrib_main, label_of, attrib_body}

@@ -8,8 +8,8 @@ use Rattle.dwg_base.specs.Devices.{MOST_BYTES}
 use Rattle.dwg_bits.specs.WholeBytes.{whole_bytes}
 use Rattle.dwg_object.specs.Objects.{ObjectValue}
 use Rattle.dwg_file.specs.Canonical.{class_content, placed, objects_place, size_of}
-use Rattle.dwg_file.specs.MapSize.{map_short}
-use Rattle.dwg_file.specs.ObjectSize.{IsSmall, small_valid, frames_short, length_of_placed}
+use Rattle.dwg_file.proofs.MapSize.{map_short}
+use Rattle.dwg_file.proofs.ObjectSize.{IsSmall, small_valid, frames_short, length_of_placed}
 use Rattle.dwg_file.specs.Valid.{IsValid}
 use Rattle.dwg_make.specs.Fixed.{controls, dictionaries, table_entries, model_space, paper_space, tag_block, tag_insert, fixed_objects}
 use Rattle.dwg_make.specs.Further.{further_entity}

@@ -1,9 +1,10 @@
 -- The objects that every made drawing has: controls, table entries, both spaces, a block with an attribute definition, and an insert of it. A rule of this project.
 use Rattle.std.specs.Prelude.{ℕ, ◌+◌, Bool, true, false, List, [], ◌∷◌, ◌++◌, Some, codes, replicate}
-use Rattle.dwg_codes.specs.Codes.{ONE, UPWARD}
+use Rattle.dwg_grammar.specs.Codes.{ONE, UPWARD}
 use Rattle.dwg_object.specs.Objects.{ObjectValue}
 use Rattle.dwg_object.specs.declared.body.Body.{Body}
 use Rattle.dwg_object.specs.declared.body.Body.TheVariants as bodies
+use Rattle.dwg_tables.specs.declared.block_header.BlockHeader.{BlockHeader}
 use Rattle.dwg_tables.specs.declared.block_header.InsertMark.{InsertMark}
 use Rattle.dwg_make.specs.Parts.{soft_owner, hard_owner, soft_pointer, hard_pointer, flat_point, point, ORIGIN, other_object, links, model_entity, paper_entity, owned_entity, entry, plain_text}
 
@@ -63,26 +64,30 @@ unfoldable pub ltype : ℕ → List ℕ → ObjectValue
 ltype handle name =
     other_object 57 handle 0x5 (bodies.Ltype (record { entry = entry name; description = []; length = 0; alignment = 65; dashes = []; texts = replicate 256 0 }))
 
--- the header of a block, by its handle, name, whether it has attributes, marks, begin, first and last entity, and end
+-- what the header of a block tells, by its name, whether it has attributes, marks, begin, first and last entity, and end
+abbrev pub header_of : List ℕ → Bool → List InsertMark → ℕ → ℕ → ℕ → ℕ → BlockHeader
+header_of name has_attributes inserts block first last endblk = record {
+  entry = entry name;
+  anonymous = false;
+  has_attributes = has_attributes;
+  is_xref = false;
+  overlaid = false;
+  loaded = false;
+  base = ORIGIN;
+  path = [];
+  inserts = inserts;
+  description = [];
+  preview = [];
+  block = hard_owner block;
+  ends = Some (record { first = soft_pointer first; last = soft_pointer last });
+  endblk = hard_owner endblk;
+  layout = hard_pointer 0;
+}
+
+-- the header of a block, by its handle and what it tells
 unfoldable pub block_header : ℕ → List ℕ → Bool → List InsertMark → ℕ → ℕ → ℕ → ℕ → ObjectValue
 block_header handle name has_attributes inserts block first last endblk =
-    other_object 49 handle 0x1 (bodies.BlockHeader (record {
-      entry = entry name;
-      anonymous = false;
-      has_attributes = has_attributes;
-      is_xref = false;
-      overlaid = false;
-      loaded = false;
-      base = ORIGIN;
-      path = [];
-      inserts = inserts;
-      description = [];
-      preview = [];
-      block = hard_owner block;
-      ends = Some (record { first = soft_pointer first; last = soft_pointer last });
-      endblk = hard_owner endblk;
-      layout = hard_pointer 0;
-    }))
+    other_object 49 handle 0x1 (bodies.BlockHeader (header_of name has_attributes inserts block first last endblk))
 
 -- the begin of a block
 abbrev pub begin_of : List ℕ → Body

@@ -1,6 +1,6 @@
 -- The entities of a made drawing that follow its fixed objects, drawn by random numbers. A rule of this project.
 use Rattle.std.specs.Prelude.{ℕ, zero, suc, ◌+◌, ◌-◌, ◌*◌, ◌%◌, ◌==◌, [], ◌∷◌, ◌++◌, Option, Some, None, codes, decimal, if◌then◌else◌}
-use Rattle.dwg_codes.specs.Codes.{UPWARD}
+use Rattle.dwg_grammar.specs.Codes.{UPWARD}
 use Rattle.dwg_common.specs.declared.entity.Links.{Links}
 use Rattle.dwg_object.specs.Objects.{ObjectValue}
 use Rattle.dwg_object.specs.declared.body.Body.{Body}

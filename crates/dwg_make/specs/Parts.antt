@@ -1,13 +1,13 @@
 -- What the objects of a made drawing have in common. What isn't told of an object is 0, false, empty or None. A rule of this project.
 use Rattle.std.specs.Prelude.{ℕ, false, List, [], Option, Some, None}
-use Rattle.dwg_codes.specs.Codes.{ONE, UPWARD}
-use Rattle.dwg_codes.specs.declared.points.Point2.{Point2}
-use Rattle.dwg_codes.specs.declared.points.Point3.{Point3}
+use Rattle.dwg_grammar.specs.Codes.{ONE, UPWARD}
+use Rattle.dwg_grammar.specs.declared.points.Point2.{Point2}
+use Rattle.dwg_grammar.specs.declared.points.Point3.{Point3}
 use Rattle.dwg_common.specs.declared.entity.EntityCommon.{EntityCommon}
 use Rattle.dwg_common.specs.declared.entity.Links.{Links}
 use Rattle.dwg_common.specs.declared.object.ObjectCommon.{ObjectCommon}
 use Rattle.dwg_entities.specs.declared.text.Text.{Text}
-use Rattle.dwg_handles.specs.Reference.{Reference}
+use Rattle.dwg_grammar.specs.Reference.{Reference}
 use Rattle.dwg_object.specs.Objects.{ObjectValue, TypedValue}
 use Rattle.dwg_object.specs.declared.body.Body.{Body}
 use Rattle.dwg_object.specs.declared.common.Common.TheVariants as commons

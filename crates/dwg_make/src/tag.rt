@@ -4,7 +4,7 @@ ghost use Rattle.std.specs.Prelude.{◌≡◌, ◌++◌, codes, IfOk, OnOk};
 ghost use Rattle.dwg_object.specs.Objects.{value_of};
 ghost use Rattle.dwg_make.specs.Fixed.{attribute_definition, line_of_block, attribute, attributes_end, insert, tag_header, tag_begin, tag_end, tag_block, tag_insert};
 ghost use Rattle.dwg_make.specs.Parts.{flat_point, plain_text};
-ghost use Rattle.dwg_codes.specs.Codes.{ONE};
+ghost use Rattle.dwg_grammar.specs.Codes.{ONE};
 
 use crate::blocks::{Extent, begin_of, block_header};
 use crate::lists::one;

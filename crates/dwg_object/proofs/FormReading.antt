@@ -6,30 +6,31 @@ use Rattle.std.proofs.lemmas.List.{append_assoc, length-append}
 use Rattle.std.proofs.lemmas.Option.{same_Some}
 use Rattle.dwg_base.specs.declared.device.NoMemory.{NoMemory}
 use Rattle.dwg_bits.specs.Bits.{bits}
-use Rattle.dwg_bits.specs.BitLaws.{bits_between_all, bits_between_joined, length_of_bits, length_of_bits_between}
+use Rattle.dwg_bits.proofs.BitLaws.{bits_between_all, bits_between_joined, length_of_bits, length_of_bits_between}
 use Rattle.dwg_bits.specs.Cursor.{bits_between, rest}
 use Rattle.dwg_bits.specs.declared.cursor.BitCursor.{BitCursor}
 use Rattle.dwg_classes.specs.declared.class.Class.{Class}
-use Rattle.dwg_codes.specs.ToEnd.{ReadsToEnd}
-use Rattle.dwg_common.specs.Bodies.{BeginsWithBody, ReadsBody}
-use Rattle.dwg_common.specs.BodyLaws.{unique_body}
-use Rattle.dwg_handles.specs.Reference.{Reference}
-use Rattle.dwg_handles.specs.ReferenceCodes.{reference}
+use Rattle.dwg_grammar.specs.ToEnd.{ReadsToEnd}
+use Rattle.dwg_grammar.specs.Bodies.{BeginsWithBody, ReadsBody}
+use Rattle.dwg_grammar.proofs.BodyLemmas.{unique_body}
+use Rattle.dwg_grammar.specs.Reference.{Reference}
+use Rattle.dwg_grammar.specs.ReferenceCodes.{reference}
 use Rattle.dwg_kinds.specs.Kinds.{is_entity_kind}
 use Rattle.dwg_kinds.specs.declared.kind.Kind.{Kind}
 use Rattle.dwg_kinds.specs.declared.kind.Kind.TheVariants.{Unknown}
 use Rattle.dwg_object.specs.declared.body.Body.{Body}
 use Rattle.dwg_object.specs.declared.common.Common.{Common}
-use Rattle.dwg_object.specs.CommonForms.{IsCutAt, same_fronts, common_in_cut, common_of_cut, size_of_common}
+use Rattle.dwg_object.proofs.CommonForms.{IsCutAt, same_fronts, common_in_cut, common_of_cut, size_of_common}
 use Rattle.dwg_object.specs.declared.object.Object.{Object}
 use Rattle.dwg_object.specs.declared.reading.Rest.{Rest}
 use Rattle.dwg_object.specs.Forms.{CommonForm, HasCommonForm, HasTypedForm, PlainForm, HasPlainForm, FormOf, kind_under, common_part}
 use Rattle.dwg_object.specs.HeadLaws.{IsHeadAt}
 use Rattle.dwg_object.specs.Objects.{HeadParts, ObjectValue, PlainValue, value_of}
 use Rattle.dwg_object.specs.OwnBodies.{own_body}
-use Rattle.dwg_object.specs.OwnLaws.{own_is_body}
-use Rattle.dwg_object.specs.PlainLaws.{plain_of_cut, plain_cut, common_of_plain}
-use Rattle.dwg_object.specs.TypedLaws.{AreOwn, HasOwn, typed_own, common_of_typed}
+use Rattle.dwg_object.proofs.OwnLaws.{own_is_body}
+use Rattle.dwg_object.proofs.PlainLemmas.{plain_of_cut, plain_cut, common_of_plain}
+use Rattle.dwg_object.specs.TypedLaws.{AreOwn, HasOwn}
+use Rattle.dwg_object.proofs.TypedLaws.{typed_own, common_of_typed}
 
 -- a body is cut at the place behind its head and at its bit size
 pub cut_between : (body : List ℕ) (parts : HeadParts) (at end : ℕ) → IsHeadAt (bits body) parts at → at ≤ parts.size → parts.size ≤ end → end ≡ 8 * length body

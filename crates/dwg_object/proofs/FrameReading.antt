@@ -1,25 +1,25 @@
 -- The frame at a place, by its span, its check word and its body.
 use Rattle.std.proofs.Common.{◌≡◌, refl, sym, ◌∙◌, ap, subst, ℕ, ◌+◌, ◌^◌, ◌<◌, ◌≤◌, true, false, List, length, get_or, Some, None, arith}
 use Rattle.std.specs.Prelude.{not, Result, Ok, Err, if◌then◌else◌}
-use Rattle.dwg_base.specs.Bytes.{are_bytes}
+use Rattle.dwg_base.proofs.ByteLists.{are_bytes}
 use Rattle.dwg_base.specs.declared.refusal.Fault.{Fault}
 use Rattle.dwg_base.specs.declared.refusal.Refusal.{Refusal}
 use Rattle.dwg_bits.specs.Bits.{bits}
 use Rattle.dwg_classes.specs.declared.class.Class.{Class}
-use Rattle.dwg_codes.specs.ModularLaws.{ms_is_code, ms_below}
+use Rattle.dwg_grammar.proofs.ModularLemmas.{ms_is_code, ms_below}
 use Rattle.dwg_object.specs.declared.frame.Found.{Found}
 use Rattle.dwg_object.specs.declared.object.Object.{Object}
 use Rattle.dwg_object.specs.declared.span.Span.{Span}
 use Rattle.dwg_object.specs.Forms.{HasHead, BeginsWithHead, FormOf}
-use Rattle.dwg_object.specs.FormLaws.{head_of_form}
+use Rattle.dwg_object.proofs.FormLaws.{head_of_form}
 use Rattle.dwg_object.specs.FoundFrames.{IsTried, AnswersFrame}
 use Rattle.dwg_object.specs.FrameCauses.{IsFramed}
-use Rattle.dwg_object.specs.FrameLaws.{body_of_span, framed_at, checked_head}
+use Rattle.dwg_object.proofs.FrameLaws.{body_of_span, framed_at, checked_head}
 use Rattle.dwg_object.specs.FrameLines.{frame_refusal, span_body, has_check_word, head_at, head_tried, frame_checked, tried_span, tried_frame}
 use Rattle.dwg_object.specs.Frames.{FrameAt, SpanAt}
-use Rattle.dwg_object.specs.HeadLaws.{begins_head}
+use Rattle.dwg_object.proofs.HeadLaws.{begins_head}
 use Rattle.dwg_object.specs.Objects.{ObjectValue, value_of}
-use Rattle.dwg_object.specs.SpanLaws.{span_within, tried_span_means}
+use Rattle.dwg_object.proofs.SpanLaws.{span_within, tried_span_means}
 
 -- the places of a span ascend within the input, and its body is below 2^60 bytes
 pub record IsPlaced (bytes : List ℕ) (span : Span) : Type 0 where

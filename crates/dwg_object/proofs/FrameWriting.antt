@@ -5,19 +5,20 @@ use Rattle.std.specs.Int.{w16, to_le_bytes}
 use Rattle.std.proofs.lemmas.List.{length-append, drop_at}
 use Rattle.dwg_base.specs.Bytes.{AreBytes}
 use Rattle.dwg_bits.specs.Bits.{bits}
-use Rattle.dwg_bits.specs.BitLaws.{bits_joined, length_of_bits}
+use Rattle.dwg_bits.proofs.BitLaws.{bits_joined, length_of_bits}
 use Rattle.dwg_bits.specs.Sink.{Written, Extends, padding, missing_bits}
-use Rattle.dwg_bits.specs.SinkLaws.{extends_by_both}
-use Rattle.dwg_bits.specs.WholeBytes.{whole_bytes, whole_joined, whole_of_bits, length_of_whole}
+use Rattle.dwg_bits.proofs.SinkLemmas.{extends_by_both}
+use Rattle.dwg_bits.specs.WholeBytes.{whole_bytes}
+use Rattle.dwg_bits.proofs.WholeBytes.{whole_joined, whole_of_bits, length_of_whole}
 use Rattle.dwg_check.specs.CheckWord.{FRAME_START, check_word}
-use Rattle.dwg_codes.specs.ModularCodes.{ms}
+use Rattle.dwg_grammar.specs.ModularCodes.{ms}
 use Rattle.dwg_object.specs.declared.common.Common.{Common}
 use Rattle.dwg_object.specs.Forms.{head}
 use Rattle.dwg_object.specs.Frames.{frame_bytes}
-use Rattle.dwg_object.specs.FormLaws.{length_of_frame}
-use Rattle.dwg_object.specs.LengthLaws.{bytes_joined, length_is_bytes}
+use Rattle.dwg_object.proofs.FormLaws.{length_of_frame}
+use Rattle.dwg_object.proofs.LengthLemmas.{bytes_joined, length_is_bytes}
 use Rattle.dwg_object.specs.Objects.{ObjectValue}
-use Rattle.dwg_object.specs.WrittenLaws.{head_as_long, bytes_padded, bits_padded}
+use Rattle.dwg_object.proofs.WrittenLemmas.{head_as_long, bytes_padded, bits_padded}
 use Rattle.dwg_object.specs.Written.{common_main, common_refs, written_head, front_bits, refs_bits, object_bits, object_bytes, body_bytes}
 
 -- bytes that were written one behind the other

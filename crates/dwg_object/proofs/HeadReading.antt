@@ -1,40 +1,20 @@
 -- Reading a head, part by part.
 use Rattle.std.proofs.Common.{◌≡◌, refl, sym, ◌∙◌, ap, subst, ℕ, ◌+◌, ◌-◌, ◌*◌, ◌≤◌, Bool, List, ◌++◌, length, Option, Some, None, arith}
-use Rattle.std.proofs.lemmas.List.{append_assoc, append_cancel_left, length-append}
+use Rattle.std.proofs.lemmas.List.{length-append}
 use Rattle.dwg_bits.specs.Bits.{bits}
-use Rattle.dwg_bits.specs.BitLaws.{bits_between_all, length_of_bits, length_of_bits_between}
+use Rattle.dwg_bits.proofs.BitLaws.{bits_between_all, length_of_bits, length_of_bits_between}
 use Rattle.dwg_bits.specs.Cursor.{bits_between}
-use Rattle.dwg_codes.specs.Grammar.{Grammar, IsCode, AnyLetters, BeginsWith, Reads}
-use Rattle.dwg_codes.specs.CodeLaws.{unique_of_code}
-use Rattle.dwg_codes.specs.Codes.{bs, rl}
-use Rattle.dwg_codes.specs.Combinators.{seq}
-use Rattle.dwg_codes.specs.NumberLaws.{rl_is_code}
-use Rattle.dwg_codes.specs.TableLaws.{bs_is_code}
-use Rattle.dwg_handles.specs.ReferenceCodes.{own_handle}
+use Rattle.dwg_grammar.specs.Grammar.{Grammar, BeginsWith, Reads}
+use Rattle.dwg_grammar.specs.Codes.{bs, rl}
+use Rattle.dwg_grammar.specs.Combinators.{seq}
+use Rattle.dwg_grammar.proofs.NumberLemmas.{rl_is_code}
+use Rattle.dwg_grammar.proofs.TableLemmas.{bs_is_code}
+use Rattle.dwg_grammar.specs.ReferenceCodes.{own_handle}
+use Rattle.dwg_codes.proofs.SeqReading.{seq_read, first_unread, second_unread}
 use Rattle.dwg_object.specs.Objects.{HeadParts}
 use Rattle.dwg_object.specs.Forms.{head, HasHead}
-use Rattle.dwg_object.specs.HeadLaws.{IsHeadAt, own_of, own_told}
-
--- two values that were read one behind the other
-seq_read : {V W : Type 0} (first : Grammar Bool V) (second : V → Grammar Bool W) (v : V) (w : W) (old mid new : List Bool)
-    → Reads first (Some v) old mid → Reads (second v) (Some w) mid new → Reads (seq first second) (Some (v, w)) old new
-seq_read first second v w old mid new one two =
-    (one.0 ++ two.0, (one.0, two.0, one.1, two.1, refl), one.2 ∙ ap (λ rest. one.0 ++ rest) two.2 ∙ sym (append_assoc one.0 two.0 new))
-
--- where the first isn't there, both aren't
-first_unread : {V W : Type 0} (first : Grammar Bool V) (second : V → Grammar Bool W) (old : List Bool) → (BeginsWith first old → ⊥) → BeginsWith (seq first second) old → ⊥
-first_unread first second old unread (both, front, rest, spelled, whole) =
-    unread (both.0, spelled.0, spelled.1 ++ rest, spelled.2, whole ∙ ap (λ all. all ++ rest) spelled.4 ∙ append_assoc spelled.0 spelled.1 rest)
-
--- where the second isn't behind the first, both aren't there
-second_unread : {V W : Type 0} (first : Grammar Bool V) (second : V → Grammar Bool W) (v : V) (old mid : List Bool) → IsCode AnyLetters first
-    → Reads first (Some v) old mid → (BeginsWith (second v) mid → ⊥) → BeginsWith (seq first second) old → ⊥
-second_unread first second v old mid is one unread (both, front, rest, spelled, whole) =
-    let split : old ≡ spelled.0 ++ (spelled.1 ++ rest) = whole ∙ ap (λ all. all ++ rest) spelled.4 ∙ append_assoc spelled.0 spelled.1 rest in
-    let same : (v ≡ both.0) × (one.0 ≡ spelled.0) =
-    unique_of_code AnyLetters first is v both.0 one.0 spelled.0 mid (spelled.1 ++ rest) one.1 spelled.2 (sym one.2 ∙ split) in
-    let behind : mid ≡ spelled.1 ++ rest = append_cancel_left one.0 mid (spelled.1 ++ rest) (sym one.2 ∙ split ∙ ap (λ f. f ++ (spelled.1 ++ rest)) (sym same.1)) in
-    unread (both.1, spelled.1, rest, subst (λ x. (second x).Spells both.1 spelled.1) (sym same.0) spelled.3, behind)
+use Rattle.dwg_object.specs.HeadLaws.{IsHeadAt, own_of}
+use Rattle.dwg_object.proofs.HeadLaws.{own_told}
 
 -- a bit size and an own handle
 abbrev size_and_own : Grammar Bool (ℕ × ℕ)

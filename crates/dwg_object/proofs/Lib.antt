@@ -1,3 +1,16 @@
+pub mod CommonForms
+pub mod FormLaws
+pub mod FrameLaws
+pub mod HeadLaws
+pub mod LengthLemmas
+pub mod OwnLaws
+pub mod PlainLemmas
+pub mod PlainWritten
+pub mod SpanLaws
+pub mod StandingLemmas
+pub mod TypedLaws
+pub mod TypedWritten
+pub mod WrittenLemmas
 pub mod SpanReading
 pub mod HeadReading
 pub mod FrameReading

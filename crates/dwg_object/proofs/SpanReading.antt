@@ -3,17 +3,18 @@ use Rattle.std.proofs.Common.{◌≡◌, refl, sym, ◌∙◌, ap, subst, ℕ, �
 use Rattle.std.specs.Prelude.{nat_lt, not, Ok, Err, if◌then◌else◌}
 use Rattle.std.proofs.lemmas.Bool.Decides.{nat_tests}
 use Rattle.std.proofs.lemmas.List.{length-drop, take-append-drop}
-use Rattle.dwg_base.specs.Bytes.{AreBytes, are_bytes}
+use Rattle.dwg_base.specs.Bytes.{AreBytes}
+use Rattle.dwg_base.proofs.ByteLists.{are_bytes}
 use Rattle.dwg_base.specs.declared.refusal.Refusal.{Refusal}
-use Rattle.dwg_codes.specs.CombinatorLaws.{bytes_closed}
-use Rattle.dwg_codes.specs.Grammar.{BeginsWith, ReadsFront}
-use Rattle.dwg_codes.specs.ModularCodes.{ms}
-use Rattle.dwg_codes.specs.ModularLaws.{ms_is_code}
+use Rattle.dwg_grammar.proofs.CombinatorLemmas.{bytes_closed}
+use Rattle.dwg_grammar.specs.Grammar.{BeginsWith, ReadsFront}
+use Rattle.dwg_grammar.specs.ModularCodes.{ms}
+use Rattle.dwg_grammar.proofs.ModularLemmas.{ms_is_code}
 use Rattle.dwg_object.specs.declared.span.Span.{Span}
 use Rattle.dwg_object.specs.Frames.{SpanAt}
 use Rattle.dwg_object.specs.FrameLines.{frame_refusal, span_of, span_parsed, tried_span}
 use Rattle.dwg_object.specs.FrameCauses.{TellsSpan}
-use Rattle.dwg_object.specs.SpanLaws.{span_told}
+use Rattle.dwg_object.proofs.SpanLaws.{span_told}
 
 -- a place behind the input is refused
 pub span_behind : (bytes : List ℕ) (place index : ℕ) → length bytes ≤ place → tried_span place index bytes ≡ Err (frame_refusal 27 index place)

@@ -1,7 +1,7 @@
 -- Reading a body as a variant of an enum.
 use Rattle.std.proofs.Common.{Bool, List, Option, None}
-use Rattle.dwg_common.specs.Bodies.{BodyGrammar, BeginsWithBody, ReadsBody}
-use Rattle.dwg_common.specs.MakingBodies.{variant}
+use Rattle.dwg_grammar.specs.Bodies.{BodyGrammar, BeginsWithBody, ReadsBody}
+use Rattle.dwg_grammar.specs.MakingBodies.{variant}
 
 -- where no body is spelled, none is as a variant of an enum
 pub variant_unread : {V W : Type 0} (into : V → W) (back : W → Option V) (inner : BodyGrammar V) (main main_left references references_left : List Bool)

@@ -3,18 +3,18 @@ use Rattle.std.specs.Prelude.{◌≡◌, ◌≢◌, ℕ, ◌^◌, ◌<◌, Bool,
 use Rattle.dwg_bits.specs.Bits.{bits}
 use Rattle.dwg_classes.specs.declared.class.Class.{Class}
 use Rattle.dwg_classes.specs.Hints.{hint_at}
-use Rattle.dwg_codes.specs.Codes.{bs, rl}
-use Rattle.dwg_codes.specs.Combinators.{seq, image}
-use Rattle.dwg_codes.specs.Grammar.{Grammar}
-use Rattle.dwg_codes.specs.ToEnd.{SpellsAll}
+use Rattle.dwg_grammar.specs.Codes.{bs, rl}
+use Rattle.dwg_grammar.specs.Combinators.{seq, image}
+use Rattle.dwg_grammar.specs.Grammar.{Grammar}
+use Rattle.dwg_grammar.specs.ToEnd.{SpellsAll}
 use Rattle.dwg_common.specs.declared.entity.EntityCommon.{EntityCommon}
 use Rattle.dwg_common.specs.declared.object.ObjectCommon.{ObjectCommon}
-use Rattle.dwg_common.specs.Bodies.{BodyGrammar}
+use Rattle.dwg_grammar.specs.Bodies.{BodyGrammar}
 use Rattle.dwg_common.specs.Entities.{entity_common}
-use Rattle.dwg_common.specs.MakingBodies.{variant}
+use Rattle.dwg_grammar.specs.MakingBodies.{variant}
 use Rattle.dwg_common.specs.NonEntities.{object_common}
-use Rattle.dwg_handles.specs.Reference.{Reference}
-use Rattle.dwg_handles.specs.ReferenceCodes.{reference, own_handle}
+use Rattle.dwg_grammar.specs.Reference.{Reference}
+use Rattle.dwg_grammar.specs.ReferenceCodes.{reference, own_handle}
 use Rattle.dwg_kinds.specs.Kinds.{kind_at, is_entity_kind}
 use Rattle.dwg_kinds.specs.declared.kind.Kind.{Kind}
 use Rattle.dwg_kinds.specs.declared.kind.Kind.TheVariants.{Unknown}

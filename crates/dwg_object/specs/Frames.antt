@@ -4,7 +4,7 @@ use Rattle.std.specs.Int.{w16, to_le_bytes}
 use Rattle.dwg_base.specs.Bytes.{StandsAt}
 use Rattle.dwg_bits.specs.Bits.{bits}
 use Rattle.dwg_check.specs.CheckWord.{FRAME_START, check_word}
-use Rattle.dwg_codes.specs.ModularCodes.{ms}
+use Rattle.dwg_grammar.specs.ModularCodes.{ms}
 use Rattle.dwg_object.specs.declared.span.Span.{Span}
 use Rattle.dwg_object.specs.Forms.{BeginsWithHead}
 use Rattle.dwg_object.specs.Objects.{ObjectValue}

@@ -6,7 +6,7 @@ use Rattle.dwg_bits.specs.declared.part.BitPart.TheVariants as bit_parts
 use Rattle.dwg_codes.specs.Parts.{part_bytes}
 use Rattle.dwg_codes.specs.declared.byte_part.BytePart.{BytePart}
 use Rattle.dwg_codes.specs.declared.byte_part.BytePart.TheVariants.{Owned, Lent}
-use Rattle.dwg_handles.specs.Reference.{Reference}
+use Rattle.dwg_grammar.specs.Reference.{Reference}
 use Rattle.dwg_kinds.specs.Kinds.{kind_at}
 use Rattle.dwg_kinds.specs.declared.kind.Kind.{Kind}
 use Rattle.dwg_kinds.specs.declared.number.ClassHint.{ClassHint}

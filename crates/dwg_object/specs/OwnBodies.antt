@@ -1,7 +1,7 @@
 -- What the kinds of objects have of their own behind their common part (Open Design Specification, the sections named by the kinds). Which kinds have a body is a rule of this project.
 use Rattle.std.specs.Prelude.{⊤, ℕ, [], Option, Some, None}
-use Rattle.dwg_common.specs.Bodies.{BodyGrammar}
-use Rattle.dwg_common.specs.MakingBodies.{variant}
+use Rattle.dwg_grammar.specs.Bodies.{BodyGrammar}
+use Rattle.dwg_grammar.specs.MakingBodies.{variant}
 use Rattle.dwg_dicts.specs.Dictionaries.{dictionary_body}
 use Rattle.dwg_dicts.specs.Entries.{layer_control_body, style_control_body, appid_control_body}
 use Rattle.dwg_dicts.specs.EntriesAndTwo.{block_control_body, ltype_control_body}

@@ -5,9 +5,9 @@ use Rattle.dwg_bits.specs.Bits.{bits}
 use Rattle.dwg_bits.specs.Sink.{padding}
 use Rattle.dwg_bits.specs.WholeBytes.{whole_bytes}
 use Rattle.dwg_classes.specs.declared.class.Class.{Class}
-use Rattle.dwg_codes.specs.ToEnd.{AreValues, short_all}
-use Rattle.dwg_handles.specs.Reference.{Reference}
-use Rattle.dwg_handles.specs.ReferenceCodes.{reference}
+use Rattle.dwg_grammar.specs.ToEnd.{AreValues, short_all}
+use Rattle.dwg_grammar.specs.Reference.{Reference}
+use Rattle.dwg_grammar.specs.ReferenceCodes.{reference}
 use Rattle.dwg_kinds.specs.Kinds.{is_entity_kind}
 use Rattle.dwg_kinds.specs.declared.kind.Kind.TheVariants.{Unknown}
 use Rattle.dwg_object.specs.declared.common.Common.{Common}

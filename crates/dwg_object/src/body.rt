@@ -3,8 +3,8 @@
 ghost use Rattle.std.specs.Prelude.{◌≡◌, ◌^◌, ◌<◌, ◌≤◌, Option, Some, length, IfOk};
 ghost use Rattle.dwg_bits.specs.Cursor.{rest};
 ghost use Rattle.dwg_bits.specs.Sink.{Extends};
-ghost use Rattle.dwg_common.specs.Bodies.{ReadsBody};
-ghost use Rattle.dwg_common.specs.MakingBodies.{variant};
+ghost use Rattle.dwg_grammar.specs.Bodies.{ReadsBody};
+ghost use Rattle.dwg_grammar.specs.MakingBodies.{variant};
 ghost use Rattle.dwg_object.specs.declared.body.Body.TheVariants as bodies;
 ghost use Rattle.dwg_object.specs.OwnBodies.{body_kind, own_body, appid_inside, appidcontrol_inside, arc_inside, attdef_inside, attrib_inside, block_inside, blockcontrol_inside, blockheader_inside, circle_inside, dictionary_inside, endblk_inside, insert_inside, layer_inside, layercontrol_inside, line_inside, ltype_inside, ltypecontrol_inside, lwpolyline_inside, point_inside, seqend_inside, style_inside, stylecontrol_inside, text_inside, xrecord_inside};
 ghost use Rattle.dwg_object.specs.Written.{own_main, own_refs};

@@ -3,7 +3,7 @@
 ghost use Rattle.std.specs.Prelude.{◌≡◌, ◌^◌, ◌<◌, ◌≤◌, length, Ok, None, IfOk};
 ghost use Rattle.dwg_bits.specs.Cursor.{rest};
 ghost use Rattle.dwg_bits.specs.Sink.{Extends};
-ghost use Rattle.dwg_common.specs.Bodies.{ReadsBody};
+ghost use Rattle.dwg_grammar.specs.Bodies.{ReadsBody};
 ghost use Rattle.dwg_object.specs.declared.common.Common.TheVariants as commons;
 ghost use Rattle.dwg_object.specs.Forms.{common_part, entity_inside, object_inside};
 ghost use Rattle.dwg_object.specs.Objects.{is_of_entity};

@@ -60,7 +60,7 @@ pub fn span_word(bytes: &[u8], span: &Span) -> u16
 }
 
 /// Whether the check word of a span is that of its length and its body.
-fn has_check_word(bytes: &[u8], span: &Span) -> bool
+fn has_frame_word(bytes: &[u8], span: &Span) -> bool
     requires body { span.now.from ≤ span.now.body }
     requires body_end { span.now.body ≤ span.now.body_end }
     requires ends { span.now.end ≡ span.now.body_end + 2 }
@@ -89,7 +89,7 @@ pub fn read_span<'a>(
     ensures tried { AnswersFrame result (tried_frame span.now.from index bytes.now) }
     ensures of_table { IfErr result IsFaultOfTable }
 {
-    if !has_check_word(bytes, span) {
+    if !has_frame_word(bytes, span) {
         return Err(Fault::Refused(frame_refusal(CHECK_LINE, index, span.from)));
     }
     match read_body_hinted(alloc, piece(bytes, span.body, span.body_end), hints) {

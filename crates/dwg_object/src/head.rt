@@ -3,7 +3,7 @@
 ghost use Rattle.std.specs.Prelude.{◌≡◌, ◌^◌, ◌<◌, ◌≤◌, ℕ, length, option_map, IfSome, IfNone};
 ghost use Rattle.dwg_bits.specs.Bits.{bits};
 ghost use Rattle.dwg_bits.specs.Cursor.{rest};
-ghost use Rattle.dwg_codes.specs.Grammar.{Reads};
+ghost use Rattle.dwg_grammar.specs.Grammar.{Reads};
 ghost use Rattle.dwg_bits.specs.Sink.{Extends};
 ghost use Rattle.dwg_object.specs.Forms.{BeginsWithHead, HasHead, head};
 ghost use Rattle.dwg_object.specs.HeadLaws.{IsHeadAt, own_of};

@@ -1,6 +1,6 @@
 //! Laws of heads, frames and forms, as the contract of a function without code.
 
-ghost use Rattle.dwg_codes.specs.CodeLaws.{IsLawful};
+ghost use Rattle.dwg_grammar.specs.Grammar.{IsLawful};
 ghost use Rattle.dwg_object.specs.Forms.{head};
 ghost use Rattle.dwg_object.specs.FormLaws.{FormsAreOne, HeadsHaveForms, FormsHaveHeads, FormsAreValid, ValidObjectsAreForms, WrittenFramesStand, WrittenFramesAreBytes};
 ghost use Rattle.dwg_object.specs.FrameLaws.{FramesAreOne, FramesAreTold, FramesAreHeld};

@@ -1,7 +1,7 @@
 //! Objects as values.
 
 ghost use Rattle.std.specs.Prelude.{◌≡◌};
-ghost use Rattle.dwg_object.specs.Objects.{handle_of, kind_of, hint_of_common, value_of};
+ghost use Rattle.dwg_object.specs.Objects.{handle_of, kind_of, hint_of_common, number_of, value_of};
 
 use crate::body::Body;
 use crate::common::Common;
@@ -80,6 +80,17 @@ impl Object<'_> {
             Object::Typed(typed) => typed.handle,
             Object::Plain(plain) => plain.handle,
             Object::Raw(raw) => raw.handle,
+        }
+    }
+
+    /// The object's type number.
+    pub fn number(&self) -> u16
+        ensures { result ≡ number_of (value_of self.now) }
+    {
+        match self {
+            Object::Typed(typed) => typed.number,
+            Object::Plain(plain) => plain.number,
+            Object::Raw(raw) => raw.number,
         }
     }
 

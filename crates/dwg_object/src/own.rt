@@ -3,8 +3,8 @@
 ghost use Rattle.std.specs.Prelude.{◌≡◌, ◌^◌, ◌<◌, ◌≤◌, ℕ, Bool, List, length};
 ghost use Rattle.dwg_bits.specs.Parts.{part_bits};
 ghost use Rattle.dwg_bits.specs.Sink.{Extends};
-ghost use Rattle.dwg_codes.specs.ToEnd.{AreValues, short_all};
-ghost use Rattle.dwg_handles.specs.ReferenceCodes.{reference};
+ghost use Rattle.dwg_grammar.specs.ToEnd.{AreValues, short_all};
+ghost use Rattle.dwg_grammar.specs.ReferenceCodes.{reference};
 ghost use Rattle.dwg_object.specs.OwnBodies.{body_kind, own_body};
 ghost use Rattle.dwg_object.specs.Written.{own_main, own_refs};
 

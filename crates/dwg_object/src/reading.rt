@@ -4,9 +4,9 @@ ghost use Rattle.std.specs.Prelude.{◌≡◌, ◌≢◌, ◌^◌, ◌<◌, ◌�
 ghost use Rattle.dwg_bits.specs.Bits.{bits};
 ghost use Rattle.dwg_bits.specs.Cursor.{rest};
 ghost use Rattle.dwg_classes.specs.declared.class.Class.{Class};
-ghost use Rattle.dwg_codes.specs.ToEnd.{ReadsToEnd};
-ghost use Rattle.dwg_handles.specs.Reference.{Reference};
-ghost use Rattle.dwg_handles.specs.ReferenceCodes.{reference};
+ghost use Rattle.dwg_grammar.specs.ToEnd.{ReadsToEnd};
+ghost use Rattle.dwg_grammar.specs.Reference.{Reference};
+ghost use Rattle.dwg_grammar.specs.ReferenceCodes.{reference};
 ghost use Rattle.dwg_kinds.specs.declared.kind.Kind.TheVariants as kinds;
 ghost use Rattle.dwg_object.specs.declared.reading.Rest.{Rest};
 ghost use Rattle.dwg_object.specs.Forms.{BeginsWithHead, CommonForm, FormOf, HasCommonForm, HasPlainForm, HasTypedForm, kind_under};

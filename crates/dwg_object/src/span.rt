@@ -1,11 +1,11 @@
 //! Where the parts of a frame lie.
 
-ghost use Rattle.std.specs.Prelude.{◌≡◌, ◌+◌, ◌≤◌, length, drop, IfOk, IfErr};
+ghost use Rattle.std.specs.Prelude.{◌≡◌, ◌+◌, ◌≤◌, length, IfOk, IfErr};
 ghost use Rattle.dwg_base.specs.Refusals.{IsOfTable};
 ghost use Rattle.dwg_object.specs.Frames.{SpanAt};
 ghost use Rattle.dwg_object.specs.FrameLines.{frame_refusal, tried_span};
 
-use dwg_base::Refusal;
+use dwg_base::{Refusal, bytes_behind};
 use dwg_codes::read_ms;
 
 // The lines of the table on the place and the length of a frame.
@@ -36,14 +36,6 @@ pub(crate) fn frame_refusal(line: u8, index: u64, place: u64) -> Refusal
     Refusal { line, index, place }
 }
 
-/// The bytes behind a place.
-pub(crate) fn behind(bytes: &[u8], place: u64) -> &[u8]
-    requires { place ≤ length bytes.now }
-    ensures { result.now ≡ drop place bytes.now }
-{
-    &bytes[place as usize..]
-}
-
 /// The span of the frame at a place of the input, of the pair of this index. It is refused where the place is behind the
 /// input, and where no length is spelled there or the frame passes the end of the input.
 #[tactic(auto, using(crate::proofs::SpanReading::span_behind))]
@@ -61,7 +53,7 @@ pub fn span_at(bytes: &[u8], place: u64, index: u64) -> Result<Span, Refusal>
     if length <= place {
         return Err(frame_refusal(PLACE_LINE, index, place));
     }
-    let Some((long, wide)) = read_ms(behind(bytes, place)) else {
+    let Some((long, wide)) = read_ms(bytes_behind(bytes, place as usize)) else {
         return Err(frame_refusal(LENGTH_LINE, index, place));
     };
     let body = place + wide as u64;

@@ -2,8 +2,8 @@
 
 ghost use Rattle.std.specs.Prelude.{◌≡◌, Option, Some, IfOk};
 ghost use Rattle.dwg_bits.specs.Cursor.{rest};
-ghost use Rattle.dwg_common.specs.Bodies.{ReadsBody};
-ghost use Rattle.dwg_common.specs.MakingBodies.{variant};
+ghost use Rattle.dwg_grammar.specs.Bodies.{ReadsBody};
+ghost use Rattle.dwg_grammar.specs.MakingBodies.{variant};
 
 use dwg_base::{Handle, NoMemory};
 use dwg_bits::BitCursor;

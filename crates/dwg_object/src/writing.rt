@@ -15,8 +15,8 @@ use crate::common::Common;
 use crate::head::{head_length, write_head};
 use crate::object::Object;
 use crate::own::OwnPart;
-use crate::span::{CHECK_SIZE, behind};
-use dwg_base::Handle;
+use crate::span::CHECK_SIZE;
+use dwg_base::{Handle, bounded_bytes, bytes_behind};
 use dwg_bits::BitSink;
 use dwg_check::{FRAME_START, check};
 use dwg_codes::{ms_bytes, write_ms};
@@ -121,14 +121,6 @@ fn write_parts<O: OwnPart>(
     sink.pad();
 }
 
-/// A slice of bytes, of which each is below 256.
-fn small(bytes: &[u8]) -> &[u8]
-    ensures same { result.now ≡ bytes.now }
-    ensures small { AreBytes bytes.now }
-{
-    bytes
-}
-
 impl Object<'_> {
     /// How many bytes the body is written by.
     fn body_length(&self) -> u64
@@ -140,7 +132,7 @@ impl Object<'_> {
         match self {
             Object::Typed(typed) => parts_length(typed.number, typed.handle, &typed.common, typed),
             Object::Plain(plain) => parts_length(plain.number, plain.handle, &plain.common, plain),
-            Object::Raw(raw) => small(raw.bytes.as_slice()).len() as u64,
+            Object::Raw(raw) => bounded_bytes(raw.bytes.as_slice()).len() as u64,
         }
     }
 
@@ -165,7 +157,7 @@ impl Object<'_> {
 }
 
 /// How many bytes the frame of an object is written by: a length in the fewest units, the body, a check word.
-#[tactic(auto, using(crate::specs::FormLaws::length_of_frame))]
+#[tactic(auto, using(crate::proofs::FormLaws::length_of_frame))]
 pub fn frame_length(object: &Object<'_>) -> u64
     requires fits { PartsFit (value_of object.now) }
     requires few { length (body_bytes (value_of object.now)) < 2 ^ 29 }
@@ -182,7 +174,10 @@ fn word_behind(sink: &BitSink, from: u64) -> u16
     requires within { 8 * from ≤ length sink.now.written }
     ensures { result ≡ check_word FRAME_START (drop from (whole_bytes sink.now.written)) }
 {
-    check(FRAME_START, behind(small(sink.as_bytes()), from))
+    check(
+        FRAME_START,
+        bytes_behind(bounded_bytes(sink.as_bytes()), from as usize),
+    )
 }
 
 /// Writes the frame of an object at a whole byte: a length in the fewest units, the body, a check word.

@@ -1,7 +1,7 @@
 -- What is answered of a page and of a map, from what was tried.
 use Rattle.std.proofs.Common.{◌≡◌, sym, ◌∙◌, ap, subst, ℕ, suc, ◌+◌, ◌-◌, ◌<◌, ◌≤◌, List, [], length, get_or, arith, add-one, inl, inr}
 use Rattle.std.specs.Prelude.{Ok, Err}
-use Rattle.dwg_base.specs.Bytes.{are_bytes}
+use Rattle.dwg_base.proofs.ByteLists.{are_bytes}
 use Rattle.dwg_base.specs.Refusals.{Tried, Answers, IfRefused, IsOfTable, IsFaultOfTable}
 use Rattle.dwg_base.specs.declared.refusal.Refusal.{Refusal}
 use Rattle.dwg_base.specs.declared.refusal.Fault.{Fault}
@@ -9,7 +9,7 @@ use Rattle.dwg_base.specs.declared.refusal.Fault.TheVariants.{NoMemory, Refused}
 use Rattle.dwg_objmap.specs.declared.pair.Pair.{Pair}
 use Rattle.dwg_objmap.specs.Pages.{PageAt, AreHandles, handles_of, MapOf}
 use Rattle.dwg_objmap.specs.MapLines.{map_refusal, word_at, page_end, page_behind, pages_behind, tried_page, tried_map, FailsAtPair, RefusesPage, RefusesMap}
-use Rattle.dwg_objmap.specs.MapLaws.{page_fails, page_ends, page_follows, page_is_tried, page_is_refused, map_is_tried, map_is_refused}
+use Rattle.dwg_objmap.proofs.MapLemmas.{page_fails, page_ends, page_follows, page_is_tried, page_is_refused, map_is_tried, map_is_refused}
 use Rattle.dwg_objmap.specs.Reading.{AnswersPage}
 
 -- a refusal by one of the lines on the map is by a line of the table

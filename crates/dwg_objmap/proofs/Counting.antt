@@ -5,7 +5,7 @@ use Rattle.dwg_objmap.specs.declared.pair.Pair.{Pair}
 use Rattle.dwg_objmap.specs.Pairs.{ORIGIN}
 use Rattle.dwg_objmap.specs.Writing.{map_bytes}
 use Rattle.dwg_objmap.specs.MapLength.{length_behind}
-use Rattle.dwg_objmap.specs.MapLengthLaw.{length_of_map}
+use Rattle.dwg_objmap.proofs.MapLengthLaw.{length_of_map}
 
 -- what is counted at the end is the whole
 pub counted_all : (sent size index total : ℕ) (last : Pair) (pairs : List Pair) → total ≡ sent + length_behind size last []

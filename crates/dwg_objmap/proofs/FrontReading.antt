@@ -2,13 +2,13 @@
 use Rattle.std.proofs.Common.{◌≡◌, sym, ◌∙◌, ap, ap₂, subst, ℕ, ◌+◌, List, [], ◌∷◌, ◌++◌, length, drop, get_or, Some, None, ◌<◌, add-one}
 use Rattle.std.specs.Prelude.{Result, Ok, Err, IfOk}
 use Rattle.std.proofs.lemmas.List.{drop-drop}
-use Rattle.dwg_base.specs.Bytes.{are_bytes}
+use Rattle.dwg_base.proofs.ByteLists.{are_bytes}
 use Rattle.dwg_objmap.specs.declared.pair.Pair.{Pair}
 use Rattle.dwg_objmap.specs.Pairs.{ORIGIN, pair_behind}
 use Rattle.dwg_objmap.specs.MapLines.{body_at}
-use Rattle.dwg_objmap.specs.PagePlaces.{body_is_bytes}
+use Rattle.dwg_objmap.proofs.PagePlaces.{body_is_bytes}
 use Rattle.dwg_objmap.specs.Walking.{AreLongest, pairs_from, pairs_in_front}
-use Rattle.dwg_objmap.specs.WalkingLaws.{from_none, from_some, from_out, longest_in_front}
+use Rattle.dwg_objmap.proofs.WalkingLemmas.{from_none, from_some, from_out, longest_in_front}
 
 -- at the begin all is left
 pub front_begin : (left : ℕ) (pairs : List Pair) (last : Pair) (body : List ℕ) → left ≡ length body → pairs ≡ [] → last ≡ ORIGIN → pairs_from left pairs last body ≡ pairs_in_front body

@@ -1,3 +1,14 @@
+pub mod FillingLemmas
+pub mod FillingOnly
+pub mod HandleLemmas
+pub mod MapLemmas
+pub mod MapLengthLaw
+pub mod PageLemmas
+pub mod PagePlaces
+pub mod PairChains
+pub mod PairLemmas
+pub mod PairsTried
+pub mod WalkingLemmas
 pub mod PairReading
 pub mod StepReading
 pub mod FrontReading

@@ -7,19 +7,20 @@ use Rattle.std.proofs.lemmas.Bool.Decides.{nat_tests}
 use Rattle.std.proofs.lemmas.List.{nil_from_length}
 use Rattle.dwg_base.specs.Bytes.{AreBytes}
 use Rattle.dwg_base.specs.Devices.{AppendsFront, Sends}
-use Rattle.dwg_base.specs.SendingLaws.{sends_both, front_of_both}
+use Rattle.dwg_base.proofs.SendingLemmas.{sends_both, front_of_both}
 use Rattle.dwg_bits.specs.Bits.{bits}
-use Rattle.dwg_bits.specs.BitLaws.{length_of_bits}
+use Rattle.dwg_bits.proofs.BitLaws.{length_of_bits}
 use Rattle.dwg_bits.specs.Sink.{Written, Extends}
-use Rattle.dwg_bits.specs.WholeBytes.{whole_bytes, whole_of_bits, whole_joined, length_of_whole}
+use Rattle.dwg_bits.specs.WholeBytes.{whole_bytes}
+use Rattle.dwg_bits.proofs.WholeBytes.{whole_of_bits, whole_joined, length_of_whole}
 use Rattle.dwg_check.specs.CheckWord.{FRAME_START, check_word}
-use Rattle.dwg_check.specs.CheckWordLaws.{check_word_append}
+use Rattle.dwg_check.proofs.CheckWordLaws.{check_word_append}
 use Rattle.dwg_objmap.specs.declared.pair.Pair.{Pair}
 use Rattle.dwg_objmap.specs.Pairs.{IsPair, ORIGIN, pair_behind}
-use Rattle.dwg_objmap.specs.PairChains.{origin_is_pair}
+use Rattle.dwg_objmap.proofs.PairChains.{origin_is_pair}
 use Rattle.dwg_objmap.specs.Pages.{sized_pairs, page_bytes}
 use Rattle.dwg_objmap.specs.Writing.{MOST_PAGE, told_behind, told_from, has_room, added}
-use Rattle.dwg_objmap.specs.FillingLaws.{pair_few, pair_written, told_fits}
+use Rattle.dwg_objmap.proofs.FillingLemmas.{pair_few, pair_written, told_fits}
 use Rattle.dwg_objmap.specs.OpenPages.{page_of, IsOpen}
 
 -- bytes with these bits are the whole bytes of them

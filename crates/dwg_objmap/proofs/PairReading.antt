@@ -2,14 +2,15 @@
 use Rattle.std.proofs.Common.{◌≡◌, sym, ◌∙◌, ap, ℕ, ◌+◌, ◌<◌, List, take, drop, get_or, Option, Some, None, arith}
 use Rattle.std.specs.Prelude.{ℤ, option_map, option_and_then}
 use Rattle.std.proofs.lemmas.List.{take-append-drop, drop-drop, get_or-drop}
-use Rattle.dwg_base.specs.Bytes.{AreBytes, are_bytes}
-use Rattle.dwg_codes.specs.Grammar.{Grammar, IsCode, ReadsFront}
-use Rattle.dwg_codes.specs.ModularCodes.{mc, signed_mc}
-use Rattle.dwg_codes.specs.ModularLaws.{mc_is_code}
-use Rattle.dwg_codes.specs.SignedLaws.{signed_mc_is_code}
+use Rattle.dwg_base.specs.Bytes.{AreBytes}
+use Rattle.dwg_base.proofs.ByteLists.{are_bytes}
+use Rattle.dwg_grammar.specs.Grammar.{Grammar, IsCode, ReadsFront}
+use Rattle.dwg_grammar.specs.ModularCodes.{mc, signed_mc}
+use Rattle.dwg_grammar.proofs.ModularLemmas.{mc_is_code}
+use Rattle.dwg_grammar.proofs.SignedLemmas.{signed_mc_is_code}
 use Rattle.dwg_objmap.specs.declared.pair.Pair.{Pair}
 use Rattle.dwg_objmap.specs.Pairs.{pair_at_steps, pair_behind}
-use Rattle.dwg_objmap.specs.PairsTried.{none_parsed}
+use Rattle.dwg_objmap.proofs.PairsTried.{none_parsed}
 
 -- what is read at the front is parsed
 front_parsed : {V : Type 0} (code : Grammar ℕ V) (bytes : List ℕ) (value : V) (used : ℕ) → IsCode AreBytes code → ReadsFront code (Some (value, used)) bytes

@@ -2,10 +2,10 @@
 use Rattle.std.proofs.Common.{◌≡◌, sym, ◌∙◌, ap, ap₂, subst, ℕ, ◌+◌, ◌-◌, ◌*◌, ◌≤◌, ◌++◌, length, length-append, arith}
 use Rattle.std.specs.Prelude.{ℤ}
 use Rattle.dwg_bits.specs.Bits.{bits}
-use Rattle.dwg_bits.specs.BitLaws.{bits_joined, length_of_bits}
+use Rattle.dwg_bits.proofs.BitLaws.{bits_joined, length_of_bits}
 use Rattle.dwg_bits.specs.Sink.{Written, Extends}
-use Rattle.dwg_bits.specs.SinkLaws.{extends_by_both}
-use Rattle.dwg_codes.specs.ModularCodes.{mc, signed_mc}
+use Rattle.dwg_bits.proofs.SinkLemmas.{extends_by_both}
+use Rattle.dwg_grammar.specs.ModularCodes.{mc, signed_mc}
 use Rattle.dwg_objmap.specs.declared.pair.Pair.{Pair}
 use Rattle.dwg_objmap.specs.Pairs.{move_between, pair_behind}
 

@@ -3,14 +3,15 @@ use Rattle.std.proofs.Common.{◌≡◌, sym, ◌∙◌, ap, ap₂, subst, ℕ, 
 use Rattle.std.specs.Prelude.{Option, Result}
 use Rattle.std.specs.Io.KnownBytes.{Appends}
 use Rattle.dwg_base.specs.Devices.{AppendsFront, Sends}
-use Rattle.dwg_base.specs.SendingLaws.{sends_both, front_of_both}
+use Rattle.dwg_base.proofs.SendingLemmas.{sends_both, front_of_both}
 use Rattle.dwg_bits.specs.Sink.{Written}
-use Rattle.dwg_bits.specs.WholeBytes.{whole_bytes, length_of_whole}
+use Rattle.dwg_bits.specs.WholeBytes.{whole_bytes}
+use Rattle.dwg_bits.proofs.WholeBytes.{length_of_whole}
 use Rattle.dwg_objmap.specs.declared.pair.Pair.{Pair}
 use Rattle.dwg_objmap.specs.Pairs.{ORIGIN, pair_behind}
 use Rattle.dwg_objmap.specs.Pages.{page_bytes}
 use Rattle.dwg_objmap.specs.Writing.{OpenPage, FRESH, has_room, added, given, filled, closing_body, closing}
-use Rattle.dwg_objmap.specs.FillingLaws.{filled_on, filled_new, given_none, given_page}
+use Rattle.dwg_objmap.proofs.FillingLemmas.{filled_on, filled_new, given_none, given_page}
 use Rattle.dwg_objmap.specs.OpenPages.{page_of, IsOpen}
 
 -- a page that is open is sent whole

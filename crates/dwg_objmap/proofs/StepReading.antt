@@ -11,8 +11,8 @@ use Rattle.dwg_base.specs.declared.refusal.Refusal.{Refusal}
 use Rattle.dwg_objmap.specs.declared.pair.Pair.{Pair}
 use Rattle.dwg_objmap.specs.Pairs.{pair_behind}
 use Rattle.dwg_objmap.specs.MapLines.{map_refusal, has_handle, pairs_behind, page_behind, word_at, HasPage, HasCheckWord}
-use Rattle.dwg_objmap.specs.PairChains.{pairs_end, no_pair, null_pair, pair_again, one_pair}
-use Rattle.dwg_objmap.specs.PageLaws.{page_wrong}
+use Rattle.dwg_objmap.proofs.PairChains.{pairs_end, no_pair, null_pair, pair_again, one_pair}
+use Rattle.dwg_objmap.proofs.PageLemmas.{page_wrong}
 
 -- so many turns, and one more
 more_fuel : (fuel index place : ℕ) (seen : List Pair) (last : Pair) (rest : List ℕ) → pairs_behind (fuel + 1) index seen last place rest ≡ pairs_behind (suc fuel) index seen last place rest

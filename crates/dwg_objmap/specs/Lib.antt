@@ -1,20 +1,18 @@
+-- Pairs of the object map: a handle and a place, each told as a step from the pair before.
 pub mod Pairs
+-- Pages of the object map, and the map.
 pub mod Pages
+-- The lines of the table of refusals on the object map, tried page by page and within a page pair by pair.
 pub mod MapLines
+-- How the object map is written: which pairs go into which page.
 pub mod Writing
-pub mod PairLaws
-pub mod HandleLaws
-pub mod PagePlaces
-pub mod PairChains
-pub mod PairsTried
-pub mod PageLaws
-pub mod MapLaws
-pub mod FillingLaws
-pub mod FillingOnly
+-- How a writer holds the page that is being filled.
 pub mod OpenPages
+-- The length of a map, counted pair by pair.
 pub mod MapLength
-pub mod MapLengthLaw
+-- A set of handles beside a list of pairs.
 pub mod Gathered
+-- What one step of reading does to what is left to try.
 pub mod Reading
+-- Pages of the map as recovery reads them: each by itself, whatever is wrong with its pairs or its check word.
 pub mod Walking
-pub mod WalkingLaws

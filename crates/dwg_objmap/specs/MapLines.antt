@@ -4,7 +4,7 @@ use Rattle.std.specs.List.{list_any}
 use Rattle.dwg_base.specs.Refusals.{Tried}
 use Rattle.dwg_base.specs.declared.refusal.Refusal.{Refusal}
 use Rattle.dwg_check.specs.CheckWord.{FRAME_START, check_word}
-use Rattle.dwg_codes.specs.Grammar.{BeginsWith}
+use Rattle.dwg_grammar.specs.Grammar.{BeginsWith}
 use Rattle.dwg_objmap.specs.declared.pair.Pair.{Pair}
 use Rattle.dwg_objmap.specs.Pairs.{ORIGIN, PairSpells, pair_behind}
 use Rattle.dwg_objmap.specs.Pages.{PagesAt, PairsSpell, AreHandles, handles_of}

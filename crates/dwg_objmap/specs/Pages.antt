@@ -4,7 +4,7 @@ use Rattle.std.specs.List.{AllByRecursion}
 use Rattle.std.specs.Int.{w16, to_be_bytes}
 use Rattle.dwg_base.specs.Bytes.{StandsAt}
 use Rattle.dwg_check.specs.CheckWord.{FRAME_START, check_word}
-use Rattle.dwg_codes.specs.Combinators.{SpellsChain}
+use Rattle.dwg_grammar.specs.Combinators.{SpellsChain}
 use Rattle.dwg_objmap.specs.declared.pair.Pair.{Pair}
 use Rattle.dwg_objmap.specs.Pairs.{ORIGIN, pair_behind}
 

@@ -1,7 +1,7 @@
 -- Pairs of the object map: a handle and a place, each told as a step from the pair before (Open Design Specification, "Object map"). The bounds are a rule of this project.
 use Rattle.std.specs.Prelude.{◌≡◌, ℕ, suc, ℤ, pos, negsuc, ◌+◌, ◌-◌, ◌^◌, ◌<◌, ◌≤◌, ◌+ℤ◌, List, ◌++◌, Option, Some, None, nat_lt, nat_le, option_map, option_and_then, if◌then◌else◌}
-use Rattle.dwg_codes.specs.Grammar.{Grammar}
-use Rattle.dwg_codes.specs.ModularCodes.{mc, signed_mc}
+use Rattle.dwg_grammar.specs.Grammar.{Grammar}
+use Rattle.dwg_grammar.specs.ModularCodes.{mc, signed_mc}
 use Rattle.dwg_objmap.specs.declared.pair.Pair.{Pair}
 
 -- a pair's handle and place lie in their ranges

@@ -1,6 +1,6 @@
 -- How the object map is written: which pairs go into which page. A rule of this project, over the map of the Open Design Specification, "Object map".
 use Rattle.std.specs.Prelude.{◌≡◌, ◌≢◌, ⊤, ℕ, ◌+◌, ◌^◌, ◌<◌, ◌≤◌, Bool, false, List, [], ◌∷◌, ◌++◌, length, flat_map, nat_le, if◌then◌else◌}
-use Rattle.dwg_codes.specs.Combinators.{short_chain}
+use Rattle.dwg_grammar.specs.Combinators.{short_chain}
 use Rattle.dwg_objmap.specs.declared.pair.Pair.{Pair}
 use Rattle.dwg_objmap.specs.Pairs.{ORIGIN, pair_behind}
 use Rattle.dwg_objmap.specs.Pages.{page_bytes}

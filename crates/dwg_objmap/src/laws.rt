@@ -7,7 +7,7 @@ ghost use Rattle.dwg_objmap.specs.declared.pair.Pair.{Pair};
 ghost use Rattle.dwg_objmap.specs.Pages.{PageAt, AreHandles, handles_of, MapOf};
 ghost use Rattle.dwg_objmap.specs.MapLines.{page_end, tried_page, tried_map, RefusesPage, RefusesMap};
 ghost use Rattle.dwg_objmap.specs.Pairs.{IsPair, pair_behind};
-ghost use Rattle.dwg_codes.specs.CodeLaws.{IsLawful};
+ghost use Rattle.dwg_grammar.specs.Grammar.{IsLawful};
 ghost use Rattle.dwg_objmap.specs.Walking.{LongestIsComputed, LongestIsUnique, WholeIsInFront, PageGivesItsPairs, SizeIsThere};
 ghost use Rattle.dwg_objmap.specs.Writing.{OpenPage, FRESH, given, filled, closing, map_behind, map_bytes, Ascend, IsFilling};
 

@@ -4,8 +4,8 @@ ghost use Rattle.std.specs.Prelude.{◌≡◌, ◌+◌, ◌<◌, ◌≤◌, ◌�
 ghost use Rattle.dwg_objmap.specs.MapLines.{word_at, sized_at, body_at, HasPage, HasCheckWord};
 ghost use Rattle.dwg_objmap.specs.Walking.{page_holds_at};
 
-use crate::pair::{Pair, behind};
-use dwg_base::Items;
+use crate::pair::Pair;
+use dwg_base::{Items, bytes_behind};
 use dwg_check::{FRAME_START, check};
 
 /// What one page of the map says (Open Design Specification, "Object map").
@@ -51,5 +51,5 @@ pub(crate) fn body(bytes: &[u8], place: u64) -> &[u8]
     ensures { result.now ≡ body_at bytes.now place }
 {
     let size = word_at(bytes, place as usize);
-    behind(sized(bytes, place as usize, size as usize), 2)
+    bytes_behind(sized(bytes, place as usize, size as usize), 2)
 }

@@ -3,7 +3,7 @@
 ghost use Rattle.std.specs.Prelude.{◌≡◌, ◌+◌, ◌^◌, ◌<◌, ◌≤◌, Some, None, IfSome, IfNone, drop, length};
 ghost use Rattle.dwg_objmap.specs.Pairs.{ORIGIN, place_at_step, pair_at_steps, pair_behind};
 
-use dwg_base::Handle;
+use dwg_base::{Handle, bytes_behind};
 use dwg_codes::{read_mc, read_signed_mc};
 
 /// Where the frame of an object stands (Open Design Specification, "Object map").
@@ -19,10 +19,10 @@ pub struct Pair {
 pub(crate) fn origin() -> Pair
     ensures { result ≡ ORIGIN }
 {
-    let Some(handle) = Handle::new(0) else {
-        unreachable!()
-    };
-    Pair { handle, place: 0 }
+    Pair {
+        handle: Handle::NULL,
+        place: 0,
+    }
 }
 
 /// The place that a step leads to. None where it would lie before the begin of the file, or not below 2^63.
@@ -48,14 +48,6 @@ fn pair_at_steps(before: &Pair, step: u64, move_: i64) -> Option<Pair>
     Some(Pair { handle, place })
 }
 
-/// What is behind so many bytes.
-pub(crate) fn behind(bytes: &[u8], count: usize) -> &[u8]
-    requires { count ≤ length bytes.now }
-    ensures { result.now ≡ drop count bytes.now }
-{
-    &bytes[count..]
-}
-
 /// Reads a pair at the front of the bytes, told from the one before: the pair, and how many bytes spell it. None where no
 /// front spells one that is in range.
 #[tactic(auto, using(crate::proofs::PairReading::no_step))]
@@ -67,7 +59,7 @@ pub(crate) fn read_pair(before: &Pair, bytes: &[u8]) -> Option<(Pair, usize)>
     let Some((step, front)) = read_mc(bytes) else {
         return None;
     };
-    let rest = behind(bytes, front);
+    let rest = bytes_behind(bytes, front);
     let Some((move_, back)) = read_signed_mc(rest) else {
         return None;
     };

@@ -10,8 +10,8 @@ ghost use Rattle.dwg_objmap.specs.Reading.{GoesOn, AnswersPage};
 
 use crate::gathered::Gathered;
 use crate::page::{Page, body, is_right, word_at};
-use crate::pair::{Pair, behind, origin, read_pair};
-use dwg_base::{Fault, Items, NoMemory, Refusal};
+use crate::pair::{Pair, origin, read_pair};
+use dwg_base::{Fault, Items, NoMemory, Refusal, bytes_behind};
 use std::alloc::Global;
 
 /// The size of the page that ends the map: no more than its own two bytes.
@@ -93,7 +93,7 @@ fn read_pairs(gathered: Gathered, body: &[u8], place: u64, index: u64) -> Result
     let mut last = origin();
     let mut at = 0;
     'along: for _ in 0..body.len() {
-        let rest = behind(body, at);
+        let rest = bytes_behind(body, at);
         if rest.is_empty() {
             return Ok(gathered);
         }
@@ -117,7 +117,7 @@ fn next_place(bytes: &[u8], place: u64) -> u64
 }
 
 /// Reads the page at a place behind the pairs that were read before.
-#[tactic(auto, using(crate::specs::PageLaws::page_right, crate::specs::PagePlaces::length_of_body))]
+#[tactic(auto, using(crate::proofs::PageLemmas::page_right, crate::proofs::PagePlaces::length_of_body))]
 fn read_page_behind(
     gathered: Gathered,
     bytes: &[u8],

@@ -5,8 +5,8 @@ ghost use Rattle.dwg_objmap.specs.MapLines.{body_at, HasPage, HasCheckWord};
 ghost use Rattle.dwg_objmap.specs.Walking.{AreLongest, pairs_in_front, page_holds_at, size_of_page};
 
 use crate::page::{body, is_right, word_at};
-use crate::pair::{Pair, behind, origin, read_pair};
-use dwg_base::{Items, NoMemory};
+use crate::pair::{Pair, origin, read_pair};
+use dwg_base::{Items, NoMemory, bytes_behind};
 use std::alloc::Global;
 
 /// The size of the page at a place of the input: its own two bytes and its pairs (Open Design Specification, "Object map").
@@ -58,7 +58,7 @@ fn read_in_front(alloc: Global, body: &[u8]) -> Result<Items<Pair>, NoMemory>
     let mut last = origin();
     let mut at = 0;
     'along: for _ in 0..body.len() {
-        let Some((pair, used)) = read_pair(&last, behind(body, at)) else {
+        let Some((pair, used)) = read_pair(&last, bytes_behind(body, at)) else {
             return Ok(pairs);
         };
         add(&mut pairs, &pair)?;

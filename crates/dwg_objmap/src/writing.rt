@@ -6,7 +6,6 @@ ghost use Rattle.dwg_check.specs.CheckWord.{FRAME_START, check_word};
 ghost use Rattle.dwg_bits.specs.Bits.{bits};
 ghost use Rattle.dwg_bits.specs.Sink.{Extends};
 ghost use Rattle.dwg_bits.specs.WholeBytes.{whole_bytes};
-ghost use Rattle.dwg_base.specs.Bytes.{AreBytes};
 ghost use Rattle.dwg_base.specs.Devices.{Counts, Sends};
 ghost use Rattle.dwg_objmap.specs.Pairs.{IsPair, ORIGIN, move_between, pair_behind};
 ghost use Rattle.dwg_objmap.specs.Pages.{sized_pairs, page_bytes};
@@ -14,7 +13,7 @@ ghost use Rattle.dwg_objmap.specs.Writing.{MOST_PAGE, FRESH, told_behind, has_ro
 ghost use Rattle.dwg_objmap.specs.OpenPages.{page_of, IsOpen};
 
 use crate::pair::{Pair, origin};
-use dwg_base::{NoMemory, Sink, WriteFault, put_all};
+use dwg_base::{NoMemory, Sink, WriteFault, bounded_bytes, put_all};
 use dwg_bits::BitSink;
 use dwg_check::{FRAME_START, check};
 use dwg_codes::{mc_bytes, signed_mc_bytes, write_mc, write_signed_mc};
@@ -34,7 +33,7 @@ fn move_between(from: u64, to: u64) -> i64
 }
 
 /// How many bytes a pair is written by behind another.
-#[tactic(auto, using(crate::specs::PairLaws::move_small, crate::proofs::PairWriting::length_of_pair))]
+#[tactic(auto, using(crate::proofs::PairLemmas::move_small, crate::proofs::PairWriting::length_of_pair))]
 pub(crate) fn pair_bytes(before: &Pair, pair: &Pair) -> u64
     requires before { IsPair before.now }
     requires pair { IsPair pair.now }
@@ -48,7 +47,7 @@ pub(crate) fn pair_bytes(before: &Pair, pair: &Pair) -> u64
 }
 
 /// Writes a pair behind another.
-#[tactic(auto, using(crate::specs::PairLaws::move_small, crate::proofs::PairWriting::length_of_pair, crate::proofs::PairWriting::pair_extends))]
+#[tactic(auto, using(crate::proofs::PairLemmas::move_small, crate::proofs::PairWriting::length_of_pair, crate::proofs::PairWriting::pair_extends))]
 fn write_pair(before: &Pair, pair: &Pair, page: &mut BitSink)
     requires before { IsPair before.now }
     requires pair { IsPair pair.now }
@@ -105,20 +104,12 @@ fn start(page: &mut BitSink, pair: &Pair)
     write_pair(&origin(), pair, page);
 }
 
-/// A slice of bytes, of which each is below 256.
-fn small(bytes: &[u8]) -> &[u8]
-    ensures same { result.now ≡ bytes.now }
-    ensures small { AreBytes bytes.now }
-{
-    bytes
-}
-
 /// The pairs of the page, as bytes.
 fn body(page: &BitSink) -> &[u8]
     requires { length page.now.written % 8 ≡ 0 }
     ensures { result.now ≡ whole_bytes page.now.written }
 {
-    small(page.as_bytes())
+    bounded_bytes(page.as_bytes())
 }
 
 /// The size of a page of these pairs, as its two bytes.

@@ -1,3 +1,10 @@
+pub mod ChainLaws
+pub mod MemberLemmas
+pub mod PathLaws
+pub mod PlaceLaws
+pub mod RankLemmas
+pub mod TestLemmas
+pub mod WayLemmas
 pub mod Marking
 pub mod RankWalks
 pub mod Rests

@@ -13,7 +13,7 @@ use Rattle.dwg_object.specs.FrameLines.{tried_span}
 use Rattle.dwg_objmap.specs.declared.pair.Pair.{Pair}
 use Rattle.dwg_recover.specs.declared.frame.Frame.{Frame}
 use Rattle.dwg_recover.specs.Frames.{candidate, candidate_of, candidates, follows, in_place_order, is_free, mapped_frames, mapped_of, overlaps, own_of_span, span_found}
-use Rattle.dwg_recover.specs.FoundLaws.{all_in_order, all_placed, all_some, candidates_found}
+use Rattle.dwg_recover.proofs.FoundLemmas.{all_in_order, all_placed, all_some, candidates_found}
 use Rattle.dwg_recover.specs.Placing.{IsFound, IsPlaced}
 use Rattle.dwg_recover.proofs.LossesAlong.{left_of, nothing_left, part_put}
 

@@ -8,8 +8,8 @@ use Rattle.std.proofs.ByRecursion.{all_shuffled}
 use Rattle.std.proofs.lemmas.Bool.Decides.{nat_tests}
 use Rattle.dwg_recover.specs.declared.frame.Frame.{Frame}
 use Rattle.dwg_recover.specs.Frames.{in_place_order}
-use Rattle.dwg_recover.specs.FoundLaws.{all_weaker}
-use Rattle.dwg_recover.specs.OrderLaws.{AreUp, at_place}
+use Rattle.dwg_recover.proofs.FoundLemmas.{all_weaker}
+use Rattle.dwg_recover.specs.OrderOfPlace.{AreUp, at_place}
 use Rattle.dwg_recover.specs.Placing.{IsPlaced}
 
 -- the frames at places one behind the other

@@ -9,7 +9,7 @@ use Rattle.dwg_file.specs.Contents.{Contents, OtherValue}
 use Rattle.dwg_file.specs.ReadAs.{sections_at, whole_locators}
 use Rattle.dwg_object.specs.declared.span.Span.{Span}
 use Rattle.dwg_object.specs.Forms.{FormOf}
-use Rattle.dwg_object.specs.FormLaws.{forms_same}
+use Rattle.dwg_object.proofs.FormLaws.{forms_same}
 use Rattle.dwg_object.specs.FrameLines.{span_body, tried_span}
 use Rattle.dwg_object.specs.Objects.{ObjectValue}
 use Rattle.dwg_sections.specs.declared.framed.Framed.TheVariants as framed
@@ -20,7 +20,7 @@ use Rattle.dwg_recover.specs.declared.frame.Frame.{Frame}
 use Rattle.dwg_recover.specs.declared.loss.Loss.{Loss}
 use Rattle.dwg_recover.specs.Frames.{own_of_span}
 use Rattle.dwg_recover.specs.Placing.{IsFound}
-use Rattle.dwg_recover.specs.ReadLaws.{found_is_read}
+use Rattle.dwg_recover.proofs.KeptObjects.{found_is_read}
 use Rattle.dwg_recover.specs.Recovering.{body_tried, classes_found, code_page_of, drawing_recovered, frame_body, frames_kept, lead_of, mark_of, object_of, objects_of, walk_located, walk_of}
 use Rattle.dwg_recover.specs.Sections.{header_of, locators_of, section_found, variables_of}
 use Rattle.dwg_recover.specs.Walks.{walk_from}

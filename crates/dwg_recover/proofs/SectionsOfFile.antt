@@ -1,5 +1,5 @@
 -- The laws of the file header and of framed sections as one value, which the laws of recovery take.
-use Rattle.dwg_file.specs.ReadingLaws.{SectionLaws}
+use Rattle.dwg_file.proofs.ReadingLemmas.{SectionLaws}
 use Rattle.dwg_sections.specs.FramedLaws.{PassingBytesHaveSection, SectionIsRead}
 use Rattle.dwg_sections.specs.HeaderLaws.{HeaderIsRead, PassingBytesBeginWithHeader}
 

@@ -19,13 +19,13 @@ use Rattle.dwg_sections.specs.HeaderLines.{HEADER_LINES, header_at, place_of}
 use Rattle.dwg_recover.specs.declared.frame.Frame.{Frame}
 use Rattle.dwg_recover.specs.declared.loss.Kept.{Kept}
 use Rattle.dwg_recover.specs.declared.loss.Loss.{Loss}
-use Rattle.dwg_recover.specs.FoundLaws.{all_placed, candidates_found}
+use Rattle.dwg_recover.proofs.FoundLemmas.{all_placed, candidates_found}
 use Rattle.dwg_recover.specs.Frames.{candidates, with_scanned}
 use Rattle.dwg_recover.specs.Placing.{IsPlaced}
-use Rattle.dwg_recover.specs.RecoveredLaws.{frames_are_kept}
+use Rattle.dwg_recover.proofs.RecoveredLaws.{frames_are_kept}
 use Rattle.dwg_recover.specs.Recovering.{classes_found, drawing_recovered, frames_found, frames_kept, frames_mapped, losses_of, recovered, recovered_damaged, recovered_whole, told}
 use Rattle.dwg_recover.specs.Sections.{classes_of, header_of, locators_of, section_found}
-use Rattle.dwg_recover.specs.WholeLaws.{map_is_found}
+use Rattle.dwg_recover.proofs.WholeLemmas.{map_is_found}
 
 -- where neither of two refuses, neither does
 neither : (one other : Option Refusal) → option_or one other ≡ None → (one ≡ None) × (other ≡ None)

@@ -4,7 +4,7 @@ use Rattle.std.specs.List.{cons_option, filter, list_all, list_any, range_with_l
 use Rattle.std.specs.Option.{is_some, option_and_then}
 use Rattle.std.specs.Result.{result_ok}
 use Rattle.dwg_classes.specs.declared.class.Class.{Class}
-use Rattle.dwg_object.specs.FormLaws.{form_at}
+use Rattle.dwg_object.proofs.FormLaws.{form_at}
 use Rattle.dwg_object.specs.declared.span.Span.{Span}
 use Rattle.dwg_object.specs.FrameLines.{has_check_word, head_at, span_body, tried_span}
 use Rattle.dwg_object.specs.Objects.{HeadParts, ObjectValue, TypedValue, PlainValue, RawValue}

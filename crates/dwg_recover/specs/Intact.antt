@@ -3,7 +3,7 @@ use Rattle.std.specs.Prelude.{◌≡◌, ◌⊎◌, ℕ, ◌-◌, ◌≤◌, tru
 use Rattle.std.specs.List.{AllByRecursion}
 use Rattle.dwg_base.specs.Bytes.{AreBytes, StandsAt}
 use Rattle.dwg_base.specs.Devices.{MOST_BYTES}
-use Rattle.dwg_file.specs.Canonical.{canonical, class_content, classes_place, header_of as canonical_header, map_of, map_place, objects_place, others_place, preview_place, size_of, variables_place}
+use Rattle.dwg_file.specs.Canonical.{canonical, class_content, classes_place, map_of, map_place, objects_place, others_place, preview_place, size_of, variables_place, header_of as canonical_header}
 use Rattle.dwg_file.specs.CanonicalFrames.{frames_from}
 use Rattle.dwg_file.specs.Contents.{Contents}
 use Rattle.dwg_file.specs.Spelled.{IsFrameOfPair, PairFrame}
@@ -15,7 +15,7 @@ use Rattle.dwg_sections.specs.declared.framed.Framed.TheVariants as framed
 use Rattle.dwg_sections.specs.FileHeader.{BeginsWithHeader, header_bytes}
 use Rattle.dwg_sections.specs.Framed.{FramedAt}
 use Rattle.dwg_recover.specs.declared.loss.Kept.{Kept}
-use Rattle.dwg_recover.specs.OneOf.{IsOneOf}
+use Rattle.dwg_recover.specs.ListMembers.{IsOneOf}
 use Rattle.dwg_recover.specs.Recovering.{recovered}
 
 -- the bytes from a place up to another

@@ -1,31 +1,36 @@
-pub mod Walks
-pub mod WalkLaws
-pub mod Frames
-pub mod Placing
-pub mod OrderLaws
-pub mod Keeping
-pub mod FoundLaws
-pub mod KeptLaws
-pub mod OneOf
-pub mod ExactLaws
-pub mod MapExactLaws
-pub mod Sections
-pub mod SectionLaws
+-- What is recovered of an input.
 pub mod Recovering
-pub mod ReadLaws
-pub mod WholeLaws
+-- What recovery answers, as a plain value.
 pub mod Results
-pub mod RecoveredLaws
-pub mod MemberLaws
-pub mod HeldLaws
-pub mod IntactMap
-pub mod Intact
-pub mod IntactFrames
-pub mod IntactParts
-pub mod IntactLaws
+-- What holds of every answer of recovery: its frames stand in the input and share nothing, and its objects are those of its frames; and what it is where the input spells a drawing, and where it is damaged.
 pub mod Told
-pub mod ToldLaws
-pub mod ResultLaws
-pub mod PartLaws
-pub mod LossLaws
+-- Which losses are told of a damaged input: each of what is lost, and no other.
+pub mod ToldLosses
+-- What is asked of an input so that the intact objects of a drawing are recovered of it: its header and its map are those of the drawing's canonical file, and each frame either is that file's or doesn't hold.
+pub mod Intact
+-- What holds of what is recovered of a damaged input: its pairs are few, its frames share nothing, and its parts are read of it.
+pub mod RecoveredLaws
+-- The parts that recovery finds are those that stand in the input: its file header, whole sections, the walk over its map, and the pairs of a page.
+pub mod FoundParts
+-- A section that is found is whole where it is found: it is that of its locator or the first whole one, and none is found only where none is whole.
+pub mod FoundSections
+-- What is found is what stands: the candidates are those of the pairs, a pair has one exactly where a frame with its handle stands at its place, and the scan finds a frame exactly where one is read with its common part.
+pub mod FoundFrames
+-- Which frames are kept, said of each by itself, that no others are, and what the frames that are kept and their objects are: found in the input, without a byte or a handle in common.
+pub mod KeptFrames
+-- The order of place: each frame begins no later than those behind it, and those of one place are what they were.
+pub mod OrderOfPlace
+-- Where the header variables and the classes are found: at the place of their locator, or else where the first whole section stands.
+pub mod Sections
+-- The walk over the pages of the map, past those whose check word is wrong, and that there is one, with few pairs.
+pub mod Walks
+-- Which frames are kept: those that the pairs of the map name, and then those that stand elsewhere.
+pub mod Frames
+-- What recovery finds of an input beside its frames.
 pub mod Finding
+-- Frames lie in the input, and were found there.
+pub mod Placing
+-- What is noted of the frames that are kept.
+pub mod Keeping
+-- A member of a list, whatever it lists, and where it stands there.
+pub mod ListMembers

@@ -10,7 +10,7 @@ use Rattle.dwg_file.specs.DrawingAt.{drawing_at}
 use Rattle.dwg_file.specs.FileLines.{ALL_LINES, FoundFrame, frames_tried}
 use Rattle.dwg_file.specs.ReadAs.{sections_at, whole_locators}
 use Rattle.dwg_file.specs.SortedObjects.{sorted}
-use Rattle.dwg_object.specs.FormLaws.{form_at}
+use Rattle.dwg_object.proofs.FormLaws.{form_at}
 use Rattle.dwg_object.specs.FrameLines.{span_body}
 use Rattle.dwg_object.specs.Objects.{ObjectValue}
 use Rattle.dwg_object.specs.declared.span.Span.{Span}

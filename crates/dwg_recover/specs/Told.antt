@@ -1,4 +1,4 @@
--- What holds of every answer of recovery: its frames stand in the input and share nothing, and its objects are those of its frames. A rule of this project.
+-- What holds of every answer of recovery: its frames stand in the input and share nothing, and its objects are those of its frames; and what it is where the input spells a drawing, and where it is damaged. A rule of this project.
 use Rattle.std.specs.Prelude.{◌≡◌, ◌≢◌, ⊤, ℕ, ◌≤◌, ◌↔◌, true, Some, None, List, [], ◌∷◌, length, map}
 use Rattle.std.specs.List.{AllByRecursion}
 use Rattle.std.specs.List.Sorted.{IsPermutation}
@@ -9,18 +9,19 @@ use Rattle.dwg_base.specs.declared.refusal.Refusal.{Refusal}
 use Rattle.dwg_classes.specs.declared.class.Class.{Class}
 use Rattle.dwg_file.specs.Contents.{Contents}
 use Rattle.dwg_file.specs.FileLines.{ALL_LINES}
-use Rattle.dwg_file.specs.Spelled.{Spelled}
+use Rattle.dwg_file.specs.Spelled.{Spelled, PairFrame}
 use Rattle.dwg_file.specs.Valid.{IsValid}
 use Rattle.dwg_object.specs.Forms.{FormOf}
-use Rattle.dwg_object.specs.FormLaws.{form_at}
+use Rattle.dwg_object.proofs.FormLaws.{form_at}
 use Rattle.dwg_object.specs.Frames.{FrameAt}
 use Rattle.dwg_object.specs.Objects.{ObjectValue, handle_of}
 use Rattle.dwg_recover.specs.declared.frame.Frame.{Frame}
 use Rattle.dwg_recover.specs.declared.loss.Kept.{Kept}
 use Rattle.dwg_recover.specs.Frames.{kept_of}
-use Rattle.dwg_recover.specs.IntactFrames.{named}
-use Rattle.dwg_recover.specs.OneOf.{IsOneOf}
+use Rattle.dwg_recover.specs.ListMembers.{IsOneOf}
 use Rattle.dwg_recover.specs.Recovering.{RecoveredValue, frame_body, frames_kept, frames_mapped, recovered, recovered_damaged, told}
+use Rattle.std.proofs.Common.{◌+◌}
+use Rattle.dwg_recover.specs.FoundFrames.{frame_of}
 
 -- frames are told in order of place, and no two share a byte or have one handle
 abbrev pub AreToldApart : List Kept → Type 0
@@ -51,6 +52,11 @@ RecoveredIsSound = (bytes : List ℕ) → AreBytes bytes → IsSoundAnswer bytes
 -- of the frames that are kept of a damaged input, those of the map are told as mapped, and no others
 abbrev pub MappedAreTold : Type 0
 MappedAreTold = (bytes : List ℕ) (frame : Frame) → IsOneOf frame (frames_kept bytes) → ((kept_of frame).mapped ≡ true) ↔ IsOneOf frame (frames_mapped bytes)
+
+-- the frames of pairs as recovery names them; the first pair has this number
+abbrev pub named : ℕ → List PairFrame → List Frame
+named number [] = []
+named number (frame ∷ frames) = frame_of number frame.pair frame.end ∷ named (number + 1) frames
 
 -- of an input that spells a drawing it is that drawing, nothing is refused or lost, and the frames that it is spelled with are told in order of place, each as mapped
 abbrev pub SpelledIsAnswered : Type 0

@@ -1,4 +1,4 @@
--- The walk over the pages of the map, past those whose check word is wrong. A rule of this project, over the map of the Open Design Specification, "Object map".
+-- The walk over the pages of the map, past those whose check word is wrong, and that there is one, with few pairs. A rule of this project, over the map of the Open Design Specification, "Object map".
 use Rattle.std.specs.Prelude.{◌≡◌, ◌≢◌, ◌⊎◌, ℕ, zero, suc, ◌+◌, List, [], ◌∷◌, length, flat_map, ◌==◌, Option, Some, None, if◌then◌else◌}
 use Rattle.dwg_objmap.specs.declared.pair.Pair.{Pair}
 use Rattle.dwg_objmap.specs.MapLines.{body_at}
@@ -54,3 +54,12 @@ lost_pages bytes index (page ∷ pages) =
 abbrev pub lost_end : Option ℕ → List Loss
 lost_end None = []
 lost_end (Some place) = MapEnd place ∷ []
+
+-- the walk from a place stands in the input
+abbrev pub WalkStands : Type 0
+WalkStands = (bytes : List ℕ) (place : ℕ) → IsWalk bytes place (walk_from bytes place).pages (walk_from bytes place).lost
+
+-- and there is no other
+abbrev pub WalkIsOne : Type 0
+WalkIsOne =
+    (bytes : List ℕ) (place : ℕ) (pages others : List ℕ) (lost other : Option ℕ) → IsWalk bytes place pages lost → IsWalk bytes place others other → (pages ≡ others) × (lost ≡ other)

@@ -24,8 +24,8 @@ pub(crate) struct Frame {
     pub(crate) end: u64,
 }
 
-/// Whether the check word of a span that lies in the input is that of its length and its body.
-fn has_check_word<L: Ledger>(
+/// Whether the check word of a span that lies in the input is that of its length and its body, as `checks` tells it.
+fn is_checked_span<L: Ledger>(
     bytes: &[u8],
     checks: &SpanChecks<'_>,
     span: &Span,
@@ -61,7 +61,7 @@ pub(crate) fn own_of_span<L: Ledger>(
     ensures own { result ≡ own_of_span bytes.now span.now }
     ensures steps { steps.new ≤ steps.old + 15 }
 {
-    if !has_check_word(bytes, checks, span, steps) {
+    if !is_checked_span(bytes, checks, span, steps) {
         return None;
     }
     own_handle(span_body(bytes, span))

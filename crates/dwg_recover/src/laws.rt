@@ -1,17 +1,15 @@
 //! Laws of recovery, as the contract of a function without code of its own.
 
-ghost use Rattle.dwg_recover.specs.ExactLaws.{ScanKeepsExactly};
-ghost use Rattle.dwg_recover.specs.HeldLaws.{CandidatesHold, ScannedAreRead};
+ghost use Rattle.dwg_recover.specs.FoundFrames.{CandidatesAreOfPairs, CandidatesHold, ScannedAreRead};
+ghost use Rattle.dwg_recover.specs.FoundParts.{ContentIsTaken, HeaderIsFound, PagesGivePairs, PartsAreKept, SectionIsWhole, WalkIsLocated};
+ghost use Rattle.dwg_recover.specs.FoundSections.{SectionsAreFirst};
 ghost use Rattle.dwg_recover.specs.Intact.{CanonicalPartsStand, IntactObjectsAreKept};
-ghost use Rattle.dwg_recover.specs.LossLaws.{LossesAreTold};
-ghost use Rattle.dwg_recover.specs.MapExactLaws.{CandidatesAreOfPairs, MapKeepsExactly};
-ghost use Rattle.dwg_recover.specs.MemberLaws.{NoOthersAreKept, ObjectsAreOfFrames};
-ghost use Rattle.dwg_recover.specs.OrderLaws.{PlacesAreInOrder};
-ghost use Rattle.dwg_recover.specs.PartLaws.{ContentIsTaken, HeaderIsFound, PagesGivePairs, PartsAreKept, SectionIsWhole, WalkIsLocated};
+ghost use Rattle.dwg_recover.specs.KeptFrames.{MapKeepsExactly, NoOthersAreKept, ObjectsAreOfFrames, ScanKeepsExactly};
+ghost use Rattle.dwg_recover.specs.OrderOfPlace.{PlacesAreInOrder};
 ghost use Rattle.dwg_recover.specs.RecoveredLaws.{FramesAreKept, PairsAreFew, RecoveredPartsAreRead};
-ghost use Rattle.dwg_recover.specs.SectionLaws.{SectionsAreFirst};
 ghost use Rattle.dwg_recover.specs.Told.{DamagedIsAnswered, MappedAreTold, RecoveredIsSound, SpelledIsAnswered};
-ghost use Rattle.dwg_recover.specs.WalkLaws.{WalkIsOne, WalkStands};
+ghost use Rattle.dwg_recover.specs.ToldLosses.{LossesAreTold};
+ghost use Rattle.dwg_recover.specs.Walks.{WalkIsOne, WalkStands};
 
 use dwg_classes::classes_laws;
 use dwg_file::drawing_laws;
@@ -19,7 +17,7 @@ use dwg_object::frame_laws;
 use dwg_objmap::page_laws;
 use dwg_sections::{file_header_laws, framed_laws};
 
-/// What holds of everything that is recovered.
+/// What holds of what is recovered of a damaged input; what holds of every answer is said by `answer_laws`.
 ///
 /// A section that is found is that of its locator where it is whole there, and else the first whole one; none is found only where
 /// none is whole. The pages of the walk are those that stand one behind the other, and there is one walk; their pairs are no more

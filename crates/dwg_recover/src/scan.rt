@@ -2,7 +2,7 @@
 
 ghost use Rattle.std.specs.Prelude.{◌≡◌, ◌+◌, ◌*◌, ◌≤◌, length, IfOk};
 ghost use Rattle.std.specs.Option.{IsSome};
-ghost use Rattle.dwg_object.specs.FormLaws.{form_at};
+ghost use Rattle.dwg_object.proofs.FormLaws.{form_at};
 ghost use Rattle.dwg_object.specs.FrameLines.{span_body};
 ghost use Rattle.dwg_object.specs.Frames.{SpanAt};
 ghost use Rattle.dwg_object.specs.Objects.{value_of};

@@ -1,6 +1,6 @@
 //! Where the header variables and the classes are found: at the place of their locator, or where the first whole section stands.
 
-ghost use Rattle.std.specs.Prelude.{◌≡◌, ◌+◌, ◌*◌, ◌^◌, ◌≤◌, ◌<◌, ℕ, drop, length, false, true, IfOk, IfSome, IfNone, ◌==◌};
+ghost use Rattle.std.specs.Prelude.{◌≡◌, ◌+◌, ◌*◌, ◌^◌, ◌≤◌, ◌<◌, ℕ, length, false, true, IfOk, IfSome, IfNone, ◌==◌};
 ghost use Rattle.std.specs.Option.{is_none};
 ghost use Rattle.std.specs.Result.{is_ok};
 ghost use Rattle.memchr.specs.Find.{OccursAt};
@@ -14,27 +14,18 @@ ghost use Rattle.dwg_sections.specs.Framed.{begin_sentinel};
 ghost use Rattle.dwg_sections.specs.FramedLines.{BEFORE_CONTENT, content_at, framed_lines, size_at};
 ghost use Rattle.dwg_sections.specs.HeaderLines.{bytes_at, place_of, rs_at};
 
-use dwg_base::{ByteRun, Fault, Items, NoMemory};
+use dwg_base::{ByteRun, Fault, Items, NoMemory, bytes_behind};
 use dwg_check::{FRAME_START, SpanChecks};
 use dwg_classes::{Class, read_classes};
 use dwg_codes::BytePart;
 use dwg_sections::{
-    CLASSES_NUMBER, CONTENT_PLACE, FileHeader, Framed, VARIABLES_NUMBER, begin_sentinel, has_begin,
-    has_end, piece, read_file_header, rl, rs,
+    CLASSES_NUMBER, CONTENT_PLACE, END_PLACE, FRAMED_SIZE, FileHeader, Framed, SIZE_PLACE,
+    VARIABLES_NUMBER, begin_sentinel, has_begin, has_end, piece, read_file_header, rl, rs,
 };
 use dwg_steps::Steps;
 use memchr::memmem;
 use std::alloc::Global;
 use std::sync::ledger::Ledger;
-
-/// Where the size of the content stands in a framed section.
-const SIZE_PLACE: usize = 16;
-
-/// Where the end sentinel stands in a section without content.
-const END_PLACE: usize = 22;
-
-/// The bytes of a section without content.
-const FRAME_SIZE: usize = 38;
 
 /// The file header, where no line on it fails. The only refusal is want of memory.
 #[tactic(auto, unfolding(crate::specs::Sections::header_of))]
@@ -58,8 +49,8 @@ pub(crate) fn place_located(header: &Option<FileHeader>, number: u8) -> Option<u
     }
 }
 
-/// Whether the check word behind so many bytes of content is that of the size and the content.
-fn has_check_word<L: Ledger>(
+/// Whether the check word behind so many bytes of content is that of the size and the content, as `checks` tells it.
+fn is_checked_section<L: Ledger>(
     bytes: &[u8],
     checks: &SpanChecks<'_>,
     place: usize,
@@ -98,10 +89,10 @@ fn is_framed<L: Ledger>(
         return false;
     }
     let size = rl(bytes, place + SIZE_PLACE) as usize;
-    if bytes.len() < place + FRAME_SIZE + size {
+    if bytes.len() < place + FRAMED_SIZE + size {
         return false;
     }
-    if !has_check_word(bytes, checks, place, size, steps) {
+    if !is_checked_section(bytes, checks, place, size, steps) {
         return false;
     }
     has_end(bytes, place + END_PLACE + size, which)
@@ -155,14 +146,6 @@ fn is_whole<L: Ledger>(
     }
 }
 
-/// The bytes behind a place.
-fn behind(bytes: &[u8], place: usize) -> &[u8]
-    requires { place ≤ length bytes.now }
-    ensures { result.now ≡ drop place bytes.now }
-{
-    &bytes[place..]
-}
-
 /// The next place, from one on, at which the begin sentinel of a section stands. At those before it no section is whole, and
 /// where there is none, at none behind.
 fn next_sentinel(bytes: &[u8], at: usize, which: Framed) -> Option<usize>
@@ -172,7 +155,7 @@ fn next_sentinel(bytes: &[u8], at: usize, which: Framed) -> Option<usize>
     ensures none { IfNone result ((other : ℕ) → at ≤ other → is_whole which bytes.now other ≡ false) }
 {
     let sentinel = begin_sentinel(which);
-    match memmem::find(behind(bytes, at), sentinel.as_slice()) {
+    match memmem::find(bytes_behind(bytes, at), sentinel.as_slice()) {
         Some(found) => Some(at + found),
         None => None,
     }

@@ -1,1 +1,2 @@
+-- The notes of a recovery.
 pub mod RecoveryNote

@@ -1,2 +1,4 @@
+-- The text of an audit.
 pub mod AuditText
+-- The text of a drill.
 pub mod DrillText

@@ -3,7 +3,8 @@ use Rattle.std.proofs.Common.{◌≡◌, ℕ, ◌+◌, ◌^◌, ◌<◌, ◌≤�
 use Rattle.std.specs.Int.{from_le_bytes, to_le_bytes}
 use Rattle.std.proofs.lemmas.Nat.{le_bytes_2, le_bytes_4}
 use Rattle.std.proofs.lemmas.List.Elements.{All-from_recursion, recursion_from_All, All-take, All-drop}
-use Rattle.dwg_base.specs.Bytes.{AreBytes, byte_below}
+use Rattle.dwg_base.specs.Bytes.{AreBytes}
+use Rattle.dwg_base.proofs.ByteLists.{byte_below}
 use Rattle.dwg_sections.specs.HeaderLines.{bytes_at, rs_at, rl_at}
 
 -- a known front, and the known piece behind it, are a longer known front

@@ -1,10 +1,11 @@
 -- Bytes that are appended piece by piece.
 use Rattle.std.proofs.Common.{◌≡◌, ℕ, ◌%◌, ◌<◌, List, [], ◌∷◌, ◌++◌, length, get_or, sym, ap, subst, ◌∙◌, arith, length-append}
-use Rattle.dwg_base.specs.Bytes.{AreBytes, are_bytes}
+use Rattle.dwg_base.specs.Bytes.{AreBytes}
+use Rattle.dwg_base.proofs.ByteLists.{are_bytes}
 use Rattle.dwg_bits.specs.Bits.{bits}
-use Rattle.dwg_bits.specs.BitLaws.{bits_joined, bits_same, length_of_bits}
+use Rattle.dwg_bits.proofs.BitLaws.{bits_joined, bits_same, length_of_bits}
 use Rattle.dwg_bits.specs.Sink.{Written, Extends}
-use Rattle.dwg_bits.specs.SinkLaws.{extends_by_none, extends_by_both}
+use Rattle.dwg_bits.proofs.SinkLemmas.{extends_by_none, extends_by_both}
 use Rattle.dwg_sections.specs.Writing.{Puts}
 
 -- two lists of bytes joined are bytes

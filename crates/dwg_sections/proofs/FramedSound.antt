@@ -1,7 +1,8 @@
 -- Bytes in which no line on a section at a place fails have the section with the content that is read there.
 use Rattle.std.proofs.Common.{◌≡◌, ℕ, ◌+◌, ◌^◌, ◌<◌, ◌≤◌, List, None, ◌++◌, length, take, drop, get_or, sym, ap, subst, ◌∙◌, refl, w16, w32, arith, drop-drop, take-append-drop, length-take-le}
 use Rattle.std.specs.Int.{to_le_bytes}
-use Rattle.dwg_base.specs.Bytes.{AreBytes, StandsAt, are_bytes}
+use Rattle.dwg_base.specs.Bytes.{AreBytes, StandsAt}
+use Rattle.dwg_base.proofs.ByteLists.{are_bytes}
 use Rattle.dwg_base.specs.Refusals.{first_fault}
 use Rattle.dwg_check.specs.CheckWord.{FRAME_START, check_word}
 use Rattle.dwg_sections.specs.declared.framed.Framed.{Framed}

@@ -4,7 +4,7 @@ use Rattle.std.specs.Int.{to_le_bytes}
 use Rattle.dwg_bits.specs.Bits.{bits}
 use Rattle.dwg_bits.specs.Sink.{Written, Extends}
 use Rattle.dwg_check.specs.CheckWord.{FRAME_START, check_word}
-use Rattle.dwg_check.specs.CheckWordLaws.{check_word_append}
+use Rattle.dwg_check.proofs.CheckWordLaws.{check_word_append}
 use Rattle.dwg_sections.specs.declared.framed.Framed.{Framed}
 use Rattle.dwg_sections.specs.Framed.{begin_sentinel, end_sentinel, sized_content, framed_bytes}
 use Rattle.dwg_sections.specs.Writing.{Puts}

@@ -5,7 +5,7 @@ use Rattle.std.specs.Int.{from_le_bytes, to_le_bytes}
 use Rattle.std.proofs.lemmas.List.{get_or_at, length-map}
 use Rattle.std.proofs.lemmas.Nat.{from_le_bytes-to_le_bytes_2, from_le_bytes-to_le_bytes_4}
 use Rattle.dwg_check.specs.CheckWord.{header_check_word}
-use Rattle.dwg_check.specs.CheckWordLaws.{header_check_word_fits}
+use Rattle.dwg_check.proofs.CheckWordLaws.{header_check_word_fits}
 use Rattle.dwg_sections.specs.declared.header.Locator.{Locator}
 use Rattle.dwg_sections.specs.declared.header.FileHeader.{FileHeader}
 use Rattle.dwg_sections.specs.FileHeader.{VERSION, HEADER_SENTINEL, IsLocator, LocateSections, IsFileHeader, locator_bytes, locator_numbers, header_front}

@@ -5,7 +5,8 @@ use Rattle.std.specs.Int.{to_le_bytes}
 use Rattle.std.proofs.lemmas.List.{drop_more}
 use Rattle.dwg_check.specs.CheckWord.{header_check_word}
 use Rattle.dwg_sections.specs.declared.header.FileHeader.{FileHeader}
-use Rattle.dwg_base.specs.Bytes.{AreBytes, are_bytes}
+use Rattle.dwg_base.specs.Bytes.{AreBytes}
+use Rattle.dwg_base.proofs.ByteLists.{are_bytes}
 use Rattle.dwg_base.specs.Refusals.{first_fault}
 use Rattle.dwg_sections.specs.FileHeader.{BeginsWithHeader, VERSION, HEADER_SENTINEL, IsLocator, LocateSections, IsFileHeader, locator_bytes, header_front, header_bytes}
 use Rattle.dwg_sections.specs.HeaderLines.{HEADER_LINES, bytes_at, rs_at, rl_at, count_at, locators_end, locator_at, locators_at, numbers_at, header_at}

@@ -8,6 +8,7 @@ pub mod HeaderPasses
 pub mod HeaderSound
 pub mod HeaderComplete
 pub mod FramedPasses
+pub mod FramedRefusals
 pub mod FramedSound
 pub mod FramedComplete
 pub mod BytePuts

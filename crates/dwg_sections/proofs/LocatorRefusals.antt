@@ -1,12 +1,12 @@
 -- The lines on the numbers of locators tell the first number that fails.
-use Rattle.std.proofs.Common.{◌≡◌, ◌∙◌, refl, sym, ap, ℕ, zero, suc, ◌+◌, ◌<◌, ◌≤◌, Bool, true, false, List, [], ◌∷◌, length, Option, Some, None, inl, inr, arith}
-use Rattle.std.specs.Prelude.{cond, slice_index, Contains, find, option_map}
+use Rattle.std.proofs.Common.{◌≡◌, ◌∙◌, refl, sym, ap, ℕ, zero, suc, ◌+◌, ◌<◌, ◌≤◌, Bool, true, false, List, Option, Some, None, inl, inr, arith}
+use Rattle.std.specs.Prelude.{cond, find, option_map}
 use Rattle.std.specs.List.{range_with_len}
 use Rattle.std.proofs.lemmas.Bool.{both_ways, cases_eq, false_from_ne_true, not-false, not_from_true, not_from_false, cond-true, cond-false}
 use Rattle.std.proofs.lemmas.Option.{same_Some}
 use Rattle.dwg_base.specs.declared.refusal.Refusal.{Refusal}
 use Rattle.dwg_sections.specs.HeaderLines.{count_at, numbers_at, stands_earlier, is_missing, repeated_refusal, missing_refusal, repeated_line, missing_line}
-use Rattle.dwg_sections.specs.HeaderLaws.{StandsTwice, IsFirstRepeated, RepeatedIsFirst, IsLeastMissing, MissingIsLeast}
+use Rattle.dwg_sections.specs.HeaderLaws.{IsFirstRepeated, RepeatedIsFirst, IsLeastMissing, MissingIsLeast}
 use Rattle.dwg_sections.proofs.LocatorStep.{numbers_counted}
 use Rattle.dwg_sections.proofs.LocatorNumbers.{is_earlier, has_earlier, stands_there, is_there}
 

@@ -30,6 +30,13 @@ abbrev pub header_bytes : FileHeader → List ℕ
 header_bytes header =
     header_front header ++ to_le_bytes w16 (header_check_word (length header.locators) (header_front header)) ++ HEADER_SENTINEL
 
+-- how many bytes a header has without its locators, and how many a locator
+abbrev pub WITHOUT_LOCATORS : ℕ
+WITHOUT_LOCATORS = 43
+
+abbrev pub OF_LOCATOR : ℕ
+OF_LOCATOR = 9
+
 -- the numbers of a locator lie in the ranges of their types
 pub record IsLocator (locator : Locator) : Type 0 where
   pub number : locator.number < 2 ^ 8

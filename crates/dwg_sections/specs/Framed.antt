@@ -36,6 +36,10 @@ abbrev pub framed_bytes : Framed → List ℕ → List ℕ
 framed_bytes which content =
     begin_sentinel which ++ sized_content content ++ to_le_bytes w16 (check_word FRAME_START (sized_content content)) ++ end_sentinel which
 
+-- how many bytes a section has without its content
+abbrev pub WITHOUT_CONTENT : ℕ
+WITHOUT_CONTENT = 38
+
 -- a section with this content stands at a place of the input
 pub record FramedAt (bytes : List ℕ) (place : ℕ) (which : Framed) (content : List ℕ) : Type 0 where
   pub size : length content < 2 ^ 32

@@ -3,7 +3,7 @@ use Rattle.std.specs.Prelude.{◌≡◌, ℕ, ◌+◌, List, length, None}
 use Rattle.dwg_base.specs.Bytes.{AreBytes}
 use Rattle.dwg_base.specs.Refusals.{first_fault}
 use Rattle.dwg_sections.specs.declared.framed.Framed.{Framed}
-use Rattle.dwg_sections.specs.Framed.{framed_bytes, FramedAt}
+use Rattle.dwg_sections.specs.Framed.{FramedAt, WITHOUT_CONTENT, framed_bytes}
 use Rattle.dwg_sections.specs.FramedLines.{framed_lines, content_at}
 
 -- where no line on a section at a place fails, the section with the content that is read stands there
@@ -18,6 +18,6 @@ SectionIsRead =
     (which : Framed) (place : ℕ) (bytes content : List ℕ) → FramedAt bytes place which content
     → (first_fault (framed_lines which place) bytes ≡ None) × (content ≡ content_at bytes place)
 
--- a section has 38 bytes, and those of its content
+-- a section has so many bytes, and those of its content
 abbrev pub SectionIsCounted : Type 0
-SectionIsCounted = (which : Framed) (content : List ℕ) → length (framed_bytes which content) ≡ 38 + length content
+SectionIsCounted = (which : Framed) (content : List ℕ) → length (framed_bytes which content) ≡ WITHOUT_CONTENT + length content

@@ -5,7 +5,7 @@ use Rattle.dwg_base.specs.Refusals.{first_fault}
 use Rattle.dwg_base.specs.declared.refusal.Refusal.{Refusal}
 use Rattle.dwg_sections.specs.declared.header.Locator.{Locator}
 use Rattle.dwg_sections.specs.declared.header.FileHeader.{FileHeader}
-use Rattle.dwg_sections.specs.FileHeader.{IsFileHeader, BeginsWithHeader, header_bytes}
+use Rattle.dwg_sections.specs.FileHeader.{IsFileHeader, BeginsWithHeader, OF_LOCATOR, WITHOUT_LOCATORS, header_bytes}
 use Rattle.dwg_sections.specs.HeaderLines.{HEADER_LINES, count_at, numbers_at, repeated_refusal, missing_refusal, repeated_line, missing_line, header_at, place_of}
 
 -- bytes in which no line on the header fails begin with the header that is read
@@ -19,9 +19,9 @@ HeaderIsRead =
     (bytes : List ℕ) (header : FileHeader) → BeginsWithHeader bytes header
     → (first_fault HEADER_LINES bytes ≡ None) × (header ≡ header_at bytes)
 
--- a header has 43 bytes, and nine for each locator
+-- a header has so many bytes without its locators, and so many for each
 abbrev pub HeaderIsCounted : Type 0
-HeaderIsCounted = (header : FileHeader) → IsFileHeader header → length (header_bytes header) ≡ 43 + 9 * length header.locators
+HeaderIsCounted = (header : FileHeader) → IsFileHeader header → length (header_bytes header) ≡ WITHOUT_LOCATORS + OF_LOCATOR * length header.locators
 
 -- a header has a locator of each of the numbers 0, 1 and 2, and it says where the section of the number lies
 abbrev pub SectionsAreLocated : Type 0

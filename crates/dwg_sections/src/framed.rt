@@ -24,6 +24,9 @@ pub enum Framed {
 /// The bytes of a sentinel.
 const SENTINEL_SIZE: usize = 16;
 
+/// Where the size of the content stands in a framed section.
+pub const SIZE_PLACE: usize = 16;
+
 /// Where the content stands in a framed section: so many bytes of the section stand before it.
 pub const CONTENT_PLACE: usize = 20;
 
@@ -31,10 +34,10 @@ pub const CONTENT_PLACE: usize = 20;
 const SIZE_BYTES: usize = 4;
 
 /// Where the end sentinel stands in a section without content.
-const END_PLACE: usize = 22;
+pub const END_PLACE: usize = 22;
 
 /// The bytes of a section without content.
-const FRAME_SIZE: usize = 38;
+pub const FRAMED_SIZE: usize = 38;
 
 /// What a section begins with.
 pub fn begin_sentinel(which: Framed) -> [u8; 16]
@@ -97,11 +100,11 @@ pub fn has_end(bytes: &[u8], place: usize, which: Framed) -> bool
 }
 
 /// Whether the check word behind so many bytes of content is that of the size and the content.
-fn has_check_word(bytes: &[u8], place: usize, size: usize) -> bool
+fn has_section_word(bytes: &[u8], place: usize, size: usize) -> bool
     requires { place + 22 + size ≤ length bytes.now }
     ensures { result ≡ (rs_at bytes.now (place + 20 + size) == check_word FRAME_START (bytes_at bytes.now (place + 16) (4 + size))) }
 {
-    let sized = piece(bytes, place + SENTINEL_SIZE, SIZE_BYTES + size);
+    let sized = piece(bytes, place + SIZE_PLACE, SIZE_BYTES + size);
     rs(bytes, place + CONTENT_PLACE + size) == check(FRAME_START, sized)
 }
 
@@ -119,11 +122,11 @@ fn refusal_of_framed(bytes: &[u8], place: u32, which: Framed) -> Option<Refusal>
     if !has_begin(bytes, place, which) {
         return Some(refusal(line + 1, 0, place));
     }
-    let size = rl(bytes, place + SENTINEL_SIZE) as usize;
-    if bytes.len() < place + FRAME_SIZE + size {
-        return Some(refusal(line + 2, 0, place + SENTINEL_SIZE));
+    let size = rl(bytes, place + SIZE_PLACE) as usize;
+    if bytes.len() < place + FRAMED_SIZE + size {
+        return Some(refusal(line + 2, 0, place + SIZE_PLACE));
     }
-    if !has_check_word(bytes, place, size) {
+    if !has_section_word(bytes, place, size) {
         return Some(refusal(line + 3, 0, place + CONTENT_PLACE + size));
     }
     if !has_end(bytes, place + END_PLACE + size, which) {
@@ -149,7 +152,7 @@ pub fn read_framed(bytes: &[u8], place: u32, which: Framed) -> Result<&[u8], Ref
         Some(refusal) => Err(refusal),
         None => {
             let place = place as usize;
-            let size = rl(bytes, place + SENTINEL_SIZE) as usize;
+            let size = rl(bytes, place + SIZE_PLACE) as usize;
             Ok(piece(bytes, place + CONTENT_PLACE, size))
         }
     }

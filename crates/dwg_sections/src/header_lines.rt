@@ -64,7 +64,7 @@ pub fn count(bytes: &[u8]) -> u32
 }
 
 /// Whether the check word at the end of so many locators is that of all bytes before it.
-fn has_check_word(bytes: &[u8], count: u32, end: usize) -> bool
+fn has_header_word(bytes: &[u8], count: u32, end: usize) -> bool
     requires least { 3 ≤ count }
     requires most { count ≤ 6 }
     requires within { end + 2 ≤ length bytes.now }
@@ -102,7 +102,7 @@ pub fn refusal_of_header(bytes: &[u8]) -> Option<Refusal>
     if length < TAIL_SIZE + end {
         return Some(refusal(CUT_LINE, 0, length));
     }
-    if !has_check_word(bytes, count, end) {
+    if !has_header_word(bytes, count, end) {
         return Some(refusal(CHECK_LINE, 0, end));
     }
     if !has_sentinel(bytes, CHECK_SIZE + end) {

@@ -20,3 +20,6 @@ pub const LOCATORS_PLACE: usize = 25;
 
 /// The bytes of a locator.
 pub const LOCATOR_SIZE: usize = 9;
+
+/// The bytes of a file header without locators.
+pub const HEADER_SIZE: usize = 43;

@@ -15,9 +15,13 @@ mod refusals;
 mod section_numbers;
 
 pub use fields::{piece, rl, rs};
-pub use framed::{CONTENT_PLACE, Framed, begin_sentinel, has_begin, has_end, read_framed};
+pub use framed::{
+    CONTENT_PLACE, END_PLACE, FRAMED_SIZE, Framed, SIZE_PLACE, begin_sentinel, has_begin, has_end,
+    read_framed,
+};
 pub use framed_writer::write_framed;
 pub use header::{FileHeader, Locator, read_file_header};
+pub use header_places::{HEADER_SIZE, LOCATOR_SIZE};
 pub use header_writer::write_file_header;
 pub use laws::{file_header_laws, framed_laws};
 pub use section_numbers::{CLASSES_NUMBER, OBJECT_MAP_NUMBER, VARIABLES_NUMBER};

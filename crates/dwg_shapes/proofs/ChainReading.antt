@@ -3,8 +3,8 @@ use Rattle.std.proofs.Common.{◌≡◌, refl, sym, ◌∙◌, ap, ℕ, zero, su
 use Rattle.std.specs.Prelude.{option_and_then}
 use Rattle.std.specs.Option.{option_map}
 use Rattle.std.proofs.lemmas.List.{append_assoc, append-nil}
-use Rattle.dwg_codes.specs.Combinators.{parse_chain}
-use Rattle.dwg_codes.specs.Grammar.{Grammar}
+use Rattle.dwg_grammar.specs.Combinators.{parse_chain}
+use Rattle.dwg_grammar.specs.Grammar.{Grammar}
 
 -- values that are found behind others
 abbrev pub found_behind : {V : Type 0} → List V → List V × List Bool → List V × List Bool

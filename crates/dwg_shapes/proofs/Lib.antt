@@ -1,3 +1,4 @@
+pub mod EndLaws
 pub mod PartReading
 pub mod MainReading
 pub mod Known

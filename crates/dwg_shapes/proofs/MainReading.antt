@@ -1,11 +1,11 @@
 -- What is parsed of the main bits of a body that names nothing is read of the body.
 use Rattle.std.proofs.Common.{◌≡◌, refl, Bool, List, Option, Some, None}
 use Rattle.std.specs.Option.{option_map}
-use Rattle.dwg_codes.specs.Grammar.{Grammar, IsCode, AnyLetters}
-use Rattle.dwg_common.specs.Bodies.{ReadsBody}
-use Rattle.dwg_common.specs.BodyReading.{parsed_read, parsed_unread}
-use Rattle.dwg_common.specs.MainBodies.{main_read}
-use Rattle.dwg_common.specs.MakingBodies.{main_body}
+use Rattle.dwg_grammar.specs.Grammar.{Grammar, IsCode, AnyLetters}
+use Rattle.dwg_grammar.specs.Bodies.{ReadsBody}
+use Rattle.dwg_grammar.proofs.BodyReading.{parsed_read, parsed_unread}
+use Rattle.dwg_grammar.proofs.MainBodies.{main_read}
+use Rattle.dwg_grammar.specs.MakingBodies.{main_body}
 
 -- a value that was parsed was read
 pub found_read : {V : Type 0} (main : Grammar Bool V) (found : Option V) (value : V) (old new references : List Bool) → IsCode AnyLetters main → found ≡ Some value

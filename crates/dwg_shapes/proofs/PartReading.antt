@@ -1,7 +1,7 @@
 -- Parts that are parsed are read.
 use Rattle.std.proofs.Common.{◌≡◌, Bool, List, Some, None}
-use Rattle.dwg_codes.specs.CodeLaws.{reads_some, reads_none}
-use Rattle.dwg_codes.specs.Grammar.{AnyLetters, Reads}
+use Rattle.dwg_grammar.proofs.CodeLemmas.{reads_some, reads_none}
+use Rattle.dwg_grammar.specs.Grammar.{AnyLetters, Reads}
 use Rattle.dwg_shapes.specs.declared.lwpolyline.Width.{Width}
 use Rattle.dwg_shapes.specs.LwPolylines.{width_pair}
 use Rattle.dwg_shapes.specs.VertexLaws.{width_pair_is_code}

@@ -3,11 +3,11 @@ use Rattle.std.proofs.Common.{◌≡◌, refl, sym, ◌∙◌, ap, subst, ℕ, �
 use Rattle.std.specs.List.{AllByRecursion}
 use Rattle.std.proofs.lemmas.List.{append_assoc, append-nil, length-append, drop_more, drop_all}
 use Rattle.dwg_bits.specs.Sink.{Written, Extends}
-use Rattle.dwg_bits.specs.SinkLaws.{extends_by_none, extends_by_both}
-use Rattle.dwg_codes.specs.Combinators.{IsChain, short_chain, chain}
-use Rattle.dwg_codes.specs.declared.points.Point2.{Point2}
+use Rattle.dwg_bits.proofs.SinkLemmas.{extends_by_none, extends_by_both}
+use Rattle.dwg_grammar.specs.Combinators.{IsChain, short_chain, chain}
+use Rattle.dwg_grammar.specs.declared.points.Point2.{Point2}
 use Rattle.dwg_shapes.specs.LwPolylines.{vertex, vertices}
-use Rattle.dwg_common.specs.Points.{IsPoint2}
+use Rattle.dwg_grammar.specs.Points.{IsPoint2}
 use Rattle.dwg_shapes.proofs.Known.{IsKnownSoFar, all_known}
 
 -- the points that are left are values, and what is written of them, behind a point

@@ -3,10 +3,10 @@ use Rattle.std.proofs.Common.{◌≡◌, refl, sym, ◌∙◌, ap, subst, ℕ, s
 use Rattle.std.specs.Prelude.{option_map}
 use Rattle.std.specs.List.{AllByRecursion}
 use Rattle.std.proofs.lemmas.Option.{same_Some}
-use Rattle.dwg_codes.specs.Codes.{bd}
-use Rattle.dwg_codes.specs.Combinators.{chain}
-use Rattle.dwg_codes.specs.Grammar.{Grammar}
-use Rattle.dwg_codes.specs.ToEnd.{AreValues, short_all}
+use Rattle.dwg_grammar.specs.Codes.{bd}
+use Rattle.dwg_grammar.specs.Combinators.{chain}
+use Rattle.dwg_grammar.specs.Grammar.{Grammar}
+use Rattle.dwg_grammar.specs.ToEnd.{AreValues, short_all}
 use Rattle.dwg_shapes.specs.LwPolylines.{items_where}
 
 -- a list by its own count

@@ -1,11 +1,10 @@
 -- ARC (Open Design Specification, "ARC").
 use Rattle.std.specs.Prelude.{ℕ, Bool}
-use Rattle.dwg_codes.specs.Codes.{bd}
-use Rattle.dwg_codes.specs.Combinators.{seq}
-use Rattle.dwg_codes.specs.Grammar.{Grammar}
-use Rattle.dwg_common.specs.Bodies.{BodyGrammar}
-use Rattle.dwg_common.specs.MakingBodies.{main_body}
-use Rattle.dwg_common.specs.Shaped.{shaped}
+use Rattle.dwg_grammar.specs.Codes.{bd}
+use Rattle.dwg_grammar.specs.Combinators.{seq, shaped}
+use Rattle.dwg_grammar.specs.Grammar.{Grammar}
+use Rattle.dwg_grammar.specs.Bodies.{BodyGrammar}
+use Rattle.dwg_grammar.specs.MakingBodies.{main_body}
 use Rattle.dwg_shapes.specs.declared.arc.Arc.{Arc}
 use Rattle.dwg_shapes.specs.Circles.{circle_main}
 

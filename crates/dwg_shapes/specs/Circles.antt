@@ -1,11 +1,10 @@
 -- CIRCLE (Open Design Specification, "CIRCLE").
 use Rattle.std.specs.Prelude.{ℕ, Bool}
-use Rattle.dwg_codes.specs.Codes.{bd, bt, bd3, be}
-use Rattle.dwg_codes.specs.Combinators.{seq}
-use Rattle.dwg_codes.specs.Grammar.{Grammar}
-use Rattle.dwg_common.specs.Bodies.{BodyGrammar}
-use Rattle.dwg_common.specs.MakingBodies.{main_body}
-use Rattle.dwg_common.specs.Shaped.{shaped}
+use Rattle.dwg_grammar.specs.Codes.{bd, bt, bd3, be}
+use Rattle.dwg_grammar.specs.Combinators.{seq, shaped}
+use Rattle.dwg_grammar.specs.Grammar.{Grammar}
+use Rattle.dwg_grammar.specs.Bodies.{BodyGrammar}
+use Rattle.dwg_grammar.specs.MakingBodies.{main_body}
 use Rattle.dwg_shapes.specs.declared.circle.Circle.{Circle}
 
 -- 3BD centre; BD radius; BT thickness; BE extrusion

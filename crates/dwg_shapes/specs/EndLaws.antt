@@ -3,14 +3,14 @@ use Rattle.std.proofs.Common.{◌≡◌, refl, ◌∙◌, ap, ℕ, ◌+◌, ◌^
 use Rattle.std.specs.Prelude.{◌==◌, if◌then◌else◌}
 use Rattle.std.proofs.lemmas.Bool.Decides.{nat_tests, Decides-eqb}
 use Rattle.std.proofs.lemmas.List.{length-append}
-use Rattle.dwg_bits.specs.BitLaws.{length_of_low_bits}
-use Rattle.dwg_codes.specs.Codes.{rd, dd}
-use Rattle.dwg_codes.specs.CombinatorLaws.{any_letters_closed, always_is_code, seq_is_code, tagged_is_code}
-use Rattle.dwg_codes.specs.DefaultLaws.{dd_is_code}
-use Rattle.dwg_codes.specs.Grammar.{IsCode, AnyLetters}
-use Rattle.dwg_codes.specs.NumberLaws.{rd_is_code}
-use Rattle.dwg_codes.specs.TruthCode.{b, b_is_code}
-use Rattle.dwg_common.specs.Shaped.{shaped_is_code}
+use Rattle.dwg_bits.proofs.BitLaws.{length_of_low_bits}
+use Rattle.dwg_grammar.specs.Codes.{rd, dd, b}
+use Rattle.dwg_grammar.proofs.CombinatorLemmas.{any_letters_closed, always_is_code, seq_is_code, tagged_is_code}
+use Rattle.dwg_grammar.proofs.DefaultLemmas.{dd_is_code}
+use Rattle.dwg_grammar.specs.Grammar.{IsCode, AnyLetters}
+use Rattle.dwg_grammar.proofs.NumberLemmas.{rd_is_code}
+use Rattle.dwg_grammar.proofs.TruthCode.{b_is_code}
+use Rattle.dwg_grammar.proofs.Shaped.{shaped_is_code}
 use Rattle.dwg_shapes.specs.declared.line.Ends.{Ends}
 use Rattle.dwg_shapes.specs.Lines.{heights, ends_by, AreEnds, is_flat, line_ends}
 
@@ -43,15 +43,6 @@ ends_by_value z_zero ends fits =
       start = record { x = fits.0; y = fits.1.1.0; z = z.0 };
       end = record { x = fits.1.0; y = fits.1.1.1.0; z = z.1 };
     }
-
--- ends whose z words are both 0 may stand behind the z-zero 1
-pub flat_value : (ends : Ends) → AreEnds ends → ends.start.z ≡ 0 → ends.end.z ≡ 0 → (ends_by true).IsValue ends
-flat_value ends are no_start no_end =
-    (are.start.x, (are.end.x, (are.start.y, (are.end.y, ap (λ (z : ℕ). (z, ends.end.z)) no_start ∙ ap (λ (z : ℕ). let both : ℕ × ℕ = (0, z) in both) no_end))))
-
--- and all may stand behind the z-zero 0
-pub steep_value : (ends : Ends) → AreEnds ends → (ends_by false).IsValue ends
-steep_value ends are = (are.start.x, (are.end.x, (are.start.y, (are.end.y, (are.start.z, are.end.z)))))
 
 -- the z-zero that is written, by what the tests say
 abbrev flat_by : Bool → Bool → Bool

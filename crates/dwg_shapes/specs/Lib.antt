@@ -1,8 +1,16 @@
+-- LINE.
 pub mod Lines
+-- POINT.
 pub mod Points
+-- CIRCLE.
 pub mod Circles
+-- ARC.
 pub mod Arcs
+-- LWPOLYLINE.
 pub mod LwPolylines
+-- The ends of a line are a code.
 pub mod EndLaws
+-- The points of a lightweight polyline are a code, and so are lists that are there by their counts.
 pub mod VertexLaws
+-- The bodies of shapes meet the laws of bodies.
 pub mod ShapeLaws

@@ -1,12 +1,10 @@
 -- LINE (Open Design Specification, "LINE"). That z-zero is written where both z words are 0, and only there, is a rule of this project.
 use Rattle.std.specs.Prelude.{◌==◌, ℕ, Bool, true, false, if◌then◌else◌}
-use Rattle.dwg_codes.specs.Codes.{rd, dd, bt, be, IsPoint3}
-use Rattle.dwg_codes.specs.Combinators.{always, seq, tagged}
-use Rattle.dwg_codes.specs.Grammar.{Grammar}
-use Rattle.dwg_codes.specs.TruthCode.{b}
-use Rattle.dwg_common.specs.Bodies.{BodyGrammar}
-use Rattle.dwg_common.specs.MakingBodies.{main_body}
-use Rattle.dwg_common.specs.Shaped.{shaped}
+use Rattle.dwg_grammar.specs.Codes.{rd, dd, bt, be, IsPoint3, b}
+use Rattle.dwg_grammar.specs.Combinators.{always, seq, tagged, shaped}
+use Rattle.dwg_grammar.specs.Grammar.{Grammar}
+use Rattle.dwg_grammar.specs.Bodies.{BodyGrammar}
+use Rattle.dwg_grammar.specs.MakingBodies.{main_body}
 use Rattle.dwg_shapes.specs.declared.line.Ends.{Ends}
 use Rattle.dwg_shapes.specs.declared.line.Line.{Line}
 

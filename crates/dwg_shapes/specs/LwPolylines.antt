@@ -1,19 +1,18 @@
 -- LWPOLYLINE (Open Design Specification, "LWPOLYLINE").
 use Rattle.std.specs.Prelude.{◌==◌, ◌/◌, ◌%◌, ℕ, Bool, List, length, Option, Some, None, is_some, option_map}
 use Rattle.std.specs.Option.{option_map_or}
-use Rattle.dwg_codes.specs.Codes.{bs, bl, bd, bd3}
-use Rattle.dwg_codes.specs.Combinators.{seq, when, items, chain}
-use Rattle.dwg_codes.specs.Grammar.{Grammar}
-use Rattle.dwg_codes.specs.declared.points.Point2.{Point2}
-use Rattle.dwg_common.specs.Bodies.{BodyGrammar}
-use Rattle.dwg_common.specs.MakingBodies.{main_body}
-use Rattle.dwg_common.specs.Shaped.{shaped}
+use Rattle.dwg_grammar.specs.Codes.{bs, bl, bd, bd3}
+use Rattle.dwg_grammar.specs.Combinators.{seq, when, items, chain, shaped}
+use Rattle.dwg_grammar.specs.Grammar.{Grammar}
+use Rattle.dwg_grammar.specs.declared.points.Point2.{Point2}
+use Rattle.dwg_grammar.specs.Bodies.{BodyGrammar}
+use Rattle.dwg_grammar.specs.MakingBodies.{main_body}
 use Rattle.dwg_shapes.specs.declared.lwpolyline.Counts.{Counts}
 use Rattle.dwg_shapes.specs.declared.lwpolyline.Lists.{Lists}
 use Rattle.dwg_shapes.specs.declared.lwpolyline.LwPolyline.{LwPolyline}
 use Rattle.dwg_shapes.specs.declared.lwpolyline.PolylineStart.{PolylineStart}
 use Rattle.dwg_shapes.specs.declared.lwpolyline.Width.{Width}
-use Rattle.dwg_common.specs.Points.{rd2, dd2}
+use Rattle.dwg_grammar.specs.Points.{rd2, dd2}
 
 -- the bit of a flag that is worth so much is set
 abbrev pub has : ℕ → ℕ → Bool

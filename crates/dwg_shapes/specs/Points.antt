@@ -1,11 +1,10 @@
 -- POINT (Open Design Specification, "POINT").
 use Rattle.std.specs.Prelude.{ℕ, Bool}
-use Rattle.dwg_codes.specs.Codes.{bd, bt, bd3, be}
-use Rattle.dwg_codes.specs.Combinators.{seq}
-use Rattle.dwg_codes.specs.Grammar.{Grammar}
-use Rattle.dwg_common.specs.Bodies.{BodyGrammar}
-use Rattle.dwg_common.specs.MakingBodies.{main_body}
-use Rattle.dwg_common.specs.Shaped.{shaped}
+use Rattle.dwg_grammar.specs.Codes.{bd, bt, bd3, be}
+use Rattle.dwg_grammar.specs.Combinators.{seq, shaped}
+use Rattle.dwg_grammar.specs.Grammar.{Grammar}
+use Rattle.dwg_grammar.specs.Bodies.{BodyGrammar}
+use Rattle.dwg_grammar.specs.MakingBodies.{main_body}
 use Rattle.dwg_shapes.specs.declared.point.Point.{Point}
 
 -- 3BD place; BT thickness; BE extrusion; BD angle

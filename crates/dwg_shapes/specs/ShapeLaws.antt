@@ -1,14 +1,14 @@
 -- The bodies of shapes meet the laws of bodies.
 use Rattle.std.proofs.Common.{◌≡◌, refl, ◌∙◌, ap, ap₂, ℕ, Option}
-use Rattle.dwg_codes.specs.Codes.{bs, bl, bd, bt, bd3, be}
-use Rattle.dwg_codes.specs.Combinators.{when, chain}
-use Rattle.dwg_codes.specs.CombinatorLaws.{any_letters_closed, seq_is_code}
-use Rattle.dwg_codes.specs.Grammar.{IsCode, AnyLetters}
-use Rattle.dwg_codes.specs.ListLaws.{when_is_code}
-use Rattle.dwg_codes.specs.TableLaws.{bs_is_code, bl_is_code, bd_is_code, bt_is_code, bd3_is_code, be_is_code}
-use Rattle.dwg_common.specs.Bodies.{IsBody}
-use Rattle.dwg_common.specs.MadeBodies.{main_is_body}
-use Rattle.dwg_common.specs.Shaped.{shaped_is_code}
+use Rattle.dwg_grammar.specs.Codes.{bs, bl, bd, bt, bd3, be}
+use Rattle.dwg_grammar.specs.Combinators.{when, chain}
+use Rattle.dwg_grammar.proofs.CombinatorLemmas.{any_letters_closed, seq_is_code}
+use Rattle.dwg_grammar.specs.Grammar.{IsCode, AnyLetters}
+use Rattle.dwg_grammar.proofs.ListLemmas.{when_is_code}
+use Rattle.dwg_grammar.proofs.TableLemmas.{bs_is_code, bl_is_code, bd_is_code, bt_is_code, bd3_is_code, be_is_code}
+use Rattle.dwg_grammar.specs.Bodies.{IsBody}
+use Rattle.dwg_grammar.proofs.MadeBodies.{main_is_body}
+use Rattle.dwg_grammar.proofs.Shaped.{shaped_is_code}
 use Rattle.dwg_shapes.specs.declared.lwpolyline.Counts.{Counts}
 use Rattle.dwg_shapes.specs.declared.lwpolyline.Lists.{Lists}
 use Rattle.dwg_shapes.specs.Arcs.{arc_main, arc_body}

@@ -1,17 +1,17 @@
 -- The points of a lightweight polyline are a code, and so are lists that are there by their counts.
 use Rattle.std.proofs.Common.{◌≡◌, refl, ◌∙◌, ap, ℕ, Bool, true, false, List, length, Option, Some, None}
 use Rattle.std.specs.Prelude.{⊤, option_map}
-use Rattle.dwg_codes.specs.Codes.{bd}
-use Rattle.dwg_codes.specs.Combinators.{chain, items}
-use Rattle.dwg_codes.specs.CombinatorLaws.{any_letters_closed, seq_is_code}
-use Rattle.dwg_codes.specs.Grammar.{Grammar, IsCode, AnyLetters}
-use Rattle.dwg_codes.specs.ListLaws.{chain_is_code, items_is_code, when_is_code}
-use Rattle.dwg_codes.specs.TableLaws.{bd_is_code}
-use Rattle.dwg_codes.specs.declared.points.Point2.{Point2}
-use Rattle.dwg_common.specs.Shaped.{shaped_is_code}
+use Rattle.dwg_grammar.specs.Codes.{bd}
+use Rattle.dwg_grammar.specs.Combinators.{chain, items}
+use Rattle.dwg_grammar.proofs.CombinatorLemmas.{any_letters_closed, seq_is_code}
+use Rattle.dwg_grammar.specs.Grammar.{Grammar, IsCode, AnyLetters}
+use Rattle.dwg_grammar.proofs.ListLemmas.{chain_is_code, items_is_code, when_is_code}
+use Rattle.dwg_grammar.proofs.TableLemmas.{bd_is_code}
+use Rattle.dwg_grammar.specs.declared.points.Point2.{Point2}
+use Rattle.dwg_grammar.proofs.Shaped.{shaped_is_code}
 use Rattle.dwg_shapes.specs.LwPolylines.{vertex, vertices, width_pair, items_where}
-use Rattle.dwg_common.specs.Points.{IsPoint2}
-use Rattle.dwg_common.specs.PointLaws.{rd2_is_code, dd2_is_code}
+use Rattle.dwg_grammar.specs.Points.{IsPoint2}
+use Rattle.dwg_grammar.proofs.PointLemmas.{rd2_is_code, dd2_is_code}
 
 -- the point before lies in the range of its type, where there is one
 abbrev pub IsBefore : Option Point2 → Type 0

@@ -7,11 +7,10 @@ ghost use Rattle.dwg_bits.specs.Sink.{Extends};
 ghost use Rattle.dwg_shapes.specs.Circles.{circle_body, circle_main};
 ghost use Rattle.dwg_shapes.specs.ShapeLaws.{circle_is_body};
 
-use crate::words::known_point;
 use dwg_base::{Handle, NoMemory};
 use dwg_bits::{BitCursor, BitSink};
-use dwg_codes::{BitCode, CodeBD, CodeBE, CodeBT, Point3};
-use dwg_common::{BodyCode, Code3BD, Lengths, parse_code};
+use dwg_codes::{BitCode, Code3BD, CodeBD, CodeBE, CodeBT, Point3};
+use dwg_common::{BodyCode, Lengths, known_point, parse_code};
 use std::alloc::Global;
 
 /// A circle (Open Design Specification, "CIRCLE").

@@ -61,7 +61,7 @@ pub(crate) fn read_ends(cursor: &mut BitCursor<'_>) -> Option<Ends>
 }
 
 /// Whether both z words are 0; then they aren't written.
-#[tactic(auto, using(crate::specs::EndLaws::flat_value, crate::specs::EndLaws::steep_value))]
+#[tactic(auto, using(crate::proofs::EndLaws::flat_value, crate::proofs::EndLaws::steep_value))]
 fn is_flat(ends: Ends) -> bool
     requires { AreEnds ends }
     ensures is { result ≡ is_flat ends }

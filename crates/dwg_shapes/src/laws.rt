@@ -1,7 +1,7 @@
 //! Laws of the bodies of shapes, as the contract of a function without code.
 
 ghost use Rattle.std.specs.Prelude.{◌^◌, ◌<◌, ℕ};
-ghost use Rattle.dwg_common.specs.BodyLaws.{IsFreeBody};
+ghost use Rattle.dwg_grammar.specs.Bodies.{IsFreeBody};
 ghost use Rattle.dwg_shapes.specs.Arcs.{arc_body};
 ghost use Rattle.dwg_shapes.specs.Circles.{circle_body};
 ghost use Rattle.dwg_shapes.specs.Lines.{line_body};

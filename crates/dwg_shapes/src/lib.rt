@@ -14,7 +14,6 @@ mod polyline_lists;
 mod polyline_start;
 mod vertices;
 mod width;
-mod words;
 
 pub use arc::Arc;
 pub use circle::Circle;

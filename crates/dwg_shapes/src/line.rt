@@ -7,11 +7,10 @@ ghost use Rattle.dwg_shapes.specs.Lines.{AreEnds, line_body, line_main};
 ghost use Rattle.dwg_shapes.specs.ShapeLaws.{line_is_body};
 
 use crate::ends::{ends_bits, read_ends, write_ends};
-use crate::words::known_point;
 use dwg_base::{Handle, NoMemory};
 use dwg_bits::{BitCursor, BitSink};
 use dwg_codes::{BitCode, CodeBE, CodeBT, Point3};
-use dwg_common::{BodyCode, Lengths, parse_code};
+use dwg_common::{BodyCode, Lengths, known_point, parse_code};
 use std::alloc::Global;
 
 /// A line (Open Design Specification, "LINE").

@@ -4,18 +4,15 @@ ghost use Rattle.std.specs.Prelude.{◌≡◌, ◌^◌, ◌<◌, ◌≤◌, ◌�
 ghost use Rattle.std.specs.Option.{option_map};
 ghost use Rattle.dwg_bits.specs.Cursor.{rest};
 ghost use Rattle.dwg_bits.specs.Sink.{Extends};
-ghost use Rattle.dwg_codes.specs.Codes.{bl};
-ghost use Rattle.dwg_codes.specs.Combinators.{when};
+ghost use Rattle.dwg_grammar.specs.Codes.{bl};
+ghost use Rattle.dwg_grammar.specs.Combinators.{when};
 ghost use Rattle.dwg_shapes.specs.LwPolylines.{items_where};
 
 use dwg_base::{Items, NoMemory};
 use dwg_bits::{BitCursor, BitSink};
 use dwg_codes::{BitCode, list_length, write_list};
-use dwg_common::parse_list;
+use dwg_common::{TOO_MANY, parse_list};
 use std::alloc::Global;
-
-/// How many members can't be told: a count is a BL.
-pub(crate) const TOO_MANY: usize = 1 << 32;
 
 /// Reads so many values where there is a count, as they are parsed, and no bit where there is none. The only refusal is want
 /// of memory, which is taken only for values that are there.

@@ -6,11 +6,10 @@ ghost use Rattle.dwg_bits.specs.Cursor.{rest};
 ghost use Rattle.dwg_shapes.specs.Points.{point_body, point_main};
 ghost use Rattle.dwg_shapes.specs.ShapeLaws.{point_is_body};
 
-use crate::words::known_point;
 use dwg_base::{Handle, NoMemory};
 use dwg_bits::{BitCursor, BitSink};
-use dwg_codes::{BitCode, CodeBD, CodeBE, CodeBT, Point3};
-use dwg_common::{BodyCode, Code3BD, Lengths, parse_code};
+use dwg_codes::{BitCode, Code3BD, CodeBD, CodeBE, CodeBT, Point3};
+use dwg_common::{BodyCode, Lengths, known_point, parse_code};
 use std::alloc::Global;
 
 /// A point that is drawn (Open Design Specification, "POINT").

@@ -4,11 +4,11 @@ ghost use Rattle.std.specs.Prelude.{◌≡◌, ◌^◌, ◌<◌, ◌≤◌, ◌�
 ghost use Rattle.std.specs.List.{AllByRecursion};
 ghost use Rattle.dwg_bits.specs.Cursor.{rest};
 ghost use Rattle.dwg_bits.specs.Sink.{Extends};
-ghost use Rattle.dwg_codes.specs.Codes.{bd, bl};
+ghost use Rattle.dwg_grammar.specs.Codes.{bd, bl};
 ghost use Rattle.dwg_shapes.specs.LwPolylines.{counts_of, items_where, lists_of, polyline_counts, polyline_lists, width_pair};
 
 use crate::lists::{
-    TOO_MANY, count_fits_when, count_when, list_bits_where, parse_list_where, write_list_where,
+    count_fits_when, count_when, list_bits_where, parse_list_where, write_list_where,
 };
 use crate::lwpolyline::{Counts, Lists, LwPolyline, Width};
 use crate::polyline_start::has;
@@ -17,7 +17,7 @@ use crate::width::{CodeWidth, known_widths};
 use dwg_base::{Items, NoMemory};
 use dwg_bits::{BitCursor, BitSink};
 use dwg_codes::{BitCode, CodeBD, CodeBL, length_when, write_when};
-use dwg_common::{parse_code, parse_when};
+use dwg_common::{TOO_MANY, parse_code, parse_when};
 use std::alloc::Global;
 
 /// The bit of the flag of a lightweight polyline that has bulges.

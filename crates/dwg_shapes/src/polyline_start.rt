@@ -4,15 +4,14 @@ ghost use Rattle.std.specs.Prelude.{◌≡◌, ◌==◌, ◌^◌, ◌<◌, ◌�
 ghost use Rattle.std.specs.Option.{option_map};
 ghost use Rattle.dwg_bits.specs.Cursor.{rest};
 ghost use Rattle.dwg_bits.specs.Sink.{Extends};
-ghost use Rattle.dwg_codes.specs.Codes.{bd, bd3};
-ghost use Rattle.dwg_codes.specs.Combinators.{when};
+ghost use Rattle.dwg_grammar.specs.Codes.{bd, bd3};
+ghost use Rattle.dwg_grammar.specs.Combinators.{when};
 ghost use Rattle.dwg_shapes.specs.LwPolylines.{has, polyline_start};
 
 use crate::lwpolyline::PolylineStart;
-use crate::words::known_point;
 use dwg_bits::{BitCursor, BitSink};
-use dwg_codes::{BitCode, CodeBD, CodeBS, Point3, length_when, write_when};
-use dwg_common::{Code3BD, parse_code, parse_when};
+use dwg_codes::{BitCode, Code3BD, CodeBD, CodeBS, Point3, length_when, write_when};
+use dwg_common::{known_point, parse_code, parse_when};
 
 /// The bit of the flag of a lightweight polyline that has a width.
 const WIDTH: u16 = 4;

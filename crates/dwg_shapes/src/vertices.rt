@@ -5,7 +5,7 @@ ghost use Rattle.std.specs.Option.{option_map};
 ghost use Rattle.dwg_bits.specs.Cursor.{rest};
 ghost use Rattle.dwg_bits.specs.Sink.{Extends};
 ghost use Rattle.dwg_shapes.specs.LwPolylines.{vertex, vertices};
-ghost use Rattle.dwg_common.specs.Points.{IsPoint2};
+ghost use Rattle.dwg_grammar.specs.Points.{IsPoint2};
 
 use dwg_base::{Items, NoMemory};
 use dwg_bits::{BitCursor, BitSink};
@@ -67,6 +67,7 @@ pub(crate) fn read_vertices(
 pub(crate) fn known_vertices(points: &[Point2])
     ensures { (vertices (length points.now)).IsValue points.now }
 {
+    // It finds nothing out: a turn tells the proof of one point what holds of every value of its type.
     'along: for point in points {
         known_vertex(point);
     }

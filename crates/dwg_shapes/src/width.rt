@@ -25,6 +25,7 @@ fn known_width(width: &Width)
 pub(crate) fn known_widths(widths: &[Width])
     ensures { AllByRecursion width_pair.IsValue widths.now }
 {
+    // It finds nothing out: a turn tells the proof of one width what holds of every value of its type.
     'along: for width in widths {
         known_width(width);
     }
@@ -61,7 +62,7 @@ impl BitCode for CodeWidth {
         Some(width)
     }
 
-    #[tactic(auto, using(dwg_common::specs::PointLaws::bd_at_most))]
+    #[tactic(auto, using(dwg_grammar::proofs::Bounds::bd_at_most))]
     fn length(_context: &(), value: &Width) -> u64 {
         CodeBD::length(&(), &value.start) + CodeBD::length(&(), &value.end)
     }

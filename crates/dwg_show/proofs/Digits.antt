@@ -1,20 +1,10 @@
 -- The digits of bytes, as the crate that prints them gives them.
-use Rattle.std.proofs.Common.{◌≡◌, refl, sym, ◌∙◌, ap, ap₂, ℕ, ◌/◌, ◌%◌, ◌<◌, List, [], ◌∷◌, ◌++◌, map, arith}
-use Rattle.std.specs.Prelude.{Result, Ok, Err, IfOk, slice_index, flat_map}
-use Rattle.std.specs.List.{range_with_len}
-use Rattle.std.proofs.lemmas.List.FromFn.{get_or-map-range_with_len}
-use Rattle.dwg_base.specs.Bytes.{AreBytes, are_bytes}
-use Rattle.hex.specs.Hex.{lower_digits, encode_with, encode_lower}
-use Rattle.dwg_text.specs.Lines.{lower_digit, byte_digits}
-
--- the table of digits
-table_is : lower_digits ≡ map lower_digit (range_with_len 0 16)
-table_is = refl
-
--- the digit of each number below sixteen
-digit_entry : (number : ℕ) → number < 16 → slice_index lower_digits number ≡ lower_digit number
-digit_entry number small =
-    ap (λ table. slice_index table number) table_is ∙ get_or-map-range_with_len lower_digit 0 16 number number 0 small (omega arith)
+use Rattle.std.proofs.Common.{◌≡◌, refl, ◌∙◌, ap₂, ℕ, ◌/◌, ◌%◌, List, [], ◌∷◌, ◌++◌, arith}
+use Rattle.std.specs.Prelude.{Result, Ok, Err, IfOk, flat_map}
+use Rattle.dwg_base.specs.Bytes.{AreBytes}
+use Rattle.hex.specs.Hex.{encode_with, encode_lower}
+use Rattle.dwg_text.specs.Lines.{byte_digits}
+use Rattle.dwg_text.proofs.Digits.{digit_entry}
 
 -- bytes have two digits each
 pub digits_of_bytes : (bytes : List ℕ) → AreBytes bytes → encode_lower bytes ≡ flat_map byte_digits bytes

@@ -2,13 +2,14 @@
 use Rattle.std.proofs.Common.{◌≡◌, sym, subst, ℕ, zero, suc, ◌+◌, ◌*◌, ◌^◌, ◌<◌, Bool, List, [], ◌∷◌, ◌++◌, length, length-append, arith}
 use Rattle.std.specs.Prelude.{⊤, get_or, map}
 use Rattle.std.specs.List.{AllByRecursion}
-use Rattle.dwg_bits.specs.PaddingLaw.{padding_fills}
+use Rattle.dwg_bits.proofs.PaddingLaw.{padding_fills}
 use Rattle.dwg_bits.specs.Sink.{padding}
-use Rattle.dwg_bits.specs.WholeBytes.{whole_bytes, length_of_whole}
+use Rattle.dwg_bits.specs.WholeBytes.{whole_bytes}
+use Rattle.dwg_bits.proofs.WholeBytes.{length_of_whole}
 use Rattle.dwg_classes.specs.declared.class.Class.{Class}
-use Rattle.dwg_codes.specs.ToEnd.{short_all}
-use Rattle.dwg_handles.specs.Reference.{Reference}
-use Rattle.dwg_handles.specs.ReferenceCodes.{reference}
+use Rattle.dwg_grammar.specs.ToEnd.{short_all}
+use Rattle.dwg_grammar.specs.Reference.{Reference}
+use Rattle.dwg_grammar.specs.ReferenceCodes.{reference}
 use Rattle.dwg_object.specs.Forms.{head}
 use Rattle.dwg_object.specs.Objects.{ObjectValue, TypedValue, PlainValue, RawValue}
 use Rattle.dwg_object.specs.Written.{IsValidObject, body_bytes, common_main, front_bits, object_bits, refs_bits, written_head}

@@ -1,14 +1,14 @@
 -- Texts that are told one behind the other.
-use Rattle.std.proofs.Common.{◌≡◌, refl, sym, ◌∙◌, ap, subst, ℕ, List, [], ◌∷◌, ◌++◌, Some, None, append-nil, append_assoc, arith}
+use Rattle.std.proofs.Common.{◌≡◌, refl, sym, ◌∙◌, ap, subst, ℕ, List, [], ◌++◌, Some, None, append-nil, append_assoc}
 use Rattle.std.specs.Prelude.{⊤, Option, Result, Ok, Err, OnOk, IfErr, string_bytes}
 use Rattle.std.specs.Io.KnownBytes.{Appends}
 use Rattle.std.proofs.KnownBytes.{Appends-trans, Appends-nil}
-use Rattle.dwg_base.specs.Devices.{Rose, AppendsFront, Counts, Sends}
-use Rattle.dwg_base.specs.SendingLaws.{sends_both, front_of_both}
+use Rattle.dwg_base.specs.Devices.{AppendsFront, Sends}
+use Rattle.dwg_base.proofs.SendingLemmas.{sends_both, front_of_both}
 use Rattle.dwg_show.specs.declared.page.ShowFault.{ShowFault}
 use Rattle.dwg_show.specs.declared.page.ShowFault.TheVariants as causes
 use Rattle.dwg_show.specs.declared.page.Page.{Page}
-use Rattle.dwg_show.specs.Telling.{Rises, IsCause, Goes, TellsBy, Tells}
+use Rattle.dwg_show.specs.Telling.{Rises, IsCause, TellsBy, Tells}
 
 -- a front, and nothing behind it
 front_alone : (taken taken' taken'' : Option (List ℕ)) (text : List ℕ) → AppendsFront taken taken' text → Appends taken' taken'' [] → AppendsFront taken taken'' text

@@ -1,5 +1,5 @@
 -- Words as the formatter of std prints them.
-use Rattle.std.proofs.Common.{◌≡◌, refl, sym, ◌∙◌, ap, ℕ, ◌-◌, ◌^◌, Bool, true, false, List, [], ◌∷◌, ◌++◌, length, replicate, append-nil, arith}
+use Rattle.std.proofs.Common.{◌≡◌, ◌∙◌, ap, ℕ, ◌-◌, ◌^◌, true, false, [], ◌++◌, length, replicate, append-nil, arith}
 use Rattle.std.specs.Fmt.{digits, padded_integral, format_spec, char_count}
 use Rattle.dwg_show.specs.Values.{word_text}
 

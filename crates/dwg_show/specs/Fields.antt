@@ -1,8 +1,8 @@
 -- Fields as they are printed: each on a line of two spaces, its path, a space and its value. A rule of this project.
 use Rattle.std.specs.Prelude.{ℕ, ◌+◌, Bool, List, [], ◌∷◌, ◌++◌, Option, Some, None, codes, decimal, length, ◌==◌, if◌then◌else◌}
-use Rattle.dwg_codes.specs.declared.points.Point2.{Point2}
-use Rattle.dwg_codes.specs.declared.points.Point3.{Point3}
-use Rattle.dwg_handles.specs.Reference.{Reference}
+use Rattle.dwg_grammar.specs.declared.points.Point2.{Point2}
+use Rattle.dwg_grammar.specs.declared.points.Point3.{Point3}
+use Rattle.dwg_grammar.specs.Reference.{Reference}
 use Rattle.dwg_text.specs.Lines.{line, truth, quoted}
 use Rattle.dwg_show.specs.Values.{word_text, point2_text, point3_text, reference_text, bytes_text}
 

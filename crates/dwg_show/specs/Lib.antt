@@ -1,11 +1,22 @@
+-- What is printed of single values.
 pub mod Values
+-- Fields as they are printed: each on a line of two spaces, its path, a space and its value.
 pub mod Fields
+-- What a page and the sink below it do as a text is told to the page.
 pub mod Telling
+-- The fields of the common parts of objects, in the order of their structs.
 pub mod CommonFields
+-- The fields of shapes, in the order of their structs.
 pub mod ShapesFields
+-- The fields of texts, attributes, inserts and the marks of blocks, in the order of their structs.
 pub mod EntitiesFields
+-- The fields of entries of tables, in the order of their structs.
 pub mod TablesFields
+-- The fields of controls, dictionaries and records, in the order of their structs.
 pub mod DictsFields
+-- Objects of which few enough own bits are kept to be counted and padded.
 pub mod FewBits
+-- The text of an object.
 pub mod ObjectText
+-- The text of a drawing.
 pub mod DrawingText

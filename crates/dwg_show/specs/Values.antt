@@ -1,9 +1,9 @@
 -- What is printed of single values. A rule of this project.
-use Rattle.std.specs.Prelude.{ℕ, ◌-◌, Bool, true, List, [], ◌∷◌, ◌++◌, codes, length, flat_map, replicate}
+use Rattle.std.specs.Prelude.{ℕ, ◌-◌, true, List, [], ◌∷◌, ◌++◌, codes, length, flat_map, replicate}
 use Rattle.std.specs.Fmt.{digits}
-use Rattle.dwg_codes.specs.declared.points.Point2.{Point2}
-use Rattle.dwg_codes.specs.declared.points.Point3.{Point3}
-use Rattle.dwg_handles.specs.Reference.{Reference}
+use Rattle.dwg_grammar.specs.declared.points.Point2.{Point2}
+use Rattle.dwg_grammar.specs.declared.points.Point3.{Point3}
+use Rattle.dwg_grammar.specs.Reference.{Reference}
 use Rattle.dwg_text.specs.Lines.{byte_digits}
 
 -- upper-case hexadecimal digits without leading zeros, 0 for zero: so are handles printed

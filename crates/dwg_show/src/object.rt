@@ -79,24 +79,13 @@ fn form_word(object: &Object<'_>) -> &'static str
     }
 }
 
-/// The type number of an object.
-fn number_of(object: &Object<'_>) -> u16
-    ensures { result ≡ number_of (value_of object.now) }
-{
-    match object {
-        Object::Typed(typed) => typed.number,
-        Object::Plain(plain) => plain.number,
-        Object::Raw(raw) => raw.number,
-    }
-}
-
 /// The line that an object begins with. The only refusal is want of memory.
 #[tactic(auto, unfolding(crate::specs::ObjectText::head_line))]
 fn head_line(alloc: Global, object: &Object<'_>) -> Result<String, AllocError>
     ensures { IfOk result (λ line. string_bytes line ≡ texts.head_line (value_of object.now)) }
 {
     let handle = object.handle().value();
-    let number = number_of(object);
+    let number = object.number();
     let mut line = format!(in alloc; "object {handle:X} ")?;
     line.push_str(name_of(object.kind()))?;
     line.push_str(" ")?;

@@ -1,11 +1,11 @@
 -- The entities of a block that are parsed are read.
 use Rattle.std.proofs.Common.{◌≡◌, ℕ, ◌^◌, ◌<◌, Bool, List, Some, None}
-use Rattle.dwg_codes.specs.CodeLaws.{reads_some, reads_none}
-use Rattle.dwg_codes.specs.Grammar.{AnyLetters, Reads}
+use Rattle.dwg_grammar.proofs.CodeLemmas.{reads_some, reads_none}
+use Rattle.dwg_grammar.specs.Grammar.{AnyLetters, Reads}
 use Rattle.dwg_tables.specs.BlockHeaderBody.{block_ends}
 use Rattle.dwg_tables.specs.BlockHeaderLaws.{ends_is_part}
 use Rattle.dwg_tables.specs.declared.block_header.Ends.{Ends}
-use Rattle.dwg_common.specs.BodyReading.{parsed_value}
+use Rattle.dwg_grammar.proofs.BodyReading.{parsed_value}
 
 -- the first and the last
 pub ends_read : (base : ℕ) (value : Ends) (old new : List Bool) → base < 2 ^ 63 → (block_ends base).grammar.parse old ≡ Some (value, new)

@@ -1,10 +1,9 @@
+pub mod MemberLaws
 pub mod MemberLoops
 pub mod NameReading
-pub mod WordLaws
 pub mod PartReading
 pub mod LtypeParts
 pub mod MarkReading
 pub mod MarkParts
-pub mod PreviewParts
 pub mod HeaderReading
 pub mod SumOfLengths

@@ -2,13 +2,13 @@
 use Rattle.std.proofs.Common.{◌≡◌, refl, sym, ◌∙◌, ap, subst, ℕ, ◌+◌, ◌*◌, ◌^◌, ◌<◌, List, ◌++◌, length, map, arith}
 use Rattle.std.specs.Prelude.{◌↔◌}
 use Rattle.std.proofs.lemmas.List.{length-append, length-map}
-use Rattle.dwg_bits.specs.BitLaws.{length_of_bits}
+use Rattle.dwg_bits.proofs.BitLaws.{length_of_bits}
 use Rattle.dwg_bits.specs.Sink.{Written, Extends}
-use Rattle.dwg_bits.specs.SinkLaws.{extends_by_both}
-use Rattle.dwg_codes.specs.ByteRunLaws.{short_of_bytes}
-use Rattle.dwg_codes.specs.Codes.{rc}
-use Rattle.dwg_codes.specs.Combinators.{chain, counted, items}
-use Rattle.dwg_codes.specs.ToEnd.{AreValues, short_all}
+use Rattle.dwg_bits.proofs.SinkLemmas.{extends_by_both}
+use Rattle.dwg_grammar.proofs.ByteRunLemmas.{short_of_bytes}
+use Rattle.dwg_grammar.specs.Codes.{rc}
+use Rattle.dwg_grammar.specs.Combinators.{chain, counted, items}
+use Rattle.dwg_grammar.specs.ToEnd.{AreValues, short_all}
 use Rattle.dwg_tables.specs.declared.ltype.Dash.{Dash}
 use Rattle.dwg_tables.specs.LtypeBody.{stroke, stroke_of}
 

@@ -2,10 +2,10 @@
 use Rattle.std.proofs.Common.{◌≡◌, refl, sym, ◌∙◌, ap, subst, ℕ, ◌+◌, ◌<◌, ◌≤◌, Bool, List, [], ◌∷◌, ◌++◌, length, map, drop, get_or}
 use Rattle.std.proofs.lemmas.List.{append_assoc, append-nil, length-append, drop_all}
 use Rattle.dwg_bits.specs.Sink.{Written, Extends}
-use Rattle.dwg_bits.specs.SinkLaws.{extends_by_both}
-use Rattle.dwg_codes.specs.Codes.{rc}
-use Rattle.dwg_codes.specs.Combinators.{IsUntil, until}
-use Rattle.dwg_codes.specs.ToEnd.{AreValues, short_all}
+use Rattle.dwg_bits.proofs.SinkLemmas.{extends_by_both}
+use Rattle.dwg_grammar.specs.Codes.{rc}
+use Rattle.dwg_grammar.specs.Combinators.{IsUntil, until}
+use Rattle.dwg_grammar.specs.ToEnd.{AreValues, short_all}
 use Rattle.dwg_tables.specs.declared.block_header.InsertMark.{InsertMark}
 use Rattle.dwg_tables.specs.BlockHeaderBody.{count_of}
 use Rattle.dwg_tables.specs.InsertMarks.{IsMarkCount, mark_counts}

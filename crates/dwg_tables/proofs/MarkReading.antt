@@ -4,10 +4,10 @@ use Rattle.std.specs.Prelude.{◌==◌, ◌≢◌, option_and_then, if◌then◌
 use Rattle.std.specs.Option.{option_map}
 use Rattle.std.proofs.lemmas.Bool.Decides.{nat_tests}
 use Rattle.std.proofs.lemmas.List.{append-nil, length-append}
-use Rattle.dwg_codes.specs.Codes.{rc}
-use Rattle.dwg_codes.specs.Combinators.{always, parse_until, until}
-use Rattle.dwg_codes.specs.ListLaws.{tag_behind}
-use Rattle.dwg_codes.specs.NumberLaws.{rc_is_code}
+use Rattle.dwg_grammar.specs.Codes.{rc}
+use Rattle.dwg_grammar.specs.Combinators.{always, parse_until, until}
+use Rattle.dwg_grammar.proofs.ListLemmas.{tag_behind}
+use Rattle.dwg_grammar.proofs.NumberLemmas.{rc_is_code}
 use Rattle.dwg_tables.specs.InsertMarks.{mark_counts}
 use Rattle.dwg_tables.proofs.NameReading.{found_behind, behind_none, behind_more}
 

@@ -2,11 +2,11 @@
 use Rattle.std.proofs.Common.{◌≡◌, refl, sym, ◌∙◌, ap, subst, ℕ, ◌+◌, ◌<◌, ◌≤◌, Bool, List, [], ◌∷◌, ◌++◌, length, map, drop, get_or, arith}
 use Rattle.std.proofs.lemmas.List.{append_assoc, append-nil, length-append, drop_more, drop_all}
 use Rattle.dwg_bits.specs.Sink.{Written, Extends}
-use Rattle.dwg_bits.specs.SinkLaws.{extends_by_none, extends_by_both}
-use Rattle.dwg_codes.specs.Grammar.{Grammar}
-use Rattle.dwg_codes.specs.ToEnd.{AreValues, short_all}
-use Rattle.dwg_handles.specs.Reference.{Reference}
-use Rattle.dwg_tables.specs.Members.{joined}
+use Rattle.dwg_bits.proofs.SinkLemmas.{extends_by_none, extends_by_both}
+use Rattle.dwg_grammar.specs.Grammar.{Grammar}
+use Rattle.dwg_grammar.specs.ToEnd.{AreValues, short_all}
+use Rattle.dwg_grammar.specs.Reference.{Reference}
+use Rattle.dwg_common.specs.Members.{joined}
 
 -- what is left from a place on is the member there and what is left behind it
 pub left_at : {V : Type 0} (members : List V) (i : ℕ) (member : V) → i < length members → member ≡ get_or members i member → drop i members ≡ member ∷ drop (i + 1) members

@@ -1,8 +1,8 @@
 -- Parts that are parsed are read.
 use Rattle.std.proofs.Common.{◌≡◌, Bool, List, Some, None}
-use Rattle.dwg_codes.specs.CodeLaws.{reads_some, reads_none}
-use Rattle.dwg_codes.specs.Grammar.{AnyLetters, Reads}
-use Rattle.dwg_common.specs.BodyReading.{parsed_value}
+use Rattle.dwg_grammar.proofs.CodeLemmas.{reads_some, reads_none}
+use Rattle.dwg_grammar.specs.Grammar.{AnyLetters, Reads}
+use Rattle.dwg_grammar.proofs.BodyReading.{parsed_value}
 use Rattle.dwg_tables.specs.LtypeBody.{stroke}
 use Rattle.dwg_tables.specs.TableLaws.{stroke_is_code}
 use Rattle.dwg_tables.specs.declared.ltype.Stroke.{Stroke}

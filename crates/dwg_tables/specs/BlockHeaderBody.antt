@@ -1,14 +1,12 @@
 -- The header of a block (Open Design Specification, "BLOCK HEADER").
 use Rattle.std.specs.Prelude.{ℕ, Bool, not, ◌&&◌, length, map}
-use Rattle.dwg_codes.specs.Codes.{rc, bl, bd3, tv}
-use Rattle.dwg_codes.specs.Combinators.{seq, counted}
-use Rattle.dwg_codes.specs.Grammar.{Grammar}
-use Rattle.dwg_codes.specs.TruthCode.{b}
-use Rattle.dwg_common.specs.Bodies.{BodyGrammar}
-use Rattle.dwg_common.specs.MakingBodies.{body}
-use Rattle.dwg_common.specs.References.{ReferencePart, one_ref, some_refs, maybe_refs, then_refs, seen_refs}
-use Rattle.dwg_common.specs.Shaped.{shaped}
-use Rattle.dwg_handles.specs.Reference.{Reference}
+use Rattle.dwg_grammar.specs.Codes.{rc, bl, bd3, tv, b}
+use Rattle.dwg_grammar.specs.Combinators.{seq, counted, shaped}
+use Rattle.dwg_grammar.specs.Grammar.{Grammar}
+use Rattle.dwg_grammar.specs.Bodies.{BodyGrammar}
+use Rattle.dwg_grammar.specs.MakingBodies.{body}
+use Rattle.dwg_grammar.specs.References.{ReferencePart, one_ref, some_refs, maybe_refs, then_refs, seen_refs}
+use Rattle.dwg_grammar.specs.Reference.{Reference}
 use Rattle.dwg_tables.specs.declared.block_header.BlockContent.{BlockContent}
 use Rattle.dwg_tables.specs.declared.block_header.BlockFlags.{BlockFlags}
 use Rattle.dwg_tables.specs.declared.block_header.BlockHeader.{BlockHeader}
@@ -18,7 +16,7 @@ use Rattle.dwg_tables.specs.declared.block_header.InsertMark.{InsertMark}
 use Rattle.dwg_tables.specs.declared.entry.Title.{Title}
 use Rattle.dwg_tables.specs.Entries.{entry_main, title_of, entry_of}
 use Rattle.dwg_tables.specs.InsertMarks.{mark_counts}
-use Rattle.dwg_tables.specs.Members.{joined}
+use Rattle.dwg_common.specs.Members.{joined}
 
 -- B anonymous; B has_attributes; B is_xref; B overlaid; B loaded
 unfoldable pub block_flags : Grammar Bool BlockFlags

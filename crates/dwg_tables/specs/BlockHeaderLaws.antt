@@ -1,18 +1,19 @@
 -- The header of a block meets the laws of bodies.
 use Rattle.std.proofs.Common.{◌≡◌, refl, ap, ℕ, ◌^◌, ◌<◌, List, length}
-use Rattle.dwg_codes.specs.Codes.{rc, bl, bd3, tv}
-use Rattle.dwg_codes.specs.Combinators.{chain}
-use Rattle.dwg_codes.specs.CombinatorLaws.{any_letters_closed, seq_is_code}
-use Rattle.dwg_codes.specs.Grammar.{IsCode, AnyLetters}
-use Rattle.dwg_codes.specs.ListLaws.{counted_is_code}
-use Rattle.dwg_codes.specs.NumberLaws.{rc_is_code}
-use Rattle.dwg_codes.specs.TableLaws.{bl_is_code, bd3_is_code, tv_is_code}
-use Rattle.dwg_codes.specs.TruthCode.{b, b_is_code}
-use Rattle.dwg_common.specs.Bodies.{IsBody}
-use Rattle.dwg_common.specs.MadeBodies.{body_is_body}
-use Rattle.dwg_common.specs.ReferenceParts.{IsReferencePart, one_is_part, some_is_part, maybe_is_part, then_is_part, seen_is_part}
-use Rattle.dwg_common.specs.Shaped.{shaped_is_code}
-use Rattle.dwg_handles.specs.Reference.{Reference}
+use Rattle.dwg_grammar.specs.Codes.{rc, bl, bd3, tv, b}
+use Rattle.dwg_grammar.specs.Combinators.{chain}
+use Rattle.dwg_grammar.proofs.CombinatorLemmas.{any_letters_closed, seq_is_code}
+use Rattle.dwg_grammar.specs.Grammar.{IsCode, AnyLetters}
+use Rattle.dwg_grammar.proofs.ListLemmas.{counted_is_code}
+use Rattle.dwg_grammar.proofs.NumberLemmas.{rc_is_code}
+use Rattle.dwg_grammar.proofs.TableLemmas.{bl_is_code, bd3_is_code, tv_is_code}
+use Rattle.dwg_grammar.proofs.TruthCode.{b_is_code}
+use Rattle.dwg_grammar.specs.Bodies.{IsBody}
+use Rattle.dwg_grammar.proofs.MadeBodies.{body_is_body}
+use Rattle.dwg_grammar.specs.References.{IsReferencePart}
+use Rattle.dwg_grammar.proofs.ReferenceParts.{one_is_part, some_is_part, maybe_is_part, then_is_part, seen_is_part}
+use Rattle.dwg_grammar.proofs.Shaped.{shaped_is_code}
+use Rattle.dwg_grammar.specs.Reference.{Reference}
 use Rattle.dwg_tables.specs.declared.block_header.BlockContent.{BlockContent}
 use Rattle.dwg_tables.specs.declared.block_header.BlockFlags.{BlockFlags}
 use Rattle.dwg_tables.specs.declared.block_header.BlockHeader.{BlockHeader}
@@ -23,7 +24,7 @@ use Rattle.dwg_tables.specs.BlockHeaderBody.{block_flags, block_content, block_m
 use Rattle.dwg_tables.specs.Entries.{entry_main, title_of}
 use Rattle.dwg_tables.specs.InsertMarks.{mark_counts}
 use Rattle.dwg_tables.specs.InsertMarkLaws.{mark_counts_is_code}
-use Rattle.dwg_tables.specs.MemberLaws.{told_of_joined, names_of_joined, joined_again}
+use Rattle.dwg_common.proofs.MemberLaws.{told_of_joined, names_of_joined, joined_again}
 use Rattle.dwg_tables.specs.TableLaws.{entry_main_is_code}
 
 -- the flags of a header are a code

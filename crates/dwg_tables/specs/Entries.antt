@@ -1,11 +1,9 @@
 -- What every entry of a table begins with (Open Design Specification, "LAYER", "SHAPEFILE", "LTYPE", "APPID" and "BLOCK HEADER").
 use Rattle.std.specs.Prelude.{Bool}
-use Rattle.dwg_codes.specs.Codes.{bs, tv}
-use Rattle.dwg_codes.specs.Combinators.{seq}
-use Rattle.dwg_codes.specs.Grammar.{Grammar}
-use Rattle.dwg_codes.specs.TruthCode.{b}
-use Rattle.dwg_common.specs.Shaped.{shaped}
-use Rattle.dwg_handles.specs.Reference.{Reference}
+use Rattle.dwg_grammar.specs.Codes.{bs, tv, b}
+use Rattle.dwg_grammar.specs.Combinators.{seq, shaped}
+use Rattle.dwg_grammar.specs.Grammar.{Grammar}
+use Rattle.dwg_grammar.specs.Reference.{Reference}
 use Rattle.dwg_tables.specs.declared.entry.Entry.{Entry}
 use Rattle.dwg_tables.specs.declared.entry.Title.{Title}
 

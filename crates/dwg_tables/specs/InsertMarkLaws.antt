@@ -2,12 +2,12 @@
 use Rattle.std.proofs.Common.{refl, ℕ, ◌≤◌, arith}
 use Rattle.std.specs.Prelude.{◌==◌, ◌≢◌}
 use Rattle.std.proofs.lemmas.Bool.Decides.{nat_tests}
-use Rattle.dwg_codes.specs.Codes.{rc}
-use Rattle.dwg_codes.specs.Combinators.{always}
-use Rattle.dwg_codes.specs.CombinatorLaws.{any_letters_closed, always_is_code}
-use Rattle.dwg_codes.specs.Grammar.{IsCode, AnyLetters}
-use Rattle.dwg_codes.specs.ListLaws.{until_is_code}
-use Rattle.dwg_codes.specs.NumberLaws.{rc_is_code}
+use Rattle.dwg_grammar.specs.Codes.{rc}
+use Rattle.dwg_grammar.specs.Combinators.{always}
+use Rattle.dwg_grammar.proofs.CombinatorLemmas.{any_letters_closed, always_is_code}
+use Rattle.dwg_grammar.specs.Grammar.{IsCode, AnyLetters}
+use Rattle.dwg_grammar.proofs.ListLemmas.{until_is_code}
+use Rattle.dwg_grammar.proofs.NumberLemmas.{rc_is_code}
 use Rattle.dwg_tables.specs.InsertMarks.{IsMarkCount, mark_counts}
 
 -- a number that isn't 0 is at least 1

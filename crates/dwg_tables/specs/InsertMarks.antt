@@ -1,8 +1,8 @@
 -- The counts of the marks of the inserts of a block (Open Design Specification, "BLOCK HEADER").
 use Rattle.std.specs.Prelude.{◌==◌, ℕ, ◌^◌, ◌<◌, ◌≤◌, Bool, List}
-use Rattle.dwg_codes.specs.Codes.{rc}
-use Rattle.dwg_codes.specs.Combinators.{always, until}
-use Rattle.dwg_codes.specs.Grammar.{Grammar}
+use Rattle.dwg_grammar.specs.Codes.{rc}
+use Rattle.dwg_grammar.specs.Combinators.{always, until}
+use Rattle.dwg_grammar.specs.Grammar.{Grammar}
 
 -- a count that a mark may have: it isn't 0
 pub record IsMarkCount (count : ℕ) : Type 0 where

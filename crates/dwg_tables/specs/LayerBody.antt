@@ -1,12 +1,12 @@
 -- A layer (Open Design Specification, "LAYER").
 use Rattle.std.specs.Prelude.{ℕ, Bool}
-use Rattle.dwg_codes.specs.Codes.{bs}
-use Rattle.dwg_codes.specs.Combinators.{seq}
-use Rattle.dwg_codes.specs.Grammar.{Grammar}
-use Rattle.dwg_common.specs.Bodies.{BodyGrammar}
-use Rattle.dwg_common.specs.MakingBodies.{body}
-use Rattle.dwg_common.specs.References.{ReferencePart, one_ref, then_refs}
-use Rattle.dwg_handles.specs.Reference.{Reference}
+use Rattle.dwg_grammar.specs.Codes.{bs}
+use Rattle.dwg_grammar.specs.Combinators.{seq}
+use Rattle.dwg_grammar.specs.Grammar.{Grammar}
+use Rattle.dwg_grammar.specs.Bodies.{BodyGrammar}
+use Rattle.dwg_grammar.specs.MakingBodies.{body}
+use Rattle.dwg_grammar.specs.References.{ReferencePart, one_ref, then_refs}
+use Rattle.dwg_grammar.specs.Reference.{Reference}
 use Rattle.dwg_tables.specs.declared.entry.Title.{Title}
 use Rattle.dwg_tables.specs.declared.layer.Layer.{Layer}
 use Rattle.dwg_tables.specs.Entries.{entry_main, title_of, entry_of}

@@ -1,19 +1,18 @@
 -- A linetype (Open Design Specification, "LTYPE").
 use Rattle.std.specs.Prelude.{ℕ, Bool, List, length, map}
-use Rattle.dwg_codes.specs.Codes.{rc, rd, bs, bd, tv}
-use Rattle.dwg_codes.specs.Combinators.{seq, items, counted}
-use Rattle.dwg_codes.specs.Grammar.{Grammar}
-use Rattle.dwg_common.specs.Bodies.{BodyGrammar}
-use Rattle.dwg_common.specs.MakingBodies.{body}
-use Rattle.dwg_common.specs.References.{ReferencePart, one_ref, some_refs, then_refs}
-use Rattle.dwg_common.specs.Shaped.{shaped}
-use Rattle.dwg_handles.specs.Reference.{Reference}
+use Rattle.dwg_grammar.specs.Codes.{rc, rd, bs, bd, tv}
+use Rattle.dwg_grammar.specs.Combinators.{seq, items, counted, shaped}
+use Rattle.dwg_grammar.specs.Grammar.{Grammar}
+use Rattle.dwg_grammar.specs.Bodies.{BodyGrammar}
+use Rattle.dwg_grammar.specs.MakingBodies.{body}
+use Rattle.dwg_grammar.specs.References.{ReferencePart, one_ref, some_refs, then_refs}
+use Rattle.dwg_grammar.specs.Reference.{Reference}
 use Rattle.dwg_tables.specs.declared.ltype.Dash.{Dash}
 use Rattle.dwg_tables.specs.declared.ltype.Ltype.{Ltype}
 use Rattle.dwg_tables.specs.declared.ltype.Pattern.{Pattern}
 use Rattle.dwg_tables.specs.declared.ltype.Stroke.{Stroke}
 use Rattle.dwg_tables.specs.Entries.{entry_main, title_of, entry_of}
-use Rattle.dwg_tables.specs.Members.{joined}
+use Rattle.dwg_common.specs.Members.{joined}
 
 -- BD length; BS code; RD x; RD y; BD scale; BD rotation; BS flag
 unfoldable pub stroke : Grammar Bool Stroke

@@ -1,14 +1,12 @@
 -- A text style (Open Design Specification, "SHAPEFILE").
 use Rattle.std.specs.Prelude.{ℕ, Bool, List}
-use Rattle.dwg_codes.specs.Codes.{rc, bd, tv}
-use Rattle.dwg_codes.specs.Combinators.{seq}
-use Rattle.dwg_codes.specs.Grammar.{Grammar}
-use Rattle.dwg_codes.specs.TruthCode.{b}
-use Rattle.dwg_common.specs.Bodies.{BodyGrammar}
-use Rattle.dwg_common.specs.MakingBodies.{body}
-use Rattle.dwg_common.specs.References.{one_ref}
-use Rattle.dwg_common.specs.Shaped.{shaped}
-use Rattle.dwg_handles.specs.Reference.{Reference}
+use Rattle.dwg_grammar.specs.Codes.{rc, bd, tv, b}
+use Rattle.dwg_grammar.specs.Combinators.{seq, shaped}
+use Rattle.dwg_grammar.specs.Grammar.{Grammar}
+use Rattle.dwg_grammar.specs.Bodies.{BodyGrammar}
+use Rattle.dwg_grammar.specs.MakingBodies.{body}
+use Rattle.dwg_grammar.specs.References.{one_ref}
+use Rattle.dwg_grammar.specs.Reference.{Reference}
 use Rattle.dwg_tables.specs.declared.entry.Title.{Title}
 use Rattle.dwg_tables.specs.declared.style.Form.{Form}
 use Rattle.dwg_tables.specs.declared.style.Style.{Style}

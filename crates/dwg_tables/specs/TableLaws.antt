@@ -1,19 +1,19 @@
 -- The entries of tables meet the laws of bodies.
 use Rattle.std.proofs.Common.{◌≡◌, refl, ap, ℕ, ◌^◌, ◌<◌, List, length}
-use Rattle.dwg_codes.specs.Codes.{rc, rd, bs, bd, tv}
-use Rattle.dwg_codes.specs.CombinatorLaws.{any_letters_closed, seq_is_code}
-use Rattle.dwg_codes.specs.Combinators.{chain, counted}
-use Rattle.dwg_codes.specs.Grammar.{IsCode, AnyLetters}
-use Rattle.dwg_codes.specs.ListLaws.{items_is_code, counted_is_code}
-use Rattle.dwg_codes.specs.NumberLaws.{rc_is_code, rd_is_code}
-use Rattle.dwg_codes.specs.TableLaws.{bs_is_code, bd_is_code, tv_is_code}
-use Rattle.dwg_codes.specs.TruthCode.{b, b_is_code}
-use Rattle.dwg_common.specs.Bodies.{IsBody}
-use Rattle.dwg_common.specs.MadeBodies.{body_is_body}
-use Rattle.dwg_common.specs.References.{one_ref}
-use Rattle.dwg_common.specs.ReferenceParts.{one_is_part, some_is_part, then_is_part}
-use Rattle.dwg_common.specs.Shaped.{shaped_is_code}
-use Rattle.dwg_handles.specs.Reference.{Reference}
+use Rattle.dwg_grammar.specs.Codes.{rc, rd, bs, bd, tv, b}
+use Rattle.dwg_grammar.proofs.CombinatorLemmas.{any_letters_closed, seq_is_code}
+use Rattle.dwg_grammar.specs.Combinators.{chain, counted}
+use Rattle.dwg_grammar.specs.Grammar.{IsCode, AnyLetters}
+use Rattle.dwg_grammar.proofs.ListLemmas.{items_is_code, counted_is_code}
+use Rattle.dwg_grammar.proofs.NumberLemmas.{rc_is_code, rd_is_code}
+use Rattle.dwg_grammar.proofs.TableLemmas.{bs_is_code, bd_is_code, tv_is_code}
+use Rattle.dwg_grammar.proofs.TruthCode.{b_is_code}
+use Rattle.dwg_grammar.specs.Bodies.{IsBody}
+use Rattle.dwg_grammar.proofs.MadeBodies.{body_is_body}
+use Rattle.dwg_grammar.specs.References.{one_ref}
+use Rattle.dwg_grammar.proofs.ReferenceParts.{one_is_part, some_is_part, then_is_part}
+use Rattle.dwg_grammar.proofs.Shaped.{shaped_is_code}
+use Rattle.dwg_grammar.specs.Reference.{Reference}
 use Rattle.dwg_tables.specs.declared.ltype.Dash.{Dash}
 use Rattle.dwg_tables.specs.declared.ltype.Ltype.{Ltype}
 use Rattle.dwg_tables.specs.declared.ltype.Pattern.{Pattern}
@@ -22,7 +22,7 @@ use Rattle.dwg_tables.specs.AppIdBody.{app_id_main, app_id_of, app_id_body}
 use Rattle.dwg_tables.specs.Entries.{entry_main}
 use Rattle.dwg_tables.specs.LayerBody.{layer_main, layer_refs, layer_of, layer_body}
 use Rattle.dwg_tables.specs.LtypeBody.{stroke, stroke_of, dash_of, style_of, ltype_main, ltype_refs, pattern_of, named_of_ltype, ltype_of, ltype_body}
-use Rattle.dwg_tables.specs.MemberLaws.{told_of_joined, names_of_joined, joined_again}
+use Rattle.dwg_common.proofs.MemberLaws.{told_of_joined, names_of_joined, joined_again}
 use Rattle.dwg_tables.specs.StyleBody.{style_form, style_main, style_of as text_style_of, style_body}
 
 -- what the main bits of an entry tell is a code

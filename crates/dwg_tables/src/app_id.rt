@@ -75,7 +75,7 @@ impl BodyCode for AppId {
         Ok(Some(body))
     }
 
-    #[tactic(auto, unfolding(crate::specs::AppIdBody::app_id_body, dwg_handles::specs::ReferenceCodes::reference))]
+    #[tactic(auto, unfolding(crate::specs::AppIdBody::app_id_body, dwg_grammar::specs::ReferenceCodes::reference))]
     fn fits(&self, base: Handle) -> bool {
         // Its code tells every number of its type.
         let _extra = self.extra;
@@ -85,7 +85,7 @@ impl BodyCode for AppId {
         self.entry.xref.fits(base)
     }
 
-    #[tactic(auto, unfolding(crate::specs::AppIdBody::app_id_body, dwg_handles::specs::ReferenceCodes::reference))]
+    #[tactic(auto, unfolding(crate::specs::AppIdBody::app_id_body, dwg_grammar::specs::ReferenceCodes::reference))]
     fn lengths(&self, base: Handle) -> Lengths {
         Lengths {
             main: title_bits(&self.entry) + CodeRC::length(&(), &self.extra),
@@ -99,7 +99,7 @@ impl BodyCode for AppId {
         CodeRC::write(&(), &self.extra, sink);
     }
 
-    #[tactic(auto, unfolding(crate::specs::AppIdBody::app_id_body, dwg_handles::specs::ReferenceCodes::reference))]
+    #[tactic(auto, unfolding(crate::specs::AppIdBody::app_id_body, dwg_grammar::specs::ReferenceCodes::reference))]
     fn write_refs(&self, base: Handle, sink: &mut BitSink) {
         write_ref(self.entry.xref, base, sink);
     }

@@ -4,16 +4,17 @@ ghost use Rattle.std.specs.Prelude.{◌≡◌, ◌^◌, ◌<◌, ◌≤◌, ◌�
 ghost use Rattle.std.specs.Option.{option_map};
 ghost use Rattle.dwg_bits.specs.Cursor.{rest};
 ghost use Rattle.dwg_bits.specs.Sink.{Extends};
-ghost use Rattle.dwg_codes.specs.Codes.{IsPoint3};
 ghost use Rattle.dwg_tables.specs.BlockHeaderBody.{block_content, content_of};
 
 use crate::block_header::{BlockContent, BlockHeader};
 use crate::marks::{counts_bits, counts_fit, read_counts, write_counts};
-use crate::preview::{preview_bits, preview_fits, read_preview, write_preview};
 use dwg_base::NoMemory;
 use dwg_bits::{BitCursor, BitSink};
-use dwg_codes::{BitCode, Point3};
-use dwg_common::{Code3BD, parse_code, parse_tv, tv_bits, tv_fits, write_tv};
+use dwg_codes::{BitCode, Code3BD};
+use dwg_common::{
+    known_point, parse_code, parse_sized, parse_tv, sized_bits, sized_fits, tv_bits, tv_fits,
+    write_sized, write_tv,
+};
 use std::alloc::Global;
 
 /// Reads the content of a header, as it is parsed. The only refusal is want of memory, which is taken only for what is there.
@@ -38,7 +39,7 @@ pub(crate) fn read_content(
     let Some(description) = parse_tv(alloc, cursor)? else {
         return Ok(None);
     };
-    let Some(preview) = read_preview(alloc, cursor)? else {
+    let Some(preview) = parse_sized(alloc, cursor)? else {
         return Ok(None);
     };
     Ok(Some(BlockContent {
@@ -48,15 +49,6 @@ pub(crate) fn read_content(
         description,
         preview,
     }))
-}
-
-/// The words of a point lie in the range of their type.
-fn known_point(point: &Point3)
-    ensures { IsPoint3 point.now }
-{
-    let _x = point.x;
-    let _y = point.y;
-    let _z = point.z;
 }
 
 /// Whether the content of a header can be told: its path and its description have at most 65,535 bytes each, no mark has
@@ -75,7 +67,7 @@ pub(crate) fn content_fits(header: &BlockHeader) -> bool
     if !tv_fits(header.description.as_slice()) {
         return false;
     }
-    preview_fits(header.preview.as_slice())
+    sized_fits(header.preview.as_slice())
 }
 
 /// How many bits the content of a header is written by.
@@ -89,7 +81,7 @@ pub(crate) fn content_bits(header: &BlockHeader) -> u64
         + tv_bits(header.path.as_slice())
         + counts_bits(header.inserts.as_slice())
         + tv_bits(header.description.as_slice())
-        + preview_bits(header.preview.as_slice())
+        + sized_bits(header.preview.as_slice())
 }
 
 /// Writes the content of a header.
@@ -103,5 +95,5 @@ pub(crate) fn write_content(header: &BlockHeader, sink: &mut BitSink)
     write_tv(header.path.as_slice(), sink);
     write_counts(header.inserts.as_slice(), sink);
     write_tv(header.description.as_slice(), sink);
-    write_preview(header.preview.as_slice(), sink);
+    write_sized(header.preview.as_slice(), sink);
 }

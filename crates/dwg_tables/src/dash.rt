@@ -3,7 +3,7 @@
 ghost use Rattle.std.specs.Prelude.{◌≡◌, ⊤, map};
 ghost use Rattle.std.specs.Option.{option_map};
 ghost use Rattle.dwg_bits.specs.Cursor.{rest};
-ghost use Rattle.dwg_codes.specs.ToEnd.{AreValues};
+ghost use Rattle.dwg_grammar.specs.ToEnd.{AreValues};
 ghost use Rattle.dwg_tables.specs.LtypeBody.{dash_of, stroke, stroke_of, style_of};
 ghost use Rattle.dwg_tables.specs.TableLaws.{stroke_is_code};
 
@@ -99,6 +99,7 @@ fn known_stroke(dash: &Dash)
 pub(crate) fn known_strokes(dashes: &[Dash])
     ensures { AreValues stroke (map stroke_of dashes.now) }
 {
+    // It finds nothing out: a turn tells the proof of one dash what holds of every value of its type.
     'along: for dash in dashes {
         known_stroke(dash);
     }
@@ -124,7 +125,7 @@ impl BitCode for CodeStroke {
         Some(told)
     }
 
-    #[tactic(auto, unfolding(crate::specs::LtypeBody::stroke), using(crate::proofs::WordLaws::length_of_bd, crate::proofs::WordLaws::length_of_bs, dwg_codes::specs::NumberLaws::length_of_rd))]
+    #[tactic(auto, unfolding(crate::specs::LtypeBody::stroke), using(dwg_grammar::proofs::Bounds::bd_at_most, dwg_grammar::proofs::Bounds::bs_at_most, dwg_grammar::proofs::NumberLemmas::length_of_rd))]
     fn length(_context: &(), value: &Stroke) -> u64 {
         CodeBD::length(&(), &value.length)
             + CodeBS::length(&(), &value.code)

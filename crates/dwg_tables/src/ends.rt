@@ -3,7 +3,7 @@
 ghost use Rattle.std.specs.Prelude.{◌≡◌, ◌^◌, ◌<◌, ◌↔◌, IsTrue};
 ghost use Rattle.std.specs.Option.{option_map};
 ghost use Rattle.dwg_bits.specs.Cursor.{rest};
-ghost use Rattle.dwg_codes.specs.Combinators.{when};
+ghost use Rattle.dwg_grammar.specs.Combinators.{when};
 ghost use Rattle.dwg_tables.specs.BlockHeaderBody.{block_ends};
 ghost use Rattle.dwg_tables.specs.BlockHeaderLaws.{ends_is_part};
 
@@ -28,7 +28,7 @@ fn read_ends(cursor: &mut BitCursor<'_>, base: Handle) -> Option<Ends>
 }
 
 /// Whether the first and the last entity can be told from the header of the handle `base`.
-#[tactic(auto, unfolding(dwg_handles::specs::ReferenceCodes::reference))]
+#[tactic(auto, unfolding(dwg_grammar::specs::ReferenceCodes::reference))]
 fn ends_fit(value: &Ends, base: Handle) -> bool
     ensures { IsTrue result ↔ (block_ends base).grammar.IsValue value.now }
 {
@@ -76,7 +76,7 @@ impl BitCode for CodeEnds {
         Some(ends)
     }
 
-    #[tactic(auto, unfolding(dwg_handles::specs::ReferenceCodes::reference))]
+    #[tactic(auto, unfolding(dwg_grammar::specs::ReferenceCodes::reference))]
     fn length(context: &Handle, value: &Ends) -> u64 {
         ref_bits(value.first, *context) + ref_bits(value.last, *context)
     }

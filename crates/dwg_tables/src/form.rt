@@ -4,8 +4,8 @@ ghost use Rattle.std.specs.Prelude.{◌≡◌, ◌^◌, ◌<◌, ◌≤◌, leng
 ghost use Rattle.std.specs.Option.{option_map};
 ghost use Rattle.dwg_bits.specs.Cursor.{rest};
 ghost use Rattle.dwg_bits.specs.Sink.{Extends};
-ghost use Rattle.dwg_codes.specs.Codes.{bd, rc};
-ghost use Rattle.dwg_codes.specs.Combinators.{seq};
+ghost use Rattle.dwg_grammar.specs.Codes.{bd, rc};
+ghost use Rattle.dwg_grammar.specs.Combinators.{seq};
 ghost use Rattle.dwg_tables.specs.StyleBody.{style_form};
 
 use crate::style::Form;

@@ -1,7 +1,7 @@
 //! Laws of these bodies, as the contract of a function without code.
 
 ghost use Rattle.std.specs.Prelude.{◌^◌, ◌<◌, ℕ};
-ghost use Rattle.dwg_common.specs.BodyLaws.{IsFreeBody};
+ghost use Rattle.dwg_grammar.specs.Bodies.{IsFreeBody};
 ghost use Rattle.dwg_tables.specs.AppIdBody.{app_id_body};
 ghost use Rattle.dwg_tables.specs.BlockHeaderBody.{block_header_body};
 ghost use Rattle.dwg_tables.specs.LayerBody.{layer_body};

@@ -3,8 +3,8 @@
 ghost use Rattle.std.specs.Prelude.{◌≡◌, IfOk};
 ghost use Rattle.std.specs.Option.{option_map};
 ghost use Rattle.dwg_bits.specs.Cursor.{rest};
-ghost use Rattle.dwg_codes.specs.Codes.{bs};
-ghost use Rattle.dwg_codes.specs.Combinators.{seq};
+ghost use Rattle.dwg_grammar.specs.Codes.{bs};
+ghost use Rattle.dwg_grammar.specs.Combinators.{seq};
 ghost use Rattle.dwg_tables.specs.LayerBody.{layer_body, layer_refs};
 ghost use Rattle.dwg_tables.specs.TableLaws.{layer_is_body};
 
@@ -110,7 +110,7 @@ impl BodyCode for Layer {
         Ok(Some(body))
     }
 
-    #[tactic(auto, unfolding(crate::specs::LayerBody::layer_body, dwg_handles::specs::ReferenceCodes::reference))]
+    #[tactic(auto, unfolding(crate::specs::LayerBody::layer_body, dwg_grammar::specs::ReferenceCodes::reference))]
     fn fits(&self, base: Handle) -> bool {
         // Their codes tell every number of their types.
         let _values = self.values;
@@ -127,7 +127,7 @@ impl BodyCode for Layer {
         self.linetype.fits(base)
     }
 
-    #[tactic(auto, unfolding(crate::specs::LayerBody::layer_body, dwg_handles::specs::ReferenceCodes::reference))]
+    #[tactic(auto, unfolding(crate::specs::LayerBody::layer_body, dwg_grammar::specs::ReferenceCodes::reference))]
     fn lengths(&self, base: Handle) -> Lengths {
         Lengths {
             main: title_bits(&self.entry)
@@ -146,7 +146,7 @@ impl BodyCode for Layer {
         CodeBS::write(&(), &self.colour, sink);
     }
 
-    #[tactic(auto, unfolding(crate::specs::LayerBody::layer_body, dwg_handles::specs::ReferenceCodes::reference))]
+    #[tactic(auto, unfolding(crate::specs::LayerBody::layer_body, dwg_grammar::specs::ReferenceCodes::reference))]
     fn write_refs(&self, base: Handle, sink: &mut BitSink) {
         write_ref(self.entry.xref, base, sink);
         write_ref(self.plotstyle, base, sink);

@@ -17,7 +17,6 @@ mod ltype;
 mod marks;
 mod members;
 mod pattern;
-mod preview;
 mod style;
 mod title;
 

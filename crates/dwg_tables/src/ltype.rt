@@ -4,8 +4,8 @@ ghost use Rattle.std.specs.Prelude.{◌≡◌, ◌^◌, ◌<◌, ◌≤◌, ◌�
 ghost use Rattle.std.specs.Option.{option_map};
 ghost use Rattle.dwg_bits.specs.Cursor.{rest};
 ghost use Rattle.dwg_bits.specs.Sink.{Extends};
-ghost use Rattle.dwg_codes.specs.Combinators.{items};
-ghost use Rattle.dwg_handles.specs.ReferenceCodes.{reference};
+ghost use Rattle.dwg_grammar.specs.Combinators.{items};
+ghost use Rattle.dwg_grammar.specs.ReferenceCodes.{reference};
 ghost use Rattle.dwg_tables.specs.LtypeBody.{ltype_body, ltype_of, ltype_refs, stroke_of, style_of};
 ghost use Rattle.dwg_tables.specs.TableLaws.{ltype_is_body};
 
@@ -155,7 +155,7 @@ fn read_parts(
 }
 
 /// Whether the style of each dash can be told from the linetype of the handle `base`.
-#[tactic(auto, unfolding(dwg_codes::specs::Combinators::chain), using(crate::specs::MemberLaws::as_many))]
+#[tactic(auto, unfolding(dwg_grammar::specs::Combinators::chain), using(crate::proofs::MemberLaws::as_many))]
 fn styles_fit(dashes: &[Dash], base: Handle) -> bool
     ensures { IsTrue result ↔ (items (reference base) (length (map stroke_of dashes.now))).IsValue (map style_of dashes.now) }
 {
@@ -163,7 +163,7 @@ fn styles_fit(dashes: &[Dash], base: Handle) -> bool
 }
 
 /// How many bits the styles of dashes are written by.
-#[tactic(auto, unfolding(dwg_codes::specs::Combinators::chain))]
+#[tactic(auto, unfolding(dwg_grammar::specs::Combinators::chain))]
 fn styles_bits(dashes: &[Dash], base: Handle) -> u64
     requires value { (items (reference base) (length (map stroke_of dashes.now))).IsValue (map style_of dashes.now) }
     requires few { length ((items (reference base) (length (map stroke_of dashes.now))).short (map style_of dashes.now)) < 2 ^ 62 }
@@ -175,7 +175,7 @@ fn styles_bits(dashes: &[Dash], base: Handle) -> u64
 }
 
 /// Writes the styles of dashes.
-#[tactic(auto, unfolding(dwg_codes::specs::Combinators::chain))]
+#[tactic(auto, unfolding(dwg_grammar::specs::Combinators::chain))]
 fn write_styles(dashes: &[Dash], base: Handle, sink: &mut BitSink)
     requires value { (items (reference base) (length (map stroke_of dashes.now))).IsValue (map style_of dashes.now) }
     requires room { length ((items (reference base) (length (map stroke_of dashes.now))).short (map style_of dashes.now)) ≤ sink.old.spare }
@@ -207,7 +207,7 @@ impl BodyCode for Ltype {
         Ok(Some(body))
     }
 
-    #[tactic(auto, unfolding(crate::specs::LtypeBody::ltype_body, dwg_handles::specs::ReferenceCodes::reference))]
+    #[tactic(auto, unfolding(crate::specs::LtypeBody::ltype_body, dwg_grammar::specs::ReferenceCodes::reference))]
     fn fits(&self, base: Handle) -> bool {
         if !pattern_fits(self) {
             return false;
@@ -218,7 +218,7 @@ impl BodyCode for Ltype {
         styles_fit(self.dashes.as_slice(), base)
     }
 
-    #[tactic(auto, unfolding(crate::specs::LtypeBody::ltype_body, dwg_handles::specs::ReferenceCodes::reference))]
+    #[tactic(auto, unfolding(crate::specs::LtypeBody::ltype_body, dwg_grammar::specs::ReferenceCodes::reference))]
     fn lengths(&self, base: Handle) -> Lengths {
         // The laws of references ask that their base is a handle's number.
         let _base = base.value();
@@ -233,7 +233,7 @@ impl BodyCode for Ltype {
         write_pattern(self, sink);
     }
 
-    #[tactic(auto, unfolding(crate::specs::LtypeBody::ltype_body, dwg_handles::specs::ReferenceCodes::reference))]
+    #[tactic(auto, unfolding(crate::specs::LtypeBody::ltype_body, dwg_grammar::specs::ReferenceCodes::reference))]
     fn write_refs(&self, base: Handle, sink: &mut BitSink) {
         // The laws of references ask that their base is a handle's number.
         let _base = base.value();

@@ -4,8 +4,8 @@ ghost use Rattle.std.specs.Prelude.{◌≡◌, ◌^◌, ◌<◌, ◌≤◌, ◌�
 ghost use Rattle.std.specs.Option.{option_map};
 ghost use Rattle.dwg_bits.specs.Cursor.{rest};
 ghost use Rattle.dwg_bits.specs.Sink.{Extends};
-ghost use Rattle.dwg_codes.specs.Combinators.{items};
-ghost use Rattle.dwg_handles.specs.ReferenceCodes.{reference};
+ghost use Rattle.dwg_grammar.specs.Combinators.{items};
+ghost use Rattle.dwg_grammar.specs.ReferenceCodes.{reference};
 ghost use Rattle.dwg_tables.specs.BlockHeaderBody.{count_of, mark_of, target_of};
 ghost use Rattle.dwg_tables.specs.InsertMarks.{IsMarkCount, mark_counts};
 
@@ -117,7 +117,7 @@ pub(crate) fn write_counts(marks: &[InsertMark], sink: &mut BitSink)
 }
 
 /// Whether the insert of each mark can be told from the header of the handle `base`.
-#[tactic(auto, unfolding(dwg_codes::specs::Combinators::chain), using(crate::specs::MemberLaws::as_many))]
+#[tactic(auto, unfolding(dwg_grammar::specs::Combinators::chain), using(crate::proofs::MemberLaws::as_many))]
 pub(crate) fn targets_fit(marks: &Items<InsertMark>, base: Handle) -> bool
     ensures { IsTrue result ↔ (items (reference base) (length (map count_of marks.now))).IsValue (map target_of marks.now) }
 {
@@ -125,7 +125,7 @@ pub(crate) fn targets_fit(marks: &Items<InsertMark>, base: Handle) -> bool
 }
 
 /// How many bits the inserts of marks are written by.
-#[tactic(auto, unfolding(dwg_codes::specs::Combinators::chain))]
+#[tactic(auto, unfolding(dwg_grammar::specs::Combinators::chain))]
 pub(crate) fn targets_bits(marks: &[InsertMark], base: Handle) -> u64
     requires value { (items (reference base) (length (map count_of marks.now))).IsValue (map target_of marks.now) }
     requires few { length ((items (reference base) (length (map count_of marks.now))).short (map target_of marks.now)) < 2 ^ 62 }
@@ -137,7 +137,7 @@ pub(crate) fn targets_bits(marks: &[InsertMark], base: Handle) -> u64
 }
 
 /// Writes the inserts of marks.
-#[tactic(auto, unfolding(dwg_codes::specs::Combinators::chain))]
+#[tactic(auto, unfolding(dwg_grammar::specs::Combinators::chain))]
 pub(crate) fn write_targets(marks: &[InsertMark], base: Handle, sink: &mut BitSink)
     requires value { (items (reference base) (length (map count_of marks.now))).IsValue (map target_of marks.now) }
     requires room { length ((items (reference base) (length (map count_of marks.now))).short (map target_of marks.now)) ≤ sink.old.spare }

@@ -4,11 +4,11 @@ ghost use Rattle.std.specs.Prelude.{◌≡◌, ◌^◌, ◌<◌, ◌≤◌, ◌�
 ghost use Rattle.std.specs.Option.{option_map};
 ghost use Rattle.dwg_bits.specs.Cursor.{rest};
 ghost use Rattle.dwg_bits.specs.Sink.{Extends};
-ghost use Rattle.dwg_codes.specs.Combinators.{items};
-ghost use Rattle.dwg_codes.specs.ToEnd.{AreValues, short_all};
-ghost use Rattle.dwg_handles.specs.Reference.{Reference};
-ghost use Rattle.dwg_handles.specs.ReferenceCodes.{reference};
-ghost use Rattle.dwg_tables.specs.Members.{joined};
+ghost use Rattle.dwg_grammar.specs.Combinators.{items};
+ghost use Rattle.dwg_grammar.specs.ToEnd.{AreValues, short_all};
+ghost use Rattle.dwg_grammar.specs.Reference.{Reference};
+ghost use Rattle.dwg_grammar.specs.ReferenceCodes.{reference};
+ghost use Rattle.dwg_common.specs.Members.{joined};
 
 use dwg_base::{Handle, Items, NoMemory};
 use dwg_bits::{BitCursor, BitSink};
@@ -84,7 +84,7 @@ pub(crate) fn join_all<P, V: Joined<P> + Drop>(
 }
 
 /// Whether what is named of each member can be told from the object of the handle `base`.
-#[tactic(auto, using(crate::proofs::MemberLoops::none_tried, crate::proofs::MemberLoops::one_fails, crate::proofs::MemberLoops::all_tried), unfolding(dwg_handles::specs::ReferenceCodes::reference))]
+#[tactic(auto, using(crate::proofs::MemberLoops::none_tried, crate::proofs::MemberLoops::one_fails, crate::proofs::MemberLoops::all_tried), unfolding(dwg_grammar::specs::ReferenceCodes::reference))]
 pub(crate) fn names_fit<V: Part<Ref>>(members: &[V], base: Handle) -> bool
     ensures { IsTrue result ↔ AreValues (reference base) (map V.part members.now) }
 {

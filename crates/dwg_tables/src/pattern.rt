@@ -4,8 +4,8 @@ ghost use Rattle.std.specs.Prelude.{◌≡◌, ◌^◌, ◌<◌, ◌≤◌, ◌�
 ghost use Rattle.std.specs.Option.{option_map};
 ghost use Rattle.dwg_bits.specs.Cursor.{rest};
 ghost use Rattle.dwg_bits.specs.Sink.{Extends};
-ghost use Rattle.dwg_codes.specs.Codes.{bd, rc};
-ghost use Rattle.dwg_codes.specs.Combinators.{counted, items, seq};
+ghost use Rattle.dwg_grammar.specs.Codes.{bd, rc};
+ghost use Rattle.dwg_grammar.specs.Combinators.{counted, items, seq};
 ghost use Rattle.dwg_tables.specs.LtypeBody.{ltype_main, pattern_of, stroke, stroke_of};
 
 use crate::dash::{CodeStroke, known_strokes};
@@ -123,7 +123,7 @@ fn strokes_fit(dashes: &[Dash]) -> bool
 }
 
 /// Whether there are 256 bytes.
-#[tactic(auto, using(dwg_base::specs::Bytes::are_bytes, dwg_codes::specs::ByteRunLaws::values_of_bytes))]
+#[tactic(auto, using(dwg_base::proofs::ByteLists::are_bytes, dwg_grammar::proofs::ByteRunLemmas::values_of_bytes))]
 fn texts_fit(texts: &[u8]) -> bool
     ensures { IsTrue result ↔ (items rc 256).IsValue texts.now }
 {

@@ -3,8 +3,8 @@
 ghost use Rattle.std.specs.Prelude.{◌≡◌, IfOk};
 ghost use Rattle.std.specs.Option.{option_map};
 ghost use Rattle.dwg_bits.specs.Cursor.{rest};
-ghost use Rattle.dwg_codes.specs.Codes.{tv};
-ghost use Rattle.dwg_codes.specs.Combinators.{seq};
+ghost use Rattle.dwg_grammar.specs.Codes.{tv};
+ghost use Rattle.dwg_grammar.specs.Combinators.{seq};
 ghost use Rattle.dwg_tables.specs.StyleBody.{form_of, style_body, style_of};
 ghost use Rattle.dwg_tables.specs.TableLaws.{style_is_body};
 
@@ -163,7 +163,7 @@ impl BodyCode for Style {
         Ok(Some(body))
     }
 
-    #[tactic(auto, unfolding(crate::specs::StyleBody::style_body, dwg_handles::specs::ReferenceCodes::reference))]
+    #[tactic(auto, unfolding(crate::specs::StyleBody::style_body, dwg_grammar::specs::ReferenceCodes::reference))]
     fn fits(&self, base: Handle) -> bool {
         known_form(form_of(self));
         if !title_fits(&self.entry) {
@@ -178,7 +178,7 @@ impl BodyCode for Style {
         self.entry.xref.fits(base)
     }
 
-    #[tactic(auto, unfolding(crate::specs::StyleBody::style_body, dwg_handles::specs::ReferenceCodes::reference))]
+    #[tactic(auto, unfolding(crate::specs::StyleBody::style_body, dwg_grammar::specs::ReferenceCodes::reference))]
     fn lengths(&self, base: Handle) -> Lengths {
         Lengths {
             main: title_bits(&self.entry)
@@ -197,7 +197,7 @@ impl BodyCode for Style {
         write_tv(self.big_font.as_slice(), sink);
     }
 
-    #[tactic(auto, unfolding(crate::specs::StyleBody::style_body, dwg_handles::specs::ReferenceCodes::reference))]
+    #[tactic(auto, unfolding(crate::specs::StyleBody::style_body, dwg_grammar::specs::ReferenceCodes::reference))]
     fn write_refs(&self, base: Handle, sink: &mut BitSink) {
         write_ref(self.entry.xref, base, sink);
     }

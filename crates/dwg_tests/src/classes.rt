@@ -1,7 +1,7 @@
 //! Classes: read, refused, written and found.
 
 ghost use Rattle.std.specs.Prelude.{◌≤◌, length, IfSome};
-ghost use Rattle.dwg_codes.specs.ToEnd.{short_all};
+ghost use Rattle.dwg_grammar.specs.ToEnd.{short_all};
 ghost use Rattle.dwg_classes.specs.Class.{numbered_class};
 ghost use Rattle.dwg_classes.specs.WrittenClasses.{AreWritable};
 

@@ -235,7 +235,7 @@ fn numbers_travel_at_each_bit_position(rt: HostRuntime) {
 struct Lists;
 
 /// The values to the end.
-#[tactic(auto, using(dwg_codes::specs::ToEndLaws::bs_least))]
+#[tactic(auto, using(dwg_grammar::proofs::ToEndLemmas::bs_least))]
 fn to_end(alloc: Global, cursor: &mut BitCursor<'_>) -> Result<Option<Items<u16>>, NoMemory> {
     read_to_end::<CodeBS>(alloc, &(), 2, cursor)
 }

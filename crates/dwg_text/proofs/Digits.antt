@@ -1,5 +1,5 @@
 -- Hexadecimal digits, as the crate that prints them gives them.
-use Rattle.std.proofs.Common.{◌≡◌, refl, sym, ◌∙◌, ap, ap₂, ℕ, ◌/◌, ◌%◌, ◌<◌, List, [], ◌∷◌, map, arith}
+use Rattle.std.proofs.Common.{◌≡◌, refl, ◌∙◌, ap, ap₂, ℕ, ◌/◌, ◌%◌, ◌<◌, [], ◌∷◌, map, arith}
 use Rattle.std.specs.Prelude.{slice_index}
 use Rattle.std.specs.List.{range_with_len}
 use Rattle.std.proofs.lemmas.List.FromFn.{get_or-map-range_with_len}
@@ -11,7 +11,7 @@ table_is : lower_digits ≡ map lower_digit (range_with_len 0 16)
 table_is = refl
 
 -- the digit of each number below sixteen
-digit_entry : (number : ℕ) → number < 16 → slice_index lower_digits number ≡ lower_digit number
+pub digit_entry : (number : ℕ) → number < 16 → slice_index lower_digits number ≡ lower_digit number
 digit_entry number small =
     ap (λ table. slice_index table number) table_is ∙ get_or-map-range_with_len lower_digit 0 16 number number 0 small (omega arith)
 

@@ -45,37 +45,37 @@ pub returns-in-Some-Drill-clause-usage_told : goal.returns-in-Some-Drill-clause-
 returns-in-Some-Drill-clause-usage_told g c = λ usage. drill_usage_told c.in-Some-Drill.n (subst IsUsage (sym c.in-Some-Drill.ensures.named ∙ ap Some c.in-Some-Drill.field-0-is) usage)
 
 pub returns-in-Some-Sections-clause-answered : goal.returns-in-Some-Sections-clause-answered
-returns-in-Some-Sections-clause-answered g c = answered_by _ _ c.request_from.result _ (sym c.in-Some-Sections.ensures.named ∙ ap Some c.in-Some-Sections.field-0-is) tt c.request_from.ensures.answered
+returns-in-Some-Sections-clause-answered g c = answered_by _ _ c.request_from.result _ (sym c.in-Some-Sections.ensures.named ∙ ap Some c.in-Some-Sections.field-0-is) c.request_from.ensures.answered
 
 pub returns-in-Some-Sections-clause-came : goal.returns-in-Some-Sections-clause-came
-returns-in-Some-Sections-clause-came g c = came_by _ _ c.request_from.result _ _ (sym c.in-Some-Sections.ensures.named ∙ ap Some c.in-Some-Sections.field-0-is) tt c.request_from.ensures.came
+returns-in-Some-Sections-clause-came g c = came_by _ _ c.request_from.result _ _ (sym c.in-Some-Sections.ensures.named ∙ ap Some c.in-Some-Sections.field-0-is) c.request_from.ensures.came
 
 pub returns-in-Some-Classes-clause-answered : goal.returns-in-Some-Classes-clause-answered
-returns-in-Some-Classes-clause-answered g c = answered_by _ _ c.request_from-in-Some-Classes.result _ (sym c.in-Some-Classes.ensures.named ∙ ap Some c.in-Some-Classes.field-0-is) tt c.request_from-in-Some-Classes.ensures.answered
+returns-in-Some-Classes-clause-answered g c = answered_by _ _ c.request_from-in-Some-Classes.result _ (sym c.in-Some-Classes.ensures.named ∙ ap Some c.in-Some-Classes.field-0-is) c.request_from-in-Some-Classes.ensures.answered
 
 pub returns-in-Some-Classes-clause-came : goal.returns-in-Some-Classes-clause-came
-returns-in-Some-Classes-clause-came g c = came_by _ _ c.request_from-in-Some-Classes.result _ _ (sym c.in-Some-Classes.ensures.named ∙ ap Some c.in-Some-Classes.field-0-is) tt c.request_from-in-Some-Classes.ensures.came
+returns-in-Some-Classes-clause-came g c = came_by _ _ c.request_from-in-Some-Classes.result _ _ (sym c.in-Some-Classes.ensures.named ∙ ap Some c.in-Some-Classes.field-0-is) c.request_from-in-Some-Classes.ensures.came
 
 pub returns-in-Some-Show-clause-answered : goal.returns-in-Some-Show-clause-answered
-returns-in-Some-Show-clause-answered g c = answered_by _ _ c.request_from-in-Some-Show.result _ (sym c.in-Some-Show.ensures.named ∙ ap Some c.in-Some-Show.field-0-is) tt c.request_from-in-Some-Show.ensures.answered
+returns-in-Some-Show-clause-answered g c = answered_by _ _ c.request_from-in-Some-Show.result _ (sym c.in-Some-Show.ensures.named ∙ ap Some c.in-Some-Show.field-0-is) c.request_from-in-Some-Show.ensures.answered
 
 pub returns-in-Some-Show-clause-came : goal.returns-in-Some-Show-clause-came
-returns-in-Some-Show-clause-came g c = came_by _ _ c.request_from-in-Some-Show.result _ _ (sym c.in-Some-Show.ensures.named ∙ ap Some c.in-Some-Show.field-0-is) tt c.request_from-in-Some-Show.ensures.came
+returns-in-Some-Show-clause-came g c = came_by _ _ c.request_from-in-Some-Show.result _ _ (sym c.in-Some-Show.ensures.named ∙ ap Some c.in-Some-Show.field-0-is) c.request_from-in-Some-Show.ensures.came
 
 pub returns-in-Some-Rewrite-clause-answered : goal.returns-in-Some-Rewrite-clause-answered
-returns-in-Some-Rewrite-clause-answered g c = answered_by _ _ c.request_from-in-Some-Rewrite.result _ (sym c.in-Some-Rewrite.ensures.named ∙ ap Some c.in-Some-Rewrite.field-0-is) tt c.request_from-in-Some-Rewrite.ensures.answered
+returns-in-Some-Rewrite-clause-answered g c = answered_by _ _ c.request_from-in-Some-Rewrite.result _ (sym c.in-Some-Rewrite.ensures.named ∙ ap Some c.in-Some-Rewrite.field-0-is) c.request_from-in-Some-Rewrite.ensures.answered
 
 pub returns-in-Some-Rewrite-clause-came : goal.returns-in-Some-Rewrite-clause-came
-returns-in-Some-Rewrite-clause-came g c = came_by _ _ c.request_from-in-Some-Rewrite.result _ _ (sym c.in-Some-Rewrite.ensures.named ∙ ap Some c.in-Some-Rewrite.field-0-is) tt c.request_from-in-Some-Rewrite.ensures.came
+returns-in-Some-Rewrite-clause-came g c = came_by _ _ c.request_from-in-Some-Rewrite.result _ _ (sym c.in-Some-Rewrite.ensures.named ∙ ap Some c.in-Some-Rewrite.field-0-is) c.request_from-in-Some-Rewrite.ensures.came
 
 pub returns-in-Some-Audit-clause-answered : goal.returns-in-Some-Audit-clause-answered
-returns-in-Some-Audit-clause-answered g c = answered_by _ _ c.request_from-in-Some-Audit.result _ (sym c.in-Some-Audit.ensures.named ∙ ap Some c.in-Some-Audit.field-0-is) tt c.request_from-in-Some-Audit.ensures.answered
+returns-in-Some-Audit-clause-answered g c = answered_by _ _ c.request_from-in-Some-Audit.result _ (sym c.in-Some-Audit.ensures.named ∙ ap Some c.in-Some-Audit.field-0-is) c.request_from-in-Some-Audit.ensures.answered
 
 pub returns-in-Some-Audit-clause-came : goal.returns-in-Some-Audit-clause-came
-returns-in-Some-Audit-clause-came g c = came_by _ _ c.request_from-in-Some-Audit.result _ _ (sym c.in-Some-Audit.ensures.named ∙ ap Some c.in-Some-Audit.field-0-is) tt c.request_from-in-Some-Audit.ensures.came
+returns-in-Some-Audit-clause-came g c = came_by _ _ c.request_from-in-Some-Audit.result _ _ (sym c.in-Some-Audit.ensures.named ∙ ap Some c.in-Some-Audit.field-0-is) c.request_from-in-Some-Audit.ensures.came
 
 pub returns-in-Some-Recover-clause-answered : goal.returns-in-Some-Recover-clause-answered
-returns-in-Some-Recover-clause-answered g c = answered_by _ _ c.request_from-in-Some-Recover.result _ (sym c.in-Some-Recover.ensures.named ∙ ap Some c.in-Some-Recover.field-0-is) tt c.request_from-in-Some-Recover.ensures.answered
+returns-in-Some-Recover-clause-answered g c = answered_by _ _ c.request_from-in-Some-Recover.result _ (sym c.in-Some-Recover.ensures.named ∙ ap Some c.in-Some-Recover.field-0-is) c.request_from-in-Some-Recover.ensures.answered
 
 pub returns-in-Some-Recover-clause-came : goal.returns-in-Some-Recover-clause-came
-returns-in-Some-Recover-clause-came g c = came_by _ _ c.request_from-in-Some-Recover.result _ _ (sym c.in-Some-Recover.ensures.named ∙ ap Some c.in-Some-Recover.field-0-is) tt c.request_from-in-Some-Recover.ensures.came
+returns-in-Some-Recover-clause-came g c = came_by _ _ c.request_from-in-Some-Recover.result _ _ (sym c.in-Some-Recover.ensures.named ∙ ap Some c.in-Some-Recover.field-0-is) c.request_from-in-Some-Recover.ensures.came

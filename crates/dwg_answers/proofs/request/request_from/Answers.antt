@@ -1,30 +1,30 @@
 use Rattle.std.proofs.Common.{refl, arith, ◌∙◌, ap, Err, inr}
-use Rattle.dwg_answers.proofs.Outcomes.{answered_within, answered_too_long, outcome_of_few, outcome_of_many, command_is_drained}
+use Rattle.dwg_answers.proofs.Outcomes.{answered_within, answered_too_long, outcome_of_few, outcome_of_many, outcome_is_drained}
 use Rattle.dwg_answers.proofs.request.request_from.Goals as goal
 
 pub returns-in-Ok-clause-answered : goal.returns-in-Ok-clause-answered
 returns-in-Ok-clause-answered g c = λ bytes told.
-    answered_within c.args.command _ _ c.in-Ok.bytes bytes _ c.in-Ok.ensures.whole c.in-Ok.ensures.end c.in-Ok.ensures.within refl told
+    answered_within c.args.reading _ _ c.in-Ok.bytes bytes _ c.in-Ok.ensures.whole c.in-Ok.ensures.end c.in-Ok.ensures.within refl told
 
 pub returns-in-Ok-clause-came : goal.returns-in-Ok-clause-came
 returns-in-Ok-clause-came g c = (
   c.in-Ok.bytes,
   c.in-Ok.ensures.whole,
-  (omega (arith, c.in-Ok.ensures.within), outcome_of_few c.args.command c.in-Ok.bytes _ c.in-Ok.ensures.within refl),
+  (omega (arith, c.in-Ok.ensures.within), outcome_of_few c.args.reading c.in-Ok.bytes _ c.in-Ok.ensures.within refl),
 )
 
 pub returns-in-Ok-clause-status : goal.returns-in-Ok-clause-status
-returns-in-Ok-clause-status g c = inr (command_is_drained c.args.command c.in-Ok.bytes c.requires)
+returns-in-Ok-clause-status g c = inr (outcome_is_drained c.args.reading c.in-Ok.bytes)
 
 pub returns-in-Err-TooLong-clause-answered : goal.returns-in-Err-TooLong-clause-answered
 returns-in-Err-TooLong-clause-answered g c = λ bytes told.
     let gone = c.read_all.ensures.too_long (c.in-Err-TooLong.is ∙ ap Err c.in-Err-TooLong.field-0-is) in
-    answered_too_long c.args.command _ _ gone.0 bytes _ gone.2 gone.1 refl told
+    answered_too_long c.args.reading _ _ gone.0 bytes _ gone.2 gone.1 refl told
 
 pub returns-in-Err-TooLong-clause-came : goal.returns-in-Err-TooLong-clause-came
 returns-in-Err-TooLong-clause-came g c =
     let gone = c.read_all.ensures.too_long (c.in-Err-TooLong.is ∙ ap Err c.in-Err-TooLong.field-0-is) in (
       gone.0,
       gone.2,
-      (omega (arith, gone.1), outcome_of_many c.args.command gone.0 _ (omega (arith, gone.1)) refl),
+      (omega (arith, gone.1), outcome_of_many c.args.reading gone.0 _ (omega (arith, gone.1)) refl),
     )

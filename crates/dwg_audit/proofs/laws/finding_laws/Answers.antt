@@ -1,5 +1,5 @@
-use Rattle.dwg_audit.specs.FindingLaws.{findings_stand, none_if_sound}
-use Rattle.dwg_audit.specs.FindingOrder.{whole_findings_ordered}
+use Rattle.dwg_audit.proofs.FindingLaws.{findings_stand, none_if_sound}
+use Rattle.dwg_audit.proofs.FindingOrder.{whole_findings_ordered}
 use Rattle.dwg_audit.proofs.laws.finding_laws.Goals as goal
 
 pub returns : goal.returns

@@ -5,9 +5,9 @@ use Rattle.dwg_base.proofs.device.put_all.Goals as goal
 
 pub loop-sent-preserved : goal.loop-sent-preserved
 loop-sent-preserved g c =
-    let taken = subst (λ rest. Appends (g.W.Sink.taken c.loop-sent.sink) (g.W.Sink.taken c.write.new.self) (take c.in-Ok.n rest)) c.behind.ensures.rest c.in-Ok.ensures.bytes in
+    let taken = subst (λ rest. Appends (g.W.Sink.taken c.loop-sent.sink) (g.W.Sink.taken c.write.new.self) (take c.in-Ok.n rest)) c.bytes_behind.ensures.rest c.in-Ok.ensures.bytes in
     record {
-      within = omega (arith, c.in-Ok.ensures.bound, c.behind.ensures.len, c.loop-sent.invariant.within);
+      within = omega (arith, c.in-Ok.ensures.bound, c.bytes_behind.ensures.len, c.loop-sent.invariant.within);
       sent_front = sent_more _ _ _ c.args.piece.now c.loop-sent.sent c.in-Ok.n c.loop-sent.invariant.sent_front taken;
       quiet = c.in-Ok.ensures.counts.ok ∙ c.loop-sent.invariant.quiet;
     }

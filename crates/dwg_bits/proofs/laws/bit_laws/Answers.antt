@@ -1,5 +1,5 @@
-use Rattle.dwg_bits.specs.BitLaws.{num_of_low_bits, low_bits_of_num, num_fits, length_of_low_bits, length_of_bits, bits_joined, bits_same, low_bits_split, num_joined, length_of_bits_between, bits_between_joined}
-use Rattle.dwg_bits.specs.PaddingLaw.{padding_fills}
+use Rattle.dwg_bits.proofs.BitLaws.{num_of_low_bits, low_bits_of_num, num_fits, length_of_low_bits, length_of_bits, bits_joined, bits_same, low_bits_split, num_joined, length_of_bits_between, bits_between_joined}
+use Rattle.dwg_bits.proofs.PaddingLaw.{padding_fills}
 use Rattle.dwg_bits.proofs.laws.bit_laws.Goals as goal
 
 pub returns : goal.returns

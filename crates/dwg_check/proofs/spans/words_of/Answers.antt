@@ -1,5 +1,5 @@
 use Rattle.std.proofs.Common.{◌∙◌, ap, [], ◌∷◌, ◌++◌}
-use Rattle.dwg_check.specs.Spans.{no_byte_yet, first_word, all_words}
+use Rattle.dwg_check.proofs.PrefixWords.{no_byte_yet, first_word, all_words}
 use Rattle.dwg_check.proofs.spans.words_of.Goals as goal
 
 pub along-init : goal.along-init

@@ -1,6 +1,6 @@
 use Rattle.std.proofs.Common.{sym, ◌∙◌, ap, [], ◌+◌, ◌/◌, drop, get_or}
 use Rattle.std.specs.Prelude.{bit_xor}
-use Rattle.dwg_check.specs.Zeros.{applied}
+use Rattle.dwg_check.proofs.AppliedRows.{applied}
 use Rattle.dwg_check.specs.declared.zeros.TheConstants.{POWERS}
 use Rattle.dwg_check.proofs.Powers.{one_bit_less, no_bit_left, power_applied}
 use Rattle.dwg_check.proofs.zeros.after_power.Goals as goal

@@ -1,6 +1,6 @@
-use Rattle.dwg_classes.specs.ClassCode.{any_class_is_lawful, numbered_class_is_lawful, class_least}
-use Rattle.dwg_classes.specs.ClassLineLaws.{classes_alike, tried_ok, tried_err}
-use Rattle.dwg_classes.specs.WrittenClasses.{are_values, written_are_classes, read_are_values}
+use Rattle.dwg_classes.proofs.ClassCode.{any_class_is_lawful, numbered_class_is_lawful, class_least}
+use Rattle.dwg_classes.proofs.ClassLineLemmas.{classes_alike, tried_ok, tried_err}
+use Rattle.dwg_classes.proofs.WrittenClasses.{are_values, written_are_classes, read_are_values}
 use Rattle.dwg_classes.proofs.laws.classes_laws.Goals as goal
 
 pub returns-clause-any : goal.returns-clause-any

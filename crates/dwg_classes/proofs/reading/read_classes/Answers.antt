@@ -1,9 +1,9 @@
 use Rattle.std.proofs.Common.{◌∙◌, sym, subst, arith, List}
-use Rattle.dwg_bits.specs.BitLaws.{length_of_bits_between}
+use Rattle.dwg_bits.proofs.BitLaws.{length_of_bits_between}
 use Rattle.dwg_bits.specs.Cursor.{rest}
 use Rattle.dwg_classes.specs.declared.class.Class.{Class}
 use Rattle.dwg_classes.proofs.ContentReading.{AreReadSoFar, none_so_far, one_so_far, fewer_left, all_read, fault_refused, answers_ok, answers_err, refused_of_table}
-use Rattle.dwg_classes.specs.WrittenClasses.{read_are_values, read_are_writable}
+use Rattle.dwg_classes.proofs.WrittenClasses.{read_are_values, read_are_writable}
 use Rattle.dwg_classes.proofs.reading.read_classes.Goals as goal
 
 pub along-init : goal.along-init

@@ -1,5 +1,5 @@
-use Rattle.dwg_codes.specs.Grammar.{AnyLetters}
-use Rattle.dwg_codes.specs.CodeLaws.{lawful_of_code}
+use Rattle.dwg_grammar.specs.Grammar.{AnyLetters}
+use Rattle.dwg_grammar.proofs.CodeLemmas.{lawful_of_code}
 use Rattle.dwg_codes.proofs.code.code_laws.Goals as goal
 
 pub returns : goal.returns

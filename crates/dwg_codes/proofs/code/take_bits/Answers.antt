@@ -1,6 +1,6 @@
 use Rattle.std.proofs.Common.{◌≡◌, ◌<◌, length, arith}
 use Rattle.std.specs.Prelude.{IfNone}
-use Rattle.dwg_bits.specs.BitLaws.{length_of_bits_between}
+use Rattle.dwg_bits.proofs.BitLaws.{length_of_bits_between}
 use Rattle.dwg_bits.specs.Cursor.{rest}
 use Rattle.dwg_codes.proofs.FixedReading.{fixed_reads, rest_stays}
 use Rattle.dwg_codes.proofs.code.take_bits.Goals as goal

@@ -1,12 +1,12 @@
 use Rattle.std.proofs.Common.{arith}
 use Rattle.dwg_base.specs.Bytes.{AreBytes}
-use Rattle.dwg_codes.specs.Codes.{tv}
-use Rattle.dwg_codes.specs.CodeLaws.{lawful_of_code}
-use Rattle.dwg_codes.specs.Grammar.{AnyLetters}
-use Rattle.dwg_codes.specs.ModularCodes.{mc, ms, signed_mc}
-use Rattle.dwg_codes.specs.ModularLaws.{mc_is_code, mc_below, mc_has, ms_is_code, ms_below, ms_has}
-use Rattle.dwg_codes.specs.SignedLaws.{signed_mc_is_code}
-use Rattle.dwg_codes.specs.TableLaws.{tv_is_code, tv_bytes, tv_has}
+use Rattle.dwg_grammar.specs.Codes.{tv}
+use Rattle.dwg_grammar.proofs.CodeLemmas.{lawful_of_code}
+use Rattle.dwg_grammar.specs.Grammar.{AnyLetters}
+use Rattle.dwg_grammar.specs.ModularCodes.{mc, ms, signed_mc}
+use Rattle.dwg_grammar.proofs.ModularLemmas.{mc_is_code, mc_below, mc_has, ms_is_code, ms_below, ms_has}
+use Rattle.dwg_grammar.proofs.SignedLemmas.{signed_mc_is_code}
+use Rattle.dwg_grammar.proofs.TableLemmas.{tv_is_code, tv_bytes, tv_has}
 use Rattle.dwg_codes.proofs.laws.byte_code_laws.Goals as goal
 
 pub returns-clause-mc : goal.returns-clause-mc

@@ -1,4 +1,4 @@
-use Rattle.dwg_codes.specs.PlainLaws.{mc_spells, signed_mc_spells, ms_spells, rs_spells, rl_spells, rd_spells, tv_spells}
+use Rattle.dwg_grammar.proofs.PlainLemmas.{mc_spells, signed_mc_spells, ms_spells, rs_spells, rl_spells, rd_spells, tv_spells}
 use Rattle.dwg_codes.proofs.laws.plain_spellings.Goals as goal
 
 pub returns-clause-mc : goal.returns-clause-mc

@@ -1,8 +1,8 @@
-use Rattle.dwg_codes.specs.Grammar.{AnyLetters}
-use Rattle.dwg_codes.specs.CodeLaws.{lawful_of_code}
-use Rattle.dwg_codes.specs.CombinatorLaws.{any_letters_closed}
-use Rattle.dwg_codes.specs.ListLaws.{items_is_code}
-use Rattle.dwg_codes.specs.ToEndLaws.{cut_uniquely}
+use Rattle.dwg_grammar.specs.Grammar.{AnyLetters}
+use Rattle.dwg_grammar.proofs.CodeLemmas.{lawful_of_code}
+use Rattle.dwg_grammar.proofs.CombinatorLemmas.{any_letters_closed}
+use Rattle.dwg_grammar.proofs.ListLemmas.{items_is_code}
+use Rattle.dwg_grammar.proofs.ToEndLemmas.{cut_uniquely}
 use Rattle.dwg_codes.proofs.list.list_laws.Goals as goal
 
 pub returns-clause-counted : goal.returns-clause-counted

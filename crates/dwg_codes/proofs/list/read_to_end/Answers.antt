@@ -1,5 +1,5 @@
 use Rattle.std.proofs.Common.{◌∙◌, arith}
-use Rattle.dwg_bits.specs.BitLaws.{length_of_bits_between}
+use Rattle.dwg_bits.proofs.BitLaws.{length_of_bits_between}
 use Rattle.dwg_codes.proofs.ListReading.{one_more, read_values, end_read, end_unread, read_takes}
 use Rattle.dwg_codes.proofs.list.read_to_end.Goals as goal
 

@@ -1,5 +1,5 @@
 use Rattle.std.proofs.Common.{arith, ◌+◌, ◌%◌}
-use Rattle.dwg_bits.specs.BitLaws.{length_of_low_bits}
+use Rattle.dwg_bits.proofs.BitLaws.{length_of_low_bits}
 use Rattle.dwg_codes.proofs.GroupWriting.{mc_length_last, mc_length_more, mc_last_written, mc_more_written, above_below, groups_left}
 use Rattle.dwg_codes.proofs.modular.+write_mc_within.Goals as goal
 

@@ -1,5 +1,5 @@
 use Rattle.std.proofs.Common.{arith, ◌+◌, ◌%◌}
-use Rattle.dwg_bits.specs.BitLaws.{length_of_low_bits}
+use Rattle.dwg_bits.proofs.BitLaws.{length_of_low_bits}
 use Rattle.dwg_codes.proofs.SignedReading.{signed_length_last, signed_length_more, signed_last_written, signed_more_written, signed_above}
 use Rattle.dwg_codes.proofs.modular.+write_signed_within.Goals as goal
 

@@ -1,5 +1,5 @@
 use Rattle.std.proofs.Common.{◌≡◌, arith, to_z-of_z, to_z, of_z, w64}
-use Rattle.dwg_codes.specs.ModularCodes.{signed_number}
+use Rattle.dwg_grammar.specs.ModularCodes.{signed_number}
 use Rattle.dwg_codes.proofs.SignedReading.{signed_read}
 use Rattle.dwg_codes.proofs.modular.read_signed_mc.Goals as goal
 

@@ -1,4 +1,4 @@
-use Rattle.dwg_codes.specs.ByteRunLaws.{short_of_bytes, values_of_bytes}
+use Rattle.dwg_grammar.proofs.ByteRunLemmas.{short_of_bytes, values_of_bytes}
 use Rattle.dwg_codes.proofs.run.byte_run_laws.Goals as goal
 
 pub returns-clause-short : goal.returns-clause-short

@@ -1,5 +1,5 @@
 use Rattle.std.proofs.Common.{arith}
-use Rattle.dwg_bits.specs.BitLaws.{length_of_bits_between}
+use Rattle.dwg_bits.proofs.BitLaws.{length_of_bits_between}
 use Rattle.dwg_bits.specs.Cursor.{rest}
 use Rattle.dwg_codes.proofs.RunReading.{run_read, run_unread}
 use Rattle.dwg_codes.proofs.run.read_bytes.Goals as goal

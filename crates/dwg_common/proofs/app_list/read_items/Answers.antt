@@ -1,5 +1,5 @@
 use Rattle.std.proofs.Common.{◌∙◌, arith}
-use Rattle.dwg_bits.specs.BitLaws.{length_of_bits_between}
+use Rattle.dwg_bits.proofs.BitLaws.{length_of_bits_between}
 use Rattle.dwg_common.proofs.AppReading.{one_begun, mark_parsed, size_unparsed, item_unparsed, item_read, item_takes}
 use Rattle.dwg_common.proofs.app_list.read_items.Goals as goal
 

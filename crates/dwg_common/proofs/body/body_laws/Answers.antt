@@ -1,4 +1,4 @@
-use Rattle.dwg_common.specs.BodyLaws.{lawful_of_body}
+use Rattle.dwg_grammar.proofs.BodyLemmas.{lawful_of_body}
 use Rattle.dwg_common.proofs.body.body_laws.Goals as goal
 
 pub returns : goal.returns

@@ -1,4 +1,4 @@
-use Rattle.dwg_common.specs.BodyLaws.{free_of_body}
+use Rattle.dwg_grammar.proofs.BodyLemmas.{free_of_body}
 use Rattle.dwg_common.specs.CommonLaws.{entity_is_body, object_is_body}
 use Rattle.dwg_common.specs.Entities.{entity_common}
 use Rattle.dwg_common.specs.NonEntities.{object_common}

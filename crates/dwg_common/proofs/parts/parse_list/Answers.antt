@@ -1,8 +1,8 @@
-use Rattle.dwg_codes.specs.CombinatorLaws.{any_letters_closed}
-use Rattle.dwg_codes.specs.Combinators.{items}
-use Rattle.dwg_codes.specs.Grammar.{AnyLetters}
-use Rattle.dwg_codes.specs.ListLaws.{items_is_code}
-use Rattle.dwg_common.specs.BodyReading.{parsed}
+use Rattle.dwg_grammar.proofs.CombinatorLemmas.{any_letters_closed}
+use Rattle.dwg_grammar.specs.Combinators.{items}
+use Rattle.dwg_grammar.specs.Grammar.{AnyLetters}
+use Rattle.dwg_grammar.proofs.ListLemmas.{items_is_code}
+use Rattle.dwg_grammar.proofs.BodyReading.{parsed}
 use Rattle.dwg_common.proofs.parts.parse_list.Goals as goal
 
 pub returns-clause-parsed : goal.returns-clause-parsed

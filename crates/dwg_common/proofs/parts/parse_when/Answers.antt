@@ -1,4 +1,4 @@
-use Rattle.dwg_common.specs.BodyReading.{parsed_when}
+use Rattle.dwg_grammar.proofs.BodyReading.{parsed_when}
 use Rattle.dwg_common.proofs.parts.parse_when.Goals as goal
 
 pub returns-clause-parsed : goal.returns-clause-parsed

@@ -1,4 +1,4 @@
-use Rattle.dwg_common.specs.BodyLaws.{lawful_of_body, free_of_body}
+use Rattle.dwg_grammar.proofs.BodyLemmas.{lawful_of_body, free_of_body}
 use Rattle.dwg_dicts.specs.Dictionaries.{dictionary_body}
 use Rattle.dwg_dicts.specs.DictLaws.{block_control_is_body, layer_control_is_body, style_control_is_body, ltype_control_is_body, appid_control_is_body, dictionary_is_body, xrecord_is_body}
 use Rattle.dwg_dicts.specs.Entries.{layer_control_body, style_control_body, appid_control_body}

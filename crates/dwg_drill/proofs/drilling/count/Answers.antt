@@ -1,6 +1,6 @@
 use Rattle.std.proofs.Common.{ap, ◌∙◌, List, arith}
 use Rattle.std.specs.Prelude.{map}
-use Rattle.dwg_base.specs.Bytes.{are_bytes}
+use Rattle.dwg_base.proofs.ByteLists.{are_bytes}
 use Rattle.dwg_file.specs.Contents.{Contents}
 use Rattle.dwg_file.specs.DrawingAt.{drawing_at}
 use Rattle.dwg_object.specs.declared.object.Object.{Object}

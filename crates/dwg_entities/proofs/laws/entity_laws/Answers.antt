@@ -1,4 +1,4 @@
-use Rattle.dwg_common.specs.BodyLaws.{free_of_body}
+use Rattle.dwg_grammar.proofs.BodyLemmas.{free_of_body}
 use Rattle.dwg_entities.specs.BodiesLaws.{text_is_body, attrib_is_body, attdef_is_body, insert_is_body, block_is_body, endblk_is_body, seqend_is_body}
 use Rattle.dwg_entities.specs.AttdefBody.{attdef_body}
 use Rattle.dwg_entities.specs.AttribBody.{attrib_body}

@@ -1,4 +1,4 @@
-use Rattle.dwg_file.specs.FrameReading.{IsAlong}
+use Rattle.dwg_file.proofs.FrameReading.{IsAlong}
 use Rattle.dwg_file.proofs.frames.read_frames.Given as goal
 
 -- the frames of the pairs so far were read, and what is left gives the whole

@@ -1,10 +1,11 @@
 use Rattle.dwg_sections.specs.HeaderLaws.{PassingBytesBeginWithHeader, HeaderIsRead}
 use Rattle.dwg_sections.specs.FramedLaws.{PassingBytesHaveSection, SectionIsRead}
-use Rattle.dwg_file.specs.ReadingLaws.{SectionLaws, reads_spelled, spelled_reads, spelled_passes, spelled_once}
-use Rattle.dwg_file.specs.PassingLaws.{passing_is_spelled}
-use Rattle.dwg_file.specs.FrameRefusalLaws.{frames_are_refused}
-use Rattle.dwg_file.specs.SectionRefusalLaws.{sections_are_refused}
-use Rattle.dwg_file.specs.ValidLaws.{parts_are_valid, whole_sections_are_read, spelled_is_valid}
+use Rattle.dwg_file.proofs.ReadingLemmas.{SectionLaws, reads_spelled, spelled_reads, spelled_passes, spelled_once}
+use Rattle.dwg_file.proofs.PassingLemmas.{passing_is_spelled}
+use Rattle.dwg_file.proofs.FrameRefusalLemmas.{frames_are_refused}
+use Rattle.dwg_file.proofs.PartRefusals.{variables_are_refused, class_section_is_refused, classes_are_refused, map_lines_are_refused}
+use Rattle.dwg_file.proofs.SectionRefusalLemmas.{sections_are_refused}
+use Rattle.dwg_file.proofs.ValidLaws.{parts_are_valid, whole_sections_are_read, spelled_is_valid}
 use Rattle.dwg_file.proofs.laws.drawing_laws.Goals as goal
 
 laws : PassingBytesBeginWithHeader → HeaderIsRead → PassingBytesHaveSection → SectionIsRead → SectionLaws
@@ -46,3 +47,15 @@ returns-clause-frames c = frames_are_refused c.file_header_laws.ensures.complete
 
 pub returns-clause-sections : goal.returns-clause-sections
 returns-clause-sections c = sections_are_refused c.file_header_laws.ensures.complete
+
+pub returns-clause-variables : goal.returns-clause-variables
+returns-clause-variables c = variables_are_refused c.file_header_laws.ensures.complete c.framed_laws.ensures.refused
+
+pub returns-clause-class_section : goal.returns-clause-class_section
+returns-clause-class_section c = class_section_is_refused c.file_header_laws.ensures.complete c.framed_laws.ensures.refused
+
+pub returns-clause-classes : goal.returns-clause-classes
+returns-clause-classes c = classes_are_refused c.file_header_laws.ensures.complete c.framed_laws.ensures.complete
+
+pub returns-clause-map : goal.returns-clause-map
+returns-clause-map c = map_lines_are_refused c.file_header_laws.ensures.complete

@@ -1,4 +1,4 @@
-use Rattle.dwg_file.proofs.ObjectOrder.{objects_ordered}
+use Rattle.dwg_file.proofs.HandleOrder.{objects_ordered}
 use Rattle.dwg_file.proofs.objects.in_handle_order.Goals as goal
 
 pub returns-in-Ok-clause-same : goal.returns-in-Ok-clause-same

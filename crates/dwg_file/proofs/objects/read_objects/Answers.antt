@@ -3,7 +3,7 @@ use Rattle.std.specs.Prelude.{Ok}
 use Rattle.dwg_classes.specs.declared.class.Class.{Class}
 use Rattle.dwg_file.specs.FileLines.{frames_behind}
 use Rattle.dwg_file.specs.FrameReading.{AnswersFrames}
-use Rattle.dwg_file.proofs.ObjectOrder.{objects_answered}
+use Rattle.dwg_file.proofs.HandleOrder.{objects_answered}
 use Rattle.dwg_file.proofs.objects.read_objects.Goals as goal
 
 pub returns-in-Ok-in_handle_order-clause-tried : goal.returns-in-Ok-in_handle_order-clause-tried

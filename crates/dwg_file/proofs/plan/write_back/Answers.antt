@@ -6,7 +6,7 @@ use Rattle.dwg_objmap.specs.declared.pair.Pair.{Pair}
 use Rattle.dwg_objmap.specs.Writing.{Ascend, map_bytes}
 use Rattle.dwg_file.specs.declared.parts.Other.{Other}
 use Rattle.dwg_file.specs.Canonical.{frames_bytes, others_bytes}
-use Rattle.dwg_file.specs.CanonicalLaws.{canonical_ascends}
+use Rattle.dwg_file.proofs.CanonicalLaws.{canonical_ascends}
 use Rattle.dwg_file.specs.Contents.{other_value, contents_of}
 use Rattle.dwg_file.proofs.PlanWriting.{grew, length_of_back, back_written}
 use Rattle.dwg_file.proofs.plan.write_back.Goals as goal

@@ -1,5 +1,5 @@
 use Rattle.std.proofs.Common.{sym, subst, arith}
-use Rattle.dwg_base.specs.Bytes.{are_bytes}
+use Rattle.dwg_base.proofs.ByteLists.{are_bytes}
 use Rattle.dwg_file.specs.Contents.{Contents, contents_of}
 use Rattle.dwg_file.specs.Spelled.{Spelled}
 use Rattle.dwg_file.proofs.reading.read_drawing.Goals as goal

@@ -1,4 +1,4 @@
-use Rattle.dwg_file.specs.CanonicalLaws.{canonical_spells, canonical_is_counted, canonical_spells_no_other, canonical_tells_drawing, canonical_is_read, rewriting_is_done_once}
+use Rattle.dwg_file.proofs.CanonicalLaws.{canonical_spells, canonical_is_counted, canonical_spells_no_other, canonical_tells_drawing, canonical_is_read, rewriting_is_done_once}
 use Rattle.dwg_file.proofs.written_laws.canonical_laws.Goals as goal
 
 pub returns-clause-spells : goal.returns-clause-spells

@@ -1,12 +1,12 @@
-use Rattle.dwg_codes.specs.Grammar.{AnyLetters}
-use Rattle.dwg_codes.specs.CodeLaws.{lawful_of_code}
-use Rattle.dwg_codes.specs.Combinators.{items}
-use Rattle.dwg_codes.specs.CombinatorLaws.{any_letters_closed}
-use Rattle.dwg_codes.specs.ListLaws.{items_is_code}
-use Rattle.dwg_codes.specs.ToEndLaws.{cut_uniquely}
-use Rattle.dwg_handles.specs.ReferenceCodes.{reference, own_handle}
-use Rattle.dwg_handles.specs.ReferenceLaws.{reference_is_code, reference_spelled, reached_where_spelled, reference_least}
-use Rattle.dwg_handles.specs.OwnLaws.{own_is_code, own_spelled}
+use Rattle.dwg_grammar.specs.Grammar.{AnyLetters}
+use Rattle.dwg_grammar.proofs.CodeLemmas.{lawful_of_code}
+use Rattle.dwg_grammar.specs.Combinators.{items}
+use Rattle.dwg_grammar.proofs.CombinatorLemmas.{any_letters_closed}
+use Rattle.dwg_grammar.proofs.ListLemmas.{items_is_code}
+use Rattle.dwg_grammar.proofs.ToEndLemmas.{cut_uniquely}
+use Rattle.dwg_grammar.specs.ReferenceCodes.{reference, own_handle}
+use Rattle.dwg_grammar.proofs.ReferenceLemmas.{reference_is_code, reference_spelled, reached_where_spelled, reference_least}
+use Rattle.dwg_grammar.proofs.OwnLemmas.{own_is_code, own_spelled}
 use Rattle.dwg_handles.proofs.laws.reference_laws.Goals as goal
 
 pub returns : goal.returns

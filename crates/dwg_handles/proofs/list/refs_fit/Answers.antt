@@ -2,7 +2,7 @@ use Rattle.std.proofs.Common.{rules}
 use Rattle.std.proofs.lemmas.Iterator.{YieldsList-from_slice}
 use Rattle.std.proofs.lemmas.Iterator.Search.{all_from_yields_List}
 use borrow.Author.Tests.{tests}
-use Rattle.dwg_handles.specs.Reference.{Reference, reaches}
+use Rattle.dwg_grammar.specs.Reference.{Reference, reaches}
 use Rattle.dwg_handles.proofs.ListFitting.{fit_are_values}
 use Rattle.dwg_handles.proofs.list.refs_fit.Goals as goal
 

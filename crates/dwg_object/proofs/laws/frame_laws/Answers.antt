@@ -1,11 +1,11 @@
-use Rattle.dwg_codes.specs.CodeLaws.{lawful_of_code}
-use Rattle.dwg_codes.specs.Grammar.{AnyLetters}
+use Rattle.dwg_grammar.proofs.CodeLemmas.{lawful_of_code}
+use Rattle.dwg_grammar.specs.Grammar.{AnyLetters}
 use Rattle.dwg_object.specs.Forms.{head}
-use Rattle.dwg_object.specs.HeadLaws.{head_is_code, begins_same}
-use Rattle.dwg_object.specs.OwnLaws.{own_is_lawful, own_of_kind}
-use Rattle.dwg_object.specs.SpanLaws.{tried_span_means}
-use Rattle.dwg_object.specs.FrameLaws.{frames_same, tried_frame_means, held_frame}
-use Rattle.dwg_object.specs.FormLaws.{forms_same, form_of_head, head_of_form, form_is_valid, valid_is_form, written_frame, frame_is_bytes}
+use Rattle.dwg_object.proofs.HeadLaws.{head_is_code, begins_same}
+use Rattle.dwg_object.proofs.OwnLaws.{own_is_lawful, own_of_kind}
+use Rattle.dwg_object.proofs.SpanLaws.{tried_span_means}
+use Rattle.dwg_object.proofs.FrameLaws.{frames_same, tried_frame_means, held_frame}
+use Rattle.dwg_object.proofs.FormLaws.{forms_same, form_of_head, head_of_form, form_is_valid, valid_is_form, written_frame, frame_is_bytes}
 use Rattle.dwg_object.proofs.laws.frame_laws.Goals as goal
 
 pub returns : goal.returns

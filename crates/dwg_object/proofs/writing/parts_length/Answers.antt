@@ -1,6 +1,6 @@
 use Rattle.std.proofs.Common.{◌+◌, List, Bool, ◌++◌, arith}
 use Rattle.dwg_bits.specs.Sink.{padding}
-use Rattle.dwg_bits.specs.WholeBytes.{whole_are_bytes}
+use Rattle.dwg_bits.proofs.WholeBytes.{whole_are_bytes}
 use Rattle.dwg_object.specs.Written.{object_bits}
 use Rattle.dwg_object.proofs.FrameWriting.{object_long, object_small, padded_long}
 use Rattle.dwg_object.proofs.writing.parts_length.Goals as goal

@@ -1,9 +1,9 @@
 use Rattle.std.proofs.Common.{◌∙◌, ap, subst, ℕ, length, arith}
-use Rattle.dwg_bits.specs.BitLaws.{length_of_bits}
+use Rattle.dwg_bits.proofs.BitLaws.{length_of_bits}
 use Rattle.dwg_bits.specs.Bits.{bits}
 use Rattle.dwg_bits.specs.Sink.{Extends}
 use Rattle.dwg_check.specs.CheckWord.{FRAME_START, check_word}
-use Rattle.dwg_codes.specs.ModularCodes.{ms}
+use Rattle.dwg_grammar.specs.ModularCodes.{ms}
 use Rattle.dwg_object.specs.Objects.{value_of}
 use Rattle.dwg_object.specs.Written.{body_bytes}
 use Rattle.dwg_object.proofs.FrameWriting.{frame_room, size_and_body, size_and_body_bytes, written_behind, frame_written, aligned_behind, eighth}

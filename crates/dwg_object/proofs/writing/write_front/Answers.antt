@@ -1,5 +1,5 @@
 use Rattle.std.proofs.Common.{arith}
-use Rattle.dwg_object.specs.WrittenLaws.{head_as_long}
+use Rattle.dwg_object.proofs.WrittenLemmas.{head_as_long}
 use Rattle.dwg_object.proofs.FrameWriting.{front_long, front_written}
 use Rattle.dwg_object.proofs.writing.write_front.Goals as goal
 

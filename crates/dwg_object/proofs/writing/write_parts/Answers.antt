@@ -1,7 +1,7 @@
 use Rattle.std.proofs.Common.{List, Bool, arith}
 use Rattle.std.proofs.lemmas.List.{length-append}
 use Rattle.dwg_bits.specs.Sink.{padding}
-use Rattle.dwg_bits.specs.SinkLaws.{extends_by_both}
+use Rattle.dwg_bits.proofs.SinkLemmas.{extends_by_both}
 use Rattle.dwg_object.specs.Written.{object_bits, front_bits, refs_bits}
 use Rattle.dwg_object.proofs.FrameWriting.{object_long, object_small, object_room, object_written, fill_long}
 use Rattle.dwg_object.proofs.writing.write_parts.Goals as goal

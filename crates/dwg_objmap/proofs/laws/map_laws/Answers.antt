@@ -1,9 +1,9 @@
 use Rattle.dwg_base.specs.Bytes.{AreBytes}
-use Rattle.dwg_codes.specs.CodeLaws.{lawful_of_code}
+use Rattle.dwg_grammar.proofs.CodeLemmas.{lawful_of_code}
 use Rattle.dwg_objmap.specs.Pairs.{pair_behind}
-use Rattle.dwg_objmap.specs.PairLaws.{pair_is_code}
-use Rattle.dwg_objmap.specs.PageLaws.{page_next}
-use Rattle.dwg_objmap.specs.MapLaws.{page_is_tried, page_is_refused, map_is_tried, map_is_refused, map_is_unique}
+use Rattle.dwg_objmap.proofs.PairLemmas.{pair_is_code}
+use Rattle.dwg_objmap.proofs.PageLemmas.{page_next}
+use Rattle.dwg_objmap.proofs.MapLemmas.{page_is_tried, page_is_refused, map_is_tried, map_is_refused, map_is_unique}
 use Rattle.dwg_objmap.proofs.laws.map_laws.Goals as goal
 
 pub returns : goal.returns

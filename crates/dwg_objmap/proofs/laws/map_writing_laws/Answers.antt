@@ -1,7 +1,7 @@
 use Rattle.std.proofs.Common.{refl}
 use Rattle.dwg_objmap.specs.Writing.{map_behind, map_bytes}
-use Rattle.dwg_objmap.specs.FillingLaws.{map_is_filled, map_is_written}
-use Rattle.dwg_objmap.specs.FillingOnly.{only_filling}
+use Rattle.dwg_objmap.proofs.FillingLemmas.{map_is_filled, map_is_written}
+use Rattle.dwg_objmap.proofs.FillingOnly.{only_filling}
 use Rattle.dwg_objmap.proofs.laws.map_writing_laws.Goals as goal
 
 pub returns : goal.returns

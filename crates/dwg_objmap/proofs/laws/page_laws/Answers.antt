@@ -1,4 +1,4 @@
-use Rattle.dwg_objmap.specs.WalkingLaws.{longest_in_front, longest_is_unique, whole_in_front, page_gives, size_is}
+use Rattle.dwg_objmap.proofs.WalkingLemmas.{longest_in_front, longest_is_unique, whole_in_front, page_gives, size_is}
 use Rattle.dwg_objmap.proofs.laws.page_laws.Goals as goal
 
 pub returns : goal.returns

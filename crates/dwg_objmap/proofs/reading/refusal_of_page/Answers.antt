@@ -1,6 +1,6 @@
 use Rattle.std.proofs.Common.{sym, ◌∙◌, ap, arith}
 use Rattle.std.specs.Prelude.{Err}
-use Rattle.dwg_objmap.specs.PageLaws.{page_short, page_cut, page_small}
+use Rattle.dwg_objmap.proofs.PageLemmas.{page_short, page_cut, page_small}
 use Rattle.dwg_objmap.proofs.StepReading.{not_so, refused_word}
 use Rattle.dwg_objmap.proofs.reading.refusal_of_page.Goals as goal
 

@@ -1,6 +1,6 @@
 use Rattle.std.proofs.Common.{sym, ◌∙◌, ap, arith}
 use Rattle.std.specs.Prelude.{Some}
-use Rattle.dwg_objmap.specs.WalkingLaws.{size_there, size_missing}
+use Rattle.dwg_objmap.proofs.WalkingLemmas.{size_there, size_missing}
 use Rattle.dwg_objmap.proofs.walking.page_size.Goals as goal
 
 pub returns-then-saturating_sub-lt2-clause-is : goal.returns-then-saturating_sub-lt2-clause-is

@@ -9,14 +9,14 @@ along-init c = record {
 }
 
 pub returns-in_default : goal.returns-in_default
-returns-in_default c = front_over _ c.along.at c.along.pairs _ c.along.last c.behind.result.now c.args.body.now c.along.invariant.whole c.behind.ensures c.in_default.ensures.none
+returns-in_default c = front_over _ c.along.at c.along.pairs _ c.along.last c.bytes_behind.result.now c.args.body.now c.along.invariant.whole c.bytes_behind.ensures.rest c.in_default.ensures.none
 
 pub along-preserved : goal.along-preserved
 along-preserved c = record {
-  within = omega (arith, c.along.invariant.within, c.in-Some.ensures.used, ap length c.behind.ensures, length-drop c.along.at c.args.body.now);
+  within = omega (arith, c.along.invariant.within, c.in-Some.ensures.used, ap length c.bytes_behind.ensures.rest, length-drop c.along.at c.args.body.now);
   whole =
       front_on (length c.args.body.now - c.along.counter) (length c.args.body.now - (c.along.counter + 1)) c.along.at c.in-Some.used c.along.pairs c.add.new.pairs _ c.along.last c.in-Some.pair
-      c.behind.result.now c.args.body.now (omega arith) c.along.invariant.whole c.behind.ensures c.in-Some.ensures.found c.in_ok-add.ensures;
+      c.bytes_behind.result.now c.args.body.now (omega arith) c.along.invariant.whole c.bytes_behind.ensures.rest c.in-Some.ensures.found c.in_ok-add.ensures;
 }
 
 pub returns : goal.returns

@@ -1,4 +1,4 @@
-use Rattle.dwg_paths.specs.ChainLaws.{chain_decided}
+use Rattle.dwg_paths.proofs.ChainLaws.{chain_decided}
 use Rattle.dwg_paths.proofs.laws.chain_laws.Goals as goal
 
 pub returns : goal.returns

@@ -1,5 +1,5 @@
-use Rattle.dwg_paths.specs.RankLaws.{one_rank, path_of_rank, rank_of_path}
-use Rattle.dwg_paths.specs.PathLaws.{rank_is_small, path_decided}
+use Rattle.dwg_paths.proofs.RankLemmas.{one_rank, path_of_rank, rank_of_path}
+use Rattle.dwg_paths.proofs.PathLaws.{rank_is_small, path_decided}
 use Rattle.dwg_paths.proofs.laws.path_laws.Goals as goal
 
 pub returns-clause-one_rank : goal.returns-clause-one_rank

@@ -1,4 +1,4 @@
-use Rattle.dwg_paths.specs.PlaceLaws.{rank_seen, path_seen, chain_seen}
+use Rattle.dwg_paths.proofs.PlaceLaws.{rank_seen, path_seen, chain_seen}
 use Rattle.dwg_paths.proofs.laws.place_laws.Goals as goal
 
 pub returns-clause-rank_seen : goal.returns-clause-rank_seen

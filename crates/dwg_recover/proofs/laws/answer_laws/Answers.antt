@@ -1,5 +1,5 @@
-use Rattle.dwg_recover.specs.LossLaws.{losses_told}
-use Rattle.dwg_recover.specs.ResultLaws.{damaged_is_answered, mapped_are_told, recovered_is_sound, spelled_is_answered}
+use Rattle.dwg_recover.proofs.ToldLosses.{losses_told}
+use Rattle.dwg_recover.proofs.ResultLemmas.{damaged_is_answered, mapped_are_told, recovered_is_sound, spelled_is_answered}
 use Rattle.dwg_recover.proofs.SectionsOfFile.{section_laws}
 use Rattle.dwg_recover.proofs.laws.answer_laws.Goals as goal
 

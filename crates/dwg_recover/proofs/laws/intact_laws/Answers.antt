@@ -1,5 +1,5 @@
-use Rattle.dwg_recover.specs.IntactLaws.{intact_objects_are_kept}
-use Rattle.dwg_recover.specs.IntactParts.{canonical_parts_stand}
+use Rattle.dwg_recover.proofs.IntactLemmas.{intact_objects_are_kept}
+use Rattle.dwg_recover.proofs.IntactParts.{canonical_parts_stand}
 use Rattle.dwg_recover.proofs.SectionsOfFile.{section_laws}
 use Rattle.dwg_recover.proofs.laws.intact_laws.Goals as goal
 

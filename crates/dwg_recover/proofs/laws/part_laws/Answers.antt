@@ -1,5 +1,5 @@
-use Rattle.dwg_recover.specs.MapExactLaws.{candidates_are_of_pairs}
-use Rattle.dwg_recover.specs.PartLaws.{content_is_taken, header_found, pages_give_pairs, parts_are_kept, section_is_whole, walk_is_located}
+use Rattle.dwg_recover.proofs.MapKeeping.{candidates_are_of_pairs}
+use Rattle.dwg_recover.proofs.FoundParts.{content_is_taken, header_found, pages_give_pairs, parts_are_kept, section_is_whole, walk_is_located}
 use Rattle.dwg_recover.proofs.SectionsOfFile.{section_laws}
 use Rattle.dwg_recover.proofs.laws.part_laws.Goals as goal
 

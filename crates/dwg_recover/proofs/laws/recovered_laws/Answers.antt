@@ -1,11 +1,11 @@
-use Rattle.dwg_recover.specs.ExactLaws.{scan_keeps_exactly}
-use Rattle.dwg_recover.specs.HeldLaws.{candidates_hold, scanned_are_read}
-use Rattle.dwg_recover.specs.MapExactLaws.{map_keeps_exactly}
-use Rattle.dwg_recover.specs.MemberLaws.{no_others_are_kept, objects_are_of_frames}
-use Rattle.dwg_recover.specs.OrderLaws.{places_are_in_order}
-use Rattle.dwg_recover.specs.RecoveredLaws.{frames_are_kept, pairs_read_few, parts_are_read}
-use Rattle.dwg_recover.specs.SectionLaws.{sections_are_first}
-use Rattle.dwg_recover.specs.WalkLaws.{walk_once, walk_stands}
+use Rattle.dwg_recover.proofs.ScanKeeping.{scan_keeps_exactly}
+use Rattle.dwg_recover.proofs.FoundFrames.{candidates_hold, scanned_are_read}
+use Rattle.dwg_recover.proofs.MapKeeping.{map_keeps_exactly}
+use Rattle.dwg_recover.proofs.KeptMembers.{no_others_are_kept, objects_are_of_frames}
+use Rattle.dwg_recover.proofs.OrderOfPlace.{places_are_in_order}
+use Rattle.dwg_recover.proofs.RecoveredLaws.{frames_are_kept, pairs_read_few, parts_are_read}
+use Rattle.dwg_recover.proofs.FoundSections.{sections_are_first}
+use Rattle.dwg_recover.proofs.WalkStanding.{walk_once, walk_stands}
 use Rattle.dwg_recover.proofs.laws.recovered_laws.Goals as goal
 
 pub returns-clause-walk : goal.returns-clause-walk

@@ -1,5 +1,5 @@
 use Rattle.std.proofs.Common.{sym, subst, arith}
-use Rattle.dwg_base.specs.Bytes.{are_bytes}
+use Rattle.dwg_base.proofs.ByteLists.{are_bytes}
 use Rattle.dwg_file.specs.Contents.{Contents}
 use Rattle.dwg_file.specs.Valid.{IsValid}
 use Rattle.dwg_recover.specs.Recovering.{drawing_recovered}

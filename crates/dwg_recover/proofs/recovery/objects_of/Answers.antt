@@ -2,10 +2,10 @@ use Rattle.std.proofs.Common.{sym, subst, List, map}
 use Rattle.std.specs.List.{AllByRecursion}
 use Rattle.dwg_object.specs.Objects.{ObjectValue, handle_of}
 use Rattle.dwg_objmap.specs.Pages.{AreHandles}
-use Rattle.dwg_recover.specs.KeptLaws.{AreKept}
+use Rattle.dwg_recover.specs.KeptFrames.{AreKept}
 use Rattle.dwg_recover.specs.Placing.{IsFound}
-use Rattle.dwg_recover.specs.ReadLaws.{handles_kept}
-use Rattle.dwg_recover.specs.RecoveredLaws.{frames_are_kept}
+use Rattle.dwg_recover.proofs.KeptObjects.{handles_kept}
+use Rattle.dwg_recover.proofs.RecoveredLaws.{frames_are_kept}
 use Rattle.dwg_recover.proofs.recovery.objects_of.Goals as goal
 
 pub read_objects-requires : goal.read_objects-requires

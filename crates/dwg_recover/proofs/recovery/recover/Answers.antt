@@ -1,6 +1,6 @@
 use Rattle.std.proofs.Common.{◌≡◌, subst, arith}
 use Rattle.std.specs.Prelude.{IfOk}
-use Rattle.dwg_base.specs.Bytes.{are_bytes}
+use Rattle.dwg_base.proofs.ByteLists.{are_bytes}
 use Rattle.dwg_recover.specs.Recovering.{RecoveredValue}
 use Rattle.dwg_recover.specs.Results.{recovered_value}
 use Rattle.dwg_recover.proofs.WholeRecovery.{recovered_of_damaged, recovered_of_whole}

@@ -1,5 +1,5 @@
 use Rattle.std.proofs.Common.{◌∙◌, refl}
-use Rattle.dwg_file.specs.MapSize.{map_few}
+use Rattle.dwg_file.proofs.MapSize.{map_few}
 use Rattle.dwg_recover.specs.Frames.{candidates}
 use Rattle.dwg_recover.proofs.WholeRecovery.{map_located, map_unrefused, whole_frames}
 use Rattle.dwg_recover.proofs.recovery.whole_map.Goals as goal

@@ -1,5 +1,5 @@
 use Rattle.std.proofs.Common.{arith}
-use Rattle.dwg_base.specs.Bytes.{are_bytes}
+use Rattle.dwg_base.proofs.ByteLists.{are_bytes}
 use Rattle.dwg_sections.proofs.header_writer.word_behind.Goals as goal
 
 pub returns-clause-small : goal.returns-clause-small

@@ -1,5 +1,6 @@
 use Rattle.dwg_sections.proofs.FramedSound.{section_stands}
 use Rattle.dwg_sections.proofs.FramedComplete.{section_is_read, section_is_counted}
+use Rattle.dwg_sections.proofs.FramedRefusals.{section_is_refused}
 use Rattle.dwg_sections.proofs.laws.framed_laws.Goals as goal
 
 pub returns-clause-sound : goal.returns-clause-sound
@@ -10,3 +11,6 @@ returns-clause-complete c = section_is_read
 
 pub returns-clause-counted : goal.returns-clause-counted
 returns-clause-counted c = section_is_counted
+
+pub returns-clause-refused : goal.returns-clause-refused
+returns-clause-refused c = section_is_refused

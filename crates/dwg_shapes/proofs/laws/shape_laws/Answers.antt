@@ -1,4 +1,4 @@
-use Rattle.dwg_common.specs.BodyLaws.{free_of_body}
+use Rattle.dwg_grammar.proofs.BodyLemmas.{free_of_body}
 use Rattle.dwg_shapes.specs.ShapeLaws.{line_is_body, point_is_body, circle_is_body, arc_is_body, lwpolyline_is_body}
 use Rattle.dwg_shapes.specs.Arcs.{arc_body}
 use Rattle.dwg_shapes.specs.Circles.{circle_body}

@@ -1,4 +1,4 @@
-use Rattle.dwg_codes.specs.Codes.{bd}
+use Rattle.dwg_grammar.specs.Codes.{bd}
 use Rattle.dwg_shapes.proofs.WhereCounted.{some_members}
 use Rattle.dwg_shapes.proofs.polyline_lists.known_bulges.Goals as goal
 

@@ -1,5 +1,5 @@
 use Rattle.std.proofs.Common.{drop}
-use Rattle.dwg_common.specs.Points.{IsPoint2}
+use Rattle.dwg_grammar.specs.Points.{IsPoint2}
 use Rattle.dwg_shapes.proofs.Known.{IsKnownSoFar}
 use Rattle.dwg_shapes.proofs.vertices.known_vertices.Given as goal
 

@@ -1,6 +1,6 @@
 use Rattle.std.proofs.Common.{◌∙◌, Some, None}
-use Rattle.dwg_codes.specs.Combinators.{chain}
-use Rattle.dwg_codes.specs.declared.points.Point2.{Point2}
+use Rattle.dwg_grammar.specs.Combinators.{chain}
+use Rattle.dwg_grammar.specs.declared.points.Point2.{Point2}
 use Rattle.dwg_shapes.specs.LwPolylines.{vertex}
 use Rattle.dwg_shapes.proofs.ChainReading.{one_begun, one_missing, all_begun}
 use Rattle.dwg_shapes.proofs.vertices.read_vertices.Goals as goal

@@ -1,6 +1,6 @@
 use Rattle.std.proofs.Common.{◌≡◌, Some, None}
 use Rattle.dwg_bits.specs.Cursor.{rest}
-use Rattle.dwg_codes.specs.declared.points.Point2.{Point2}
+use Rattle.dwg_grammar.specs.declared.points.Point2.{Point2}
 use Rattle.dwg_shapes.specs.LwPolylines.{vertex}
 use Rattle.dwg_shapes.proofs.ChainReading.{IsBegun}
 use Rattle.dwg_shapes.proofs.vertices.read_vertices.Given as goal

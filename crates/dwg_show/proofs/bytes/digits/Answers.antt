@@ -1,6 +1,6 @@
 use Rattle.std.proofs.Common.{arith}
 use Rattle.std.specs.Prelude.{string_bytes}
-use Rattle.dwg_base.specs.Bytes.{are_bytes}
+use Rattle.dwg_base.proofs.ByteLists.{are_bytes}
 use Rattle.dwg_show.proofs.Digits.{encoded_digits}
 use Rattle.dwg_show.proofs.bytes.digits.Goals as goal
 

@@ -1,7 +1,7 @@
 use Rattle.dwg_show.proofs.FewBits.{all_of_seen}
 use Rattle.dwg_show.specs.FewBits.{HasFewBits}
-use Rattle.std.proofs.Common.{◌≡◌, sym, ◌∙◌, ap, ap₂, subst, ◌++◌}
-use Rattle.std.specs.Prelude.{codes, decimal, flat_map, map}
+use Rattle.std.proofs.Common.{sym, ap₂, subst, ◌++◌}
+use Rattle.std.specs.Prelude.{codes, decimal}
 use Rattle.std.proofs.lemmas.List.{length-map}
 use Rattle.dwg_object.specs.Objects.{value_of}
 use Rattle.dwg_text.specs.Lines.{line}

@@ -1,4 +1,4 @@
-use Rattle.std.proofs.Common.{subst, take}
+use Rattle.std.proofs.Common.{subst}
 use Rattle.dwg_show.specs.Telling.{Tells}
 use Rattle.dwg_show.proofs.Elements.{more_elements}
 use Rattle.dwg_show.proofs.Telling.{◌▷◌}

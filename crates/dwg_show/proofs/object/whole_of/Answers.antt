@@ -1,6 +1,6 @@
 use Rattle.std.proofs.Common.{sym, arith}
-use Rattle.dwg_base.specs.Bytes.{are_bytes}
-use Rattle.dwg_bits.specs.WholeBytes.{whole_of_bits}
+use Rattle.dwg_base.proofs.ByteLists.{are_bytes}
+use Rattle.dwg_bits.proofs.WholeBytes.{whole_of_bits}
 use Rattle.dwg_show.proofs.object.whole_of.Goals as goal
 
 pub returns : goal.returns

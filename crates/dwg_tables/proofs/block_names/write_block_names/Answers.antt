@@ -1,7 +1,7 @@
 use Rattle.std.proofs.Common.{Bool, subst}
 use Rattle.dwg_bits.specs.Sink.{Extends}
-use Rattle.dwg_bits.specs.SinkLaws.{extends_by_both}
-use Rattle.dwg_codes.specs.Combinators.{when}
+use Rattle.dwg_bits.proofs.SinkLemmas.{extends_by_both}
+use Rattle.dwg_grammar.specs.Combinators.{when}
 use Rattle.dwg_tables.specs.BlockHeaderBody.{block_ends}
 use Rattle.dwg_tables.proofs.block_names.write_block_names.Goals as goal
 

@@ -1,4 +1,4 @@
-use Rattle.dwg_common.specs.BodyLaws.{free_of_body}
+use Rattle.dwg_grammar.proofs.BodyLemmas.{free_of_body}
 use Rattle.dwg_tables.specs.AppIdBody.{app_id_body}
 use Rattle.dwg_tables.specs.BlockHeaderBody.{block_header_body}
 use Rattle.dwg_tables.specs.BlockHeaderLaws.{block_header_is_body}

@@ -1,5 +1,5 @@
 use Rattle.std.proofs.Common.{◌∙◌, arith}
-use Rattle.dwg_bits.specs.BitLaws.{length_of_bits_between}
+use Rattle.dwg_bits.proofs.BitLaws.{length_of_bits_between}
 use Rattle.dwg_tables.proofs.MarkReading.{one_begun, all_begun, one_missing, count_takes}
 use Rattle.dwg_tables.proofs.marks.read_counts.Goals as goal
 

@@ -1,6 +1,6 @@
 use Rattle.std.proofs.Common.{◌≡◌, sym, ◌∙◌, subst, true}
-use Rattle.dwg_handles.specs.Reference.{Reference, reaches}
-use Rattle.dwg_handles.specs.ReferenceCodes.{reference}
+use Rattle.dwg_grammar.specs.Reference.{Reference, reaches}
+use Rattle.dwg_grammar.specs.ReferenceCodes.{reference}
 use Rattle.dwg_tables.proofs.MemberLoops.{one_tried}
 use Rattle.dwg_tables.proofs.members.names_fit.Goals as goal
 

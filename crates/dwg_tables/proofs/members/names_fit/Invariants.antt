@@ -1,5 +1,5 @@
 use Rattle.std.proofs.Common.{drop}
-use Rattle.dwg_handles.specs.ReferenceCodes.{reference}
+use Rattle.dwg_grammar.specs.ReferenceCodes.{reference}
 use Rattle.dwg_tables.proofs.MemberLoops.{AreTried}
 use Rattle.dwg_tables.proofs.members.names_fit.Given as goal
 

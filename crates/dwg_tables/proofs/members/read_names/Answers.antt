@@ -1,5 +1,5 @@
 use Rattle.std.proofs.Common.{◌∙◌, length}
-use Rattle.dwg_handles.specs.ReferenceCodes.{reference}
+use Rattle.dwg_grammar.specs.ReferenceCodes.{reference}
 use Rattle.dwg_tables.proofs.NameReading.{one_begun, one_missing, all_begun}
 use Rattle.dwg_tables.proofs.members.read_names.Goals as goal
 

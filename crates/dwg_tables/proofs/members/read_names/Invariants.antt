@@ -1,6 +1,6 @@
 use Rattle.std.proofs.Common.{◌≡◌, length}
 use Rattle.dwg_bits.specs.Cursor.{rest}
-use Rattle.dwg_handles.specs.ReferenceCodes.{reference}
+use Rattle.dwg_grammar.specs.ReferenceCodes.{reference}
 use Rattle.dwg_tables.proofs.NameReading.{IsBegun}
 use Rattle.dwg_tables.proofs.members.read_names.Given as goal
 

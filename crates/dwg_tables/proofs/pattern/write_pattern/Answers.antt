@@ -1,4 +1,4 @@
-use Rattle.dwg_bits.specs.SinkLaws.{extends_by_both}
+use Rattle.dwg_bits.proofs.SinkLemmas.{extends_by_both}
 use Rattle.dwg_tables.specs.LtypeBody.{ltype_main}
 use Rattle.dwg_tables.proofs.pattern.write_pattern.Goals as goal
 

@@ -5,7 +5,7 @@ use Rattle.dwg_base.proofs.memory.MemSourceSource.read.Goals as goal
 
 pub returns-clause-bytes : goal.returns-clause-bytes
 returns-clause-bytes c =
-    let rest = c.behind-rest.ensures.rest ∙ ap (λ bytes. drop c.self.inside.place bytes) c.as_slice-2.ensures in
+    let rest = c.bytes_behind-rest.ensures.rest ∙ ap (λ bytes. drop c.self.inside.place bytes) c.as_slice-2.ensures in
     let given = c.copy_front.ensures ∙ ap (take c.min-n.result) rest in (
       ap (λ feed. feed.left) (sym c.self.view_is) ∙ given_front c.self.inside.bytes c.copy_front.new.buf c.self.inside.place c.min-n.result given,
       λ none room. given_all c.self.inside.bytes c.self.inside.place c.min-n.result (ap length (sym rest) ∙ omega (arith, c.self.invariant)),

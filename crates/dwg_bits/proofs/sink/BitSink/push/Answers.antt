@@ -1,5 +1,5 @@
 use Rattle.std.proofs.Common.{arith}
-use Rattle.dwg_bits.specs.BitLaws.{length_of_low_bits}
+use Rattle.dwg_bits.proofs.BitLaws.{length_of_low_bits}
 use Rattle.dwg_bits.proofs.Pushing.{bit_pushed, all_pushed}
 use Rattle.dwg_bits.proofs.sink.BitSink.push.Goals as goal
 

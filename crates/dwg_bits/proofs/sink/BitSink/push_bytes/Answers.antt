@@ -1,5 +1,5 @@
 use Rattle.std.proofs.Common.{arith}
-use Rattle.dwg_bits.specs.BitLaws.{length_of_low_bits}
+use Rattle.dwg_bits.proofs.BitLaws.{length_of_low_bits}
 use Rattle.dwg_bits.proofs.Pushing.{none_written, one_written}
 use Rattle.dwg_bits.proofs.sink.BitSink.push_bytes.Goals as goal
 

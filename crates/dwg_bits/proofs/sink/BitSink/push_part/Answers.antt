@@ -1,6 +1,6 @@
 use Rattle.std.proofs.Common.{◌≡◌, ◌-◌, ◌∙◌, ap, sym, arith, length}
 use Rattle.dwg_bits.specs.Parts.{part_bits}
-use Rattle.dwg_bits.specs.BitLaws.{length_of_bits_between}
+use Rattle.dwg_bits.proofs.BitLaws.{length_of_bits_between}
 use Rattle.dwg_bits.proofs.Pushing.{none_placed, bit_placed, all_placed}
 use Rattle.dwg_bits.proofs.sink.BitSink.push_part.Goals as goal
 

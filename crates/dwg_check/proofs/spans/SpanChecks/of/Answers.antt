@@ -1,5 +1,6 @@
 use Rattle.std.proofs.Common.{◌∙◌, ap}
-use Rattle.dwg_check.specs.Spans.{prefix_words, span_word}
+use Rattle.dwg_check.specs.Spans.{prefix_words}
+use Rattle.dwg_check.proofs.PrefixWords.{span_word}
 use Rattle.dwg_check.proofs.spans.SpanChecks.of.Goals as goal
 
 pub returns-clause-word : goal.returns-clause-word

@@ -1,7 +1,7 @@
 use Rattle.std.specs.Int.{w64, from_be_bytes, to_le_bytes}
 use Rattle.std.proofs.Common.{◌∙◌, ap, refl}
 use Rattle.std.proofs.lemmas.Nat.{be_bytes_8}
-use Rattle.dwg_codes.specs.NumberLaws.{byte_in, bytes_of_number}
+use Rattle.dwg_grammar.proofs.NumberLemmas.{byte_in, bytes_of_number}
 use Rattle.dwg_codes.proofs.WordReading.{word_written}
 use Rattle.dwg_codes.proofs.fixed.CodeRDBitCode.write.Goals as goal
 

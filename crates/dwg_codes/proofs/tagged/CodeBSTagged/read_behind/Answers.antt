@@ -1,5 +1,5 @@
 use Rattle.std.proofs.Common.{ap, Some}
-use Rattle.dwg_codes.specs.Codes.{bs_by}
+use Rattle.dwg_grammar.specs.Codes.{bs_by}
 use Rattle.dwg_codes.proofs.TagReading.{read_at}
 use Rattle.dwg_codes.proofs.tagged.CodeBSTagged.read_behind.Goals as goal
 

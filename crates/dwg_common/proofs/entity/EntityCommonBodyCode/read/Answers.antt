@@ -1,7 +1,7 @@
 use Rattle.std.proofs.Common.{arith}
 use Rattle.dwg_common.specs.CommonLaws.{entity_is_body}
 use Rattle.dwg_common.specs.Entities.{entity_common}
-use Rattle.dwg_common.specs.BodyReading.{body_read, body_value, body_missing}
+use Rattle.dwg_grammar.proofs.BodyReading.{body_read, body_value, body_missing}
 use Rattle.dwg_common.proofs.entity.EntityCommonBodyCode.read.Goals as goal
 
 pub returns-in_default-clause-reads : goal.returns-in_default-clause-reads

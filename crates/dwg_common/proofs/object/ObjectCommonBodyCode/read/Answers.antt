@@ -1,7 +1,7 @@
 use Rattle.std.proofs.Common.{arith}
 use Rattle.dwg_common.specs.CommonLaws.{object_is_body}
 use Rattle.dwg_common.specs.NonEntities.{object_common}
-use Rattle.dwg_common.specs.BodyReading.{body_read, body_value, body_missing}
+use Rattle.dwg_grammar.proofs.BodyReading.{body_read, body_value, body_missing}
 use Rattle.dwg_common.proofs.object.ObjectCommonBodyCode.read.Goals as goal
 
 pub returns-in_default-clause-reads : goal.returns-in_default-clause-reads

@@ -1,5 +1,5 @@
 use Rattle.std.proofs.Common.{arith}
-use Rattle.dwg_common.specs.BodyReading.{body_read, body_value, body_missing}
+use Rattle.dwg_grammar.proofs.BodyReading.{body_read, body_value, body_missing}
 use Rattle.dwg_dicts.specs.DictLaws.{xrecord_is_body}
 use Rattle.dwg_dicts.specs.XRecords.{xrecord_body}
 use Rattle.dwg_dicts.proofs.xrecord.XRecordBodyCode.read.Goals as goal

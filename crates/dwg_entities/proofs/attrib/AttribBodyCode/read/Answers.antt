@@ -1,5 +1,5 @@
 use Rattle.std.proofs.Common.{arith}
-use Rattle.dwg_common.specs.BodyReading.{body_read, body_value, body_missing}
+use Rattle.dwg_grammar.proofs.BodyReading.{body_read, body_value, body_missing}
 use Rattle.dwg_entities.specs.BodiesLaws.{attrib_is_body}
 use Rattle.dwg_entities.specs.AttribBody.{attrib_body}
 use Rattle.dwg_entities.proofs.attrib.AttribBodyCode.read.Goals as goal

@@ -1,6 +1,6 @@
 use Rattle.std.proofs.Common.{refl, Some, arith}
-use Rattle.dwg_common.specs.BodyLaws.{body_unread}
-use Rattle.dwg_common.specs.BodyReading.{body_read, body_value}
+use Rattle.dwg_grammar.proofs.BodyLemmas.{body_unread}
+use Rattle.dwg_grammar.proofs.BodyReading.{body_read, body_value}
 use Rattle.dwg_entities.specs.BodiesLaws.{insert_is_body}
 use Rattle.dwg_entities.specs.InsertBody.{insert_body}
 use Rattle.dwg_entities.proofs.insert.InsertBodyCode.read.Goals as goal

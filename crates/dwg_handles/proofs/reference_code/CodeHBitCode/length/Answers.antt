@@ -1,5 +1,5 @@
 use Rattle.std.proofs.Common.{◌∙◌, ap, length}
-use Rattle.dwg_handles.specs.Reference.{Reference}
+use Rattle.dwg_grammar.specs.Reference.{Reference}
 use Rattle.dwg_handles.proofs.ReferenceReading.{value_reached, ref_written}
 use Rattle.dwg_handles.proofs.reference_code.CodeHBitCode.length.Goals as goal
 

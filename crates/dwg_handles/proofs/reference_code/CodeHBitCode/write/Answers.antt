@@ -1,6 +1,6 @@
 use Rattle.std.proofs.Common.{sym, ap, subst, ◌≤◌, Bool, List, length}
 use Rattle.dwg_bits.specs.Sink.{Extends}
-use Rattle.dwg_handles.specs.Reference.{Reference}
+use Rattle.dwg_grammar.specs.Reference.{Reference}
 use Rattle.dwg_handles.proofs.ReferenceReading.{value_reached, ref_written}
 use Rattle.dwg_handles.proofs.reference_code.CodeHBitCode.write.Goals as goal
 

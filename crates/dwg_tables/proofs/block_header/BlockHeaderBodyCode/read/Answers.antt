@@ -1,5 +1,5 @@
 use Rattle.std.proofs.Common.{arith}
-use Rattle.dwg_common.specs.BodyReading.{body_read, body_value, body_missing}
+use Rattle.dwg_grammar.proofs.BodyReading.{body_read, body_value, body_missing}
 use Rattle.dwg_tables.specs.BlockHeaderLaws.{block_header_is_body}
 use Rattle.dwg_tables.specs.BlockHeaderBody.{block_header_body}
 use Rattle.dwg_tables.proofs.block_header.BlockHeaderBodyCode.read.Goals as goal

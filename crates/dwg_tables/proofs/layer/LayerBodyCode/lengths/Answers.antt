@@ -1,4 +1,4 @@
-use Rattle.dwg_handles.specs.ReferenceCodes.{reference}
+use Rattle.dwg_grammar.specs.ReferenceCodes.{reference}
 use Rattle.dwg_tables.specs.LayerBody.{layer_body}
 use Rattle.dwg_tables.proofs.SumOfLengths.{first_counted, more_counted, last_counted}
 use Rattle.dwg_tables.proofs.layer.LayerBodyCode.lengths.Goals as goal

@@ -1,5 +1,5 @@
 use Rattle.std.proofs.Common.{arith}
-use Rattle.dwg_common.specs.BodyReading.{body_read, body_value, body_missing}
+use Rattle.dwg_grammar.proofs.BodyReading.{body_read, body_value, body_missing}
 use Rattle.dwg_tables.specs.TableLaws.{layer_is_body}
 use Rattle.dwg_tables.specs.LayerBody.{layer_body}
 use Rattle.dwg_tables.proofs.layer.LayerBodyCode.read.Goals as goal

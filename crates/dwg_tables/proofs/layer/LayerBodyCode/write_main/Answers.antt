@@ -1,4 +1,4 @@
-use Rattle.dwg_bits.specs.SinkLaws.{extends_by_both}
+use Rattle.dwg_bits.proofs.SinkLemmas.{extends_by_both}
 use Rattle.dwg_tables.specs.LayerBody.{layer_body}
 use Rattle.dwg_tables.proofs.layer.LayerBodyCode.write_main.Goals as goal
 

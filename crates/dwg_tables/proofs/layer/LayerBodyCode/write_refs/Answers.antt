@@ -1,5 +1,5 @@
-use Rattle.dwg_bits.specs.SinkLaws.{extends_by_both}
-use Rattle.dwg_handles.specs.ReferenceCodes.{reference}
+use Rattle.dwg_bits.proofs.SinkLemmas.{extends_by_both}
+use Rattle.dwg_grammar.specs.ReferenceCodes.{reference}
 use Rattle.dwg_tables.specs.LayerBody.{layer_body}
 use Rattle.dwg_tables.proofs.layer.LayerBodyCode.write_refs.Goals as goal
 

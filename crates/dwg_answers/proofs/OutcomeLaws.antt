@@ -1,0 +1,207 @@
+-- What the commands on drawings answer, said of the drawing that the input spells.
+use Rattle.std.proofs.Common.{◌≡◌, refl, sym, ap, ◌∙◌, subst, ℕ, ◌≤◌, ◌<◌, List, [], ◌∷◌, length, codes, Some, None, true, false, arith}
+use Rattle.std.proofs.lemmas.Bool.Decides.{nat_tests}
+use Rattle.std.specs.Prelude.{◌↔◌, Option, nat_lt, if◌then◌else◌}
+use Rattle.dwg_audit.specs.FindingLaws.{NothingIsFoundIfSound}
+use Rattle.dwg_audit.specs.Findings.{findings}
+use Rattle.dwg_audit.specs.declared.finding.Finding.{Finding}
+use Rattle.dwg_base.specs.Bytes.{AreBytes}
+use Rattle.dwg_base.specs.Devices.{MOST_BYTES}
+use Rattle.dwg_base.specs.Refusals.{first_fault}
+use Rattle.dwg_base.specs.declared.refusal.Refusal.{Refusal}
+use Rattle.dwg_drill.specs.Auditable.{ValidIsAuditable}
+use Rattle.dwg_file.specs.Canonical.{size_of, canonical}
+use Rattle.dwg_file.specs.CanonicalLaws.{CanonicalSpells, CanonicalIsCounted, CanonicalSpellsNoOther}
+use Rattle.dwg_file.specs.Contents.{Contents}
+use Rattle.dwg_file.specs.DrawingAt.{drawing_at}
+use Rattle.dwg_file.specs.FileLines.{ALL_LINES}
+use Rattle.dwg_file.specs.Spelled.{Spelled}
+use Rattle.dwg_file.specs.Valid.{IsValid}
+use Rattle.dwg_graph.specs.Sound.{IsSound}
+use Rattle.dwg_recover.specs.Recovering.{RecoveredValue, recovered}
+use Rattle.dwg_recover.specs.Told.{RecoveredIsSound, SpelledIsAnswered, DamagedIsAnswered}
+use Rattle.dwg_recovery_text.specs.RecoveryNote.{recovery_note}
+use Rattle.dwg_show.specs.DrawingText.{show_text}
+use Rattle.dwg_text.specs.Notes.{too_large_note}
+use Rattle.dwg_answers.specs.declared.answer.Answer.{Answer}
+use Rattle.dwg_answers.specs.declared.status.Status.{Status}
+use Rattle.dwg_answers.specs.declared.status.Status.TheVariants.{Done, Found, TooLarge}
+use Rattle.dwg_answers.specs.declared.words.Reading.{Reading}
+use Rattle.dwg_answers.specs.declared.words.Reading.TheVariants.{Show, Rewrite, Audit, Recover}
+use Rattle.dwg_answers.specs.Lines.{lines_of}
+use Rattle.dwg_answers.specs.Outcome.{noted, refused_or, printed, filed, written, audited, verdict_status, recovery_notes, recovery_status, recovered_answer, answer_within, outcome_within, outcome_of}
+use Rattle.dwg_answers.specs.OutcomeLaws.{IsInput, SpellsNone, said, Rewrites, TellsSound, NoDrawingIsRefused, ShowPrintsDrawing, RewriteWritesDrawing, RewriteTellsSize, AuditTellsSound, RecoverRewritesDrawing, RecoverWritesFrames}
+use Rattle.dwg_answers.specs.Words.{command_of, reading_of, reads}
+use Rattle.dwg_answers.proofs.Outcomes.{outcome_of_few, outcome_of_reading}
+
+-- what is known of the drawings that inputs spell
+pub record DrawingLaws : Type 0 where
+  pub one : (bytes : List ℕ) (drawing other : Contents) → AreBytes bytes → Spelled drawing bytes → Spelled other bytes → drawing ≡ other
+  pub passes : (bytes : List ℕ) (drawing : Contents) → AreBytes bytes → Spelled drawing bytes → first_fault ALL_LINES bytes ≡ None
+  pub spelled : (bytes : List ℕ) → AreBytes bytes → first_fault ALL_LINES bytes ≡ None → Spelled (drawing_at bytes) bytes
+  pub valid : (bytes : List ℕ) (drawing : Contents) → AreBytes bytes → length bytes ≤ MOST_BYTES → Spelled drawing bytes → IsValid drawing
+
+-- what is known of canonical files
+pub record FileLaws : Type 0 where
+  pub spells : CanonicalSpells
+  pub counted : CanonicalIsCounted
+  pub no_other : CanonicalSpellsNoOther
+
+-- the word of a command that reads is answered as the command answers an input within the limit
+of_input : (reading : Reading) (bytes : List ℕ) → IsInput bytes → outcome_of (Some (reads reading)) bytes ≡ outcome_within reading bytes
+of_input reading bytes input =
+    sym (outcome_of_reading (Some (reads reading)) reading bytes refl) ∙ sym (outcome_of_few reading bytes (outcome_within reading bytes) input.within refl)
+
+-- each of these words names its command
+show_said : (bytes : List ℕ) → IsInput bytes → said (codes "show") bytes ≡ outcome_within Show bytes
+unfolding command_of reading_of
+show_said bytes input = of_input Show bytes input
+
+rewrite_said : (bytes : List ℕ) → IsInput bytes → said (codes "rewrite") bytes ≡ outcome_within Rewrite bytes
+unfolding command_of reading_of
+rewrite_said bytes input = of_input Rewrite bytes input
+
+audit_said : (bytes : List ℕ) → IsInput bytes → said (codes "audit") bytes ≡ outcome_within Audit bytes
+unfolding command_of reading_of
+audit_said bytes input = of_input Audit bytes input
+
+recover_said : (bytes : List ℕ) → IsInput bytes → said (codes "recover") bytes ≡ outcome_within Recover bytes
+unfolding command_of reading_of
+recover_said bytes input = of_input Recover bytes input
+
+-- where none of a command's lines fails, or one does, its answer is this
+passed : (reading : Reading) (bytes : List ℕ) → first_fault (lines_of reading) bytes ≡ None → outcome_within reading bytes ≡ answer_within reading bytes
+unfolding outcome_within
+passed reading bytes holds = ap (λ (first : Option Refusal). refused_or first (answer_within reading bytes)) holds
+
+refused : (reading : Reading) (bytes : List ℕ) (refusal : Refusal) → first_fault (lines_of reading) bytes ≡ Some refusal
+    → outcome_within reading bytes ≡ refused_or (Some refusal) (answer_within reading bytes)
+unfolding outcome_within
+refused reading bytes refusal fails = ap (λ (first : Option Refusal). refused_or first (answer_within reading bytes)) fails
+
+-- an input that spells no drawing fails a line
+first_failing : DrawingLaws → (bytes : List ℕ) → IsInput bytes → SpellsNone bytes → (refusal : Refusal) × (first_fault ALL_LINES bytes ≡ Some refusal)
+first_failing laws bytes input none = of_first (first_fault ALL_LINES bytes) refl
+  where
+    of_first : (first : Option Refusal) → first_fault ALL_LINES bytes ≡ first → (refusal : Refusal) × (first_fault ALL_LINES bytes ≡ Some refusal)
+    of_first (Some refusal) is = (refusal, is)
+    of_first None is = absurd (none (drawing_at bytes) (laws.spelled bytes input.are is))
+
+-- `show`, `rewrite` and `audit` refuse it
+pub no_drawing_is_refused : DrawingLaws → NoDrawingIsRefused
+no_drawing_is_refused laws bytes input none =
+    let fails = first_failing laws bytes input none in (
+      record { refusal = fails.0; first = fails.1; answers = show_said bytes input ∙ refused Show bytes fails.0 fails.1 },
+      record { refusal = fails.0; first = fails.1; answers = rewrite_said bytes input ∙ refused Rewrite bytes fails.0 fails.1 },
+      record { refusal = fails.0; first = fails.1; answers = audit_said bytes input ∙ refused Audit bytes fails.0 fails.1 },
+    )
+
+-- the drawing that an input spells is the one by its places
+read_is : DrawingLaws → (drawing : Contents) (bytes : List ℕ) → AreBytes bytes → Spelled drawing bytes → drawing_at bytes ≡ drawing
+read_is laws drawing bytes are spelled = laws.one bytes (drawing_at bytes) drawing are (laws.spelled bytes are (laws.passes bytes drawing are spelled)) spelled
+
+-- `show` prints its text
+pub show_prints_drawing : DrawingLaws → ShowPrintsDrawing
+unfolding answer_within
+show_prints_drawing laws drawing bytes input spelled =
+    show_said bytes input ∙ passed Show bytes (laws.passes bytes drawing input.are spelled) ∙ ap (λ one. printed (show_text one)) (read_is laws drawing bytes input.are spelled)
+
+-- `rewrite` answers its file, whatever its size
+rewrite_is_written : DrawingLaws → (drawing : Contents) (bytes : List ℕ) → IsInput bytes → Spelled drawing bytes → said (codes "rewrite") bytes ≡ written drawing
+unfolding answer_within
+rewrite_is_written laws drawing bytes input spelled =
+    rewrite_said bytes input ∙ passed Rewrite bytes (laws.passes bytes drawing input.are spelled) ∙ ap written (read_is laws drawing bytes input.are spelled)
+
+-- a file within the limit, and one that isn't
+filed_within : (drawing : Contents) (note : List ℕ) (status : Status) → size_of drawing ≤ MOST_BYTES → filed drawing note status ≡ record { output = canonical drawing; note = note; status = status }
+unfolding filed
+filed_within drawing note status small =
+    let within : nat_lt MOST_BYTES (size_of drawing) ≡ false = grind (arith, nat_tests) in
+    ap (λ test. if test then noted (too_large_note (size_of drawing)) (TooLarge (size_of drawing)) else record { output = canonical drawing; note = note; status = status }) within
+
+filed_large : (drawing : Contents) (note : List ℕ) (status : Status) → MOST_BYTES < size_of drawing → filed drawing note status ≡ noted (too_large_note (size_of drawing)) (TooLarge (size_of drawing))
+unfolding filed
+filed_large drawing note status large =
+    let over : nat_lt MOST_BYTES (size_of drawing) ≡ true = grind (arith, nat_tests) in
+    ap (λ test. if test then noted (too_large_note (size_of drawing)) (TooLarge (size_of drawing)) else record { output = canonical drawing; note = note; status = status }) over
+
+-- the canonical file of a valid drawing is rewritten as it is
+written_rewrites : DrawingLaws → FileLaws → (drawing : Contents) → IsValid drawing → size_of drawing ≤ MOST_BYTES → Rewrites drawing (record { output = canonical drawing; note = []; status = Done })
+written_rewrites laws files drawing valid small =
+    let spells : Spelled drawing (canonical drawing) = files.spells drawing valid small in
+    let counted = files.counted drawing valid small in
+    let input : IsInput (canonical drawing) = record { are = counted.1; within = subst (λ size. size ≤ MOST_BYTES) (sym counted.0) small } in
+    record {
+      answers = refl;
+      spells = spells;
+      no_other = λ other also. files.no_other drawing other valid small also;
+      once = rewrite_is_written laws drawing (canonical drawing) input spells ∙ filed_within drawing [] Done small;
+    }
+
+-- so `rewrite` writes a file of which all this holds
+pub rewrite_writes_drawing : DrawingLaws → FileLaws → RewriteWritesDrawing
+rewrite_writes_drawing laws files drawing bytes input spelled small =
+    let valid = laws.valid bytes drawing input.are input.within spelled in
+    subst (λ (answer : Answer). Rewrites drawing answer)
+    (sym (rewrite_is_written laws drawing bytes input spelled ∙ filed_within drawing [] Done small)) (written_rewrites laws files drawing valid small)
+
+-- and of a larger one tells its size
+pub rewrite_tells_size : DrawingLaws → RewriteTellsSize
+rewrite_tells_size laws drawing bytes input spelled large = rewrite_is_written laws drawing bytes input spelled ∙ filed_large drawing [] Done large
+
+-- a verdict over findings, of which there are none exactly where a drawing is sound
+verdict_tells : (drawing : Contents) (found : List Finding) (answer : Answer) → answer.status ≡ verdict_status found → (found ≡ []) ↔ IsSound drawing.objects → TellsSound drawing answer
+verdict_tells drawing [] answer is sound = record { sound = (λ done. sound.0 refl, λ holds. is); unsound = λ fails. absurd (fails (sound.0 refl)) }
+verdict_tells drawing (finding ∷ more) answer is sound = record {
+  sound = (λ done. absurd (differ (sym done ∙ is)), λ holds. absurd (some (sound.1 holds)));
+  unsound = λ fails. is;
+}
+  where
+    differ : Done ≡ Found → ⊥
+    differ same = absurd cc
+
+    some : finding ∷ more ≡ [] → ⊥
+    some same = absurd cc
+
+-- `audit` tells whether the drawing is sound
+pub audit_tells_sound : DrawingLaws → ValidIsAuditable → NothingIsFoundIfSound → AuditTellsSound
+unfolding answer_within audited
+audit_tells_sound laws auditable sound drawing bytes input spelled =
+    let valid = laws.valid bytes drawing input.are input.within spelled in
+    let is : said (codes "audit") bytes ≡ audited drawing =
+    audit_said bytes input ∙ passed Audit bytes (laws.passes bytes drawing input.are spelled) ∙ ap audited (read_is laws drawing bytes input.are spelled) in
+    verdict_tells drawing (findings drawing.objects) (said (codes "audit") bytes) (ap (λ (answer : Answer). answer.status) is)
+    (sound drawing.objects (auditable drawing valid).ascending)
+
+-- `recover` tries no line
+recover_is : (bytes : List ℕ) → IsInput bytes → said (codes "recover") bytes ≡ recovered_answer (recovered bytes)
+unfolding answer_within
+recover_is bytes input = recover_said bytes input ∙ passed Recover bytes refl
+
+-- of what is recovered whole it answers the file
+pub recover_rewrites_drawing : DrawingLaws → SpelledIsAnswered → RecoverRewritesDrawing
+unfolding recovered_answer
+recover_rewrites_drawing laws answered drawing bytes input spelled =
+    recover_is bytes input ∙ ap recovered_answer (answered drawing bytes spelled input.are) ∙ sym (rewrite_is_written laws drawing bytes input spelled)
+
+-- and of what is recovered of a damaged input, the file and the note
+damaged_is : (value : RecoveredValue) (refusal : Refusal) → value.refusal ≡ Some refusal
+    → recovered_answer value ≡ filed value.drawing (recovery_note refusal value.losses value.kept) Found
+unfolding recovered_answer
+damaged_is value refusal is = ap (λ first. filed value.drawing (recovery_notes first value.losses value.kept) (recovery_status first)) is
+
+pub recover_writes_frames : DrawingLaws → RecoveredIsSound → DamagedIsAnswered → RecoverWritesFrames
+recover_writes_frames laws sound damaged bytes input none =
+    let fails = first_failing laws bytes input none in
+    let told = damaged bytes fails.0 fails.1 in
+    let value = recovered bytes in
+    let refuses : value.refusal ≡ Some fails.0 = ap (λ (one : RecoveredValue). one.refusal) told.0 ∙ told.1 in
+    let is : said (codes "recover") bytes ≡ filed value.drawing (recovery_note fails.0 value.losses value.kept) Found = recover_is bytes input ∙ damaged_is value fails.0 refuses in
+    record {
+      value = value;
+      sound = sound bytes input.are;
+      refusal = fails.0;
+      first = fails.1;
+      writes = λ small. is ∙ filed_within value.drawing _ Found small;
+      large = λ large. is ∙ filed_large value.drawing _ Found large;
+    }

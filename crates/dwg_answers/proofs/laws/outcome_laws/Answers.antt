@@ -1,0 +1,21 @@
+use Rattle.dwg_answers.proofs.OutcomeLaws.{DrawingLaws, FileLaws, no_drawing_is_refused, show_prints_drawing, rewrite_writes_drawing, rewrite_tells_size, audit_tells_sound, recover_rewrites_drawing, recover_writes_frames}
+use Rattle.dwg_answers.proofs.laws.outcome_laws.Goals as goal
+
+pub returns : goal.returns
+returns c =
+    let laws : DrawingLaws = record {
+      one = λ bytes one other are spelled also. c.drawing_laws.ensures.one bytes one other are spelled also;
+      passes = λ bytes drawing are spelled. c.drawing_laws.ensures.passes bytes drawing are spelled;
+      spelled = λ bytes are holds. c.drawing_laws.ensures.spelled bytes are holds;
+      valid = λ bytes drawing are within spelled. c.drawing_laws.ensures.valid bytes drawing are within spelled;
+    } in
+    let files : FileLaws = record { spells = c.canonical_laws.ensures.spells; counted = c.canonical_laws.ensures.counted; no_other = c.canonical_laws.ensures.no_other } in
+    record {
+      refused = no_drawing_is_refused laws;
+      show = show_prints_drawing laws;
+      rewrite = rewrite_writes_drawing laws files;
+      large = rewrite_tells_size laws;
+      audit = audit_tells_sound laws c.auditable_laws.ensures.auditable c.finding_laws.ensures.sound;
+      recover = recover_rewrites_drawing laws c.answer_laws.ensures.spelled;
+      damaged = recover_writes_frames laws c.answer_laws.ensures.sound c.answer_laws.ensures.damaged;
+    }

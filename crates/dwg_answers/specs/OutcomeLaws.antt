@@ -1,0 +1,96 @@
+-- What the commands on drawings answer, said of the drawing that the input spells. A rule of this project.
+use Rattle.std.specs.Prelude.{◌≡◌, ◌↔◌, ℕ, ◌≤◌, ◌<◌, List, [], ◌∷◌, length, codes, Some}
+use Rattle.dwg_base.specs.Bytes.{AreBytes}
+use Rattle.dwg_base.specs.Devices.{MOST_BYTES}
+use Rattle.dwg_base.specs.Refusals.{first_fault}
+use Rattle.dwg_base.specs.declared.refusal.Refusal.{Refusal}
+use Rattle.dwg_file.specs.Canonical.{size_of, canonical}
+use Rattle.dwg_file.specs.Contents.{Contents}
+use Rattle.dwg_file.specs.FileLines.{ALL_LINES}
+use Rattle.dwg_file.specs.Spelled.{Spelled}
+use Rattle.dwg_graph.specs.Sound.{IsSound}
+use Rattle.dwg_recover.specs.Recovering.{RecoveredValue}
+use Rattle.dwg_recover.specs.Told.{IsSoundAnswer}
+use Rattle.dwg_recovery_text.specs.RecoveryNote.{recovery_note}
+use Rattle.dwg_show.specs.DrawingText.{show_text}
+use Rattle.dwg_text.specs.Notes.{refusal_note, too_large_note}
+use Rattle.dwg_answers.specs.declared.answer.Answer.{Answer}
+use Rattle.dwg_answers.specs.declared.status.Status.TheVariants.{Done, Found, Refused, TooLarge}
+use Rattle.dwg_answers.specs.Outcome.{outcome}
+
+-- an input within the limit
+pub record IsInput (bytes : List ℕ) : Type 0 where
+  pub are : AreBytes bytes
+  pub within : length bytes ≤ MOST_BYTES
+
+-- an input that spells no drawing
+abbrev pub SpellsNone : List ℕ → Type 0
+SpellsNone bytes = (drawing : Contents) → Spelled drawing bytes → ⊥
+
+-- what the program answers to one word
+abbrev pub said : List ℕ → List ℕ → Answer
+said word bytes = outcome (word ∷ []) bytes
+
+-- the first of all lines that fails on an input is answered, and nothing is printed
+pub record Refuses (bytes : List ℕ) (answer : Answer) : Type 0 where
+  pub refusal : Refusal
+  pub first : first_fault ALL_LINES bytes ≡ Some refusal
+  pub answers : answer ≡ record { output = []; note = refusal_note refusal; status = Refused refusal }
+
+-- `show`, `rewrite` and `audit` refuse an input that spells no drawing by the first line that fails
+abbrev pub NoDrawingIsRefused : Type 0
+NoDrawingIsRefused =
+    (bytes : List ℕ) → IsInput bytes → SpellsNone bytes
+    → Refuses bytes (said (codes "show") bytes) × Refuses bytes (said (codes "rewrite") bytes) × Refuses bytes (said (codes "audit") bytes)
+
+-- `show` prints the text of the drawing that an input spells
+abbrev pub ShowPrintsDrawing : Type 0
+ShowPrintsDrawing =
+    (drawing : Contents) (bytes : List ℕ) → IsInput bytes → Spelled drawing bytes → said (codes "show") bytes ≡ record { output = show_text drawing; note = []; status = Done }
+
+-- an answer writes the canonical file of a drawing: it spells that drawing and no other, and is rewritten as it is
+pub record Rewrites (drawing : Contents) (answer : Answer) : Type 0 where
+  pub answers : answer ≡ record { output = canonical drawing; note = []; status = Done }
+  pub spells : Spelled drawing answer.output
+  pub no_other : (other : Contents) → Spelled other answer.output → other ≡ drawing
+  pub once : said (codes "rewrite") answer.output ≡ answer
+
+-- `rewrite` writes the canonical file of the drawing that an input spells, where that is within the limit
+abbrev pub RewriteWritesDrawing : Type 0
+RewriteWritesDrawing = (drawing : Contents) (bytes : List ℕ) → IsInput bytes → Spelled drawing bytes → size_of drawing ≤ MOST_BYTES → Rewrites drawing (said (codes "rewrite") bytes)
+
+-- a larger one isn't written, and its size is told
+abbrev pub RewriteTellsSize : Type 0
+RewriteTellsSize =
+    (drawing : Contents) (bytes : List ℕ) → IsInput bytes → Spelled drawing bytes → MOST_BYTES < size_of drawing
+    → said (codes "rewrite") bytes ≡ record { output = []; note = too_large_note (size_of drawing); status = TooLarge (size_of drawing) }
+
+-- a status tells whether the references of a drawing hold together
+pub record TellsSound (drawing : Contents) (answer : Answer) : Type 0 where
+  pub sound : (answer.status ≡ Done) ↔ IsSound drawing.objects
+  pub unsound : (IsSound drawing.objects → ⊥) → answer.status ≡ Found
+
+-- `audit` tells it of the drawing that an input spells
+abbrev pub AuditTellsSound : Type 0
+AuditTellsSound = (drawing : Contents) (bytes : List ℕ) → IsInput bytes → Spelled drawing bytes → TellsSound drawing (said (codes "audit") bytes)
+
+-- `recover` answers as `rewrite` does, where an input spells a drawing
+abbrev pub RecoverRewritesDrawing : Type 0
+RecoverRewritesDrawing = (drawing : Contents) (bytes : List ℕ) → IsInput bytes → Spelled drawing bytes → said (codes "recover") bytes ≡ said (codes "rewrite") bytes
+
+-- an answer writes the canonical file of a valid drawing whose objects are those of frames that stand in the input, where that is within the limit, and notes the first line that fails
+pub record Recovers (bytes : List ℕ) (answer : Answer) : Type 0 where
+  pub value : RecoveredValue
+  pub sound : IsSoundAnswer bytes value
+  pub refusal : Refusal
+  pub first : first_fault ALL_LINES bytes ≡ Some refusal
+  pub writes :
+      size_of value.drawing ≤ MOST_BYTES
+      → answer ≡ record { output = canonical value.drawing; note = recovery_note refusal value.losses value.kept; status = Found }
+  pub large :
+      MOST_BYTES < size_of value.drawing
+      → answer ≡ record { output = []; note = too_large_note (size_of value.drawing); status = TooLarge (size_of value.drawing) }
+
+-- `recover` does that of any other input
+abbrev pub RecoverWritesFrames : Type 0
+RecoverWritesFrames = (bytes : List ℕ) → IsInput bytes → SpellsNone bytes → Recovers bytes (said (codes "recover") bytes)

@@ -1,0 +1,22 @@
+-- Which answer is sent of what is made of one before it is sent. A rule of this project.
+use Rattle.std.specs.Prelude.{ℕ, List}
+use Rattle.dwg_base.specs.Refusals.{IsFaultOfTable, Tells, first_fault}
+use Rattle.dwg_base.specs.declared.refusal.Fault.{Fault}
+use Rattle.dwg_answers.specs.declared.answer.Answer.{Answer}
+use Rattle.dwg_answers.specs.declared.reply.Reply.{Reply}
+use Rattle.dwg_answers.specs.declared.reply.Reply.TheVariants.{Whole, Note, Text, File}
+use Rattle.dwg_answers.specs.declared.words.Reading.{Reading}
+use Rattle.dwg_answers.specs.Lines.{lines_of}
+use Rattle.dwg_answers.specs.Outcome.{filed, noted, printed}
+use Rattle.dwg_show.specs.DrawingText.{show_text}
+
+-- the answer that a reply stands for
+abbrev pub answer_of : Reply → Answer
+answer_of (Whole answer) = answer
+answer_of (Note note status) = noted note.now status
+answer_of (Text drawing) = printed (show_text drawing)
+answer_of (File drawing note status) = filed drawing note status
+
+-- a fault tells the first of a command's lines that fails, which is one of the table's
+abbrev pub IsRefused : Reading → List ℕ → Fault → Type 0
+IsRefused reading bytes fault = IsFaultOfTable fault × Tells fault (first_fault (lines_of reading) bytes)

@@ -1,0 +1,15 @@
+-- Lists of bytes.
+use Rattle.std.specs.Prelude.{ℕ, zero, suc, ◌<◌, List, [], ◌∷◌, get_or}
+use Rattle.std.proofs.Common.{arith}
+use Rattle.dwg_base.specs.Bytes.{AreBytes}
+
+-- what the type of a slice of bytes says by place
+pub are_bytes : (bytes : List ℕ) → ((i : ℕ) → get_or bytes i 0 < 256) → AreBytes bytes
+are_bytes [] small = tt
+are_bytes (byte ∷ bytes) small = (small 0, are_bytes bytes (λ i. small (suc i)))
+
+-- each place of a list of bytes has a byte, also past its end
+pub byte_below : (bytes : List ℕ) → AreBytes bytes → (i : ℕ) → get_or bytes i 0 < 256
+byte_below [] all i = omega arith
+byte_below (byte ∷ bytes) all zero = all.0
+byte_below (byte ∷ bytes) all (suc i) = byte_below bytes all.1 i

@@ -1,0 +1,225 @@
+-- What holds of bits: the bits of numbers, of bytes and of parts of them, and the numbers that they spell.
+use Rattle.std.proofs.Common.{◌≡◌, refl, sym, ◌∙◌, ap, ap₂, ℕ, zero, suc, ◌+◌, ◌-◌, ◌*◌, ◌/◌, ◌%◌, ◌^◌, ◌<◌, ◌≤◌, Bool, true, false, List, [], ◌∷◌, ◌++◌, length, take, drop, get_or, arith, mod-eq_of_lt, take-add, drop-drop}
+use Rattle.std.specs.Prelude.{◌==◌, if◌then◌else◌}
+use Rattle.std.specs.Int.{bit_at}
+use Rattle.std.proofs.Math.Nat.{suc-add, pow-suc}
+use Rattle.std.proofs.lemmas.Nat.{pow-add, shr-shr, mod-pow-add}
+use Rattle.std.proofs.lemmas.Nat.Bits.{bit_at-lt, bit_at_cat_low, bit_at_cat_high, bit_at_above}
+use Rattle.std.proofs.lemmas.List.{append-nil, length-append, length-take-le, length-drop, take_at, drop_at, take_all, take-take, drop-take, take_more, get_or-drop}
+use Rattle.std.proofs.lemmas.List.Concat.{flat_map-append, get_or-flat_map}
+use Rattle.dwg_base.specs.Bytes.{AreBytes}
+use Rattle.dwg_bits.specs.Bits.{is_set, low_bits, bits, num}
+use Rattle.dwg_bits.specs.Cursor.{bits_between}
+
+-- the low bits of a number are as many as asked
+pub length_of_low_bits : (count value : ℕ) → length (low_bits count value) ≡ count
+unfolding low_bits
+length_of_low_bits zero value = refl
+length_of_low_bits (suc count) value = ap suc (length_of_low_bits count value)
+
+-- what a bit of this weight adds to a number
+weighed : (value exponent weight : ℕ) → (if is_set value exponent then weight else 0) ≡ bit_at value exponent * weight
+weighed value exponent weight = of_bit (bit_at value exponent) (bit_at-lt value exponent)
+  where
+    of_bit : (bit : ℕ) → bit < 2 → (if bit == 1 then weight else 0) ≡ bit * weight
+    of_bit zero h = omega arith
+    of_bit (suc zero) h = omega arith
+    of_bit (suc (suc bit)) h = absurd (omega arith)
+
+-- the low bits of a number spell its remainder
+pub remainder_of_low_bits : (count value : ℕ) → num (low_bits count value) ≡ value % 2 ^ count
+unfolding low_bits num
+remainder_of_low_bits zero value = omega arith
+remainder_of_low_bits (suc count) value =
+    ap₂ (λ n rest. (if is_set value count then 2 ^ n else 0) + rest) (length_of_low_bits count value) (remainder_of_low_bits count value)
+    ∙ ap (λ x. x + value % 2 ^ count) (weighed value count (2 ^ count))
+    ∙ sym (mod-pow-add value 1 count)
+    ∙ ap (λ n. value % 2 ^ n) (omega arith)
+
+-- so they spell the number, where it has no more bits
+pub num_of_low_bits : (count value : ℕ) → value < 2 ^ count → num (low_bits count value) ≡ value
+num_of_low_bits count value h = remainder_of_low_bits count value ∙ mod-eq_of_lt h
+
+-- so many bits spell a number below that power of two
+pub num_fits : (s : List Bool) → num s < 2 ^ length s
+unfolding num
+num_fits [] = omega arith
+num_fits (true ∷ rest) = omega (arith, num_fits rest, pow-suc 2 (length rest))
+num_fits (false ∷ rest) = omega (arith, num_fits rest, pow-suc 2 (length rest))
+
+-- a multiple of a higher power leaves the low bits alone
+pub low_bits_of_sum : (count high k low : ℕ) → count ≤ k → low_bits count (high * 2 ^ k + low) ≡ low_bits count low
+unfolding low_bits
+low_bits_of_sum zero high k low h = refl
+low_bits_of_sum (suc count) high k low h =
+    ap₂ (λ bit rest. (bit == 1) ∷ rest) (bit_at_cat_low high k low count (omega arith)) (low_bits_of_sum count high k low (omega arith))
+
+-- the bits that spell a number are its low bits
+pub low_bits_of_num : (s : List Bool) → low_bits (length s) (num s) ≡ s
+unfolding low_bits num
+low_bits_of_num [] = refl
+low_bits_of_num (true ∷ rest) =
+    let n : ℕ = length rest in
+    let none : n - n ≡ 0 = omega arith in
+    let one : 2 ^ n + num rest ≡ 1 * 2 ^ n + num rest = omega arith in
+    let top : bit_at (1 * 2 ^ n + num rest) n ≡ 1 = bit_at_cat_high 1 n (num rest) n (num_fits rest) (omega arith) ∙ ap (bit_at 1) none in
+    ap (low_bits (suc n)) one
+    ∙ ap₂ (λ bit more. (bit == 1) ∷ more) top (low_bits_of_sum n 1 n (num rest) (omega arith) ∙ low_bits_of_num rest)
+low_bits_of_num (false ∷ rest) =
+    let n : ℕ = length rest in
+    let none : 0 + num rest ≡ num rest = omega arith in
+    ap (low_bits (suc n)) none
+    ∙ ap₂ (λ bit more. (bit == 1) ∷ more) (bit_at_above (num rest) n n (num_fits rest) (omega arith)) (low_bits_of_num rest)
+
+-- the low bits of a number are those of its quotient, and then those below
+pub low_bits_joined : (a b value : ℕ) → low_bits (a + b) value ≡ low_bits a (value / 2 ^ b) ++ low_bits b value
+unfolding low_bits
+low_bits_joined zero b value = ap (λ n. low_bits n value) (omega arith)
+low_bits_joined (suc a) b value =
+    let turned : b + a ≡ a + b = omega arith in
+    ap (λ n. low_bits n value) (suc-add a b)
+    ∙ ap₂ (λ bit rest. (bit % 2 == 1) ∷ rest) (sym (shr-shr value b a ∙ ap (λ n. value / 2 ^ n) turned)) (low_bits_joined a b value)
+
+-- the low bits of a number are those of its remainder
+pub low_bits_of_remainder : (count value : ℕ) → low_bits count (value % 2 ^ count) ≡ low_bits count value
+low_bits_of_remainder count value =
+    ap₂ low_bits (sym (length_of_low_bits count value)) (sym (remainder_of_low_bits count value)) ∙ low_bits_of_num (low_bits count value)
+
+-- the low bits of a number are those of its quotient, and then those of its remainder
+pub low_bits_split : (a b value : ℕ) → low_bits (a + b) value ≡ low_bits a (value / 2 ^ b) ++ low_bits b (value % 2 ^ b)
+low_bits_split a b value = low_bits_joined a b value ∙ ap (λ rest. low_bits a (value / 2 ^ b) ++ rest) (sym (low_bits_of_remainder b value))
+
+-- joined bits spell the first number, moved up, and the second
+pub num_joined : (s t : List Bool) → num (s ++ t) ≡ num s * 2 ^ length t + num t
+unfolding num
+num_joined [] t = omega arith
+num_joined (true ∷ s) t =
+    ap₂ (λ n rest. 2 ^ n + rest) (length-append s t) (num_joined s t)
+    ∙ ap (λ top. top + (num s * 2 ^ length t + num t)) (pow-add 2 (length s) (length t))
+    ∙ omega arith
+num_joined (false ∷ s) t = ap (λ rest. 0 + rest) (num_joined s t) ∙ omega arith
+
+-- one bit more at the end doubles the number
+pub num_push : (s : List Bool) (bit : Bool) → num (s ++ bit ∷ []) ≡ num s * 2 + (if bit then 1 else 0)
+unfolding num
+num_push s true = num_joined s (true ∷ [])
+num_push s false = num_joined s (false ∷ [])
+
+-- the bits of joined bytes are joined
+pub bits_joined : (a b : List ℕ) → bits (a ++ b) ≡ bits a ++ bits b
+unfolding bits
+bits_joined a b = flat_map-append (low_bits 8) a b
+
+-- a byte behind others has its bits behind theirs
+pub bits_more : (bytes : List ℕ) (byte : ℕ) → bits (bytes ++ byte ∷ []) ≡ bits bytes ++ low_bits 8 byte
+unfolding bits
+bits_more bytes byte = flat_map-append (low_bits 8) bytes (byte ∷ []) ∙ ap (λ last. bits bytes ++ last) (append-nil (low_bits 8 byte))
+
+-- each byte has eight bits
+pub length_of_bits : (bytes : List ℕ) → length (bits bytes) ≡ 8 * length bytes
+unfolding bits
+length_of_bits [] = refl
+length_of_bits (byte ∷ bytes) =
+    length-append (low_bits 8 byte) (bits bytes) ∙ ap₂ (λ m n. m + n) (length_of_low_bits 8 byte) (length_of_bits bytes) ∙ omega arith
+
+-- bytes with the same bits are the same
+pub bits_same : (a b : List ℕ) → AreBytes a → AreBytes b → bits a ≡ bits b → a ≡ b
+unfolding bits
+bits_same [] [] p q same = refl
+bits_same [] (y ∷ b) p q same = absurd (omega (arith, ap length same, length-append (low_bits 8 y) (bits b), length_of_low_bits 8 y))
+bits_same (x ∷ a) [] p q same = absurd (omega (arith, ap length same, length-append (low_bits 8 x) (bits a), length_of_low_bits 8 x))
+bits_same (x ∷ a) (y ∷ b) p q same =
+    let first : low_bits 8 x ≡ low_bits 8 y =
+    sym (take_at (low_bits 8 x) (bits a) 8 (length_of_low_bits 8 x)) ∙ ap (take 8) same ∙ take_at (low_bits 8 y) (bits b) 8 (length_of_low_bits 8 y) in
+    let behind : bits a ≡ bits b =
+    sym (drop_at (low_bits 8 x) (bits a) 8 (length_of_low_bits 8 x)) ∙ ap (drop 8) same ∙ drop_at (low_bits 8 y) (bits b) 8 (length_of_low_bits 8 y) in
+    ap₂ ◌∷◌ (sym (num_of_low_bits 8 x p.0) ∙ ap num first ∙ num_of_low_bits 8 y q.0) (bits_same a b p.1 q.1 behind)
+
+-- the bits between two places are as many as the places are apart
+pub length_of_bits_between : (bytes : List ℕ) (from to : ℕ) → to ≤ 8 * length bytes → length (bits_between bytes from to) ≡ to - from
+unfolding bits_between
+length_of_bits_between bytes from to within =
+    length-take-le (to - from) (drop from (bits bytes)) (omega (arith, length-drop from (bits bytes), length_of_bits bytes))
+
+-- the bits up to a place, and those from there on
+pub bits_between_joined : (bytes : List ℕ) (from mid to : ℕ) → from ≤ mid → mid ≤ to → bits_between bytes from mid ++ bits_between bytes mid to ≡ bits_between bytes from to
+unfolding bits_between
+bits_between_joined bytes from mid to h k =
+    let up : from + (mid - from) ≡ mid = omega arith in
+    let over : (mid - from) + (to - mid) ≡ to - from = omega arith in
+    let all : List Bool = bits bytes in
+    ap (λ rest. take (mid - from) (drop from all) ++ take (to - mid) rest) (ap (λ n. drop n all) (sym up) ∙ sym (drop-drop (mid - from) from all))
+    ∙ sym (take-add (mid - from) (to - mid) (drop from all))
+    ∙ ap (λ n. take n (drop from all)) over
+
+-- from a place to itself there is no bit
+pub bits_between_none : (bytes : List ℕ) (place : ℕ) → bits_between bytes place place ≡ []
+unfolding bits_between
+bits_between_none bytes place = let none : place - place ≡ 0 = omega arith in ap (λ n. take n (drop place (bits bytes))) none
+
+-- from the first place to the last there are all bits
+pub bits_between_all : (bytes : List ℕ) (to : ℕ) → to ≡ 8 * length bytes → bits_between bytes 0 to ≡ bits bytes
+unfolding bits_between
+bits_between_all bytes to last = take_all (to - 0) (bits bytes) (omega (arith, length_of_bits bytes))
+
+-- the first of the bits between two places
+pub first_of_bits_between : (bytes : List ℕ) (from count to : ℕ) → from + count ≤ to → take count (bits_between bytes from to) ≡ bits_between bytes from (from + count)
+unfolding bits_between
+first_of_bits_between bytes from count to h =
+    let less : count ≤ to - from = omega arith in
+    let same : count ≡ from + count - from = omega arith in
+    take-take count (to - from) (drop from (bits bytes)) less ∙ ap (λ n. take n (drop from (bits bytes))) same
+
+-- the last of the bits between two places
+pub last_of_bits_between : (bytes : List ℕ) (from count to : ℕ) → from + count ≤ to → drop count (bits_between bytes from to) ≡ bits_between bytes (from + count) to
+unfolding bits_between
+last_of_bits_between bytes from count to h =
+    let wide : to - from ≡ count + (to - (from + count)) = omega arith in
+    let all : List Bool = bits bytes in
+    ap (λ n. drop count (take n (drop from all))) wide
+    ∙ drop-take count (to - (from + count)) (drop from all)
+    ∙ ap (take (to - (from + count))) (drop-drop count from all)
+
+-- a bit of the low bits of a number, counted from the highest
+pub bit_of_low_bits : (count value i : ℕ) (d : Bool) → i < count → get_or (low_bits count value) i d ≡ is_set value (count - 1 - i)
+unfolding low_bits
+bit_of_low_bits zero value i d h = absurd (omega arith)
+bit_of_low_bits (suc count) value zero d h = let last : count ≡ suc count - 1 - 0 = omega arith in ap (is_set value) last
+bit_of_low_bits (suc count) value (suc i) d h =
+    let less : count - 1 - i ≡ suc count - 1 - suc i = omega arith in
+    bit_of_low_bits count value i d (omega arith) ∙ ap (is_set value) less
+
+-- a bit of bytes: that of the byte at its place, counted from the highest
+pub bit_of_bytes : (bytes : List ℕ) (place : ℕ) (d : Bool) → place < 8 * length bytes → get_or (bits bytes) place d ≡ is_set (get_or bytes (place / 8) 0) (7 - place % 8)
+unfolding bits
+bit_of_bytes bytes place d h =
+    let i : ℕ = place / 8 in
+    let j : ℕ = place % 8 in
+    let inside : i < length bytes = omega arith in
+    let byte : ℕ = get_or bytes i 0 in
+    let before : length (bits (take i bytes)) ≡ 8 * i = length_of_bits (take i bytes) ∙ ap (λ n. 8 * n) (length-take-le i bytes (omega arith)) in
+    let at : place ≡ length (bits (take i bytes)) + j = omega arith in
+    ap (λ n. get_or (bits bytes) n d) at
+    ∙ get_or-flat_map (low_bits 8) bytes i j 0 d inside (omega (arith, length_of_low_bits 8 byte))
+    ∙ bit_of_low_bits 8 byte j d (omega arith)
+
+-- one bit further
+pub bits_between_more : (bytes : List ℕ) (from to : ℕ) (d : Bool) → from ≤ to → to < 8 * length bytes → bits_between bytes from (to + 1) ≡ bits_between bytes from to ++ get_or (bits bytes) to d ∷ []
+unfolding bits_between
+bits_between_more bytes from to d h within =
+    let wide : to + 1 - from ≡ (to - from) + 1 = omega arith in
+    let at : from + (to - from) ≡ to = omega arith in
+    let all : List Bool = bits bytes in
+    ap (λ n. take n (drop from all)) wide
+    ∙ take_more (drop from all) (to - from) d (omega (arith, length-drop from all, length_of_bits bytes))
+    ∙ ap (λ bit. take (to - from) (drop from all) ++ bit ∷ []) (get_or-drop from all (to - from) d ∙ ap (λ n. get_or all n d) at)
+
+-- the bits taken as a number stand in front of those that are left then
+pub taken_front : (bytes : List ℕ) (place count end value : ℕ) → place + count ≤ end → end ≤ 8 * length bytes → value ≡ num (bits_between bytes place (place + count))
+    → bits_between bytes place end ≡ low_bits count value ++ bits_between bytes (place + count) end
+taken_front bytes place count end value within reach spelled =
+    let front : List Bool = bits_between bytes place (place + count) in
+    let long : length front ≡ count = length_of_bits_between bytes place (place + count) (omega arith) ∙ omega arith in
+    let same : low_bits count value ≡ front = ap₂ low_bits (sym long) spelled ∙ low_bits_of_num front in
+    sym (bits_between_joined bytes place (place + count) end (omega arith) within)
+    ∙ ap (λ first. first ++ bits_between bytes (place + count) end) (sym same)

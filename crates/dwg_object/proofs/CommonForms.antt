@@ -1,0 +1,241 @@
+-- Common parts in bodies: a body is cut in one way at the most into head, common part, own bits and references, and whether it is so cut follows from its bits.
+use Rattle.std.proofs.Common.{◌≡◌, refl, sym, ◌∙◌, ap, ap₂, subst, ℕ, ◌-◌, ◌^◌, ◌<◌, ◌≤◌, Bool, true, false, List, ◌++◌, length, take, drop, Option, Some, None, inl, inr, arith}
+use Rattle.std.specs.Prelude.{◌⊎◌, nat_lt}
+use Rattle.std.proofs.lemmas.Bool.Decides.{nat_tests}
+use Rattle.std.proofs.lemmas.List.{append_assoc, append_cancel_left, length-append, take-append-drop, length-take-le, take_at}
+use Rattle.dwg_bits.specs.Bits.{bits}
+use Rattle.dwg_classes.specs.declared.class.Class.{Class}
+use Rattle.dwg_grammar.proofs.CodeLemmas.{unique_of_code}
+use Rattle.dwg_grammar.specs.Grammar.{AnyLetters}
+use Rattle.dwg_grammar.specs.Bodies.{BeginsWithBody, IsBody}
+use Rattle.dwg_grammar.proofs.BodyLemmas.{unique_body, body_unread}
+use Rattle.dwg_common.specs.CommonLaws.{entity_is_body, object_is_body}
+use Rattle.dwg_common.specs.Entities.{entity_common}
+use Rattle.dwg_grammar.proofs.MadeBodies.{variant_is_body}
+use Rattle.dwg_common.specs.NonEntities.{object_common}
+use Rattle.dwg_kinds.specs.Kinds.{is_entity_kind}
+use Rattle.dwg_object.specs.declared.common.Common.{Common}
+use Rattle.dwg_object.specs.declared.common.Common.TheVariants.{Entity, Object}
+use Rattle.dwg_object.specs.Objects.{HeadParts, is_of_entity}
+use Rattle.dwg_object.specs.Forms.{head, HasHead, IsHead, CommonForm, HasCommonForm, kind_under, entity_inside, object_inside, common_part}
+use Rattle.dwg_object.proofs.HeadLaws.{head_is_code}
+
+-- the common part of an object is a body
+pub common_is_body : (entity : Bool) (base : ℕ) → base < 2 ^ 63 → IsBody base (common_part entity base)
+common_is_body true base small = variant_is_body base Entity entity_inside (entity_common base) (entity_is_body base small) (λ common. refl)
+common_is_body false base small = variant_is_body base Object object_inside (object_common base) (object_is_body base small) (λ common. refl)
+
+-- what is spelled of an entity is an entity's
+pub common_of_entity : (entity : Bool) (base : ℕ) (common : Common) (main references : List Bool) (over : ℕ) → (common_part entity base).Spells common main references over → is_of_entity common ≡ entity
+common_of_entity true base common main references over spelled = ap is_of_entity spelled.1
+common_of_entity false base common main references over spelled = ap is_of_entity spelled.1
+
+-- any count of bits may follow a common part
+pub common_may_follow : (entity : Bool) (base over : ℕ) → (common_part entity base).MayFollow over
+unfolding entity_common object_common
+common_may_follow true base over = tt
+common_may_follow false base over = tt
+
+-- the bits of a body, cut behind its head and at its bit size
+pub record IsCutAt (letters : List Bool) (parts : HeadParts) (main references : List Bool) : Type 0 where
+  pub front : List Bool
+  pub spelled : head.Spells parts front
+  pub whole : letters ≡ (front ++ main) ++ references
+  pub size : length (front ++ main) ≡ parts.size
+
+-- a body that is cut has that head
+pub cut_head : (letters : List Bool) (parts : HeadParts) (main references : List Bool) → IsCutAt letters parts main references → HasHead letters parts
+cut_head letters parts main references cut = record {
+  front = cut.front;
+  rest = main ++ references;
+  spelled = cut.spelled;
+  whole = cut.whole ∙ append_assoc cut.front main references;
+}
+
+-- lists that begin alike and have as many letters in front are joined of the same
+pub same_fronts : {A : Type 0} (front back other other_back : List A) → front ++ back ≡ other ++ other_back → length front ≡ length other → (front ≡ other) × (back ≡ other_back)
+same_fronts {A} front back other other_back same long =
+    let fronts : front ≡ other =
+    sym (take_at front back (length front) refl) ∙ ap₂ (λ (n : ℕ) (all : List A). take n all) long same ∙ take_at other other_back (length other) refl in
+    (fronts, append_cancel_left front back other_back (same ∙ ap (λ first. first ++ other_back) (sym fronts)))
+
+-- it is cut in one way
+pub cut_same : (letters : List Bool) (parts other : HeadParts) (main references other_main other_references : List Bool)
+    → IsCutAt letters parts main references → IsCutAt letters other other_main other_references
+    → (parts ≡ other) × (main ≡ other_main) × (references ≡ other_references)
+cut_same letters parts other main references other_main other_references is was =
+    let joined : is.front ++ (main ++ references) ≡ was.front ++ (other_main ++ other_references) =
+    sym (append_assoc is.front main references) ∙ sym is.whole ∙ was.whole ∙ append_assoc was.front other_main other_references in
+    let heads = unique_of_code AnyLetters head head_is_code parts other is.front was.front (main ++ references) (other_main ++ other_references) is.spelled was.spelled joined in
+    let sizes : length (is.front ++ main) ≡ length (was.front ++ other_main) = is.size ∙ ap (λ (p : HeadParts). p.size) heads.0 ∙ sym was.size in
+    let pieces = same_fronts (is.front ++ main) references (was.front ++ other_main) other_references (sym is.whole ∙ was.whole) sizes in
+    (heads.0, append_cancel_left is.front main other_main (pieces.0 ∙ ap (λ first. first ++ other_main) (sym heads.1)), pieces.1)
+
+-- the own handle of a head is that of a handle
+pub own_small : (letters : List Bool) (parts : HeadParts) (main references : List Bool) → IsCutAt letters parts main references → (0 < parts.own) × (parts.own < 2 ^ 63)
+unfolding head
+own_small letters parts main references cut = let fits : IsHead parts = head_is_code.value cut.front parts cut.spelled in (fits.positive, fits.own)
+
+-- a body in that form is cut behind its head and at its bit size
+form_cut : (classes : List Class) (body : List ℕ) (number handle : ℕ) (common : Common) (own behind : List Bool) (is : CommonForm classes body number handle common own behind)
+    → IsCutAt (bits body) (record { number = number; size = is.size; own = handle }) (is.common_main ++ own) (is.common_refs ++ behind)
+form_cut classes body number handle common own behind is = record { front = is.head_bits; spelled = is.head_spelled; whole = is.whole; size = is.filled }
+
+-- so it has a head
+pub head_of_common : (classes : List Class) (body : List ℕ) (number handle : ℕ) (common : Common) (own behind : List Bool) (is : CommonForm classes body number handle common own behind)
+    → HasHead (bits body) (record { number = number; size = is.size; own = handle })
+head_of_common classes body number handle common own behind is =
+    cut_head (bits body) (record { number = number; size = is.size; own = handle }) (is.common_main ++ own) (is.common_refs ++ behind) (form_cut classes body number handle common own behind is)
+
+-- whose parts lie in their ranges
+pub fits_of_common : (classes : List Class) (body : List ℕ) (number handle : ℕ) (common : Common) (own behind : List Bool) (is : CommonForm classes body number handle common own behind)
+    → IsHead (record { number = number; size = is.size; own = handle })
+unfolding head
+fits_of_common classes body number handle common own behind is = head_is_code.value is.head_bits (record { number = number; size = is.size; own = handle }) is.head_spelled
+
+-- main bits and reference bits begin with the common part of an object of these numbers
+abbrev pub BeginsWithCommon : List Class → ℕ → ℕ → Common → List Bool → List Bool → List Bool → List Bool → Type 0
+BeginsWithCommon classes number handle common main own references behind =
+    BeginsWithBody (common_part (is_entity_kind (kind_under classes number)) handle) common main own references behind
+
+-- in any cutting of the body stand the parts of its form
+pub common_in_cut : (classes : List Class) (body : List ℕ) (parts : HeadParts) (main references : List Bool) (number handle : ℕ) (common : Common) (own behind : List Bool)
+    → IsCutAt (bits body) parts main references → CommonForm classes body number handle common own behind
+    → (number ≡ parts.number) × (handle ≡ parts.own) × BeginsWithCommon classes parts.number parts.own common main own references behind
+common_in_cut classes body parts main references number handle common own behind cut is =
+    let same = cut_same (bits body) _ parts (is.common_main ++ own) (is.common_refs ++ behind) main references (form_cut classes body number handle common own behind is) cut in
+    let begins : BeginsWithCommon classes number handle common (is.common_main ++ own) own (is.common_refs ++ behind) behind = record {
+      main_front = is.common_main;
+      reference_front = is.common_refs;
+      spelled = is.common_spelled;
+      main_whole = refl;
+      references_whole = refl;
+    } in (
+      ap (λ (p : HeadParts). p.number) same.0,
+      ap (λ (p : HeadParts). p.own) same.0,
+      subst (λ (p : HeadParts). BeginsWithCommon classes p.number p.own common main own references behind) same.0
+          (subst (λ (m : List Bool). BeginsWithCommon classes number handle common m own references behind) same.1
+          (subst (λ (r : List Bool). BeginsWithCommon classes number handle common (is.common_main ++ own) own r behind) same.2 begins)),
+    )
+
+-- and a cutting in which they stand is that form
+pub common_of_cut : (classes : List Class) (body : List ℕ) (parts : HeadParts) (main references : List Bool) (common : Common) (own behind : List Bool)
+    → IsCutAt (bits body) parts main references → BeginsWithCommon classes parts.number parts.own common main own references behind
+    → CommonForm classes body parts.number parts.own common own behind
+common_of_cut classes body parts main references common own behind cut begins = record {
+  size = parts.size;
+  head_bits = cut.front;
+  common_main = begins.main_front;
+  common_refs = begins.reference_front;
+  whole = cut.whole ∙ ap₂ (λ main references. (cut.front ++ main) ++ references) begins.main_whole begins.references_whole;
+  head_spelled = cut.spelled;
+  common_spelled = begins.spelled;
+  filled = ap (λ main. length (cut.front ++ main)) (sym begins.main_whole) ∙ cut.size;
+}
+
+-- a body is so cut in one way at the most
+pub common_forms_same : (classes : List Class) (body : List ℕ) (number other_number handle other_handle : ℕ) (common other : Common) (own other_own behind other_behind : List Bool)
+    → CommonForm classes body number handle common own behind → CommonForm classes body other_number other_handle other other_own other_behind
+    → (number ≡ other_number) × (handle ≡ other_handle) × (common ≡ other) × (own ≡ other_own) × (behind ≡ other_behind)
+common_forms_same classes body number other_number handle other_handle common other own other_own behind other_behind is was =
+    let cut = form_cut classes body other_number other_handle other other_own other_behind was in
+    let main : List Bool = was.common_main ++ other_own in
+    let references : List Bool = was.common_refs ++ other_behind in
+    let parts = common_in_cut classes body _ main references number handle common own behind cut is in
+    let others = common_in_cut classes body _ main references other_number other_handle other other_own other_behind cut was in
+    let small = (own_small (bits body) _ main references cut).1 in
+    let alike = unique_body other_handle (common_part (is_entity_kind (kind_under classes other_number)) other_handle) (common_is_body (is_entity_kind (kind_under classes other_number)) other_handle small)
+    common other main own other_own references behind other_behind parts.2 others.2 in
+    (parts.0, parts.1, alike.0, alike.1, alike.2)
+
+-- its bit size is behind the head and within the body
+pub record IsSizeWithin (letters front : List Bool) (size : ℕ) : Type 0 where
+  pub behind : length front ≤ size
+  pub within : size ≤ length letters
+
+pub size_of_common : (classes : List Class) (body : List ℕ) (parts : HeadParts) (has_head : HasHead (bits body) parts) → HasCommonForm classes body → IsSizeWithin (bits body) has_head.front parts.size
+size_of_common classes body parts has_head has =
+    let is = has.form in
+    let main : List Bool = is.common_main ++ has.own in
+    let references : List Bool = is.common_refs ++ has.behind in
+    let heads = unique_of_code AnyLetters head head_is_code _ parts is.head_bits has_head.front (main ++ references) has_head.rest is.head_spelled has_head.spelled
+    (sym (append_assoc is.head_bits main references) ∙ sym is.whole ∙ has_head.whole) in
+    let sizes : is.size ≡ parts.size = ap (λ (p : HeadParts). p.size) heads.0 in
+    record {
+      behind = omega (arith, sizes, is.filled, length-append is.head_bits main, ap length heads.1);
+      within = omega (arith, sizes, is.filled, ap length is.whole, length-append (is.head_bits ++ main) references);
+    }
+
+-- a body is cut where its bit size is so
+pub cut_of_size : (letters : List Bool) (parts : HeadParts) (has : HasHead letters parts) → IsSizeWithin letters has.front parts.size
+    → IsCutAt letters parts (take (parts.size - length has.front) has.rest) (drop (parts.size - length has.front) has.rest)
+cut_of_size letters parts has size =
+    let many : ℕ = parts.size - length has.front in
+    let enough : many ≤ length has.rest = omega (arith, size.within, size.behind, ap length has.whole, length-append has.front has.rest) in
+    record {
+      front = has.front;
+      spelled = has.spelled;
+      whole =
+          has.whole ∙ ap (λ rest. has.front ++ rest) (sym (take-append-drop many has.rest)) ∙ sym (append_assoc has.front (take many has.rest) (drop many has.rest));
+      size = omega (arith, length-append has.front (take many has.rest), length-take-le many has.rest enough, size.behind);
+    }
+
+-- a bit size lies behind the head and within the body, or it doesn't
+size_or_not : (letters front : List Bool) (size : ℕ) → IsSizeWithin letters front size ⊎ (IsSizeWithin letters front size → ⊥)
+size_or_not letters front size = by_tests (nat_lt size (length front)) (nat_lt (length letters) size) refl refl
+  where
+    by_tests : (ahead past : Bool) → nat_lt size (length front) ≡ ahead → nat_lt (length letters) size ≡ past → IsSizeWithin letters front size ⊎ (IsSizeWithin letters front size → ⊥)
+    by_tests true past is any = inr (λ within. let less : size < length front = grind (arith, nat_tests) in omega (arith, less, within.behind))
+    by_tests false true is any = inr (λ within. let more : length letters < size = grind (arith, nat_tests) in omega (arith, more, within.within))
+    by_tests false false is any = inl (record { behind = grind (arith, nat_tests); within = grind (arith, nat_tests) })
+
+-- main bits and reference bits begin with the common part of an object of these numbers
+pub record HasCommonPart (classes : List Class) (number handle : ℕ) (main references : List Bool) : Type 0 where
+  pub common : Common
+  pub own : List Bool
+  pub behind : List Bool
+  pub begins : BeginsWithCommon classes number handle common main own references behind
+
+-- whether they do follows from them
+common_decided : (classes : List Class) (number handle : ℕ) (main references : List Bool) → handle < 2 ^ 63
+    → HasCommonPart classes number handle main references ⊎ (HasCommonPart classes number handle main references → ⊥)
+common_decided classes number handle main references small = by_parse ((common_part entity handle).parse main references) refl
+  where
+    entity : Bool
+    entity = is_entity_kind (kind_under classes number)
+
+    is : IsBody handle (common_part entity handle)
+    is = common_is_body entity handle small
+
+    by_parse : (found : Option (Common × (List Bool × List Bool))) → (common_part entity handle).parse main references ≡ found
+        → HasCommonPart classes number handle main references ⊎ (HasCommonPart classes number handle main references → ⊥)
+    by_parse None same = inr (λ has. (body_unread handle (common_part entity handle) main references is same).0 has.common has.own has.behind has.begins)
+    by_parse (Some (common, (own, behind))) same = inl (record { common = common; own = own; behind = behind; begins = is.sound main own references behind common same })
+
+-- whether a body with a head is so cut follows from its bits
+pub common_form_decided : (classes : List Class) (body : List ℕ) (parts : HeadParts) → HasHead (bits body) parts → HasCommonForm classes body ⊎ (HasCommonForm classes body → ⊥)
+common_form_decided classes body parts has = by_test (size_or_not (bits body) has.front parts.size)
+  where
+    by_part : (main references : List Bool) → IsCutAt (bits body) parts main references
+        → HasCommonPart classes parts.number parts.own main references ⊎ (HasCommonPart classes parts.number parts.own main references → ⊥)
+        → HasCommonForm classes body ⊎ (HasCommonForm classes body → ⊥)
+    by_part main references cut (inl part) = inl (record {
+      number = parts.number;
+      handle = parts.own;
+      common = part.common;
+      own = part.own;
+      behind = part.behind;
+      form = common_of_cut classes body parts main references part.common part.own part.behind cut part.begins;
+    })
+    by_part main references cut (inr none) = inr (λ form. none (record {
+      common = form.common;
+      own = form.own;
+      behind = form.behind;
+      begins = (common_in_cut classes body parts main references form.number form.handle form.common form.own form.behind cut form.form).2;
+    }))
+
+    by_test : IsSizeWithin (bits body) has.front parts.size ⊎ (IsSizeWithin (bits body) has.front parts.size → ⊥) → HasCommonForm classes body ⊎ (HasCommonForm classes body → ⊥)
+    by_test (inr outside) = inr (λ form. outside (size_of_common classes body parts has form))
+    by_test (inl size) =
+        let cut = cut_of_size (bits body) parts has size in
+        by_part _ _ cut (common_decided classes parts.number parts.own _ _ (own_small (bits body) parts _ _ cut).1)

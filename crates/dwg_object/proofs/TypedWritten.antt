@@ -1,0 +1,82 @@
+-- Typed objects as they are written: what is read is valid and written no longer, and what is written is read again.
+use Rattle.std.proofs.Common.{◌≡◌, sym, subst, ℕ, ◌^◌, ◌<◌, ◌≤◌, Bool, List, ◌++◌, length, arith}
+use Rattle.std.proofs.lemmas.List.{length-append}
+use Rattle.dwg_bits.proofs.PaddingLaw.{padding_fills}
+use Rattle.dwg_bits.specs.Sink.{padding}
+use Rattle.dwg_classes.specs.declared.class.Class.{Class}
+use Rattle.dwg_kinds.specs.Kinds.{is_entity_kind}
+use Rattle.dwg_kinds.specs.declared.kind.Kind.{Kind}
+use Rattle.dwg_object.specs.declared.body.Body.{Body}
+use Rattle.dwg_object.specs.declared.common.Common.{Common}
+use Rattle.dwg_object.proofs.CommonForms.{fits_of_common}
+use Rattle.dwg_object.specs.Forms.{TypedForm, kind_under}
+use Rattle.dwg_object.specs.Objects.{TypedValue, is_of_entity}
+use Rattle.dwg_object.specs.OwnBodies.{body_kind, own_body}
+use Rattle.dwg_object.proofs.OwnLaws.{own_is_body, own_of_kind}
+use Rattle.dwg_object.specs.Written.{own_main, own_refs, object_bits, body_bytes, IsValidTyped}
+use Rattle.dwg_object.proofs.WrittenLemmas.{object_short, common_fits, common_form_written}
+
+-- the body of a Typed form is of the kind of its number
+kind_of_form : (classes : List Class) (body : List ℕ) (number handle : ℕ) (common : Common) (value : Body) → TypedForm classes body number handle common value → body_kind value ≡ kind_under classes number
+kind_of_form classes body number handle common value is = own_of_kind (kind_under classes number) handle value is.own is.own_refs (length is.left) is.own_spelled
+
+-- what is read as a Typed object is written by no more bytes
+pub typed_short : (classes : List Class) (body : List ℕ) (number handle : ℕ) (common : Common) (value : Body)
+    → TypedForm classes body number handle common value → length (body_bytes (TypedValue number handle common value)) ≤ length body
+typed_short classes body number handle common value is =
+    let same = kind_of_form classes body number handle common value is in
+    let small = (fits_of_common classes body number handle common is.own (is.own_refs ++ is.left) is.form).own in
+    let part = own_is_body (kind_under classes number) handle small in
+    let main : length (own_main handle value) ≤ length is.own =
+    subst (λ (k : Kind). length ((own_body k handle).short_main value) ≤ length is.own) (sym same) (part.least_main value is.own is.own_refs (length is.left) is.own_spelled) in
+    let refs : length (own_refs handle value) ≤ length is.own_refs =
+    subst (λ (k : Kind). length ((own_body k handle).short_references value) ≤ length is.own_refs) (sym same)
+    (part.least_references value is.own is.own_refs (length is.left) is.own_spelled) in
+    object_short classes body number handle common is.own (is.own_refs ++ is.left) (own_main handle value) (own_refs handle value) is.form main
+    (omega (arith, refs, length-append is.own_refs is.left))
+
+-- and it can be written
+pub typed_valid : (classes : List Class) (body : List ℕ) (number handle : ℕ) (common : Common) (value : Body)
+    → TypedForm classes body number handle common value → IsValidTyped classes number handle common value
+typed_valid classes body number handle common value is =
+    let same = kind_of_form classes body number handle common value is in
+    let head_fits = fits_of_common classes body number handle common is.own (is.own_refs ++ is.left) is.form in
+    let fitting = common_fits classes body number handle common is.own (is.own_refs ++ is.left) is.form in
+    record {
+      whole = (
+        (
+          head_fits.positive,
+          fitting.fits,
+          subst (λ (k : Kind). (own_body k handle).Fits value) (sym same)
+              ((own_is_body (kind_under classes number) handle head_fits.own).value value is.own is.own_refs (length is.left) is.own_spelled),
+        ),
+        subst (λ (k : Kind). is_of_entity common ≡ is_entity_kind k) (sym same) fitting.same,
+      );
+      number_fits = head_fits.number;
+      handle_fits = head_fits.own;
+      kind = sym same;
+    }
+
+-- what is written of a valid one has the Typed form of it
+pub typed_form_written : (classes : List Class) (number handle : ℕ) (common : Common) (value : Body)
+    → IsValidTyped classes number handle common value → length (body_bytes (TypedValue number handle common value)) < 2 ^ 29
+    → TypedForm classes (body_bytes (TypedValue number handle common value)) number handle common value
+typed_form_written classes number handle common value is small =
+    let own : List Bool = own_main handle value in
+    let refs : List Bool = own_refs handle value in
+    let fill : List Bool = padding (object_bits number handle common own refs) in
+    let few = (padding_fills (object_bits number handle common own refs)).1 in
+    let part = own_is_body (body_kind value) handle is.handle_fits in
+    record {
+      own = own;
+      own_refs = refs;
+      left = fill;
+      form =
+          common_form_written classes number handle common own refs
+          (record { number_fits = is.number_fits; positive = is.whole.0.0; handle_fits = is.handle_fits; common_fits = is.whole.0.1 })
+          (subst (λ (k : Kind). is_of_entity common ≡ is_entity_kind k) (sym is.kind) is.whole.1) small;
+      own_spelled =
+          subst (λ (k : Kind). (own_body k handle).Spells value own refs (length fill)) (sym is.kind)
+          (part.canonical value (length fill) is.whole.0.2 (part.padded (length fill) few));
+      few = few;
+    }

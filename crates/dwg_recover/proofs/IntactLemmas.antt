@@ -1,0 +1,249 @@
+-- The intact objects of a damaged canonical file are recovered.
+use Rattle.std.proofs.Common.{◌≡◌, refl, sym, ◌∙◌, ap, ap₂, subst, ℕ, ◌≤◌, List, [], length, map, Option, Some, None, inl, inr, arith}
+use Rattle.std.specs.Prelude.{◌⊎◌, if◌then◌else◌}
+use Rattle.std.specs.List.{AllByRecursion}
+use Rattle.std.specs.Option.{is_none}
+use Rattle.std.specs.Result.{result_unwrap_or}
+use Rattle.dwg_base.specs.Bytes.{AreBytes}
+use Rattle.dwg_base.specs.Devices.{MOST_BYTES}
+use Rattle.dwg_base.specs.Refusals.{first_fault}
+use Rattle.dwg_base.specs.declared.refusal.Refusal.{Refusal}
+use Rattle.dwg_classes.specs.declared.class.Class.{Class}
+use Rattle.dwg_classes.specs.Class.{AreClasses}
+use Rattle.dwg_classes.proofs.ClassLineLemmas.{classes_alike}
+use Rattle.dwg_file.specs.Canonical.{canonical, class_content, classes_place, header_of as canonical_header, map_place, objects_place, preview_place, size_of}
+use Rattle.dwg_file.proofs.CanonicalParts.{content_is_classes}
+use Rattle.dwg_file.specs.Contents.{Contents}
+use Rattle.dwg_file.specs.DrawingAt.{drawing_at}
+use Rattle.dwg_file.specs.FileLines.{ALL_LINES, frames_tried}
+use Rattle.dwg_file.proofs.PassingLemmas.{passing_is_spelled}
+use Rattle.dwg_file.proofs.ReadingLemmas.{SectionLaws}
+use Rattle.dwg_file.specs.SortedObjects.{sorted}
+use Rattle.dwg_file.proofs.SortedObjects.{sorted_same}
+use Rattle.dwg_file.specs.Spelled.{IsFrameOfPair, PairFrame, Spelled}
+use Rattle.dwg_file.specs.Valid.{IsValid}
+use Rattle.dwg_object.proofs.FormLaws.{form_at, form_is_at, forms_same, head_of_form, valid_is_form}
+use Rattle.dwg_object.specs.Forms.{FormOf}
+use Rattle.dwg_object.proofs.FrameLaws.{held_frame}
+use Rattle.dwg_object.specs.Frames.{FrameAt, FrameHolds}
+use Rattle.dwg_object.specs.Objects.{ObjectValue}
+use Rattle.dwg_object.specs.Written.{IsValidObject, body_bytes}
+use Rattle.dwg_objmap.specs.declared.pair.Pair.{Pair}
+use Rattle.dwg_objmap.proofs.MapLemmas.{map_is_unique}
+use Rattle.dwg_objmap.specs.Pages.{MapOf}
+use Rattle.dwg_sections.specs.declared.framed.Framed.TheVariants as framed
+use Rattle.dwg_sections.specs.declared.header.FileHeader.{FileHeader}
+use Rattle.dwg_sections.specs.Framed.{FramedAt}
+use Rattle.dwg_sections.specs.HeaderLines.{place_of}
+use Rattle.dwg_recover.specs.declared.frame.Frame.{Frame}
+use Rattle.dwg_recover.proofs.ScanKeeping.{mapped_stay}
+use Rattle.dwg_recover.proofs.FoundLemmas.{candidates_found, found_placed}
+use Rattle.dwg_recover.specs.Frames.{candidates, kept_of, mapped_frames}
+use Rattle.dwg_recover.specs.FoundFrames.{frame_of}
+use Rattle.dwg_recover.proofs.FoundFrames.{candidates_hold}
+use Rattle.dwg_recover.specs.Intact.{HasPart, IntactObjectsAreKept, IsPartlyIntact, canonical_frames, kept_frame, pairs_framed}
+use Rattle.dwg_recover.proofs.IntactFrames.{HoldsOrNone, IsKeptFrame, intact_is_kept, one_ordered}
+use Rattle.dwg_recover.proofs.IntactMap.{map_is_read}
+use Rattle.dwg_recover.proofs.IntactParts.{IntactParts, IsWritten, body_is_found, canonical_written, classes_are_found, classes_are_intact, frame_is_intact, intact_holds, parts_are_intact, written_positive}
+use Rattle.dwg_recover.specs.ListMembers.{IsOneOf}
+use Rattle.dwg_recover.proofs.ListMembers.{all_of_each, mapped_from, one_mapped, one_of_all, one_permuted}
+use Rattle.dwg_recover.proofs.FoundParts.{header_is_found}
+use Rattle.dwg_recover.specs.Placing.{IsFound}
+use Rattle.dwg_recover.specs.Recovering.{RecoveredValue, classes_found, drawing_recovered, frame_body, frames_found, frames_kept, frames_mapped, object_of, pairs_read, recovered, recovered_damaged, recovered_whole, told}
+use Rattle.dwg_recover.specs.Sections.{header_of}
+use Rattle.dwg_recover.proofs.WholeLemmas.{candidates_are_found}
+
+-- what is known of a frame that an input has, and of the pairs of its map
+record IsIntact (drawing : Contents) (bytes : List ℕ) (frame : PairFrame) : Type 0 where
+  parts : IntactParts drawing bytes
+  header : header_of bytes ≡ Some (canonical_header drawing)
+  written : IsWritten drawing.classes (canonical drawing) frame
+  framed : FrameAt bytes frame.pair.place (body_bytes frame.object) frame.end
+  kept : IsKeptFrame bytes (pairs_framed (canonical_frames drawing)) frame
+
+-- each frame of the canonical file holds, or none does at its place
+each_holds_or_none : (drawing : Contents) (bytes : List ℕ) → IsValid drawing → size_of drawing ≤ MOST_BYTES → IsPartlyIntact drawing bytes → AllByRecursion (HoldsOrNone bytes) (canonical_frames drawing)
+each_holds_or_none drawing bytes is small intact = all_of_each (HoldsOrNone bytes) (canonical_frames drawing) (λ frame one. of_case frame one (intact.frames frame one))
+  where
+    of_case : (frame : PairFrame) → IsOneOf frame (canonical_frames drawing)
+        → HasPart drawing bytes frame.pair.place frame.end ⊎ ((end : ℕ) → FrameHolds bytes frame.pair.place frame.pair.handle end → ⊥) → HoldsOrNone bytes frame
+    of_case frame one (inl same) =
+        inl (intact_holds drawing bytes frame intact (one_of_all (IsWritten drawing.classes (canonical drawing)) (canonical_frames drawing) frame (canonical_written drawing is small) one) same)
+    of_case frame one (inr never) = inr never
+
+-- so a frame that the input has is kept
+frame_is_kept : SectionLaws → (drawing : Contents) (bytes : List ℕ) (frame : PairFrame) → IsValid drawing → size_of drawing ≤ MOST_BYTES → AreBytes bytes → IsPartlyIntact drawing bytes
+    → IsOneOf frame (canonical_frames drawing) → HasPart drawing bytes frame.pair.place frame.end → IsIntact drawing bytes frame
+frame_is_kept laws drawing bytes frame is small are intact one same =
+    let all = canonical_written drawing is small in
+    let written = one_of_all (IsWritten drawing.classes (canonical drawing)) (canonical_frames drawing) frame all one in
+    let parts = parts_are_intact drawing bytes is small intact in
+    record {
+      parts = parts;
+      header = header_is_found laws.header_complete bytes (canonical_header drawing) parts.begins;
+      written = written;
+      framed = frame_is_intact drawing bytes frame intact written same;
+      kept =
+          intact_is_kept (candidates_hold held_frame) bytes drawing.objects (objects_place drawing) frame are is.ascending
+          (written_positive drawing.classes (canonical drawing) (canonical_frames drawing) all) (each_holds_or_none drawing bytes is small intact) one
+          (intact_holds drawing bytes frame intact written same);
+    }
+
+-- a candidate that is among frames is told with them
+told_one : (bytes : List ℕ) (pairs : List Pair) (frames : List Frame) (number : ℕ) (frame : PairFrame) → IsOneOf (frame_of number frame.pair frame.end) (candidates bytes 0 pairs)
+    → IsOneOf (frame_of number frame.pair frame.end) frames → IsOneOf (kept_frame frame) (told bytes frames)
+unfolding told
+told_one bytes pairs frames number frame candidate one =
+    let is : Frame = frame_of number frame.pair frame.end in
+    let placed = found_placed bytes is (one_of_all (IsFound bytes) (candidates bytes 0 pairs) is (candidates_found bytes 0 pairs) candidate) in
+    one_mapped kept_of is _ (one_ordered (length bytes) frames is (omega (arith, placed.some, placed.within)) one)
+
+-- the object that the body of a valid one is read as is that one
+read_again : (classes : List Class) (object : ObjectValue) → IsValidObject classes object → form_at classes (body_bytes object) ≡ object
+read_again classes object valid =
+    let form = valid_is_form classes object valid in
+    let head = head_of_form classes (body_bytes object) object form in
+    forms_same classes (body_bytes object) _ _ (form_is_at classes (body_bytes object) head.0 head.1) form
+
+-- of a damaged input the frame is kept, and its object recovered where the classes are those of the drawing
+record IsRecovered (drawing : Contents) (frame : PairFrame) (value : RecoveredValue) (Classes : Type 0) : Type 0 where
+  kept : IsOneOf (kept_frame frame) value.kept
+  object : Classes → IsOneOf frame.object value.drawing.objects
+
+damaged_recovers : (drawing : Contents) (bytes : List ℕ) (frame : PairFrame) → AreBytes bytes → IsIntact drawing bytes frame
+    → IsRecovered drawing frame (recovered_damaged bytes) (classes_found bytes ≡ drawing.classes)
+unfolding recovered_damaged frames_kept frames_mapped drawing_recovered
+damaged_recovers drawing bytes frame are intact = record { kept = told_one bytes pairs (frames_kept bytes) intact.kept.at frame intact.kept.candidate among; object = object }
+  where
+    pairs : List Pair
+    pairs = pairs_framed (canonical_frames drawing)
+
+    read : pairs_read bytes ≡ pairs
+    read = map_is_read bytes (canonical_header drawing) (map_place drawing) pairs intact.header refl intact.parts.mapped
+
+    is : Frame
+    is = frame_of intact.kept.at frame.pair frame.end
+
+    among : IsOneOf is (frames_kept bytes)
+    among =
+        mapped_stay (classes_found bytes) bytes (frames_mapped bytes) is
+        (subst (λ (all : List Pair). IsOneOf is (mapped_frames bytes all)) (sym read) intact.kept.kept)
+
+    object : classes_found bytes ≡ drawing.classes → IsOneOf frame.object (drawing_recovered bytes).objects
+    object found =
+        let same : object_of (classes_found bytes) bytes is ≡ frame.object =
+        ap₂ form_at found (body_is_found bytes frame.pair.place (body_bytes frame.object) frame.end are intact.framed) ∙ read_again drawing.classes frame.object intact.written.valid in
+        one_permuted frame.object (map (object_of (classes_found bytes) bytes) (frames_kept bytes)) (sorted (map (object_of (classes_found bytes) bytes) (frames_kept bytes)))
+        (sorted_same (map (object_of (classes_found bytes) bytes) (frames_kept bytes)))
+        (subst (λ (one : ObjectValue). IsOneOf one (map (object_of (classes_found bytes) bytes) (frames_kept bytes))) same (one_mapped (object_of (classes_found bytes) bytes) is (frames_kept bytes) among))
+
+-- the object of a frame that a drawing is spelled with
+record IsSpelledFrame (bytes : List ℕ) (drawing : Contents) (pair : Pair) : Type 0 where
+  frame : PairFrame
+  is : IsFrameOfPair drawing.classes bytes frame
+  of_pair : pair ≡ frame.pair
+  among : IsOneOf frame.object drawing.objects
+
+-- of an input that spells a drawing, each pair has one
+spelled_frame : (bytes : List ℕ) (drawing : Contents) (spelled : Spelled drawing bytes) (pair : Pair) → IsOneOf pair spelled.pairs → IsSpelledFrame bytes drawing pair
+spelled_frame bytes drawing spelled pair one =
+    let from = mapped_from (λ (frame : PairFrame). frame.pair) pair spelled.frames (subst (IsOneOf pair) spelled.framed one) in
+    record {
+      frame = from.one;
+      is = one_of_all (IsFrameOfPair drawing.classes bytes) spelled.frames from.one spelled.stand from.is;
+      of_pair = from.same;
+      among =
+          one_permuted from.one.object (map (λ (frame : PairFrame). frame.object) spelled.frames) drawing.objects spelled.objects
+          (one_mapped (λ (frame : PairFrame). frame.object) from.one spelled.frames from.is);
+    }
+
+-- an input that spells a drawing begins with the header that it is spelled with
+same_header : SectionLaws → (drawing other : Contents) (bytes : List ℕ) (spelled : Spelled other bytes) → IntactParts drawing bytes → canonical_header drawing ≡ spelled.header
+same_header laws drawing other bytes spelled parts =
+    (laws.header_complete bytes (canonical_header drawing) parts.begins).1 ∙ sym (laws.header_complete bytes spelled.header spelled.begins).1
+
+-- the classes of a drawing that an input spells are those of the section that it has
+spelled_classes : SectionLaws → (drawing other : Contents) (bytes : List ℕ) → IsValid drawing → Spelled other bytes → IntactParts drawing bytes
+    → FramedAt bytes (classes_place drawing) framed.Classes (class_content drawing.classes) → other.classes ≡ drawing.classes
+spelled_classes laws drawing other bytes is spelled parts section =
+    let header = same_header laws drawing other bytes spelled parts in
+    let place : classes_place drawing ≡ spelled.classes_place = same_place (ap (λ (header : FileHeader). place_of 1 header.locators) header ∙ spelled.classes_located) in
+    let own = laws.section_complete framed.Classes (classes_place drawing) bytes (class_content drawing.classes) section in
+    let its = laws.section_complete framed.Classes (classes_place drawing) bytes spelled.class_content
+    (subst (λ at. FramedAt bytes at framed.Classes spelled.class_content) (sym place) spelled.classes_framed) in
+    classes_alike spelled.class_content other.classes drawing.classes spelled.classes
+    (subst (λ (content : List ℕ). AreClasses content drawing.classes) (own.1 ∙ sym its.1) (content_is_classes drawing.classes is.classes))
+  where
+    same_place : Some (classes_place drawing) ≡ Some spelled.classes_place → classes_place drawing ≡ spelled.classes_place
+    same_place same = cc
+
+-- of an input that spells a drawing the frame is kept, and its object is one of the drawing's where the classes are those of the canonical file
+whole_recovers : SectionLaws → (drawing : Contents) (bytes : List ℕ) (frame : PairFrame) → IsValid drawing → AreBytes bytes → first_fault ALL_LINES bytes ≡ None → IsOneOf frame (canonical_frames drawing)
+    → IsIntact drawing bytes frame → IsRecovered drawing frame (recovered_whole bytes) (FramedAt bytes (classes_place drawing) framed.Classes (class_content drawing.classes))
+unfolding recovered_whole
+whole_recovers laws drawing bytes frame is are none one intact = record {
+  kept =
+      told_one bytes pairs (frames_found 0 (result_unwrap_or (frames_tried bytes) [])) intact.kept.at frame intact.kept.candidate
+      (subst (IsOneOf (frame_of intact.kept.at frame.pair frame.end)) (candidates_are_found laws bytes (canonical_header drawing) (map_place drawing) pairs are none intact.parts.begins refl intact.parts.mapped) intact.kept.candidate);
+  object = object;
+}
+  where
+    pairs : List Pair
+    pairs = pairs_framed (canonical_frames drawing)
+
+    spelled : Spelled (drawing_at bytes) bytes
+    spelled = passing_is_spelled laws bytes are none
+
+    object : FramedAt bytes (classes_place drawing) framed.Classes (class_content drawing.classes) → IsOneOf frame.object (drawing_at bytes).objects
+    object section = subst (λ (object : ObjectValue). IsOneOf object (drawing_at bytes).objects) same its.among
+      where
+        same_place : Some (map_place drawing) ≡ Some spelled.map_place → map_place drawing ≡ spelled.map_place
+        same_place located = cc
+
+        all : pairs ≡ spelled.pairs
+        all =
+            map_is_unique (map_place drawing) bytes pairs spelled.pairs intact.parts.mapped
+            (subst (λ place. MapOf bytes place spelled.pairs) (sym (same_place (ap (λ (header : FileHeader). place_of 2 header.locators) (same_header laws drawing (drawing_at bytes) bytes spelled intact.parts) ∙ spelled.map_located))) spelled.mapped)
+
+        its : IsSpelledFrame bytes (drawing_at bytes) frame.pair
+        its = spelled_frame bytes (drawing_at bytes) spelled frame.pair (subst (IsOneOf frame.pair) all (one_mapped (λ (frame : PairFrame). frame.pair) frame (canonical_frames drawing) one))
+
+        body : its.frame.body ≡ body_bytes frame.object
+        body =
+            sym (body_is_found bytes its.frame.pair.place its.frame.body its.frame.end are its.is.stands)
+            ∙ ap (λ (pair : Pair). frame_body bytes pair.place) (sym its.of_pair)
+            ∙ body_is_found bytes frame.pair.place (body_bytes frame.object) frame.end are intact.framed
+
+        classes : (drawing_at bytes).classes ≡ drawing.classes
+        classes = spelled_classes laws drawing (drawing_at bytes) bytes is spelled intact.parts section
+
+        same : its.frame.object ≡ frame.object
+        same =
+            forms_same drawing.classes (body_bytes frame.object) its.frame.object frame.object
+            (subst (λ (classes : List Class). FormOf classes (body_bytes frame.object) its.frame.object) classes
+            (subst (λ (body : List ℕ). FormOf (drawing_at bytes).classes body its.frame.object) body its.is.form))
+            (valid_is_form drawing.classes frame.object intact.written.valid)
+
+-- so the intact objects are recovered
+pub intact_objects_are_kept : SectionLaws → IntactObjectsAreKept
+unfolding recovered
+intact_objects_are_kept laws drawing bytes frame is small are intact one same = of_fault (first_fault ALL_LINES bytes) refl
+  where
+    known : IsIntact drawing bytes frame
+    known = frame_is_kept laws drawing bytes frame is small are intact one same
+
+    Recovers : RecoveredValue → Type 0
+    Recovers = λ value. IsOneOf (kept_frame frame) value.kept
+        × (HasPart drawing bytes (classes_place drawing) (preview_place drawing) → IsOneOf frame.object value.drawing.objects)
+
+    of_fault : (fault : Option Refusal) → first_fault ALL_LINES bytes ≡ fault → Recovers (if is_none fault then recovered_whole bytes else recovered_damaged bytes)
+    of_fault None none =
+        let recovers = whole_recovers laws drawing bytes frame is are none one known in
+        (recovers.kept, λ has. recovers.object (classes_are_intact drawing bytes is small intact has))
+    of_fault (Some refusal) refused =
+        let recovers = damaged_recovers drawing bytes frame are known in (
+          recovers.kept,
+          λ has. recovers.object
+              (classes_are_found laws bytes (canonical_header drawing) (classes_place drawing) (class_content drawing.classes) drawing.classes are known.header refl
+              (classes_are_intact drawing bytes is small intact has) (content_is_classes drawing.classes is.classes)),
+        )

@@ -1,0 +1,178 @@
+-- The parts of a canonical file that an input has stand in it at their places: the header, the map, the classes and each frame.
+use Rattle.std.proofs.Common.{◌≡◌, refl, sym, ◌∙◌, ap, subst, ℕ, ◌+◌, ◌-◌, ◌<◌, ◌≤◌, Bool, true, List, [], ◌∷◌, ◌++◌, length, take, drop, Option, Some, None, arith}
+use Rattle.std.specs.Prelude.{if◌then◌else◌, Ok}
+use Rattle.std.specs.List.{AllByRecursion}
+use Rattle.std.specs.Option.{option_and_then, option_or}
+use Rattle.std.specs.Result.{result_ok}
+use Rattle.std.proofs.lemmas.List.{take-append-drop}
+use Rattle.dwg_base.specs.Bytes.{AreBytes, StandsAt}
+use Rattle.dwg_base.specs.Devices.{MOST_BYTES}
+use Rattle.dwg_base.specs.Refusals.{Tried}
+use Rattle.dwg_bits.specs.Bits.{bits}
+use Rattle.dwg_classes.specs.declared.class.Class.{Class}
+use Rattle.dwg_classes.specs.Class.{AreClasses}
+use Rattle.dwg_file.specs.Canonical.{canonical, class_content, classes_place, frames_bytes, header_of as canonical_header, map_of, map_place, objects_place, others_place, placed, preview_place, size_of, variables_place}
+use Rattle.dwg_file.specs.CanonicalFrames.{frames_from}
+use Rattle.dwg_file.proofs.CanonicalFrames.{frames_stand, objects_of_frames, pairs_of_frames as placed_pairs}
+use Rattle.dwg_file.proofs.CanonicalHeader.{header_fits}
+use Rattle.dwg_file.proofs.CanonicalLaws.{canonical_ascends, header_reaches, parts_stand}
+use Rattle.dwg_file.proofs.CanonicalParts.{length_of_framed}
+use Rattle.dwg_file.specs.Contents.{Contents}
+use Rattle.dwg_file.proofs.ReadingLemmas.{SectionLaws}
+use Rattle.dwg_file.specs.Spelled.{PairFrame}
+use Rattle.dwg_file.specs.Valid.{IsValid}
+use Rattle.dwg_object.specs.declared.span.Span.{Span}
+use Rattle.dwg_object.specs.Forms.{BeginsWithHead, FormOf}
+use Rattle.dwg_object.proofs.FormLaws.{head_of_form, valid_fits, valid_handle, valid_is_form, written_frame}
+use Rattle.dwg_object.proofs.FrameLaws.{span_of_frame}
+use Rattle.dwg_object.specs.Frames.{FrameAt, FrameHolds, frame_bytes}
+use Rattle.dwg_object.proofs.HeadLaws.{begins_head}
+use Rattle.dwg_object.specs.Objects.{ObjectValue, handle_of}
+use Rattle.dwg_object.proofs.SpanLaws.{tried_span_means}
+use Rattle.dwg_object.proofs.StandingLemmas.{drop_stands, stands_drop, stands_first, stands_next, stands_within, take_stands}
+use Rattle.dwg_object.specs.Written.{IsValidObject, body_bytes}
+use Rattle.dwg_objmap.proofs.FillingLemmas.{map_is_written}
+use Rattle.dwg_objmap.specs.Pages.{MapOf}
+use Rattle.dwg_sections.specs.declared.framed.Framed.TheVariants as framed
+use Rattle.dwg_sections.specs.declared.header.FileHeader.{FileHeader}
+use Rattle.dwg_sections.specs.FileHeader.{BeginsWithHeader, header_bytes}
+use Rattle.dwg_sections.specs.Framed.{FramedAt, framed_bytes}
+use Rattle.dwg_sections.specs.HeaderLines.{place_of}
+use Rattle.dwg_recover.specs.Frames.{span_found}
+use Rattle.dwg_recover.specs.Intact.{CanonicalPartsStand, HasPart, IsPartlyIntact, canonical_frames, pairs_framed, part}
+use Rattle.dwg_recover.proofs.FoundParts.{content_is_taken, section_is_whole}
+use Rattle.dwg_recover.specs.Recovering.{body_tried, classes_found, frame_body}
+use Rattle.dwg_recover.specs.Sections.{classes_of, first_whole, header_of, is_whole, locators_of, section_found, whole_at}
+
+-- what stands in an input stands in each of its length that has that part of it
+stands_also : (bytes others piece : List ℕ) (from to : ℕ) → length bytes ≡ length others → StandsAt others from piece → to ≡ from + length piece → part bytes from to ≡ part others from to
+    → StandsAt bytes from piece
+stands_also bytes others piece from to long stands reaches same =
+    let count : length piece ≡ to - from = omega (arith, reaches) in
+    let here : take (to - from) (drop from bytes) ≡ piece = same ∙ take_stands others from piece (to - from) stands count in
+    stands_drop bytes from piece (drop (to - from) (drop from bytes)) (omega (arith, long, stands_within others from piece stands))
+    (sym (take-append-drop (to - from) (drop from bytes)) ∙ ap (λ (front : List ℕ). front ++ drop (to - from) (drop from bytes)) here)
+
+-- the canonical file has its parts at their places
+pub canonical_parts_stand : CanonicalPartsStand
+canonical_parts_stand drawing is small =
+    let fits = header_fits drawing is small in
+    let stand = parts_stand drawing fits in
+    record {
+      begins = record { in_range = fits; stands = stand.begins };
+      reaches = header_reaches drawing fits;
+      pages = stand.mapped;
+      classes = record { size = omega arith; stands = stand.classes };
+      mapped =
+          subst (MapOf (canonical drawing) (map_place drawing)) (placed_pairs drawing.objects (objects_place drawing))
+          (map_is_written (map_place drawing) (canonical drawing) (placed (objects_place drawing) drawing.objects) (canonical_ascends drawing is) stand.mapped);
+      objects = objects_of_frames drawing.objects (objects_place drawing);
+      stand = frames_stand drawing.classes (canonical drawing) drawing.objects (objects_place drawing) is.objects stand.frames;
+    }
+
+-- the header and the map of an input that is partly intact
+pub record IntactParts (drawing : Contents) (bytes : List ℕ) : Type 0 where
+  pub begins : BeginsWithHeader bytes (canonical_header drawing)
+  pub mapped : MapOf bytes (map_place drawing) (pairs_framed (canonical_frames drawing))
+
+-- they are those of the canonical file
+pub parts_are_intact : (drawing : Contents) (bytes : List ℕ) → IsValid drawing → size_of drawing ≤ MOST_BYTES → IsPartlyIntact drawing bytes → IntactParts drawing bytes
+parts_are_intact drawing bytes is small intact =
+    let fits = header_fits drawing is small in
+    let stand = parts_stand drawing fits in
+    let header : List ℕ = header_bytes (canonical_header drawing) in
+    let first : StandsAt (canonical drawing) 0 header = record { before = []; behind = stand.begins.0; whole = stand.begins.1; far = refl } in
+    let reaches : variables_place drawing ≡ 0 + length header = omega (arith, header_reaches drawing fits) in
+    let front : StandsAt bytes 0 header = stands_also bytes (canonical drawing) header 0 (variables_place drawing) intact.long first reaches intact.header in
+    let pages : StandsAt bytes (map_place drawing) (map_of drawing) =
+    stands_also bytes (canonical drawing) (map_of drawing) (map_place drawing) (others_place drawing) intact.long stand.mapped refl intact.mapped in
+    record {
+      begins = record { in_range = fits; stands = (front.behind, drop_stands bytes 0 header front) };
+      mapped =
+          subst (MapOf bytes (map_place drawing)) (placed_pairs drawing.objects (objects_place drawing))
+          (map_is_written (map_place drawing) bytes (placed (objects_place drawing) drawing.objects) (canonical_ascends drawing is) pages);
+    }
+
+-- the classes of an input that has that part
+pub classes_are_intact : (drawing : Contents) (bytes : List ℕ) → IsValid drawing → size_of drawing ≤ MOST_BYTES → IsPartlyIntact drawing bytes
+    → HasPart drawing bytes (classes_place drawing) (preview_place drawing) → FramedAt bytes (classes_place drawing) framed.Classes (class_content drawing.classes)
+classes_are_intact drawing bytes is small intact same =
+    let stand = parts_stand drawing (header_fits drawing is small) in
+    let section : List ℕ = framed_bytes framed.Classes (class_content drawing.classes) in
+    let reaches : preview_place drawing ≡ classes_place drawing + length section = omega (arith, length_of_framed framed.Classes (class_content drawing.classes)) in
+    record { size = omega arith; stands = stands_also bytes (canonical drawing) section (classes_place drawing) (preview_place drawing) intact.long stand.classes reaches same }
+
+-- the frame of an object as it is written
+pub record IsWritten (classes : List Class) (bytes : List ℕ) (frame : PairFrame) : Type 0 where
+  pub stands : StandsAt bytes frame.pair.place (frame_bytes frame.object)
+  pub ends : frame.end ≡ frame.pair.place + length (frame_bytes frame.object)
+  pub own : frame.pair.handle ≡ handle_of frame.object
+  pub valid : IsValidObject classes frame.object
+
+-- frames one behind the other are
+frames_written : (classes : List Class) (bytes : List ℕ) (objects : List ObjectValue) (place : ℕ) → AllByRecursion (IsValidObject classes) objects → StandsAt bytes place (frames_bytes objects)
+    → AllByRecursion (IsWritten classes bytes) (frames_from place objects)
+frames_written classes bytes [] place are stands = tt
+frames_written classes bytes (object ∷ objects) place are stands = (
+  record { stands = stands_first bytes place (frame_bytes object) (frames_bytes objects) stands; ends = refl; own = refl; valid = are.0 },
+  frames_written classes bytes objects (place + length (frame_bytes object)) are.1 (stands_next bytes place (frame_bytes object) (frames_bytes objects) stands),
+)
+
+-- so are those of the canonical file
+pub canonical_written : (drawing : Contents) → IsValid drawing → size_of drawing ≤ MOST_BYTES → AllByRecursion (IsWritten drawing.classes (canonical drawing)) (canonical_frames drawing)
+canonical_written drawing is small =
+    frames_written drawing.classes (canonical drawing) drawing.objects (objects_place drawing) is.objects (parts_stand drawing (header_fits drawing is small)).frames
+
+-- the pairs of written frames have positive handles
+pub written_positive : (classes : List Class) (bytes : List ℕ) (frames : List PairFrame) → AllByRecursion (IsWritten classes bytes) frames
+    → AllByRecursion (λ (frame : PairFrame). 0 < frame.pair.handle) frames
+written_positive classes bytes [] are = tt
+written_positive classes bytes (frame ∷ frames) are =
+    (omega (arith, are.0.own, (valid_handle classes frame.object are.0.valid).0), written_positive classes bytes frames are.1)
+
+-- a frame that an input has stands there with the body that is written
+pub frame_is_intact : (drawing : Contents) (bytes : List ℕ) (frame : PairFrame) → IsPartlyIntact drawing bytes → IsWritten drawing.classes (canonical drawing) frame
+    → HasPart drawing bytes frame.pair.place frame.end → FrameAt bytes frame.pair.place (body_bytes frame.object) frame.end
+frame_is_intact drawing bytes frame intact written same =
+    let stands : StandsAt bytes frame.pair.place (frame_bytes frame.object) =
+    stands_also bytes (canonical drawing) (frame_bytes frame.object) frame.pair.place frame.end intact.long written.stands written.ends same in
+    subst (FrameAt bytes frame.pair.place (body_bytes frame.object)) (sym written.ends)
+    (written_frame bytes frame.pair.place frame.object (valid_fits drawing.classes frame.object written.valid).2 stands)
+
+-- a frame whose body is read as an object holds with the handle of that object
+pub form_holds : (classes : List Class) (bytes : List ℕ) (place : ℕ) (body : List ℕ) (end : ℕ) (object : ObjectValue) → FrameAt bytes place body end → FormOf classes body object
+    → FrameHolds bytes place (handle_of object) end
+form_holds classes bytes place body end object frame form =
+    let head = head_of_form classes body object form in
+    (body, head.0.number, frame, subst (BeginsWithHead (bits body) head.0.number) (sym head.3) (begins_head (bits body) head.0 head.1))
+
+-- so a frame that an input has holds there
+pub intact_holds : (drawing : Contents) (bytes : List ℕ) (frame : PairFrame) → IsPartlyIntact drawing bytes → IsWritten drawing.classes (canonical drawing) frame
+    → HasPart drawing bytes frame.pair.place frame.end → FrameHolds bytes frame.pair.place frame.pair.handle frame.end
+intact_holds drawing bytes frame intact written same =
+    subst (λ own. FrameHolds bytes frame.pair.place own frame.end) (sym written.own)
+    (form_holds drawing.classes bytes frame.pair.place (body_bytes frame.object) frame.end frame.object (frame_is_intact drawing bytes frame intact written same)
+    (valid_is_form drawing.classes frame.object written.valid))
+
+-- what stands at a place as the body of a frame is found there as one
+pub body_is_found : (bytes : List ℕ) (place : ℕ) (body : List ℕ) (end : ℕ) → AreBytes bytes → FrameAt bytes place body end → frame_body bytes place ≡ body
+unfolding frame_body span_found
+body_is_found bytes place body end are frame =
+    let is = span_of_frame bytes place body end frame in
+    ap (λ (tried : Tried Span). body_tried bytes (result_ok tried)) ((tried_span_means bytes place 0 (Ok is.span) are).1 (is.framed.stands, is.framed.from)) ∙ is.same_body
+
+-- the classes of the section that the locator of the header leads to are found
+pub classes_are_found : SectionLaws → (bytes : List ℕ) (header : FileHeader) (place : ℕ) (content : List ℕ) (classes : List Class) → AreBytes bytes → header_of bytes ≡ Some header
+    → place_of 1 header.locators ≡ Some place → FramedAt bytes place framed.Classes content → AreClasses content classes → classes_found bytes ≡ classes
+unfolding classes_found section_found
+classes_are_found laws bytes header place content classes are is located section cut =
+    ap (classes_of bytes) found ∙ (content_is_taken laws bytes place content).1 classes section cut
+  where
+    whole : is_whole framed.Classes bytes place ≡ true
+    whole = (section_is_whole laws framed.Classes bytes place are).1 (content, section, (classes, cut))
+
+    found : section_found framed.Classes bytes ≡ Some place
+    found =
+        ap (λ (header : Option FileHeader). option_or (option_and_then (whole_at framed.Classes bytes) (place_of 1 (locators_of header))) (first_whole framed.Classes bytes)) is
+        ∙ ap (λ (at : Option ℕ). option_or (option_and_then (whole_at framed.Classes bytes) at) (first_whole framed.Classes bytes)) located
+        ∙ ap (λ (test : Bool). option_or (if test then Some place else None) (first_whole framed.Classes bytes)) whole

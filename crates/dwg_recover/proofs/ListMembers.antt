@@ -1,0 +1,130 @@
+-- A member of a list, whatever it lists, and where it stands there.
+use Rattle.std.proofs.Common.{◌≡◌, refl, sym, ◌∙◌, ap, subst, ℕ, ◌+◌, Bool, true, false, List, [], ◌∷◌, ◌++◌, length, map, inl, inr, arith}
+use Rattle.std.specs.Prelude.{◌⊎◌, cond}
+use Rattle.std.specs.List.{AllByRecursion, filter}
+use Rattle.std.specs.List.Sorted.{IsPermutation}
+use Rattle.std.proofs.lemmas.List.Elements.{All-from_recursion, recursion_from_All}
+use Rattle.std.proofs.lemmas.List.Sorted.{All-permutation, IsPermutation-sym}
+use Rattle.dwg_recover.specs.ListMembers.{IsAt, IsOneOf, IsSplit}
+
+-- of two lists that are joined, it is one of the first or of the second
+pub of_joined : {A : Type 0} (one : A) (front back : List A) → IsOneOf one (front ++ back) → IsOneOf one front ⊎ IsOneOf one back
+of_joined one [] back is = inr is
+of_joined one (first ∷ front) back (inl same) = inl (inl same)
+of_joined one (first ∷ front) back (inr behind) = of_rest (of_joined one front back behind)
+  where
+    of_rest : IsOneOf one front ⊎ IsOneOf one back → IsOneOf one (first ∷ front) ⊎ IsOneOf one back
+    of_rest (inl in_front) = inl (inr in_front)
+    of_rest (inr in_back) = inr in_back
+
+pub in_first : {A : Type 0} (one : A) (front back : List A) → IsOneOf one front → IsOneOf one (front ++ back)
+in_first one [] back is = absurd is
+in_first one (first ∷ front) back (inl same) = inl same
+in_first one (first ∷ front) back (inr behind) = inr (in_first one front back behind)
+
+pub in_second : {A : Type 0} (one : A) (front back : List A) → IsOneOf one back → IsOneOf one (front ++ back)
+in_second one [] back is = is
+in_second one (first ∷ front) back is = inr (in_second one front back is)
+
+-- what holds of all holds of one
+pub one_of_all : {A : Type 0} (Holds : A → Type 0) (all : List A) (one : A) → AllByRecursion Holds all → IsOneOf one all → Holds one
+one_of_all Holds [] one holds is = absurd is
+one_of_all Holds (first ∷ all) one holds (inl same) = subst Holds (sym same) holds.0
+one_of_all Holds (first ∷ all) one holds (inr behind) = one_of_all Holds all one holds.1 behind
+
+-- what holds of each holds of all
+pub all_of_each : {A : Type 0} (Holds : A → Type 0) (all : List A) → ((one : A) → IsOneOf one all → Holds one) → AllByRecursion Holds all
+all_of_each Holds [] each = tt
+all_of_each Holds (first ∷ all) each = (each first (inl refl), all_of_each Holds all (λ one behind. each one (inr behind)))
+
+-- what holds of one and of those behind it
+pub cases_of : {A : Type 0} (Holds : A → Type 0) (first : A) (others : List A) → ((one : A) → IsOneOf one (first ∷ others) → Holds one)
+    → Holds first × ((one : A) → IsOneOf one others → Holds one)
+cases_of Holds first others all = (all first (inl refl), λ one is. all one (inr is))
+
+-- a list is in two at each of its members
+pub split_at : {A : Type 0} (one : A) (all : List A) → IsOneOf one all → IsSplit one all
+split_at one [] is = absurd is
+split_at one (first ∷ all) (inl same) = record { before = []; behind = all; whole = ap (λ item. item ∷ all) (sym same) }
+split_at one (first ∷ all) (inr behind) =
+    let rest = split_at one all behind in record { before = first ∷ rest.before; behind = rest.behind; whole = ap (λ others. first ∷ others) rest.whole }
+
+-- the first of a list
+pub at_first : {A : Type 0} (first : A) (all : List A) → IsAt 0 first (first ∷ all)
+at_first first all = record { split = record { before = []; behind = all; whole = refl }; far = refl }
+
+-- one more before those at a place
+pub at_next : {A : Type 0} (place : ℕ) (one first : A) (all : List A) → IsAt place one all → IsAt (place + 1) one (first ∷ all)
+at_next place one first all at = record {
+  split = record { before = first ∷ at.split.before; behind = at.split.behind; whole = ap (λ others. first ∷ others) at.split.whole };
+  far = omega (arith, at.far);
+}
+
+-- the first, or one of those behind it
+pub at_cases : {A : Type 0} (place : ℕ) (one first : A) (all : List A) → IsAt place one (first ∷ all) → ((place ≡ 0) × (one ≡ first)) ⊎ ((next : ℕ) × (place ≡ next + 1) × IsAt next one all)
+at_cases {A} place one first all at = of_before at.split.before at.split.whole at.far
+  where
+    of_before : (before : List A) → first ∷ all ≡ before ++ one ∷ at.split.behind → length before ≡ place → ((place ≡ 0) × (one ≡ first)) ⊎ ((next : ℕ) × (place ≡ next + 1) × IsAt next one all)
+    of_before [] whole far = let same : first ≡ one = cc in inl (sym far, sym same)
+    of_before (item ∷ before) whole far =
+        let rest : all ≡ before ++ one ∷ at.split.behind = cc in
+        inr (length before, omega (arith, far), record { split = record { before = before; behind = at.split.behind; whole = rest }; far = refl })
+
+-- no list without members has one at a place
+pub none_at : {A : Type 0} (place : ℕ) (one : A) → IsAt place one [] → ⊥
+none_at {A} place one at = of_before at.split.before at.split.whole
+  where
+    of_before : (before : List A) → [] ≡ before ++ one ∷ at.split.behind → ⊥
+    of_before [] whole = cc
+    of_before (first ∷ before) whole = cc
+
+-- one is mapped to one
+pub one_mapped : {A B : Type 0} (f : A → B) (one : A) (all : List A) → IsOneOf one all → IsOneOf (f one) (map f all)
+one_mapped f one [] is = absurd is
+one_mapped f one (first ∷ all) (inl same) = inl (ap f same)
+one_mapped f one (first ∷ all) (inr behind) = inr (one_mapped f one all behind)
+
+-- which one a member of a mapped list comes from
+pub record IsMappedFrom {A B : Type 0} (f : A → B) (image : B) (all : List A) : Type 0 where
+  pub one : A
+  pub is : IsOneOf one all
+  pub same : image ≡ f one
+
+pub mapped_from : {A B : Type 0} (f : A → B) (image : B) (all : List A) → IsOneOf image (map f all) → IsMappedFrom f image all
+mapped_from f image [] is = absurd is
+mapped_from f image (first ∷ all) (inl same) = record { one = first; is = inl refl; same = same }
+mapped_from f image (first ∷ all) (inr behind) = let rest = mapped_from f image all behind in record { one = rest.one; is = inr rest.is; same = rest.same }
+
+-- the members are the same in any order
+pub one_permuted : {A : Type 0} (one : A) (all others : List A) → IsPermutation all others → IsOneOf one all → IsOneOf one others
+one_permuted {A} one all others same is =
+    let member : A → Type 0 = λ (item : A). IsOneOf item others in
+    one_of_all member all one
+    (recursion_from_All member all
+    (All-permutation member others all (IsPermutation-sym all others same) (All-from_recursion member others (all_of_each member others (λ item has. has)))))
+    is
+
+-- a member that passes a test stays
+pub one_stays : {A : Type 0} (test : A → Bool) (one : A) (all : List A) → IsOneOf one all → test one ≡ true → IsOneOf one (filter test all)
+one_stays test one [] is passed = absurd is
+one_stays {A} test one (first ∷ all) is passed = of_test (test first) refl is (λ behind. one_stays test one all behind passed)
+  where
+    failed_first : test first ≡ false → one ≡ first → ⊥
+    failed_first failed same = let both : true ≡ false = sym passed ∙ ap test same ∙ failed in absurd cc
+
+    of_test : (passes : Bool) → test first ≡ passes → IsOneOf one (first ∷ all) → (IsOneOf one all → IsOneOf one (filter test all)) → IsOneOf one (cond passes (first ∷ filter test all) (filter test all))
+    of_test true here (inl same) others = inl same
+    of_test true here (inr behind) others = inr (others behind)
+    of_test false here (inl same) others = absurd (failed_first here same)
+    of_test false here (inr behind) others = others behind
+
+-- and one that stays is a member that passes
+pub filtered_one : {A : Type 0} (test : A → Bool) (all : List A) (one : A) → IsOneOf one (filter test all) → IsOneOf one all × (test one ≡ true)
+filtered_one test [] one is = absurd is
+filtered_one {A} test (first ∷ all) one is = of_test (test first) refl is (filtered_one test all one)
+  where
+    of_test : (passes : Bool) → test first ≡ passes → IsOneOf one (cond passes (first ∷ filter test all) (filter test all))
+        → (IsOneOf one (filter test all) → IsOneOf one all × (test one ≡ true)) → IsOneOf one (first ∷ all) × (test one ≡ true)
+    of_test true passed (inl same) others = (inl same, ap test same ∙ passed)
+    of_test true passed (inr behind) others = (inr (others behind).0, (others behind).1)
+    of_test false failed has others = (inr (others has).0, (others has).1)

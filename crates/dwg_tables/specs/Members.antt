@@ -1,9 +1,0 @@
--- Members of a list of which the main bits tell one part each and the references name another. A rule of this project.
-use Rattle.std.specs.Prelude.{List, [], ◌∷◌}
-use Rattle.dwg_handles.specs.Reference.{Reference}
-
--- the members of what is told and what is named of each, as many as there are of both
-abbrev pub joined : {P V : Type 0} → (P → Reference → V) → List P → List Reference → List V
-joined {P} {V} join [] names = []
-joined {P} {V} join (told ∷ others) [] = []
-joined {P} {V} join (told ∷ others) (name ∷ names) = join told name ∷ joined join others names
