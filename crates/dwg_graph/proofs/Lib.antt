@@ -1,6 +1,6 @@
 pub mod Searching
 pub mod SoleSpaces
-pub mod Picking
+pub mod Passing
 pub mod HeldSlots
 pub mod SlotCounts
 pub mod SlotOrder

@@ -25,7 +25,7 @@ use Rattle.dwg_entities.specs.BlockEnds.{endblk_body, seqend_body}
 use Rattle.dwg_entities.specs.InsertBody.{insert_body}
 use Rattle.dwg_entities.specs.TextBody.{text_body}
 use Rattle.dwg_entities.specs.declared.insert.Attributes.{Attributes}
-use Rattle.dwg_graph.proofs.Picking.{length_of_slots}
+use Rattle.dwg_graph.proofs.Passing.{length_of_slots}
 use Rattle.dwg_graph.specs.Slots.{listed, one, maybe, link_slots, entity_slots, object_slots, common_slots, attribute_slots, end_slots, body_slots, slots}
 use Rattle.dwg_graph.specs.SlotLaws.{NoneIsLeftOut}
 use Rattle.dwg_grammar.specs.Reference.{Reference}

@@ -8,8 +8,8 @@ pub mod Graph
 pub mod Sound
 -- Where the object of a handle stands among objects whose handles ascend.
 pub mod Places
--- Searches along a list of slots: a slot that is found, or how many more are to be passed.
-pub mod Searches
+-- Walks along a list of slots: a search for one by its place, or a gathering of all.
+pub mod SlotWalks
 -- What holds of the slots of objects.
 pub mod SlotLaws
 -- Owner paths and chains of members as lists of the objects themselves, and that they are those over handles.

@@ -4,12 +4,12 @@
 mod index;
 mod laws;
 mod owner;
-mod search;
 mod slot;
 mod slots;
+mod walk;
 
 pub use index::Index;
 pub use laws::{graph_laws, slot_laws};
 pub use owner::{SpaceHandles, control_count, next_of, owner_of, spaces};
 pub use slot::Slot;
-pub use slots::{slot_at, slot_count};
+pub use slots::{slot_at, slot_count, with_slots};

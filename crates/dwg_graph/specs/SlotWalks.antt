@@ -1,0 +1,29 @@
+-- Walks along a list of slots: a search for one by its place, or a gathering of all. A rule of this project.
+use Rattle.std.specs.Prelude.{◌≡◌, ⊤, ℕ, zero, suc, List, [], ◌∷◌, ◌++◌}
+use Rattle.dwg_graph.specs.declared.walk.Walk.{Walk}
+use Rattle.dwg_graph.specs.declared.walk.Walk.TheVariants.{Found, Left, Gathered, Short}
+use Rattle.dwg_graph.specs.declared.slot.Slot.{Slot}
+
+-- so many slots are passed along a list
+abbrev pub pass : ℕ → List Slot → Walk
+pass count [] = Left count
+pass zero (slot ∷ slots) = Found slot
+pass (suc count) (slot ∷ slots) = pass count slots
+
+-- a gathering has all of these slots; where there was no memory for one of them it tells nothing
+abbrev pub IsGathered : List Slot → Walk → Type 0
+IsGathered all (Gathered slots) = slots ≡ all
+IsGathered all Short = ⊤
+IsGathered all (Found slot) = ⊥
+IsGathered all (Left count) = ⊥
+
+-- where a walk is behind a list: what is found stays found, and slots are gathered behind those so far
+unfoldable pub IsBehind : Walk → List Slot → Walk → Type 0
+IsBehind (Found slot) slots walk = walk ≡ Found slot
+IsBehind (Left count) slots walk = walk ≡ pass count slots
+IsBehind (Gathered before) slots walk = IsGathered (before ++ slots) walk
+IsBehind Short slots walk = walk ≡ Short
+
+-- a walk goes on along a list
+pub record Passes (first : Walk) (slots : List Slot) (last : Walk) : Type 0 where
+  pub behind : IsBehind first slots last
