@@ -1,6 +1,6 @@
 -- The lines over a whole file, group by group, and what is read where none fails.
 use Rattle.std.proofs.Common.{◌≡◌, sym, ◌∙◌, ap, ap₂, ℕ, List, [], ◌∷◌, Option, Some, None}
-use Rattle.std.specs.Prelude.{Ok, Err}
+use Rattle.std.specs.Prelude.{map, Ok, Err}
 use Rattle.std.specs.Option.{option_or}
 use Rattle.std.specs.Result.{result_unwrap_or}
 use Rattle.dwg_base.specs.Refusals.{Tried, first_fault, fault_of, Tells, Answers}
@@ -8,10 +8,11 @@ use Rattle.dwg_base.specs.declared.refusal.Refusal.{Refusal}
 use Rattle.dwg_base.specs.declared.refusal.Fault.{Fault}
 use Rattle.dwg_base.specs.declared.refusal.Fault.TheVariants.{NoMemory, Refused}
 use Rattle.dwg_classes.specs.declared.class.Class.{Class}
-use Rattle.dwg_object.specs.declared.object.Object.{Object}
 use Rattle.dwg_objmap.specs.declared.pair.Pair.{Pair}
+use Rattle.dwg_file.specs.declared.objects.FramedObjects.{FramedObjects}
 use Rattle.dwg_file.specs.FileLines.{FoundFrame, map_tried, map_row, frames_behind, frames_tried, frames_row}
 use Rattle.dwg_file.specs.FrameReading.{values_of, AnswersObjects, AreObjectsIn}
+use Rattle.dwg_file.specs.ObjectFrames.{frame_of}
 
 -- the frames of the map's pairs
 frames_of : (bytes : List ℕ) (pairs slice : List Pair) → map_tried bytes ≡ Ok pairs → slice ≡ pairs → frames_tried bytes ≡ frames_behind bytes 0 [] slice
@@ -20,9 +21,15 @@ frames_of bytes pairs slice tried same =
     ap (λ (t : Tried (List Pair)). frames_behind bytes 0 [] (result_unwrap_or t [])) tried ∙ ap (frames_behind bytes 0 []) (sym same)
 
 -- the objects of these frames are those of the file
-pub objects_in : (classes : List Class) (bytes : List ℕ) (pairs slice : List Pair) (objects : List Object) → map_tried bytes ≡ Ok pairs → slice ≡ pairs
-    → AnswersObjects classes bytes (frames_behind bytes 0 [] slice) (Ok objects) → AreObjectsIn classes bytes (values_of objects)
-objects_in classes bytes pairs slice objects tried same answers = (answers.0, frames_of bytes pairs slice tried same ∙ answers.1, answers.2)
+pub objects_in : (classes : List Class) (bytes : List ℕ) (pairs slice : List Pair) (read : FramedObjects) → map_tried bytes ≡ Ok pairs → slice ≡ pairs
+    → AnswersObjects classes bytes (frames_behind bytes 0 [] slice) (Ok read) → AreObjectsIn classes bytes (values_of read.objects)
+objects_in classes bytes pairs slice read tried same answers = (answers.0, frames_of bytes pairs slice tried same ∙ answers.1, answers.2)
+
+-- and the frames that are listed are those of its map
+pub frames_in : (classes : List Class) (bytes : List ℕ) (pairs slice : List Pair) (read : FramedObjects) → map_tried bytes ≡ Ok pairs → slice ≡ pairs
+    → AnswersObjects classes bytes (frames_behind bytes 0 [] slice) (Ok read) → read.frames ≡ map frame_of (result_unwrap_or (frames_tried bytes) [])
+frames_in classes bytes pairs slice read tried same answers =
+    answers.3 ∙ ap (λ (t : Tried (List FoundFrame)). map frame_of (result_unwrap_or t [])) (sym (frames_of bytes pairs slice tried same ∙ answers.1))
 
 -- a map whose pairs were read has no line that fails
 map_holds : (bytes : List ℕ) (pairs : List Pair) → map_tried bytes ≡ Ok pairs → map_row bytes ≡ None
@@ -35,9 +42,9 @@ unfolding frames_row
 frames_hold bytes found tried = ap fault_of tried
 
 -- no line on the map or on a frame fails where the objects were read
-pub objects_hold : (classes : List Class) (bytes : List ℕ) (pairs slice : List Pair) (objects : List Object) → map_tried bytes ≡ Ok pairs → slice ≡ pairs
-    → AnswersObjects classes bytes (frames_behind bytes 0 [] slice) (Ok objects) → first_fault (map_row ∷ frames_row ∷ []) bytes ≡ None
-objects_hold classes bytes pairs slice objects tried same answers =
+pub objects_hold : (classes : List Class) (bytes : List ℕ) (pairs slice : List Pair) (read : FramedObjects) → map_tried bytes ≡ Ok pairs → slice ≡ pairs
+    → AnswersObjects classes bytes (frames_behind bytes 0 [] slice) (Ok read) → first_fault (map_row ∷ frames_row ∷ []) bytes ≡ None
+objects_hold classes bytes pairs slice read tried same answers =
     ap₂ (λ (one other : Option Refusal). option_or one (option_or other None)) (map_holds bytes pairs tried)
     (frames_hold bytes answers.0 (frames_of bytes pairs slice tried same ∙ answers.1))
 

@@ -10,16 +10,17 @@ use Rattle.dwg_base.specs.declared.refusal.Fault.{Fault}
 use Rattle.dwg_base.specs.declared.refusal.Fault.TheVariants.{NoMemory, Refused}
 use Rattle.dwg_classes.specs.declared.class.Class.{Class}
 use Rattle.dwg_object.specs.declared.frame.Found.{Found}
-use Rattle.dwg_object.specs.declared.object.Object.{Object}
 use Rattle.dwg_object.specs.Forms.{FormOf}
 use Rattle.dwg_object.specs.FrameLines.{span_body}
 use Rattle.dwg_object.specs.Objects.{ObjectValue, value_of, handle_of}
 use Rattle.dwg_objmap.specs.declared.pair.Pair.{Pair}
 use Rattle.dwg_objmap.specs.Pages.{handles_of}
 use Rattle.dwg_file.specs.declared.frames.Frames.{Frames}
+use Rattle.dwg_file.specs.declared.frames.ObjectFrame.{ObjectFrame}
 use Rattle.dwg_file.specs.FileLines.{FoundFrame, with_found, tried_pair, frames_behind}
 use Rattle.dwg_file.specs.FrameReading.{AreTaken, IsFrameFound, values_of, HasRead, GoesOn, AnswersFrames}
 use Rattle.dwg_file.proofs.FrameReading.{IsAlong}
+use Rattle.dwg_file.specs.ObjectFrames.{frame_of}
 use Rattle.dwg_file.specs.ReadAs.{AreFormsOf}
 use Rattle.dwg_file.specs.Taken.{Run, meets, shares}
 
@@ -43,20 +44,38 @@ touches_with earlier taken more frame place end touched from ends some added = �
     or_false true = refl
     or_false false = refl
 
+-- the frame that was found of a pair, by the pair's handle and place
+frame_same : (frame : FoundFrame) (pair : Pair) (end : ℕ) → frame.1.own ≡ pair.handle → frame.0.from ≡ pair.place → frame.0.end ≡ end
+    → ◌≡◌ {A = ObjectFrame} (record { handle = pair.handle; from = pair.place; end = end }) (frame_of frame)
+frame_same frame pair end own from ends =
+    ap (λ (handle : ℕ). record { handle = handle; from = pair.place; end = end }) (sym own)
+    ∙ ap (λ (place : ℕ). record { handle = frame.1.own; from = place; end = end }) (sym from)
+    ∙ ap (λ (to : ℕ). record { handle = frame.1.own; from = frame.0.from; end = to }) (sym ends)
+
+-- one frame more is listed behind the others
+listed_with : (earlier : List FoundFrame) (frame : FoundFrame) (listed more : List ObjectFrame) (last : ObjectFrame) → listed ≡ map frame_of earlier → more ≡ listed ++ last ∷ [] → last ≡ frame_of frame
+    → more ≡ map frame_of (earlier ++ frame ∷ [])
+listed_with earlier frame listed more last are added is =
+    added ∙ ap₂ (λ (all : List ObjectFrame) (one : ObjectFrame). all ++ one ∷ []) are is ∙ sym (map-append frame_of earlier (frame ∷ []))
+
 -- the frame of the next pair is read behind the others
-pub frame_read : (classes : List Class) (bytes : List ℕ) (earlier : List FoundFrame) (handles : List ℕ) (taken more : List Run) (objects all : List Object) (pair : Pair) (tried : Tried FoundFrame) (found : Found)
-    → HasRead classes bytes earlier handles taken objects → IsFrameFound classes bytes pair tried found → pair.place < found.end
-    → ((other to : ℕ) → shares more other to ≡ (shares taken other to || meets other to (found.end - 1, pair.place))) → all ≡ objects ++ found.object ∷ []
-    → (frame : FoundFrame) × (tried ≡ Ok frame) × HasRead classes bytes (earlier ++ frame ∷ []) (handles ++ pair.handle ∷ []) more all
-frame_read classes bytes earlier handles taken more objects all pair tried found read is some added joined =
-    let values : values_of all ≡ values_of objects ++ value_of found.object ∷ [] = ap values_of joined ∙ map-append value_of objects (found.object ∷ []) in (
+pub frame_read : (classes : List Class) (bytes : List ℕ) (earlier : List FoundFrame) (handles : List ℕ) (read more : Frames) (pair : Pair) (tried : Tried FoundFrame) (found : Found)
+    → HasRead classes bytes earlier handles read → IsFrameFound classes bytes pair tried found → pair.place < found.end
+    → ((other to : ℕ) → shares more.taken other to ≡ (shares read.taken other to || meets other to (found.end - 1, pair.place)))
+    → more.frames ≡ read.frames ++ record { handle = pair.handle; from = pair.place; end = found.end } ∷ [] → more.objects.items ≡ read.objects.items ++ found.object ∷ []
+    → (frame : FoundFrame) × (tried ≡ Ok frame) × HasRead classes bytes (earlier ++ frame ∷ []) (handles ++ pair.handle ∷ []) more
+frame_read classes bytes earlier handles read more pair tried found has is some added listed joined =
+    let values : values_of more.objects.items ≡ values_of read.objects.items ++ value_of found.object ∷ [] = ap values_of joined ∙ map-append value_of read.objects.items (found.object ∷ []) in (
       is.frame,
       is.tries,
       record {
-        touched = touches_with earlier taken more is.frame pair.place found.end read.touched is.from is.end some added;
-        forms = subst (AreFormsOf classes bytes (earlier ++ is.frame ∷ [])) (sym values) (forms_with classes bytes earlier (values_of objects) is.frame (value_of found.object) read.forms is.form);
-        own = ap (map handle_of) values ∙ map-append handle_of (values_of objects) (value_of found.object ∷ [])
-            ∙ ap₂ (λ (own : List ℕ) (last : ℕ). own ++ last ∷ []) read.own is.own;
+        touched = touches_with earlier read.taken more.taken is.frame pair.place found.end has.touched is.from is.end some added;
+        listed = listed_with earlier is.frame read.frames more.frames _ has.listed listed (frame_same is.frame pair found.end is.head is.from is.end);
+        forms =
+            subst (AreFormsOf classes bytes (earlier ++ is.frame ∷ [])) (sym values)
+            (forms_with classes bytes earlier (values_of read.objects.items) is.frame (value_of found.object) has.forms is.form);
+        own = ap (map handle_of) values ∙ map-append handle_of (values_of read.objects.items) (value_of found.object ∷ [])
+            ∙ ap₂ (λ (own : List ℕ) (last : ℕ). own ++ last ∷ []) has.own is.own;
       },
     )
 
@@ -70,12 +89,12 @@ behind_next bytes index earlier pairs pair within is =
     ap (frames_behind bytes index earlier) left
 
 -- a pair that is refused refuses all
-pub frames_refused : (classes : List Class) (bytes : List ℕ) (pairs : List Pair) (index : ℕ) (taken : List Run) (objects : List Object) (pair : Pair) (fault : Fault)
-    → (along : IsAlong classes bytes pairs index taken objects) → index < length pairs → pair ≡ get_or pairs index pair
+pub frames_refused : (classes : List Class) (bytes : List ℕ) (pairs : List Pair) (index : ℕ) (read : Frames) (pair : Pair) (fault : Fault)
+    → (along : IsAlong classes bytes pairs index read) → index < length pairs → pair ≡ get_or pairs index pair
     → GoesOn classes bytes along.earlier (handles_of (take index pairs)) pair (tried_pair bytes along.earlier index pair) (Err fault)
     → AnswersFrames classes bytes (frames_behind bytes 0 [] pairs) (Err fault)
-frames_refused classes bytes pairs index taken objects pair NoMemory along within is goes = tt
-frames_refused classes bytes pairs index taken objects pair (Refused refusal) along within is goes =
+frames_refused classes bytes pairs index read pair NoMemory along within is goes = tt
+frames_refused classes bytes pairs index read pair (Refused refusal) along within is goes =
     sym along.left ∙ behind_next bytes index along.earlier pairs pair within is
     ∙ ap (with_found (λ found. frames_behind bytes (index + 1) (along.earlier ++ found ∷ []) (drop (index + 1) pairs))) goes
 
@@ -87,20 +106,20 @@ handles_more pairs index pair within is =
     ap handles_of more ∙ map-append (λ (p : Pair). p.handle) (take index pairs) (pair ∷ [])
 
 -- with one frame more, what is left gives the whole
-pub frames_on : (classes : List Class) (bytes : List ℕ) (pairs : List Pair) (index : ℕ) (taken : List Run) (objects : List Object) (pair : Pair) (frames : Frames)
-    → (along : IsAlong classes bytes pairs index taken objects) → index < length pairs → pair ≡ get_or pairs index pair
-    → GoesOn classes bytes along.earlier (handles_of (take index pairs)) pair (tried_pair bytes along.earlier index pair) (Ok frames)
-    → IsAlong classes bytes pairs (index + 1) frames.taken frames.objects.items
-frames_on classes bytes pairs index taken objects pair frames along within is goes = record {
+pub frames_on : (classes : List Class) (bytes : List ℕ) (pairs : List Pair) (index : ℕ) (read : Frames) (pair : Pair) (more : Frames)
+    → (along : IsAlong classes bytes pairs index read) → index < length pairs → pair ≡ get_or pairs index pair
+    → GoesOn classes bytes along.earlier (handles_of (take index pairs)) pair (tried_pair bytes along.earlier index pair) (Ok more)
+    → IsAlong classes bytes pairs (index + 1) more
+frames_on classes bytes pairs index read pair more along within is goes = record {
   earlier = along.earlier ++ goes.0 ∷ [];
-  read = subst (λ (handles : List ℕ). HasRead classes bytes (along.earlier ++ goes.0 ∷ []) handles frames.taken frames.objects.items) (sym (handles_more pairs index pair within is)) goes.2;
+  has_read = subst (λ (handles : List ℕ). HasRead classes bytes (along.earlier ++ goes.0 ∷ []) handles more) (sym (handles_more pairs index pair within is)) goes.2;
   left = sym (ap (with_found (λ found. frames_behind bytes (index + 1) (along.earlier ++ found ∷ []) (drop (index + 1) pairs))) goes.1)
       ∙ sym (behind_next bytes index along.earlier pairs pair within is) ∙ along.left;
 }
 
 -- behind the last pair, the frames so far are all
-pub frames_over : (classes : List Class) (bytes : List ℕ) (pairs : List Pair) (index : ℕ) (taken : List Run) (objects : List Object) → IsAlong classes bytes pairs index taken objects → length pairs ≤ index
-    → (found : List FoundFrame) × (frames_behind bytes 0 [] pairs ≡ Ok found) × AreFormsOf classes bytes found (values_of objects)
+pub frames_over : (classes : List Class) (bytes : List ℕ) (pairs : List Pair) (index : ℕ) (read : Frames) → IsAlong classes bytes pairs index read → length pairs ≤ index
+    → (found : List FoundFrame) × (frames_behind bytes 0 [] pairs ≡ Ok found) × AreFormsOf classes bytes found (values_of read.objects.items) × (read.frames ≡ map frame_of found)
 unfolding frames_behind
-frames_over classes bytes pairs index taken objects along past =
-    (along.earlier, sym along.left ∙ ap (frames_behind bytes index along.earlier) (drop_all index pairs past), along.read.forms)
+frames_over classes bytes pairs index read along past =
+    (along.earlier, sym along.left ∙ ap (frames_behind bytes index along.earlier) (drop_all index pairs past), along.has_read.forms, along.has_read.listed)

@@ -80,10 +80,10 @@ objects_ordered objects ordered list are same ascend is =
     })
 
 -- objects of frames that were read, in order, are those of the frames
-pub objects_answered : (classes : List Class) (bytes : List ℕ) (tried : Tried (List FoundFrame)) (frames : Frames) (list : List Object) → AnswersFrames classes bytes tried (Ok frames)
-    → IsPermutation (values_of frames.objects.items) (values_of list) → AreAscending (values_of list) → AnswersObjects classes bytes tried (Ok list)
-objects_answered classes bytes tried frames list answers same ascend =
-    (answers.0, answers.1, record { values = values_of frames.objects.items; forms = answers.2; same = same; ascending = ascend })
+pub objects_answered : (classes : List Class) (bytes : List ℕ) (tried : Tried (List FoundFrame)) (read : Frames) (list : List Object) → AnswersFrames classes bytes tried (Ok read)
+    → IsPermutation (values_of read.objects.items) (values_of list) → AreAscending (values_of list) → AnswersObjects classes bytes tried (Ok (record { objects = list; frames = read.frames }))
+objects_answered classes bytes tried read list answers same ascend =
+    (answers.0, answers.1, record { values = values_of read.objects.items; forms = answers.2; same = same; ascending = ascend }, answers.3)
 
 -- a fault of reading frames is one of reading objects
 pub objects_refused : (classes : List Class) (bytes : List ℕ) (tried : Tried (List FoundFrame)) (fault : Fault) → AnswersFrames classes bytes tried (Err fault) → AnswersObjects classes bytes tried (Err fault)

@@ -97,6 +97,7 @@ frame_found classes bytes earlier index own pair span found small tried stands f
           ∙ ap (λ (test : Bool). if test then Ok (is.span, is.parts) else Err (frame_refusal 32 index pair.place)) equal;
       from = there.1.from;
       end = sym is.same_end;
+      head = sym is.same_own ∙ sym same ∙ own_is;
       form = subst (λ (b : List ℕ). FormOf classes b (value_of found.object)) body form.2;
       own = sym same ∙ own_is;
     }

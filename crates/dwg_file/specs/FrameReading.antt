@@ -12,7 +12,9 @@ use Rattle.dwg_object.specs.FrameLines.{span_body}
 use Rattle.dwg_object.specs.Objects.{ObjectValue, value_of, handle_of}
 use Rattle.dwg_objmap.specs.declared.pair.Pair.{Pair}
 use Rattle.dwg_file.specs.declared.frames.Frames.{Frames}
+use Rattle.dwg_file.specs.declared.objects.FramedObjects.{FramedObjects}
 use Rattle.dwg_file.specs.FileLines.{FoundFrame, touches, frames_tried}
+use Rattle.dwg_file.specs.ObjectFrames.{frame_of}
 use Rattle.dwg_file.specs.ReadAs.{AreFormsOf}
 use Rattle.dwg_file.specs.Spelled.{AreAscending}
 use Rattle.dwg_file.specs.Taken.{Run, shares}
@@ -21,12 +23,13 @@ use Rattle.dwg_file.specs.Taken.{Run, shares}
 abbrev pub AreTaken : List FoundFrame → List Run → Type 0
 AreTaken earlier taken = (from end : ℕ) → touches earlier from end ≡ shares taken from end
 
--- what was found is the frame of a pair: its span, the object that its body is read as, and the pair's own handle
+-- what was found is the frame of a pair: its span, its head with the pair's own handle, and the object that its body is read as, which has this handle too
 pub record IsFrameFound (classes : List Class) (bytes : List ℕ) (pair : Pair) (tried : Tried FoundFrame) (found : Found) : Type 0 where
   pub frame : FoundFrame
   pub tries : tried ≡ Ok frame
   pub from : frame.0.from ≡ pair.place
   pub end : frame.0.end ≡ found.end
+  pub head : frame.1.own ≡ pair.handle
   pub form : FormOf classes (span_body bytes frame.0) (value_of found.object)
   pub own : handle_of (value_of found.object) ≡ pair.handle
 
@@ -40,22 +43,24 @@ AnswersPair classes bytes pair tried (Err (Refused refusal)) = tried ≡ Err ref
 abbrev pub values_of : List Object → List ObjectValue
 values_of objects = map value_of objects
 
--- frames were read: their bytes are taken, their bodies are read as the objects, which have these handles
-pub record HasRead (classes : List Class) (bytes : List ℕ) (earlier : List FoundFrame) (handles : List ℕ) (taken : List Run) (objects : List Object) : Type 0 where
-  pub touched : AreTaken earlier taken
-  pub forms : AreFormsOf classes bytes earlier (values_of objects)
-  pub own : map handle_of (values_of objects) ≡ handles
+-- frames were read: their bytes are taken, they are listed, and their bodies are read as the objects, which have these handles
+pub record HasRead (classes : List Class) (bytes : List ℕ) (earlier : List FoundFrame) (handles : List ℕ) (read : Frames) : Type 0 where
+  pub touched : AreTaken earlier read.taken
+  pub listed : read.frames ≡ map frame_of earlier
+  pub forms : AreFormsOf classes bytes earlier (values_of read.objects.items)
+  pub own : map handle_of (values_of read.objects.items) ≡ handles
 
 -- a step goes on to the next pair: the frame of this pair was read too, or its refusal is told; want of memory tells nothing
 abbrev pub GoesOn : List Class → List ℕ → List FoundFrame → List ℕ → Pair → Tried FoundFrame → Result Frames Fault → Type 0
 GoesOn classes bytes earlier handles pair tried (Ok more) =
-    (found : FoundFrame) × (tried ≡ Ok found) × HasRead classes bytes (earlier ++ found ∷ []) (handles ++ pair.handle ∷ []) more.taken more.objects.items
+    (found : FoundFrame) × (tried ≡ Ok found) × HasRead classes bytes (earlier ++ found ∷ []) (handles ++ pair.handle ∷ []) more
 GoesOn classes bytes earlier handles pair tried (Err NoMemory) = ⊤
 GoesOn classes bytes earlier handles pair tried (Err (Refused refusal)) = tried ≡ Err refusal
 
--- a call answers the frames of pairs: their bodies are read as the objects; or the first refusal; want of memory tells nothing
+-- a call answers the frames of pairs: they are listed, and their bodies are read as the objects; or the first refusal; want of memory tells nothing
 abbrev pub AnswersFrames : List Class → List ℕ → Tried (List FoundFrame) → Result Frames Fault → Type 0
-AnswersFrames classes bytes tried (Ok frames) = (found : List FoundFrame) × (tried ≡ Ok found) × AreFormsOf classes bytes found (values_of frames.objects.items)
+AnswersFrames classes bytes tried (Ok read) =
+    (found : List FoundFrame) × (tried ≡ Ok found) × AreFormsOf classes bytes found (values_of read.objects.items) × (read.frames ≡ map frame_of found)
 AnswersFrames classes bytes tried (Err NoMemory) = ⊤
 AnswersFrames classes bytes tried (Err (Refused refusal)) = tried ≡ Err refusal
 
@@ -66,9 +71,10 @@ pub record AreObjectsOf (classes : List Class) (bytes : List ℕ) (found : List 
   pub same : IsPermutation values objects
   pub ascending : AreAscending objects
 
--- a call answers the objects of frames, or the first refusal; want of memory tells nothing
-abbrev pub AnswersObjects : List Class → List ℕ → Tried (List FoundFrame) → Result (List Object) Fault → Type 0
-AnswersObjects classes bytes tried (Ok objects) = (found : List FoundFrame) × (tried ≡ Ok found) × AreObjectsOf classes bytes found (values_of objects)
+-- a call answers the objects of frames, which are listed, or the first refusal; want of memory tells nothing
+abbrev pub AnswersObjects : List Class → List ℕ → Tried (List FoundFrame) → Result FramedObjects Fault → Type 0
+AnswersObjects classes bytes tried (Ok read) =
+    (found : List FoundFrame) × (tried ≡ Ok found) × AreObjectsOf classes bytes found (values_of read.objects) × (read.frames ≡ map frame_of found)
 AnswersObjects classes bytes tried (Err NoMemory) = ⊤
 AnswersObjects classes bytes tried (Err (Refused refusal)) = tried ≡ Err refusal
 

@@ -12,6 +12,8 @@ pub mod Valid
 pub mod ReadAs
 -- The bytes that frames took so far, as runs.
 pub mod Taken
+-- The frames of objects as they are told with the drawing that is read.
+pub mod ObjectFrames
 -- What the steps of reading frames do to what is left to try.
 pub mod FrameReading
 -- How the header variables, the classes and the map of an input with a header are refused, each by the first thing in it that fails.

@@ -11,7 +11,7 @@ ghost use Rattle.dwg_file.specs.FrameReading.{AreTaken, AnswersPair, HasRead, Go
 ghost use Rattle.dwg_file.specs.Taken.{meets, shares};
 
 use crate::taken::Taken;
-use dwg_base::{Fault, Handle, NoMemory, Refusal};
+use dwg_base::{Fault, Handle, Items, NoMemory, Refusal};
 use dwg_classes::Hints;
 use dwg_object::{Found, Object, read_span, span_at};
 use dwg_objmap::Pair;
@@ -69,10 +69,23 @@ fn frame_of_pair<'a>(
     }
 }
 
-/// The objects of the frames that were read so far, and the bytes that these frames took.
+/// The frame of an object of a file: a length, a body and a check word (Open Design Specification, "R13 to R2000 file layout,
+/// object data").
+#[derive(Clone, Copy, Debug, PartialEq, Eq)]
+pub struct ObjectFrame {
+    /// The object's handle.
+    pub handle: Handle,
+    /// The frame's place, in bytes.
+    pub from: u64,
+    /// The place behind the frame's check word.
+    pub end: u64,
+}
+
+/// The frames that were read so far, their objects, and the bytes that they took.
 #[derive(Drop)]
 pub(crate) struct Frames<'a> {
     taken: Taken,
+    pub(crate) frames: Items<ObjectFrame>,
     pub(crate) objects: Vec<Object<'a>>,
 }
 
@@ -87,43 +100,72 @@ fn with_item<T: Drop>(items: Vec<T>, item: T) -> Result<Vec<T>, NoMemory>
     }
 }
 
-/// The frames and one more from a place on, that shares no byte with them. The only refusal is want of memory.
-fn with_frame<'a>(frames: Frames<'a>, place: u64, found: Found<'a>) -> Result<Frames<'a>, NoMemory>
-    requires some { place < found.end }
-    requires apart { shares frames.taken place found.end ≡ false }
-    ensures taken { IfOk result (λ more. (other to : ℕ) → shares more.taken other to ≡ (shares frames.entry.taken other to || meets other to (found.entry.end - 1, place))) }
-    ensures objects { IfOk result (λ more. more.objects.items ≡ frames.entry.objects.items ++ found.entry.object ∷ []) }
+/// A list of frames and one more at the end. The only refusal is want of memory.
+fn with_listed(
+    frames: Items<ObjectFrame>,
+    frame: ObjectFrame,
+) -> Result<Items<ObjectFrame>, NoMemory>
+    ensures { IfOk result (λ more. more ≡ frames ++ frame ∷ []) }
 {
-    let Frames { taken, objects } = frames;
-    let end = found.end;
+    let mut frames = frames;
+    match frames.push(frame) {
+        Ok(()) => Ok(frames),
+        Err(_) => Err(NoMemory),
+    }
+}
+
+/// The frames and that of a pair, which was found and shares no byte with them. The only refusal is want of memory.
+fn with_frame<'a>(read: Frames<'a>, pair: &Pair, found: Found<'a>) -> Result<Frames<'a>, NoMemory>
+    requires some { pair.now.place < found.end }
+    requires apart { shares read.taken pair.now.place found.end ≡ false }
+    ensures taken { IfOk result (λ more. (other to : ℕ) → shares more.taken other to ≡ (shares read.entry.taken other to || meets other to (found.entry.end - 1, pair.now.place))) }
+    ensures frames { IfOk result (λ more. more.frames ≡ read.entry.frames ++ record { handle = pair.now.handle; from = pair.now.place; end = found.entry.end } ∷ []) }
+    ensures objects { IfOk result (λ more. more.objects.items ≡ read.entry.objects.items ++ found.entry.object ∷ []) }
+{
+    let Frames {
+        taken,
+        frames,
+        objects,
+    } = read;
+    let (from, end) = (pair.place, found.end);
     let objects = with_item(objects, found.object)?;
-    let taken = taken.add(place, end)?;
-    Ok(Frames { taken, objects })
+    let taken = taken.add(from, end)?;
+    let frame = ObjectFrame {
+        handle: pair.handle,
+        from,
+        end,
+    };
+    let frames = with_listed(frames, frame)?;
+    Ok(Frames {
+        taken,
+        frames,
+        objects,
+    })
 }
 
 /// The frames and the one of the next pair.
 fn next_frame<'a>(
     alloc: Global,
-    frames: Frames<'a>,
+    read: Frames<'a>,
     bytes: &'a [u8],
     pair: &Pair,
     index: u64,
     hints: &Hints<'_>,
 ) -> Result<Frames<'a>, Fault>
-    ensures goes_on { (earlier : List FoundFrame) (handles : List ℕ) → HasRead hints.now bytes.now earlier handles frames.entry.taken frames.entry.objects.items → GoesOn hints.now bytes.now earlier handles pair.now (tried_pair bytes.now earlier index pair.now) result }
+    ensures goes_on { (earlier : List FoundFrame) (handles : List ℕ) → HasRead hints.now bytes.now earlier handles read.entry → GoesOn hints.now bytes.now earlier handles pair.now (tried_pair bytes.now earlier index pair.now) result }
     ensures of_table { IfErr result IsFaultOfTable }
 {
-    let found = match frame_of_pair(alloc, &frames.taken, bytes, pair, index, hints) {
+    let found = match frame_of_pair(alloc, &read.taken, bytes, pair, index, hints) {
         Ok(found) => found,
         Err(fault) => return Err(fault),
     };
-    match with_frame(frames, pair.place, found) {
-        Ok(frames) => Ok(frames),
+    match with_frame(read, pair, found) {
+        Ok(more) => Ok(more),
         Err(NoMemory) => Err(Fault::NoMemory),
     }
 }
 
-/// Reads the frames of pairs, in their order.
+/// Reads the frames of pairs, in their order, and their objects.
 pub(crate) fn read_frames<'a>(
     alloc: Global,
     bytes: &'a [u8],
@@ -131,19 +173,20 @@ pub(crate) fn read_frames<'a>(
     hints: &Hints<'_>,
 ) -> Result<Frames<'a>, Fault>
     ensures tried { AnswersFrames hints.now bytes.now (frames_behind bytes.now 0 [] pairs.now) result }
-    ensures own { IfOk result (λ frames. map handle_of (values_of frames.objects.items) ≡ handles_of pairs.now) }
+    ensures own { IfOk result (λ read. map handle_of (values_of read.objects.items) ≡ handles_of pairs.now) }
     ensures of_table { IfErr result IsFaultOfTable }
 {
-    let mut frames = Frames {
+    let mut read = Frames {
         taken: Taken::new(alloc),
+        frames: Items::new(alloc),
         objects: Vec::new(alloc),
     };
     'along: for index in 0..pairs.len() {
         let pair = &pairs[index];
-        frames = match next_frame(alloc, frames, bytes, pair, index as u64, hints) {
-            Ok(frames) => frames,
+        read = match next_frame(alloc, read, bytes, pair, index as u64, hints) {
+            Ok(more) => more,
             Err(fault) => return Err(fault),
         };
     }
-    Ok(frames)
+    Ok(read)
 }

@@ -16,12 +16,13 @@ mod taken;
 mod written_laws;
 
 pub use drawing::Drawing;
+pub use frames::ObjectFrame;
 pub use laws::drawing_laws;
 pub use objects::in_handle_order;
 pub use others::{is_cut, whole_others};
 pub use parts::{Other, Parts};
 pub use plan::{Plan, PlanFault};
-pub use reading::read_drawing;
+pub use reading::{FramedDrawing, read_drawing, read_with_frames};
 pub use sections::classes_of_file;
 pub use taken::Taken;
 pub use written_laws::canonical_laws;

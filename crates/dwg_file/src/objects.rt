@@ -10,7 +10,7 @@ ghost use Rattle.dwg_file.specs.FrameReading.{AnswersObjects, values_of};
 ghost use Rattle.dwg_file.specs.SortedObjects.{sorted};
 ghost use Rattle.dwg_file.specs.Spelled.{AreAscending};
 
-use crate::frames::read_frames;
+use crate::frames::{ObjectFrame, read_frames};
 use dwg_base::{Fault, Items, NoMemory};
 use dwg_classes::{Class, Hints};
 use dwg_object::Object;
@@ -57,14 +57,21 @@ pub fn in_handle_order<'a>(
     }
 }
 
-/// Reads the objects of the frames of pairs: in ascending order of handle, one for each pair and no other. They are refused
-/// by the first pair, in their order, that fails one of the lines on its frame.
+/// Objects in ascending order of their handles, and their frames in map order.
+#[derive(Drop)]
+pub(crate) struct FramedObjects<'a> {
+    pub(crate) objects: Items<Object<'a>>,
+    pub(crate) frames: Items<ObjectFrame>,
+}
+
+/// Reads the frames of pairs and their objects: these in ascending order of handle, one for each pair and no other. They are
+/// refused by the first pair, in their order, that fails one of the lines on its frame.
 pub(crate) fn read_objects<'a>(
     alloc: Global,
     bytes: &'a [u8],
     pairs: &[Pair],
     classes: &[Class],
-) -> Result<Items<Object<'a>>, Fault>
+) -> Result<FramedObjects<'a>, Fault>
     requires { AreHandles (handles_of pairs.now) }
     ensures tried { AnswersObjects classes.now bytes.now (frames_behind bytes.now 0 [] pairs.now) result }
     ensures of_table { IfErr result IsFaultOfTable }
@@ -73,12 +80,15 @@ pub(crate) fn read_objects<'a>(
         Ok(hints) => hints,
         Err(NoMemory) => return Err(Fault::NoMemory),
     };
-    let frames = match read_frames(alloc, bytes, pairs, &hints) {
-        Ok(frames) => frames,
+    let read = match read_frames(alloc, bytes, pairs, &hints) {
+        Ok(read) => read,
         Err(fault) => return Err(fault),
     };
-    match in_handle_order(alloc, frames.objects) {
-        Ok(objects) => Ok(objects),
+    match in_handle_order(alloc, read.objects) {
+        Ok(objects) => Ok(FramedObjects {
+            objects,
+            frames: read.frames,
+        }),
         Err(NoMemory) => Err(Fault::NoMemory),
     }
 }

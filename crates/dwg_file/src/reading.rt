@@ -1,37 +1,40 @@
 //! Reading whole drawings.
 
-ghost use Rattle.std.specs.Prelude.{◌≡◌, ◌≤◌, [], ◌∷◌, length, IfOk, IfErr, OnOk, None};
+ghost use Rattle.std.specs.Prelude.{◌≡◌, ◌≤◌, [], ◌∷◌, length, map, IfOk, IfErr, OnOk, None};
+ghost use Rattle.std.specs.Result.{result_unwrap_or};
 ghost use Rattle.dwg_base.specs.Devices.{MOST_BYTES};
 ghost use Rattle.dwg_base.specs.Refusals.{first_fault, Tells, IsFaultOfTable};
 ghost use Rattle.dwg_sections.specs.HeaderLines.{HEADER_LINES, header_at};
 ghost use Rattle.dwg_file.specs.Contents.{contents_of};
-ghost use Rattle.dwg_file.specs.FileLines.{ALL_LINES, map_row, frames_row};
+ghost use Rattle.dwg_file.specs.FileLines.{ALL_LINES, map_row, frames_row, frames_tried};
 ghost use Rattle.dwg_file.specs.FrameReading.{values_of, AreObjectsIn};
+ghost use Rattle.dwg_file.specs.ObjectFrames.{frame_of};
 ghost use Rattle.dwg_file.specs.ReadAs.{ReadsAs};
 ghost use Rattle.dwg_file.specs.Spelled.{Spelled};
 
 use crate::drawing::Drawing;
+use crate::frames::ObjectFrame;
 use crate::laws::drawing_laws;
-use crate::objects::read_objects;
+use crate::objects::{FramedObjects, read_objects};
 use crate::parts::Parts;
 use crate::sections::{classes_of_file, others_of_file, pairs_of_file, variables_of_file};
 use dwg_base::{ByteRun, Fault, Items, NoMemory};
 use dwg_classes::Class;
 use dwg_codes::BytePart;
-use dwg_object::Object;
 use dwg_sections::{FileHeader, read_file_header};
 use std::alloc::Global;
 
-/// The objects of the file: those of the frames that its map names, in ascending order of handle. The whole map is tried
-/// before the first frame.
+/// The frames that the map of the file names, and their objects, in ascending order of handle. The whole map is tried before the
+/// first frame.
 fn objects_of_file<'a>(
     alloc: Global,
     bytes: &'a [u8],
     header: &FileHeader,
     classes: &[Class],
-) -> Result<Items<Object<'a>>, Fault>
+) -> Result<FramedObjects<'a>, Fault>
     requires { header.now ≡ header_at bytes.now }
-    ensures objects { IfOk result (λ objects. AreObjectsIn classes.now bytes.now (values_of objects)) }
+    ensures objects { IfOk result (λ read. AreObjectsIn classes.now bytes.now (values_of read.objects)) }
+    ensures frames { IfOk result (λ read. read.frames ≡ map frame_of (result_unwrap_or (frames_tried bytes.now) [])) }
     ensures holds { OnOk result (first_fault (map_row ∷ frames_row ∷ []) bytes.now ≡ None) }
     ensures refused { IfErr result (λ fault. Tells fault (first_fault (map_row ∷ frames_row ∷ []) bytes.now)) }
     ensures of_table { IfErr result IsFaultOfTable }
@@ -41,17 +44,29 @@ fn objects_of_file<'a>(
         Err(fault) => return Err(fault),
     };
     match read_objects(alloc, bytes, pairs.as_slice(), classes) {
-        Ok(objects) => Ok(objects),
+        Ok(read) => Ok(read),
         Err(fault) => Err(fault),
     }
 }
 
-/// The parts of the drawing, behind the header that the file begins with.
-fn parts_behind<'a>(alloc: Global, bytes: &'a [u8], header: &FileHeader) -> Result<Parts<'a>, Fault>
+/// The parts of a drawing, and the frames of its objects in map order.
+#[derive(Drop)]
+struct FramedParts<'a> {
+    parts: Parts<'a>,
+    frames: Items<ObjectFrame>,
+}
+
+/// The parts of the drawing and the frames of its objects, behind the header that the file begins with.
+fn parts_behind<'a>(
+    alloc: Global,
+    bytes: &'a [u8],
+    header: &FileHeader,
+) -> Result<FramedParts<'a>, Fault>
     requires length { length bytes.now ≤ MOST_BYTES }
     requires header { header.now ≡ header_at bytes.now }
     requires holds { first_fault HEADER_LINES bytes.now ≡ None }
-    ensures read { IfOk result (λ parts. ReadsAs (contents_of parts) bytes.now) }
+    ensures read { IfOk result (λ read. ReadsAs (contents_of read.parts) bytes.now) }
+    ensures frames { IfOk result (λ read. read.frames ≡ map frame_of (result_unwrap_or (frames_tried bytes.now) [])) }
     ensures refused { IfErr result (λ fault. Tells fault (first_fault ALL_LINES bytes.now)) }
     ensures of_table { IfErr result IsFaultOfTable }
 {
@@ -63,8 +78,8 @@ fn parts_behind<'a>(alloc: Global, bytes: &'a [u8], header: &FileHeader) -> Resu
         Ok(classes) => classes,
         Err(fault) => return Err(fault),
     };
-    let objects = match objects_of_file(alloc, bytes, header, classes.as_slice()) {
-        Ok(objects) => objects,
+    let framed = match objects_of_file(alloc, bytes, header, classes.as_slice()) {
+        Ok(framed) => framed,
         Err(fault) => return Err(fault),
     };
     let others = match others_of_file(alloc, bytes, header) {
@@ -75,7 +90,8 @@ fn parts_behind<'a>(alloc: Global, bytes: &'a [u8], header: &FileHeader) -> Resu
         Ok(run) => BytePart::Owned(run),
         Err(NoMemory) => return Err(Fault::NoMemory),
     };
-    Ok(Parts {
+    let FramedObjects { objects, frames } = framed;
+    let parts = Parts {
         lead: header.lead,
         mark: header.mark,
         code_page: header.code_page,
@@ -83,13 +99,15 @@ fn parts_behind<'a>(alloc: Global, bytes: &'a [u8], header: &FileHeader) -> Resu
         classes,
         others,
         objects,
-    })
+    };
+    Ok(FramedParts { parts, frames })
 }
 
-/// Reads the parts of the drawing that an input spells.
-fn read_parts<'a>(alloc: Global, bytes: &'a [u8]) -> Result<Parts<'a>, Fault>
+/// Reads the parts of the drawing that an input spells, and the frames of its objects.
+fn read_parts<'a>(alloc: Global, bytes: &'a [u8]) -> Result<FramedParts<'a>, Fault>
     requires { length bytes.now ≤ MOST_BYTES }
-    ensures read { IfOk result (λ parts. ReadsAs (contents_of parts) bytes.now) }
+    ensures read { IfOk result (λ read. ReadsAs (contents_of read.parts) bytes.now) }
+    ensures frames { IfOk result (λ read. read.frames ≡ map frame_of (result_unwrap_or (frames_tried bytes.now) [])) }
     ensures refused { IfErr result (λ fault. Tells fault (first_fault ALL_LINES bytes.now)) }
     ensures of_table { IfErr result IsFaultOfTable }
 {
@@ -98,7 +116,41 @@ fn read_parts<'a>(alloc: Global, bytes: &'a [u8]) -> Result<Parts<'a>, Fault>
         Err(fault) => return Err(fault),
     };
     match parts_behind(alloc, bytes, &header) {
-        Ok(parts) => Ok(parts),
+        Ok(read) => Ok(read),
+        Err(fault) => Err(fault),
+    }
+}
+
+/// A drawing that was read, and the frames of its objects.
+#[derive(Drop)]
+pub struct FramedDrawing<'a> {
+    /// The drawing.
+    pub drawing: Drawing<'a>,
+    /// The frames of its objects, in the order of the map.
+    pub frames: Items<ObjectFrame>,
+}
+
+/// Reads the drawing that an input spells and tells where the frames of its objects lie. It answers as [`read_drawing`] does, and
+/// reads nothing more.
+pub fn read_with_frames<'a>(alloc: Global, bytes: &'a [u8]) -> Result<FramedDrawing<'a>, Fault>
+    requires { length bytes.now ≤ MOST_BYTES }
+    // The drawing that the input spells; it spells one exactly where no line fails.
+    ensures spelled { IfOk result (λ read. Spelled read.drawing bytes.now) }
+    ensures holds { OnOk result (first_fault ALL_LINES bytes.now ≡ None) }
+
+    // The frames of the map's pairs, in map order.
+    ensures frames { IfOk result (λ read. read.frames ≡ map frame_of (result_unwrap_or (frames_tried bytes.now) [])) }
+
+    // The first line that fails, or want of memory.
+    ensures refused { IfErr result (λ fault. Tells fault (first_fault ALL_LINES bytes.now)) }
+    ensures of_table { IfErr result IsFaultOfTable }
+{
+    drawing_laws();
+    match read_parts(alloc, bytes) {
+        Ok(read) => Ok(FramedDrawing {
+            drawing: Drawing::build(read.parts),
+            frames: read.frames,
+        }),
         Err(fault) => Err(fault),
     }
 }
@@ -119,9 +171,8 @@ pub fn read_drawing<'a>(alloc: Global, bytes: &'a [u8]) -> Result<Drawing<'a>, F
     ensures refused { IfErr result (λ fault. Tells fault (first_fault ALL_LINES bytes.now)) }
     ensures of_table { IfErr result IsFaultOfTable }
 {
-    drawing_laws();
-    match read_parts(alloc, bytes) {
-        Ok(parts) => Ok(Drawing::build(parts)),
+    match read_with_frames(alloc, bytes) {
+        Ok(read) => Ok(read.drawing),
         Err(fault) => Err(fault),
     }
 }

@@ -8,5 +8,5 @@ use Rattle.dwg_file.proofs.objects.read_objects.Goals as goal
 
 pub returns-in-Ok-in_handle_order-clause-tried : goal.returns-in-Ok-in_handle_order-clause-tried
 returns-in-Ok-in_handle_order-clause-tried c =
-    let tried = subst (λ (classes : List Class). AnswersFrames classes c.args.bytes.now (frames_behind c.args.bytes.now 0 [] c.args.pairs.now) (Ok c.in-Ok-read_frames.frames)) c.in-Ok.ensures c.in-Ok-read_frames.ensures.tried in
-    objects_answered c.args.classes.now c.args.bytes.now _ c.in-Ok-read_frames.frames c.in-Ok-in_handle_order.objects tried c.in-Ok-in_handle_order.ensures.same c.in-Ok-in_handle_order.ensures.ascend
+    let tried = subst (λ (classes : List Class). AnswersFrames classes c.args.bytes.now (frames_behind c.args.bytes.now 0 [] c.args.pairs.now) (Ok c.in-Ok-read_frames.read)) c.in-Ok.ensures c.in-Ok-read_frames.ensures.tried in
+    objects_answered c.args.classes.now c.args.bytes.now _ c.in-Ok-read_frames.read c.in-Ok-in_handle_order.objects tried c.in-Ok-in_handle_order.ensures.same c.in-Ok-in_handle_order.ensures.ascend
