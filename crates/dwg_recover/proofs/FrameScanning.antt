@@ -43,11 +43,11 @@ head_of_own bytes span some = by_test (has_check_word bytes span) some
 
 -- what such a body is read as is what stands for it
 pub read_at : (classes : List Class) (bytes body : List ℕ) (span : Span) (value : ObjectValue) → body ≡ span_body bytes span → IsSome (own_of_span bytes span) → FormOf classes body value
-    → has_common_part value ≡ has_common_part (form_at classes (span_body bytes span))
+    → value ≡ form_at classes (span_body bytes span)
 read_at classes bytes body span value same some form =
     let has = head_of_own bytes span some in
-    ap has_common_part (forms_same classes (span_body bytes span) value (form_at classes (span_body bytes span)) (subst (λ (b : List ℕ). FormOf classes b value) same form)
-    (form_is_at classes (span_body bytes span) has.0 has.1))
+    forms_same classes (span_body bytes span) value (form_at classes (span_body bytes span)) (subst (λ (b : List ℕ). FormOf classes b value) same form)
+    (form_is_at classes (span_body bytes span) has.0 has.1)
 
 -- and it is read as something
 pub is_read : (bytes body : List ℕ) (span : Span) → body ≡ span_body bytes span → IsSome (own_of_span bytes span) → ((number own : ℕ) → BeginsWithHead (bits body) number own → ⊥) → ⊥

@@ -20,6 +20,7 @@ pub mod RecoveredLaws
 pub mod RecoveryParts
 pub mod ResultLemmas
 pub mod ScanKeeping
+pub mod ScanReading
 pub mod SectionFinding
 pub mod ToldLemmas
 pub mod ToldLosses

@@ -1,5 +1,5 @@
 -- The parts of a recovery: the walk, the losses, the objects, and what is told of frames.
-use Rattle.std.proofs.Common.{◌≡◌, refl, sym, ◌∙◌, ap, ap₂, subst, ℕ, Bool, true, false, List, [], ◌++◌, append_assoc, Option, Some, None}
+use Rattle.std.proofs.Common.{◌≡◌, refl, sym, ◌∙◌, ap, ap₂, subst, ℕ, Bool, true, false, List, [], ◌++◌, append_assoc, map, Option, Some, None}
 use Rattle.std.specs.Prelude.{Ok, Err, not}
 use Rattle.std.specs.Option.{is_none, is_some}
 use Rattle.std.proofs.lemmas.Option.{same_Some}
@@ -7,6 +7,7 @@ use Rattle.dwg_base.specs.declared.refusal.Refusal.{Refusal}
 use Rattle.dwg_classes.specs.declared.class.Class.{Class}
 use Rattle.dwg_file.specs.Contents.{Contents, OtherValue}
 use Rattle.dwg_file.specs.ReadAs.{sections_at, whole_locators}
+use Rattle.dwg_file.specs.SortedObjects.{sorted}
 use Rattle.dwg_object.specs.declared.span.Span.{Span}
 use Rattle.dwg_object.specs.Forms.{FormOf}
 use Rattle.dwg_object.proofs.FormLaws.{forms_same}
@@ -21,7 +22,7 @@ use Rattle.dwg_recover.specs.declared.loss.Loss.{Loss}
 use Rattle.dwg_recover.specs.Frames.{own_of_span}
 use Rattle.dwg_recover.specs.Placing.{IsFound}
 use Rattle.dwg_recover.proofs.KeptObjects.{found_is_read}
-use Rattle.dwg_recover.specs.Recovering.{body_tried, classes_found, code_page_of, drawing_recovered, frame_body, frames_kept, lead_of, mark_of, object_of, objects_of, walk_located, walk_of}
+use Rattle.dwg_recover.specs.Recovering.{body_tried, classes_found, code_page_of, drawing_recovered, frame_body, frames_kept, lead_of, mark_of, object_of, walk_located, walk_of}
 use Rattle.dwg_recover.specs.Sections.{header_of, locators_of, section_found, variables_of}
 use Rattle.dwg_recover.specs.Walks.{walk_from}
 use Rattle.dwg_recover.proofs.FrameScanning.{span_missing, span_there}
@@ -92,13 +93,13 @@ contents_same lead other_lead mark other_mark code_page other_page variables oth
     ∙ ap (λ (x : List ObjectValue). record { lead = other_lead; mark = other_mark; code_page = other_page; variables = other_variables; classes = other_classes; others = other_others; objects = x }) g
 
 -- the drawing that is recovered is that of its parts
-pub drawing_is : (bytes : List ℕ) (header : Option FileHeader) (found : Option ℕ) (locators : List Locator) (classes list : List Class) (lead mark variables : List ℕ) (code_page : ℕ)
-    (others : List OtherValue) (objects : List ObjectValue) → header ≡ header_of bytes → found ≡ section_found framed.Variables bytes → classes ≡ classes_found bytes → lead ≡ lead_of header → mark ≡ mark_of header
-    → code_page ≡ code_page_of header → variables ≡ variables_of bytes found → locators ≡ locators_of header → others ≡ sections_at bytes (whole_locators bytes locators) → list ≡ classes
-    → objects ≡ objects_of list bytes (frames_kept bytes)
+pub drawing_is : (bytes : List ℕ) (header : Option FileHeader) (found : Option ℕ) (locators : List Locator) (classes : List Class) (lead mark variables : List ℕ) (code_page : ℕ)
+    (others : List OtherValue) (objects values : List ObjectValue) → header ≡ header_of bytes → found ≡ section_found framed.Variables bytes → classes ≡ classes_found bytes → lead ≡ lead_of header → mark ≡ mark_of header
+    → code_page ≡ code_page_of header → variables ≡ variables_of bytes found → locators ≡ locators_of header → others ≡ sections_at bytes (whole_locators bytes locators)
+    → values ≡ map (object_of (classes_found bytes) bytes) (frames_kept bytes) → objects ≡ sorted values
     → record { lead = lead; mark = mark; code_page = code_page; variables = variables; classes = classes; others = others; objects = objects } ≡ drawing_recovered bytes
 unfolding drawing_recovered
-drawing_is bytes header found locators classes list lead mark variables code_page others objects is at cut a b c d l o s x =
+drawing_is bytes header found locators classes lead mark variables code_page others objects values is at cut a b c d l o v x =
     contents_same lead _ mark _ code_page _ variables _ classes _ others _ objects _ (a ∙ ap lead_of is) (b ∙ ap mark_of is) (c ∙ ap code_page_of is) (d ∙ ap (variables_of bytes) at) cut
     (o ∙ ap (λ (some : List Locator). sections_at bytes (whole_locators bytes some)) (l ∙ ap locators_of is))
-    (x ∙ ap (λ (some : List Class). objects_of some bytes (frames_kept bytes)) (s ∙ cut))
+    (x ∙ ap sorted v)

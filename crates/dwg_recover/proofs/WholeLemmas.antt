@@ -1,4 +1,4 @@
--- Where an input spells a drawing, the frames of its map are the frames that its pairs name.
+-- Where an input spells a drawing, the frames of its map stand in it, and are the frames that its pairs name.
 use Rattle.std.proofs.Common.{◌≡◌, refl, sym, ◌∙◌, ap, ap₂, subst, ℕ, ◌+◌, ◌-◌, ◌<◌, Bool, true, false, List, [], ◌∷◌, ◌++◌, length, drop, map, append_assoc, Option, Some, None, arith}
 use Rattle.std.specs.Prelude.{◌&&◌, ◌==◌, not, nat_lt, option_map, Ok, Err, if◌then◌else◌}
 use Rattle.std.specs.List.{AllByRecursion, cons_option}
@@ -24,6 +24,7 @@ use Rattle.dwg_sections.specs.HeaderLines.{place_of}
 use Rattle.dwg_recover.specs.declared.frame.Frame.{Frame}
 use Rattle.dwg_recover.proofs.FoundLemmas.{span_inside}
 use Rattle.dwg_recover.specs.Frames.{candidate, candidate_of, candidates, own_of_span, span_found}
+use Rattle.dwg_recover.specs.Placing.{IsFound}
 use Rattle.dwg_recover.specs.Recovering.{frames_found}
 
 -- which span stands at a place doesn't hang on the number of a pair
@@ -125,6 +126,52 @@ pair_is_candidate bytes index pair found positive is =
     ∙ ap (option_and_then (candidate_of index pair found.0)) is.found_at.own
     ∙ ap₂ (λ (one other : Bool). if one && other then Some (record { pair = Some index; handle = pair.handle; from = pair.place; end = found.0.end }) else None) up same
     ∙ ap₂ (λ (handle from : ℕ). Some (record { pair = Some index; handle = handle; from = from; end = found.0.end })) (sym is.own) (sym (span_inside bytes pair.place found.0 is.found_at.stands).at)
+
+-- and it is found as it is kept
+pair_is_found : (bytes : List ℕ) (number : ℕ) (pair : Pair) (found : FoundFrame) → IsOfPair bytes pair found → IsFound bytes (found_frame number found)
+unfolding found_frame
+pair_is_found bytes number pair found is = record {
+  span = found.0;
+  stands = ap (span_found bytes) (span_inside bytes pair.place found.0 is.found_at.stands).at ∙ is.found_at.stands;
+  own = is.found_at.own;
+  ends = refl;
+}
+
+-- the frames behind earlier ones stand in the input
+record AreStanding (bytes : List ℕ) (index : ℕ) (earlier founds : List FoundFrame) : Type 0 where
+  rest : List FoundFrame
+  whole : founds ≡ earlier ++ rest
+  stand : AllByRecursion (IsFound bytes) (frames_found index rest)
+
+-- so they do
+frames_are_standing : (bytes : List ℕ) (pairs : List Pair) (index : ℕ) (earlier founds : List FoundFrame) → frames_behind bytes index earlier pairs ≡ Ok founds → AreStanding bytes index earlier founds
+unfolding frames_behind found_frame
+frames_are_standing bytes [] index earlier founds is = let same : earlier ≡ founds = cc in record { rest = []; whole = sym same ∙ sym (append-nil earlier); stand = tt }
+frames_are_standing bytes (pair ∷ pairs) index earlier founds is =
+    of_found (tried_pair bytes earlier index pair) refl is (λ found behind. frames_are_standing bytes pairs (index + 1) (earlier ++ found ∷ []) founds behind)
+  where
+    of_found : (tried : Tried FoundFrame) → tried_pair bytes earlier index pair ≡ tried → with_found (λ found. frames_behind bytes (index + 1) (earlier ++ found ∷ []) pairs) tried ≡ Ok founds
+        → ((found : FoundFrame) → frames_behind bytes (index + 1) (earlier ++ found ∷ []) pairs ≡ Ok founds → AreStanding bytes (index + 1) (earlier ++ found ∷ []) founds) → AreStanding bytes index earlier founds
+    of_found (Err refusal) tried same others = absurd cc
+    of_found (Ok found) tried same others =
+        let behind = others found same in
+        record {
+          rest = found ∷ behind.rest;
+          whole = behind.whole ∙ append_assoc earlier (found ∷ []) behind.rest;
+          stand = (pair_is_found bytes index pair found (pair_stands bytes earlier index pair found tried), behind.stand);
+        }
+
+-- the frames of the map stand in the input
+pub map_stands : (bytes : List ℕ) → AllByRecursion (IsFound bytes) (frames_found 0 (result_unwrap_or (frames_tried bytes) []))
+unfolding frames_tried
+map_stands bytes = of_tried (frames_behind bytes 0 [] (result_unwrap_or (map_tried bytes) [])) refl
+  where
+    of_tried : (tried : Tried (List FoundFrame)) → frames_behind bytes 0 [] (result_unwrap_or (map_tried bytes) []) ≡ tried
+        → AllByRecursion (IsFound bytes) (frames_found 0 (result_unwrap_or tried []))
+    of_tried (Err refusal) is = tt
+    of_tried (Ok founds) is =
+        let all = frames_are_standing bytes (result_unwrap_or (map_tried bytes) []) 0 [] founds is in
+        subst (λ (some : List FoundFrame). AllByRecursion (IsFound bytes) (frames_found 0 some)) (sym all.whole) all.stand
 
 -- the frames behind earlier ones are those of the pairs
 record AreBehind (bytes : List ℕ) (index : ℕ) (earlier founds : List FoundFrame) (pairs : List Pair) : Type 0 where

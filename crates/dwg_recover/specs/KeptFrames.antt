@@ -1,5 +1,5 @@
 -- Which frames are kept, said of each by itself, that no others are, and what the frames that are kept and their objects are: found in the input, without a byte or a handle in common. A rule of this project.
-use Rattle.std.proofs.Common.{◌≡◌, ℕ, ◌+◌, ◌≤◌, List, ◌∷◌, ◌++◌, length, Some, None, ◌<◌, map}
+use Rattle.std.proofs.Common.{◌≡◌, ℕ, ◌≤◌, List, ◌∷◌, ◌++◌, length, Some, None, ◌<◌, map}
 use Rattle.std.specs.Prelude.{◌≢◌, ◌⊎◌, AllPairs, ◌↔◌}
 use Rattle.std.specs.List.{AllByRecursion}
 use Rattle.dwg_classes.specs.declared.class.Class.{Class}

@@ -30,6 +30,10 @@ pub mod Frames
 pub mod Finding
 -- Frames lie in the input, and were found there.
 pub mod Placing
+-- The frames of a map of which none is lost, each kept for its pair.
+pub mod MapFrames
+-- The objects of the frames that are kept, and what the scan tells of a place.
+pub mod KeptObjects
 -- What is noted of the frames that are kept.
 pub mod Keeping
 -- A member of a list, whatever it lists, and where it stands there.

@@ -1,5 +1,5 @@
 -- A member of a list, whatever it lists, and where it stands there. A rule of this project.
-use Rattle.std.proofs.Common.{◌≡◌, ℕ, ◌+◌, List, [], ◌∷◌, ◌++◌, length}
+use Rattle.std.proofs.Common.{◌≡◌, ℕ, List, [], ◌∷◌, ◌++◌, length}
 use Rattle.std.specs.Prelude.{◌⊎◌}
 
 -- one is a member of some

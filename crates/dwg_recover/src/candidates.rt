@@ -61,7 +61,7 @@ fn with_candidate(frames: Vec<Frame>, frame: Option<Frame>) -> Result<Vec<Frame>
 }
 
 /// The frames of pairs, in map order. The only refusal is want of memory.
-pub(crate) fn candidates<L: Ledger>(
+fn candidates<L: Ledger>(
     alloc: Global,
     bytes: &[u8],
     checks: &SpanChecks<'_>,

@@ -138,6 +138,13 @@ impl KeptFrames {
         })
     }
 
+    /// The frames as a slice.
+    pub(crate) fn as_slice(&self) -> &[Frame]
+        ensures { result.now ≡ self.now }
+    {
+        self.frames.as_slice()
+    }
+
     /// The frames, without taking memory.
     pub(crate) fn into_frames(self) -> Vec<Frame>
         ensures { result.items ≡ self }

@@ -8,6 +8,7 @@ mod laws;
 mod lists;
 mod loss;
 mod losses;
+mod objects;
 mod recovery;
 mod scan;
 mod sections;

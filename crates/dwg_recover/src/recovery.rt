@@ -8,33 +8,38 @@ ghost use Rattle.dwg_base.specs.Refusals.{IsOfTable, first_fault};
 ghost use Rattle.dwg_file.specs.Contents.{contents_of};
 ghost use Rattle.dwg_file.specs.DrawingAt.{drawing_at};
 ghost use Rattle.dwg_file.specs.FileLines.{ALL_LINES, frames_tried};
+ghost use Rattle.dwg_file.specs.ObjectFrames.{frame_of};
 ghost use Rattle.dwg_object.specs.Objects.{value_of};
-ghost use Rattle.dwg_objmap.specs.Pages.{AreHandles};
 ghost use Rattle.dwg_recover.specs.Finding.{AreFound};
-ghost use Rattle.dwg_recover.specs.Frames.{candidates, kept_of, in_place_order};
-ghost use Rattle.dwg_recover.specs.Placing.{IsFound, IsPlaced};
-ghost use Rattle.dwg_recover.specs.Recovering.{classes_found, code_page_of, drawing_recovered, frames_found, frames_kept, frames_mapped, lead_of, losses_of, mark_of, object_of, objects_of, pairs_read, recovered, recovered_damaged, recovered_whole, told, walk_of};
+ghost use Rattle.dwg_recover.specs.Frames.{kept_of, in_place_order};
+ghost use Rattle.dwg_recover.specs.KeptObjects.{HoldsObjects};
+ghost use Rattle.dwg_recover.specs.MapFrames.{all_numbered, numbered};
+ghost use Rattle.dwg_recover.specs.Placing.{IsPlaced};
+ghost use Rattle.dwg_recover.specs.Recovering.{classes_found, code_page_of, drawing_recovered, frames_found, frames_kept, frames_mapped, lead_of, losses_of, mark_of, object_of, pairs_read, recovered, recovered_damaged, recovered_whole, told, walk_of};
 ghost use Rattle.dwg_recover.specs.Results.{recovered_value};
 ghost use Rattle.dwg_recover.specs.Sections.{header_of, locators_of, section_found};
 ghost use Rattle.dwg_recover.specs.Walks.{lost_end, lost_pages};
 ghost use Rattle.dwg_recover.specs.declared.frame.Frame.{Frame};
 
-use crate::candidates::{candidates, in_place_order, mapped_frames};
+use crate::candidates::{in_place_order, mapped_frames};
 use crate::frame::Frame;
 use crate::kept::KeptFrames;
 use crate::laws::recovered_laws;
 use crate::lists::with_item;
 use crate::loss::{Kept, Loss};
 use crate::losses::{with_loss_if, with_losses, with_lost_pairs, with_lost_sections};
-use crate::scan::with_scanned;
+use crate::objects::KeptObjects;
+use crate::scan::scan;
 use crate::sections::{classes_at, header_of, place_located, section_found, variables_at};
 use crate::walk::{Walked, walk};
 use dwg_base::{Fault, Items, NoMemory, Refusal};
 use dwg_check::SpanChecks;
-use dwg_classes::{Class, Hints};
-use dwg_file::{Drawing, Parts, drawing_laws, in_handle_order, read_drawing, whole_others};
-use dwg_object::{Object, read_body_hinted, span_at, span_body};
-use dwg_objmap::{Pair, read_map};
+use dwg_classes::Class;
+use dwg_file::{
+    Drawing, FramedDrawing, ObjectFrame, Parts, drawing_laws, in_handle_order, read_with_frames,
+    whole_others,
+};
+use dwg_object::Object;
 use dwg_sections::{FileHeader, Framed, Locator, OBJECT_MAP_NUMBER};
 use dwg_steps::Steps;
 use std::alloc::Global;
@@ -174,60 +179,6 @@ fn losses_of(
     }
 }
 
-/// The object that the body of a frame that was found is read as. The only refusal is want of memory.
-fn object_of<'a>(
-    alloc: Global,
-    bytes: &'a [u8],
-    hints: &Hints<'_>,
-    frame: &Frame,
-) -> Result<Object<'a>, NoMemory>
-    requires { IsFound bytes.now frame.now }
-    ensures { IfOk result (λ object. value_of object ≡ object_of hints.now bytes.now frame.now) }
-{
-    let Ok(span) = span_at(bytes, frame.from, 0) else {
-        unreachable!()
-    };
-    match read_body_hinted(alloc, span_body(bytes, &span), hints)? {
-        Some(object) => Ok(object),
-        None => unreachable!(),
-    }
-}
-
-/// The objects that the bodies of frames are read as, in the order of the frames. The only refusal is want of memory.
-fn read_objects<'a>(
-    alloc: Global,
-    bytes: &'a [u8],
-    classes: &[Class],
-    frames: &[Frame],
-) -> Result<Vec<Object<'a>>, NoMemory>
-    requires { AllByRecursion (IsFound bytes.now) frames.now }
-    ensures { IfOk result (λ objects. map value_of objects.items ≡ map (object_of classes.now bytes.now) frames.now) }
-{
-    let hints = Hints::build(alloc, classes)?;
-    let mut objects = Vec::new(alloc);
-    'along: for index in 0..frames.len() {
-        objects = with_item(objects, object_of(alloc, bytes, &hints, &frames[index])?)?;
-    }
-    Ok(objects)
-}
-
-/// The objects of the frames that are kept, in ascending order of handle. The only refusal is want of memory.
-fn objects_of<'a>(
-    alloc: Global,
-    bytes: &'a [u8],
-    classes: &[Class],
-    frames: &[Frame],
-) -> Result<Items<Object<'a>>, NoMemory>
-    requires frames { frames.now ≡ frames_kept bytes.now }
-    ensures { IfOk result (λ objects. map value_of objects ≡ objects_of classes.now bytes.now (frames_kept bytes.now)) }
-{
-    let objects = read_objects(alloc, bytes, classes, frames)?;
-    match in_handle_order(alloc, objects) {
-        Ok(objects) => Ok(objects),
-        Err(NoMemory) => Err(NoMemory),
-    }
-}
-
 /// What a header tells of a drawing beside its sections.
 #[derive(Clone, Copy)]
 struct Front {
@@ -256,27 +207,27 @@ fn front_of(header: &Option<FileHeader>) -> Front
     }
 }
 
-/// The parts of the drawing of what is found: the header, the sections, the classes and the frames that are kept. The only refusal
-/// is want of memory.
+/// The parts of the drawing of what is found: the header, the sections, the classes and the objects of the frames that are kept. The
+/// only refusal is want of memory.
 fn parts_recovered<'a>(
     alloc: Global,
     bytes: &'a [u8],
     header: &Option<FileHeader>,
     places: &Places,
     classes: Items<Class>,
-    frames: &[Frame],
+    objects: Vec<Object<'a>>,
 ) -> Result<Parts<'a>, NoMemory>
     requires header { header.now ≡ header_of bytes.now }
     requires variables { places.now.variables ≡ section_found Framed.Variables bytes.now }
     requires classes { classes ≡ classes_found bytes.now }
-    requires frames { frames.now ≡ frames_kept bytes.now }
+    requires objects { map value_of objects.items ≡ map (object_of (classes_found bytes.now) bytes.now) (frames_kept bytes.now) }
     ensures { IfOk result (λ parts. contents_of parts ≡ drawing_recovered bytes.now) }
 {
     let front = front_of(header);
     let (lead, mark) = (front.lead, front.mark);
     let variables = variables_at(alloc, bytes, places.variables)?;
     let others = whole_others(alloc, bytes, locators_of(header))?;
-    let objects = objects_of(alloc, bytes, classes.as_slice(), frames)?;
+    let objects = in_handle_order(alloc, objects)?;
     Ok(Parts {
         lead,
         mark,
@@ -359,51 +310,50 @@ fn find_parts<L: Ledger>(
     })
 }
 
-/// What is lost of an input, and the frames that are kept.
+/// What is lost of an input, and the frames that are kept with their objects.
 #[derive(Drop)]
-struct Gathered {
+struct Gathered<'a> {
     losses: Items<Loss>,
-    frames: Vec<Frame>,
+    kept: KeptObjects<'a>,
 }
 
-/// What is lost of an input, and the frames that are kept. The only refusal is want of memory.
-fn gather_frames<L: Ledger>(
+/// What is lost of an input, and the frames that are kept with their objects. The only refusal is want of memory.
+fn gather_frames<'a, L: Ledger>(
     alloc: Global,
-    bytes: &[u8],
+    bytes: &'a [u8],
     checks: &SpanChecks<'_>,
     found: &Found,
     steps: &mut Steps<L>,
-) -> Result<Gathered, NoMemory>
+) -> Result<Gathered<'a>, NoMemory>
     requires same { checks.now ≡ bytes.now }
     requires found { AreFound bytes.now found.now }
     ensures losses { IfOk result (λ gathered. gathered.losses ≡ losses_of bytes.now) }
-    ensures frames { IfOk result (λ gathered. gathered.frames.items ≡ frames_kept bytes.now) }
+    ensures frames { IfOk result (λ gathered. gathered.kept.frames ≡ frames_kept bytes.now) }
+    ensures objects { IfOk result (λ gathered. HoldsObjects (classes_found bytes.now) bytes.now gathered.kept) }
     ensures steps { steps.new ≤ steps.old + 15 * (2 * length bytes.now) }
 {
     let Mapped { walked, kept } = read_mapped(alloc, bytes, checks, &found.header, steps)?;
     let losses = losses_of(alloc, bytes, &found.header, &found.places, &walked, &kept)?;
-    let kept = with_scanned(alloc, bytes, checks, found.classes.as_slice(), kept, steps)?;
-    Ok(Gathered {
-        losses,
-        frames: kept.into_frames(),
-    })
+    let kept = scan(alloc, bytes, checks, found.classes.as_slice(), kept, steps)?;
+    Ok(Gathered { losses, kept })
 }
 
-/// What is recovered of an input that spells no drawing, by what is found of it, what is lost, and the frames that are kept. The only
-/// refusal is want of memory.
+/// What is recovered of an input that spells no drawing, by what is found of it, what is lost, and the frames that are kept with their
+/// objects. The only refusal is want of memory.
 fn recovered_of<'a>(
     alloc: Global,
     bytes: &'a [u8],
     refusal: Refusal,
     found: Found,
-    gathered: Gathered,
+    gathered: Gathered<'a>,
 ) -> Result<Recovered<'a>, NoMemory>
     requires limit { length bytes.now ≤ MOST_BYTES }
     requires refusal { first_fault ALL_LINES bytes.now ≡ Some refusal }
     requires of_table { IsOfTable refusal }
     requires found { AreFound bytes.now found }
     requires losses { gathered.losses ≡ losses_of bytes.now }
-    requires frames { gathered.frames.items ≡ frames_kept bytes.now }
+    requires frames { gathered.kept.frames ≡ frames_kept bytes.now }
+    requires objects { HoldsObjects (classes_found bytes.now) bytes.now gathered.kept }
     ensures recovered { IfOk result (λ value. recovered_value value ≡ recovered_damaged bytes.now) }
     ensures of_table { IfOk result (λ value. IfSome value.refusal IsOfTable) }
 {
@@ -412,8 +362,10 @@ fn recovered_of<'a>(
         places,
         classes,
     } = found;
-    let Gathered { losses, frames } = gathered;
-    let parts = parts_recovered(alloc, bytes, &header, &places, classes, frames.as_slice())?;
+    let Gathered { losses, kept } = gathered;
+    let KeptObjects { frames, objects } = kept;
+    let frames = frames.into_frames();
+    let parts = parts_recovered(alloc, bytes, &header, &places, classes, objects)?;
     let kept = told(alloc, bytes, frames)?;
     Ok(Recovered {
         drawing: drawing_of(bytes, parts),
@@ -443,54 +395,53 @@ fn recover_damaged<'a, L: Ledger>(
     recovered_of(alloc, bytes, refusal, found, gathered)
 }
 
-/// The pairs of the map of an input that spells a drawing. The only refusal is want of memory.
-fn whole_map(alloc: Global, bytes: &[u8]) -> Result<Items<Pair>, NoMemory>
-    requires { first_fault ALL_LINES bytes.now ≡ None }
-    ensures few { IfOk result (λ pairs. length pairs ≤ length bytes.now) }
-    ensures frames { IfOk result (λ pairs. candidates bytes.now 0 pairs ≡ frames_found 0 (result_unwrap_or (frames_tried bytes.now) [])) }
+/// The frame of a pair of a map, which has this number.
+fn numbered(number: u64, frame: &ObjectFrame) -> Frame
+    ensures { result ≡ numbered number frame.now }
 {
-    let header = header_of(alloc, bytes)?;
-    let place = place_located(&header, OBJECT_MAP_NUMBER).unwrap_or(0);
-    match read_map(alloc, bytes, u64::from(place)) {
-        Ok(pairs) => Ok(pairs),
-        Err(Fault::Refused(_)) => unreachable!(),
-        Err(Fault::NoMemory) => Err(NoMemory),
+    Frame {
+        pair: Some(number),
+        handle: frame.handle,
+        from: frame.from,
+        end: frame.end,
     }
 }
 
-/// The frames of the map of an input that spells a drawing, as they are told. The only refusal is want of memory.
-fn frames_of_map<L: Ledger>(
-    alloc: Global,
-    bytes: &[u8],
-    steps: &mut Steps<L>,
-) -> Result<Items<Kept>, NoMemory>
-    requires holds { first_fault ALL_LINES bytes.now ≡ None }
-    ensures kept { IfOk result (λ kept. kept ≡ told bytes.now (frames_found 0 (result_unwrap_or (frames_tried bytes.now) []))) }
-    ensures steps { steps.new ≤ steps.old + 15 * length bytes.now }
+/// The frames of a map, in its order, each for its pair. The only refusal is want of memory.
+fn all_numbered(alloc: Global, frames: &[ObjectFrame]) -> Result<Vec<Frame>, NoMemory>
+    ensures { IfOk result (λ all. all.items ≡ all_numbered 0 frames.now) }
 {
-    let pairs = whole_map(alloc, bytes)?;
-    let checks = SpanChecks::build(alloc, bytes)?;
-    let frames = candidates(alloc, bytes, &checks, pairs.as_slice(), steps)?;
-    told(alloc, bytes, frames)
+    let mut all = Vec::new(alloc);
+    'along: for index in 0..frames.len() {
+        all = with_item(all, numbered(index as u64, &frames[index]))?;
+    }
+    Ok(all)
+}
+
+/// The frames of the map of an input that spells a drawing, as they are told. The only refusal is want of memory.
+fn map_told(alloc: Global, bytes: &[u8], frames: &[ObjectFrame]) -> Result<Items<Kept>, NoMemory>
+    requires { frames.now ≡ map frame_of (result_unwrap_or (frames_tried bytes.now) []) }
+    ensures { IfOk result (λ kept. kept ≡ told bytes.now (frames_found 0 (result_unwrap_or (frames_tried bytes.now) []))) }
+{
+    let all = all_numbered(alloc, frames)?;
+    told(alloc, bytes, all)
 }
 
 /// What is recovered of an input that spells a drawing: that drawing, and the frames of its map. The only refusal is want of
 /// memory.
-fn recover_whole<'a, L: Ledger>(
+fn recover_whole<'a>(
     alloc: Global,
     bytes: &'a [u8],
-    drawing: Drawing<'a>,
-    steps: &mut Steps<L>,
+    read: FramedDrawing<'a>,
 ) -> Result<Recovered<'a>, NoMemory>
-    requires holds { first_fault ALL_LINES bytes.now ≡ None }
-    requires drawing { drawing ≡ drawing_at bytes.now }
+    requires drawing { read.drawing ≡ drawing_at bytes.now }
+    requires frames { read.frames ≡ map frame_of (result_unwrap_or (frames_tried bytes.now) []) }
     ensures recovered { IfOk result (λ value. recovered_value value ≡ recovered_whole bytes.now) }
     ensures of_table { IfOk result (λ value. IfSome value.refusal IsOfTable) }
-    ensures steps { steps.new ≤ steps.old + 15 * length bytes.now }
 {
-    let kept = frames_of_map(alloc, bytes, steps)?;
+    let kept = map_told(alloc, bytes, read.frames.as_slice())?;
     Ok(Recovered {
-        drawing,
+        drawing: read.drawing,
         refusal: None,
         losses: Items::new(alloc),
         kept,
@@ -522,8 +473,8 @@ pub fn recover<'a, L: Ledger>(
     ensures steps { steps.new ≤ steps.old + 26 * (4 * length bytes.now + 4) }
 {
     drawing_laws();
-    match read_drawing(alloc, bytes) {
-        Ok(drawing) => recover_whole(alloc, bytes, drawing, steps),
+    match read_with_frames(alloc, bytes) {
+        Ok(read) => recover_whole(alloc, bytes, read),
         Err(Fault::Refused(refusal)) => recover_damaged(alloc, bytes, refusal, steps),
         Err(Fault::NoMemory) => Err(NoMemory),
     }

@@ -1,15 +1,18 @@
 //! Frames that stand where no kept pair of the map leads.
 
-ghost use Rattle.std.specs.Prelude.{◌≡◌, ◌+◌, ◌*◌, ◌≤◌, length, IfOk};
+ghost use Rattle.std.specs.Prelude.{◌≡◌, ◌+◌, ◌*◌, ◌≤◌, length, option_map, IfOk};
+ghost use Rattle.std.specs.Bool.{then_some};
+ghost use Rattle.std.specs.List.{AllByRecursion};
 ghost use Rattle.std.specs.Option.{IsSome};
-ghost use Rattle.dwg_object.proofs.FormLaws.{form_at};
-ghost use Rattle.dwg_object.specs.FrameLines.{span_body};
 ghost use Rattle.dwg_object.specs.Frames.{SpanAt};
 ghost use Rattle.dwg_object.specs.Objects.{value_of};
 ghost use Rattle.dwg_recover.specs.Frames.{has_common_part, keep_free, own_of_span, scanned, with_scanned};
+ghost use Rattle.dwg_recover.specs.KeptObjects.{HoldsObjects, TellsPlace, common_at};
+ghost use Rattle.dwg_recover.specs.Placing.{IsFound};
 
 use crate::frame::{Frame, own_of_span};
 use crate::kept::KeptFrames;
+use crate::objects::{FrameObject, KeptObjects, with_frame, with_objects};
 use dwg_base::NoMemory;
 use dwg_check::SpanChecks;
 use dwg_classes::{Class, Hints};
@@ -29,91 +32,138 @@ fn is_read_with_common_part(object: &Object<'_>) -> bool
     }
 }
 
-/// Lets a value go.
-fn let_go<T: Drop>(_value: T) {}
-
-/// Whether an object, which is let go, is read with its common part.
-fn is_of_common_part(object: Object<'_>) -> bool
-    ensures { result ≡ has_common_part (value_of object.entry) }
+/// An object, where it is read with its common part.
+fn of_common_part<'a>(object: Object<'a>) -> Option<Object<'a>>
+    ensures { result ≡ then_some (has_common_part (value_of object.entry)) object.entry }
 {
-    let is = is_read_with_common_part(&object);
-    let_go(object);
-    is
+    is_read_with_common_part(&object).then_some(object)
 }
 
-/// Whether the body of a span that stands in the input is read with its common part. The only refusal is want of memory.
-fn has_common_part(
+/// What the body of a span that stands in the input is read as, where it is read with its common part. The only refusal is want of
+/// memory.
+fn read_with_common_part<'a>(
     alloc: Global,
-    bytes: &[u8],
+    bytes: &'a [u8],
     span: &Span,
     hints: &Hints<'_>,
-) -> Result<bool, NoMemory>
+) -> Result<Option<Object<'a>>, NoMemory>
     requires stands { SpanAt bytes.now span.now }
     requires head { IsSome (own_of_span bytes.now span.now) }
-    ensures { IfOk result (λ has. has ≡ has_common_part (form_at hints.now (span_body bytes.now span.now))) }
+    ensures { IfOk result (λ read. option_map value_of read ≡ common_at hints.now bytes.now span.now) }
 {
     match read_body_hinted(alloc, span_body(bytes, span), hints)? {
-        Some(object) => Ok(is_of_common_part(object)),
-        None => Ok(false),
+        Some(object) => Ok(of_common_part(object)),
+        None => Ok(None),
     }
 }
 
-/// The frames kept, and the one at a place where it is kept: its check word is right, it shares no byte with any of them, its
-/// handle is new, and its body is read with its common part. The only refusal is want of memory.
-fn keep_scanned<L: Ledger>(
+/// The frame at a place with its object, where it is kept beside others: its check word is right, it shares no byte with any of
+/// them, its handle is new, and its body is read with its common part. The only refusal is want of memory.
+fn scan_place<'a, L: Ledger>(
     alloc: Global,
-    bytes: &[u8],
+    bytes: &'a [u8],
     checks: &SpanChecks<'_>,
     hints: &Hints<'_>,
-    kept: KeptFrames,
+    kept: &KeptFrames,
     place: u64,
     steps: &mut Steps<L>,
-) -> Result<KeptFrames, NoMemory>
+) -> Result<Option<FrameObject<'a>>, NoMemory>
     requires same { checks.now ≡ bytes.now }
-    ensures kept { IfOk result (λ more. more ≡ keep_free kept (scanned hints.now bytes.now place)) }
+    ensures found { IfOk result (TellsPlace hints.now bytes.now kept.now place) }
     ensures steps { steps.new ≤ steps.old + 15 }
 {
     let Ok(span) = span_at(bytes, place, 0) else {
-        return Ok(kept);
+        return Ok(None);
     };
     if !kept.is_free(place, span.end) {
-        return Ok(kept);
+        return Ok(None);
     }
     let Some(own) = own_of_span(bytes, checks, &span, steps) else {
-        return Ok(kept);
+        return Ok(None);
     };
     if !kept.is_new(own) {
-        return Ok(kept);
+        return Ok(None);
     }
-    if !has_common_part(alloc, bytes, &span, hints)? {
-        return Ok(kept);
+    match read_with_common_part(alloc, bytes, &span, hints)? {
+        Some(object) => Ok(Some(FrameObject {
+            frame: Frame {
+                pair: None,
+                handle: own,
+                from: place,
+                end: span.end,
+            },
+            object,
+        })),
+        None => Ok(None),
     }
-    kept.keep(Frame {
-        pair: None,
-        handle: own,
-        from: place,
-        end: span.end,
-    })
 }
 
-/// The frames kept, and those that are kept at any place of the input, in ascending order of place. The only refusal is want of
-/// memory.
-pub(crate) fn with_scanned<L: Ledger>(
+/// The frames kept with their objects, and the one at a place where it is kept. The only refusal is want of memory.
+fn keep_scanned<'a, L: Ledger>(
     alloc: Global,
-    bytes: &[u8],
+    bytes: &'a [u8],
+    checks: &SpanChecks<'_>,
+    hints: &Hints<'_>,
+    kept: KeptObjects<'a>,
+    place: u64,
+    steps: &mut Steps<L>,
+) -> Result<KeptObjects<'a>, NoMemory>
+    requires same { checks.now ≡ bytes.now }
+    requires objects { HoldsObjects hints.now bytes.now kept }
+    ensures frames { IfOk result (λ more. more.frames ≡ keep_free kept.entry.frames (scanned hints.now bytes.now place)) }
+    ensures objects { IfOk result (HoldsObjects hints.now bytes.now) }
+    ensures steps { steps.new ≤ steps.old + 15 }
+{
+    let found = match scan_place(alloc, bytes, checks, hints, &kept.frames, place, steps)? {
+        Some(found) => found,
+        None => return Ok(kept),
+    };
+    match with_frame(kept, found) {
+        Ok(more) => Ok(more),
+        Err(NoMemory) => Err(NoMemory),
+    }
+}
+
+/// The frames kept with their objects, and those that are kept at any place of the input, in ascending order of place. The only
+/// refusal is want of memory.
+fn with_scanned<'a, L: Ledger>(
+    alloc: Global,
+    bytes: &'a [u8],
+    checks: &SpanChecks<'_>,
+    hints: &Hints<'_>,
+    kept: KeptObjects<'a>,
+    steps: &mut Steps<L>,
+) -> Result<KeptObjects<'a>, NoMemory>
+    requires same { checks.now ≡ bytes.now }
+    requires objects { HoldsObjects hints.now bytes.now kept }
+    ensures frames { IfOk result (λ more. more.frames ≡ with_scanned hints.now bytes.now kept.entry.frames) }
+    ensures objects { IfOk result (HoldsObjects hints.now bytes.now) }
+    ensures steps { steps.new ≤ steps.old + 15 * length bytes.now }
+{
+    let mut kept = kept;
+    'along: for place in 0..bytes.len() {
+        kept = keep_scanned(alloc, bytes, checks, hints, kept, place as u64, steps)?;
+    }
+    Ok(kept)
+}
+
+/// The frames that are kept for pairs of the map, and those that are kept at any place of the input, all with their objects. The
+/// only refusal is want of memory.
+pub(crate) fn scan<'a, L: Ledger>(
+    alloc: Global,
+    bytes: &'a [u8],
     checks: &SpanChecks<'_>,
     classes: &[Class],
-    kept: KeptFrames,
+    mapped: KeptFrames,
     steps: &mut Steps<L>,
-) -> Result<KeptFrames, NoMemory>
+) -> Result<KeptObjects<'a>, NoMemory>
     requires same { checks.now ≡ bytes.now }
-    ensures kept { IfOk result (λ more. more ≡ with_scanned classes.now bytes.now kept) }
+    requires found { AllByRecursion (IsFound bytes.now) mapped }
+    ensures frames { IfOk result (λ kept. kept.frames ≡ with_scanned classes.now bytes.now mapped) }
+    ensures objects { IfOk result (HoldsObjects classes.now bytes.now) }
     ensures steps { steps.new ≤ steps.old + 15 * length bytes.now }
 {
     let hints = Hints::build(alloc, classes)?;
-    let mut kept = kept;
-    'along: for place in 0..bytes.len() {
-        kept = keep_scanned(alloc, bytes, checks, &hints, kept, place as u64, steps)?;
-    }
-    Ok(kept)
+    let kept = with_objects(alloc, bytes, &hints, mapped)?;
+    with_scanned(alloc, bytes, checks, &hints, kept, steps)
 }

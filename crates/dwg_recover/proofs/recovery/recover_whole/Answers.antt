@@ -2,4 +2,4 @@ use Rattle.dwg_recover.proofs.WholeRecovery.{whole_value}
 use Rattle.dwg_recover.proofs.recovery.recover_whole.Goals as goal
 
 pub returns-clause-recovered : goal.returns-clause-recovered
-returns-clause-recovered g c = whole_value c.args.bytes.now _ _ _ c.requires.drawing c.new.ensures c.in_ok-kept.ensures.kept
+returns-clause-recovered c = whole_value c.args.bytes.now _ _ _ c.requires.drawing c.new.ensures c.in_ok-kept.ensures

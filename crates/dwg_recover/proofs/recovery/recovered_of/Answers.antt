@@ -1,6 +1,6 @@
-use Rattle.std.proofs.Common.{◌∙◌, ap}
+use Rattle.std.proofs.Common.{◌∙◌, ap, map}
 use Rattle.dwg_recover.proofs.WholeRecovery.{damaged_value, kept_placed}
-use Rattle.dwg_recover.specs.Recovering.{told}
+use Rattle.dwg_recover.specs.Recovering.{classes_found, object_of, told}
 use Rattle.dwg_recover.proofs.recovery.recovered_of.Goals as goal
 
 pub parts_recovered-requires-clause-header : goal.parts_recovered-requires-clause-header
@@ -12,10 +12,14 @@ parts_recovered-requires-clause-variables c = c.requires.found.variables
 pub parts_recovered-requires-clause-classes : goal.parts_recovered-requires-clause-classes
 parts_recovered-requires-clause-classes c = c.requires.found.classes
 
+pub parts_recovered-requires-clause-objects : goal.parts_recovered-requires-clause-objects
+parts_recovered-requires-clause-objects c =
+    let bytes = c.args.bytes.now in c.requires.objects ∙ ap (map (object_of (classes_found bytes) bytes)) c.requires.frames
+
 pub told-requires : goal.told-requires
-told-requires c = kept_placed c.args.bytes.now c.args.gathered.frames.items c.requires.frames
+told-requires c = kept_placed c.args.bytes.now c.into_frames-frames.result.items (c.into_frames-frames.ensures ∙ c.requires.frames)
 
 pub returns-clause-recovered : goal.returns-clause-recovered
 returns-clause-recovered c =
     damaged_value c.args.bytes.now c.drawing_of.result c.args.refusal c.args.gathered.losses c.in_ok-kept.kept c.requires.refusal c.drawing_of.ensures c.requires.losses
-    (c.in_ok-kept.ensures ∙ ap (told c.args.bytes.now) c.requires.frames)
+    (c.in_ok-kept.ensures ∙ ap (told c.args.bytes.now) (c.into_frames-frames.ensures ∙ c.requires.frames))

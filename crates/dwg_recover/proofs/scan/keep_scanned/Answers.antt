@@ -1,32 +1,23 @@
-use Rattle.std.proofs.Common.{◌≡◌, sym, ◌∙◌, subst, List, IfOk}
-use Rattle.dwg_recover.specs.declared.frame.Frame.{Frame}
-use Rattle.dwg_recover.proofs.FrameScanning.{no_span, not_free, no_own, not_new, not_common, is_kept}
+use Rattle.dwg_recover.proofs.ScanReading.{kept_at, none_at, objects_with}
+use Rattle.std.proofs.Common.{◌∙◌}
 use Rattle.dwg_recover.proofs.scan.keep_scanned.Goals as goal
 
-pub returns-in_default-clause-kept : goal.returns-in_default-clause-kept
-returns-in_default-clause-kept g c = no_span c.args.hints.now c.args.bytes.now c.args.kept c.args.place c.in_default.field-0 c.in_default.ensures.tried
+pub returns-in-None-clause-frames : goal.returns-in-None-clause-frames
+returns-in-None-clause-frames g c = none_at c.args.hints.now c.args.bytes.now c.args.kept.frames c.args.place _ c.in-None.is c.in_ok-found.ensures.found
 
-pub returns-then-not-is_free-clause-kept : goal.returns-then-not-is_free-clause-kept
-returns-then-not-is_free-clause-kept g c =
-    not_free c.args.hints.now c.args.bytes.now c.args.kept c.args.place c.in-Ok.span c.in-Ok.ensures.tried (sym c.is_free.ensures ∙ c.if-not-is_free.true)
+pub with_frame-requires-clause-some : goal.with_frame-requires-clause-some
+with_frame-requires-clause-some g c =
+    (kept_at c.args.hints.now c.args.bytes.now c.args.kept.frames c.args.place _ c.in-Some.found c.in-Some.is c.in_ok-found.ensures.found).some
 
-pub returns-in_default-own_of_span-clause-kept : goal.returns-in_default-own_of_span-clause-kept
-returns-in_default-own_of_span-clause-kept g c =
-    no_own c.args.hints.now c.args.bytes.now c.args.kept c.args.place c.in-Ok.span c.in-Ok.ensures.tried (sym c.own_of_span.ensures.own ∙ c.in_default-own_of_span.is)
+pub with_frame-requires-clause-free : goal.with_frame-requires-clause-free
+with_frame-requires-clause-free g c =
+    (kept_at c.args.hints.now c.args.bytes.now c.args.kept.frames c.args.place _ c.in-Some.found c.in-Some.is c.in_ok-found.ensures.found).free
 
-pub returns-then-not-is_new-clause-kept : goal.returns-then-not-is_new-clause-kept
-returns-then-not-is_new-clause-kept g c =
-    not_new c.args.hints.now c.args.bytes.now c.args.kept c.args.place c.in-Ok.span c.in-Some.own c.in-Ok.ensures.tried (sym c.own_of_span.ensures.own ∙ c.in-Some.is)
-    (sym c.is_new.ensures ∙ c.if-not-is_new.true)
+pub returns-in-Ok-clause-frames : goal.returns-in-Ok-clause-frames
+returns-in-Ok-clause-frames g c =
+    c.in-Ok.ensures.frames ∙ (kept_at c.args.hints.now c.args.bytes.now c.args.kept.frames c.args.place _ c.in-Some.found c.in-Some.is c.in_ok-found.ensures.found).more
 
-pub returns-then-not-branch-clause-kept : goal.returns-then-not-branch-clause-kept
-returns-then-not-branch-clause-kept g c =
-    not_common c.args.hints.now c.args.bytes.now c.args.kept c.args.place c.in-Ok.span c.in-Some.own c.in-Ok.ensures.tried (sym c.own_of_span.ensures.own ∙ c.in-Some.is)
-    (sym c.in_ok-has_common_part.ensures ∙ c.if-not-branch.true)
-
-pub returns-clause-kept : goal.returns-clause-kept
-returns-clause-kept g c =
-    subst (λ (all : List Frame). IfOk c.keep.result (λ more. more ≡ all))
-    (is_kept c.args.hints.now c.args.bytes.now c.args.kept c.args.place c.in-Ok.span c.in-Some.own c.in-Ok.ensures.tried (sym c.own_of_span.ensures.own ∙ c.in-Some.is)
-    (sym c.is_free.ensures ∙ c.if-not-is_free.false) (sym c.is_new.ensures ∙ c.if-not-is_new.false) (sym c.in_ok-has_common_part.ensures ∙ c.if-not-branch.false))
-    c.keep.ensures
+pub returns-in-Ok-clause-objects : goal.returns-in-Ok-clause-objects
+returns-in-Ok-clause-objects g c =
+    objects_with c.args.hints.now c.args.bytes.now c.args.kept c.in-Ok.more c.args.place c.in-Some.found c.requires.objects
+    (kept_at c.args.hints.now c.args.bytes.now c.args.kept.frames c.args.place _ c.in-Some.found c.in-Some.is c.in_ok-found.ensures.found) c.in-Ok.ensures.frames c.in-Ok.ensures.objects

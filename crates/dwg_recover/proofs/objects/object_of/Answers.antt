@@ -4,7 +4,7 @@ use Rattle.std.specs.Option.{IsSome}
 use Rattle.dwg_object.specs.Objects.{value_of}
 use Rattle.dwg_recover.proofs.FrameScanning.{short_body, is_read}
 use Rattle.dwg_recover.proofs.RecoveryParts.{found_unrefused, own_found, object_read}
-use Rattle.dwg_recover.proofs.recovery.object_of.Goals as goal
+use Rattle.dwg_recover.proofs.objects.object_of.Goals as goal
 
 pub unreachable-requires : goal.unreachable-requires
 unreachable-requires c = found_unrefused c.args.bytes.now c.args.frame.now c.in_default.field-0 c.requires c.in_default.ensures.tried

@@ -1,8 +1,8 @@
 use Rattle.std.proofs.Common.{◌∙◌, ap}
 use Rattle.std.specs.Prelude.{Ok}
-use Rattle.dwg_object.specs.Objects.{value_of}
-use Rattle.dwg_recover.proofs.FrameScanning.{short_body, read_at, is_read}
-use Rattle.dwg_recover.proofs.scan.has_common_part.Goals as goal
+use Rattle.dwg_recover.proofs.FrameScanning.{short_body, is_read}
+use Rattle.dwg_recover.proofs.ScanReading.{common_read}
+use Rattle.dwg_recover.proofs.scan.read_with_common_part.Goals as goal
 
 pub read_body_hinted-requires : goal.read_body_hinted-requires
 read_body_hinted-requires c = short_body c.args.bytes.now c.span_body.result.now c.args.span.now c.requires.stands c.span_body.ensures
@@ -10,8 +10,7 @@ read_body_hinted-requires c = short_body c.args.bytes.now c.span_body.result.now
 pub returns-in-Some : goal.returns-in-Some
 returns-in-Some c =
     let clauses = rw c.in-Some.is at c.in_ok-object.ensures in
-    c.is_of_common_part.ensures
-    ∙ read_at c.args.hints.now c.args.bytes.now c.span_body.result.now c.args.span.now (value_of c.in-Some.object) c.span_body.ensures c.requires.head clauses.form
+    common_read c.args.hints.now c.args.bytes.now c.span_body.result.now c.args.span.now c.in-Some.object c.of_common_part.result c.of_common_part.ensures c.span_body.ensures c.requires.head clauses.form
 
 pub returns-in-None : goal.returns-in-None
 returns-in-None c =

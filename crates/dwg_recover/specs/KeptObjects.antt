@@ -1,0 +1,33 @@
+-- The objects of the frames that are kept, and what the scan tells of a place. A rule of this project.
+use Rattle.std.specs.Bool.{then_some}
+use Rattle.std.specs.Prelude.{◌≡◌, ◌<◌, ℕ, true, List, [], ◌∷◌, ◌++◌, map, Option, Some, None}
+use Rattle.dwg_classes.specs.declared.class.Class.{Class}
+use Rattle.dwg_object.proofs.FormLaws.{form_at}
+use Rattle.dwg_object.specs.declared.span.Span.{Span}
+use Rattle.dwg_object.specs.FrameLines.{span_body}
+use Rattle.dwg_object.specs.Objects.{ObjectValue, value_of}
+use Rattle.dwg_recover.specs.declared.frame.Frame.{Frame}
+use Rattle.dwg_recover.specs.declared.objects.FrameObject.{FrameObject}
+use Rattle.dwg_recover.specs.declared.objects.KeptObjects.{KeptObjects}
+use Rattle.dwg_recover.specs.Frames.{has_common_part, is_free, keep_free, scanned}
+use Rattle.dwg_recover.specs.Recovering.{object_of}
+
+-- the objects are those that the bodies of the frames are read as, one for each in the order of the frames
+abbrev pub HoldsObjects : List Class → List ℕ → KeptObjects → Type 0
+HoldsObjects classes bytes kept = map value_of kept.objects.items ≡ map (object_of classes bytes) kept.frames
+
+-- what the body of a span is read as, where it is read with its common part
+abbrev pub common_at : List Class → List ℕ → Span → Option ObjectValue
+common_at classes bytes span = then_some (has_common_part (form_at classes (span_body bytes span))) (form_at classes (span_body bytes span))
+
+-- a frame is the one that is kept at a place beside others, with which it shares no byte; and its object is the one that its body is read as
+pub record IsKeptAt (classes : List Class) (bytes : List ℕ) (kept : List Frame) (place : ℕ) (found : FrameObject) : Type 0 where
+  pub more : kept ++ found.frame ∷ [] ≡ keep_free kept (scanned classes bytes place)
+  pub some : found.frame.from < found.frame.end
+  pub free : is_free kept found.frame.from found.frame.end ≡ true
+  pub object : value_of found.object ≡ object_of classes bytes found.frame
+
+-- what the scan tells of a place: the frame that is kept there beside others, with its object; or nothing, where none is
+abbrev pub TellsPlace : List Class → List ℕ → List Frame → ℕ → Option FrameObject → Type 0
+TellsPlace classes bytes kept place None = kept ≡ keep_free kept (scanned classes bytes place)
+TellsPlace classes bytes kept place (Some found) = IsKeptAt classes bytes kept place found
