@@ -10,7 +10,7 @@ use Rattle.dwg_answers.specs.Run.{IsSettled}
 use Rattle.dwg_drill.specs.Drilled.{DRILL_SEED, drilled}
 use Rattle.dwg_file.specs.Canonical.{size_of}
 use Rattle.dwg_make.specs.Made.{MOST_ENTITIES, made}
-use Rattle.dwg_report.specs.DrillText.{drill_text}
+use Rattle.dwg_drill.specs.DrillText.{drill_text}
 use Rattle.dwg_text.specs.Notes.{size_note, too_large_note}
 
 -- what is answered to a size that a made drawing has

@@ -7,3 +7,4 @@ pub mod Numerals
 pub mod MakeWords
 pub mod DrillWords
 pub mod Drills
+pub mod SectionLaws

@@ -1,5 +1,5 @@
--- What the commands on drawings answer, said of the drawing that the input spells.
-use Rattle.std.proofs.Common.{◌≡◌, refl, sym, ap, ◌∙◌, subst, ℕ, ◌≤◌, ◌<◌, List, [], ◌∷◌, length, codes, Some, None, true, false, arith}
+-- What `show`, `rewrite`, `audit` and `recover` answer, said of the drawing that the input spells.
+use Rattle.std.proofs.Common.{◌≡◌, refl, sym, ap, ◌∙◌, subst, ℕ, ◌≤◌, ◌<◌, List, [], ◌∷◌, length, codes, get_or, Some, None, true, false, arith}
 use Rattle.std.proofs.lemmas.Bool.Decides.{nat_tests}
 use Rattle.std.specs.Prelude.{◌↔◌, Option, nat_lt, if◌then◌else◌}
 use Rattle.dwg_audit.specs.FindingLaws.{NothingIsFoundIfSound}
@@ -9,7 +9,7 @@ use Rattle.dwg_base.specs.Bytes.{AreBytes}
 use Rattle.dwg_base.specs.Devices.{MOST_BYTES}
 use Rattle.dwg_base.specs.Refusals.{first_fault}
 use Rattle.dwg_base.specs.declared.refusal.Refusal.{Refusal}
-use Rattle.dwg_drill.specs.Auditable.{ValidIsAuditable}
+use Rattle.dwg_audit.specs.Auditable.{ValidIsAuditable}
 use Rattle.dwg_file.specs.Canonical.{size_of, canonical}
 use Rattle.dwg_file.specs.CanonicalLaws.{CanonicalSpells, CanonicalIsCounted, CanonicalSpellsNoOther}
 use Rattle.dwg_file.specs.Contents.{Contents}
@@ -21,7 +21,9 @@ use Rattle.dwg_graph.specs.Sound.{IsSound}
 use Rattle.dwg_recover.specs.Recovering.{RecoveredValue, recovered}
 use Rattle.dwg_recover.specs.Told.{RecoveredIsSound, SpelledIsAnswered, DamagedIsAnswered}
 use Rattle.dwg_recovery_text.specs.RecoveryNote.{recovery_note}
+use Rattle.dwg_report.specs.AuditText.{audit_text, finding_line, verdict}
 use Rattle.dwg_show.specs.DrawingText.{show_text}
+use Rattle.dwg_text.specs.Lines.{line}
 use Rattle.dwg_text.specs.Notes.{too_large_note}
 use Rattle.dwg_answers.specs.declared.answer.Answer.{Answer}
 use Rattle.dwg_answers.specs.declared.status.Status.{Status}
@@ -48,7 +50,7 @@ pub record FileLaws : Type 0 where
   pub no_other : CanonicalSpellsNoOther
 
 -- the word of a command that reads is answered as the command answers an input within the limit
-of_input : (reading : Reading) (bytes : List ℕ) → IsInput bytes → outcome_of (Some (reads reading)) bytes ≡ outcome_within reading bytes
+pub of_input : (reading : Reading) (bytes : List ℕ) → IsInput bytes → outcome_of (Some (reads reading)) bytes ≡ outcome_within reading bytes
 of_input reading bytes input =
     sym (outcome_of_reading (Some (reads reading)) reading bytes refl) ∙ sym (outcome_of_few reading bytes (outcome_within reading bytes) input.within refl)
 
@@ -70,11 +72,11 @@ unfolding command_of reading_of
 recover_said bytes input = of_input Recover bytes input
 
 -- where none of a command's lines fails, or one does, its answer is this
-passed : (reading : Reading) (bytes : List ℕ) → first_fault (lines_of reading) bytes ≡ None → outcome_within reading bytes ≡ answer_within reading bytes
+pub passed : (reading : Reading) (bytes : List ℕ) → first_fault (lines_of reading) bytes ≡ None → outcome_within reading bytes ≡ answer_within reading bytes
 unfolding outcome_within
 passed reading bytes holds = ap (λ (first : Option Refusal). refused_or first (answer_within reading bytes)) holds
 
-refused : (reading : Reading) (bytes : List ℕ) (refusal : Refusal) → first_fault (lines_of reading) bytes ≡ Some refusal
+pub refused : (reading : Reading) (bytes : List ℕ) (refusal : Refusal) → first_fault (lines_of reading) bytes ≡ Some refusal
     → outcome_within reading bytes ≡ refused_or (Some refusal) (answer_within reading bytes)
 unfolding outcome_within
 refused reading bytes refusal fails = ap (λ (first : Option Refusal). refused_or first (answer_within reading bytes)) fails
@@ -149,12 +151,35 @@ rewrite_writes_drawing laws files drawing bytes input spelled small =
 pub rewrite_tells_size : DrawingLaws → RewriteTellsSize
 rewrite_tells_size laws drawing bytes input spelled large = rewrite_is_written laws drawing bytes input spelled ∙ filed_large drawing [] Done large
 
+-- an answer that prints findings
+printed_so : (drawing : Contents) (found : List Finding) (answer : Answer) → found ≡ findings drawing.objects → answer ≡ record { output = audit_text found; note = []; status = verdict_status found }
+    → answer ≡ record { output = audit_text (findings drawing.objects); note = []; status = answer.status }
+printed_so drawing found answer are is =
+    is ∙ ap (λ (all : List Finding). record { output = audit_text all; note = []; status = verdict_status found }) are
+    ∙ ap (λ (status : Status). record { output = audit_text (findings drawing.objects); note = []; status = status }) (sym (ap (λ (a : Answer). a.status) is))
+
+-- the text of findings is not the verdict on none: it begins with another letter
+begins_otherwise : (finding : Finding) (more : List Finding) → audit_text (finding ∷ more) ≡ line (codes "audit yes") → ⊥
+unfolding audit_text finding_line
+begins_otherwise finding more same =
+    let letters : 102 ≡ 97 = ap (λ (text : List ℕ). get_or text 0 0) same in
+    omega (arith, letters)
+
 -- a verdict over findings, of which there are none exactly where a drawing is sound
-verdict_tells : (drawing : Contents) (found : List Finding) (answer : Answer) → answer.status ≡ verdict_status found → (found ≡ []) ↔ IsSound drawing.objects → TellsSound drawing answer
-verdict_tells drawing [] answer is sound = record { sound = (λ done. sound.0 refl, λ holds. is); unsound = λ fails. absurd (fails (sound.0 refl)) }
-verdict_tells drawing (finding ∷ more) answer is sound = record {
-  sound = (λ done. absurd (differ (sym done ∙ is)), λ holds. absurd (some (sound.1 holds)));
-  unsound = λ fails. is;
+verdict_tells : (drawing : Contents) (found : List Finding) (answer : Answer) → found ≡ findings drawing.objects → answer ≡ record { output = audit_text found; note = []; status = verdict_status found }
+    → (found ≡ []) ↔ IsSound drawing.objects → TellsSound drawing answer
+unfolding audit_text verdict
+verdict_tells drawing [] answer found is sound = record {
+  sound = (λ done. sound.0 refl, λ holds. ap (λ (a : Answer). a.status) is);
+  unsound = λ fails. absurd (fails (sound.0 refl));
+  prints = printed_so drawing [] answer found is;
+  yes = (λ prints. sound.0 refl, λ holds. ap (λ (a : Answer). a.output) is);
+}
+verdict_tells drawing (finding ∷ more) answer found is sound = record {
+  sound = (λ done. absurd (differ (sym done ∙ ap (λ (a : Answer). a.status) is)), λ holds. absurd (some (sound.1 holds)));
+  unsound = λ fails. ap (λ (a : Answer). a.status) is;
+  prints = printed_so drawing (finding ∷ more) answer found is;
+  yes = (λ prints. absurd (begins_otherwise finding more (sym (ap (λ (a : Answer). a.output) is) ∙ prints)), λ holds. absurd (some (sound.1 holds)));
 }
   where
     differ : Done ≡ Found → ⊥
@@ -170,8 +195,7 @@ audit_tells_sound laws auditable sound drawing bytes input spelled =
     let valid = laws.valid bytes drawing input.are input.within spelled in
     let is : said (codes "audit") bytes ≡ audited drawing =
     audit_said bytes input ∙ passed Audit bytes (laws.passes bytes drawing input.are spelled) ∙ ap audited (read_is laws drawing bytes input.are spelled) in
-    verdict_tells drawing (findings drawing.objects) (said (codes "audit") bytes) (ap (λ (answer : Answer). answer.status) is)
-    (sound drawing.objects (auditable drawing valid).ascending)
+    verdict_tells drawing (findings drawing.objects) (said (codes "audit") bytes) refl is (sound drawing.objects (auditable drawing valid).ascending)
 
 -- `recover` tries no line
 recover_is : (bytes : List ℕ) → IsInput bytes → said (codes "recover") bytes ≡ recovered_answer (recovered bytes)
@@ -199,6 +223,7 @@ recover_writes_frames laws sound damaged bytes input none =
     let is : said (codes "recover") bytes ≡ filed value.drawing (recovery_note fails.0 value.losses value.kept) Found = recover_is bytes input ∙ damaged_is value fails.0 refuses in
     record {
       value = value;
+      recovers = refl;
       sound = sound bytes input.are;
       refusal = fails.0;
       first = fails.1;

@@ -8,7 +8,7 @@ pub mod Lines
 pub mod Outcome
 -- What the program is asked, and which answer that asks for.
 pub mod Requests
--- What the commands on drawings answer, said of the drawing that the input spells.
+-- What the commands that read answer, said of the header that the input begins with, the classes that it has, and the drawing that it spells.
 pub mod OutcomeLaws
 -- Which answer is sent of what is made of one before it is sent.
 pub mod Replies

@@ -13,7 +13,7 @@ use Rattle.dwg_recover.specs.declared.loss.Loss.{Loss}
 use Rattle.dwg_recover.specs.Recovering.{RecoveredValue, recovered}
 use Rattle.dwg_recovery_text.specs.RecoveryNote.{recovery_note}
 use Rattle.dwg_report.specs.AuditText.{audit_text}
-use Rattle.dwg_report.specs.DrillText.{drill_text}
+use Rattle.dwg_drill.specs.DrillText.{drill_text}
 use Rattle.dwg_show.specs.DrawingText.{show_text}
 use Rattle.dwg_text.specs.Notes.{usage_note, size_note, refusal_note, too_long_note, too_large_note}
 use Rattle.dwg_text.specs.Sections.{sections_text}

@@ -1,19 +1,31 @@
--- What the commands on drawings answer, said of the drawing that the input spells. A rule of this project.
-use Rattle.std.specs.Prelude.{◌≡◌, ◌↔◌, ℕ, ◌≤◌, ◌<◌, List, [], ◌∷◌, length, codes, Some}
+-- What the commands that read answer, said of the header that the input begins with, the classes that it has, and the drawing that it spells. A rule of this project.
+use Rattle.std.specs.Prelude.{◌≡◌, ◌↔◌, ℕ, ◌≤◌, ◌<◌, List, [], ◌∷◌, ◌++◌, length, codes, Some}
+use Rattle.dwg_audit.specs.Findings.{findings}
 use Rattle.dwg_base.specs.Bytes.{AreBytes}
 use Rattle.dwg_base.specs.Devices.{MOST_BYTES}
-use Rattle.dwg_base.specs.Refusals.{first_fault}
+use Rattle.dwg_base.specs.Refusals.{RefusalRow, first_fault}
 use Rattle.dwg_base.specs.declared.refusal.Refusal.{Refusal}
+use Rattle.dwg_classes.specs.Class.{AreClasses}
+use Rattle.dwg_classes.specs.declared.class.Class.{Class}
 use Rattle.dwg_file.specs.Canonical.{size_of, canonical}
 use Rattle.dwg_file.specs.Contents.{Contents}
-use Rattle.dwg_file.specs.FileLines.{ALL_LINES}
+use Rattle.dwg_file.specs.FileLines.{ALL_LINES, classes_row, classes_section_row}
 use Rattle.dwg_file.specs.Spelled.{Spelled}
 use Rattle.dwg_graph.specs.Sound.{IsSound}
-use Rattle.dwg_recover.specs.Recovering.{RecoveredValue}
+use Rattle.dwg_recover.specs.Recovering.{RecoveredValue, recovered}
 use Rattle.dwg_recover.specs.Told.{IsSoundAnswer}
 use Rattle.dwg_recovery_text.specs.RecoveryNote.{recovery_note}
+use Rattle.dwg_report.specs.AuditText.{audit_text}
+use Rattle.dwg_sections.specs.declared.framed.Framed.TheVariants as framed
+use Rattle.dwg_sections.specs.declared.header.FileHeader.{FileHeader}
+use Rattle.dwg_sections.specs.FileHeader.{BeginsWithHeader}
+use Rattle.dwg_sections.specs.Framed.{FramedAt}
+use Rattle.dwg_sections.specs.HeaderLines.{HEADER_LINES, place_of}
 use Rattle.dwg_show.specs.DrawingText.{show_text}
+use Rattle.dwg_text.specs.Classes.{classes_text}
+use Rattle.dwg_text.specs.Lines.{line}
 use Rattle.dwg_text.specs.Notes.{refusal_note, too_large_note}
+use Rattle.dwg_text.specs.Sections.{sections_text}
 use Rattle.dwg_answers.specs.declared.answer.Answer.{Answer}
 use Rattle.dwg_answers.specs.declared.status.Status.TheVariants.{Done, Found, Refused, TooLarge}
 use Rattle.dwg_answers.specs.Outcome.{outcome}
@@ -31,11 +43,46 @@ SpellsNone bytes = (drawing : Contents) → Spelled drawing bytes → ⊥
 abbrev pub said : List ℕ → List ℕ → Answer
 said word bytes = outcome (word ∷ []) bytes
 
--- the first of all lines that fails on an input is answered, and nothing is printed
-pub record Refuses (bytes : List ℕ) (answer : Answer) : Type 0 where
+-- the first of these lines that fails on an input is answered, and nothing is printed
+pub record RefusesBy (lines : List RefusalRow) (bytes : List ℕ) (answer : Answer) : Type 0 where
   pub refusal : Refusal
-  pub first : first_fault ALL_LINES bytes ≡ Some refusal
+  pub first : first_fault lines bytes ≡ Some refusal
   pub answers : answer ≡ record { output = []; note = refusal_note refusal; status = Refused refusal }
+
+-- the first of all lines is
+abbrev pub Refuses : List ℕ → Answer → Type 0
+Refuses bytes answer = RefusesBy ALL_LINES bytes answer
+
+-- `sections` prints the file header that an input begins with
+abbrev pub SectionsPrintsHeader : Type 0
+SectionsPrintsHeader =
+    (header : FileHeader) (bytes : List ℕ) → IsInput bytes → BeginsWithHeader bytes header → said (codes "sections") bytes ≡ record { output = sections_text header; note = []; status = Done }
+
+-- and refuses one that begins with none by the first line on it that fails
+abbrev pub NoHeaderIsRefused : Type 0
+NoHeaderIsRefused =
+    (bytes : List ℕ) → IsInput bytes → ((header : FileHeader) → BeginsWithHeader bytes header → ⊥) → RefusesBy HEADER_LINES bytes (said (codes "sections") bytes)
+
+-- the classes of an input, whatever stands elsewhere in it: its file header locates their section, whose content is cut into them
+pub record HasClasses (bytes : List ℕ) (classes : List Class) : Type 0 where
+  pub header : FileHeader
+  pub begins : BeginsWithHeader bytes header
+  pub place : ℕ
+  pub located : place_of 1 header.locators ≡ Some place
+  pub content : List ℕ
+  pub stands : FramedAt bytes place framed.Classes content
+  pub are : AreClasses content classes
+
+-- `classes` prints the classes of an input
+abbrev pub ClassesPrintsClasses : Type 0
+ClassesPrintsClasses =
+    (classes : List Class) (bytes : List ℕ) → IsInput bytes → HasClasses bytes classes → said (codes "classes") bytes ≡ record { output = classes_text classes; note = []; status = Done }
+
+-- and refuses one that has none by the first line that fails of those on the header, the section of the classes and the classes
+abbrev pub NoClassesAreRefused : Type 0
+NoClassesAreRefused =
+    (bytes : List ℕ) → IsInput bytes → ((classes : List Class) → HasClasses bytes classes → ⊥)
+    → RefusesBy (HEADER_LINES ++ classes_section_row ∷ classes_row ∷ []) bytes (said (codes "classes") bytes)
 
 -- `show`, `rewrite` and `audit` refuse an input that spells no drawing by the first line that fails
 abbrev pub NoDrawingIsRefused : Type 0
@@ -65,10 +112,12 @@ RewriteTellsSize =
     (drawing : Contents) (bytes : List ℕ) → IsInput bytes → Spelled drawing bytes → MOST_BYTES < size_of drawing
     → said (codes "rewrite") bytes ≡ record { output = []; note = too_large_note (size_of drawing); status = TooLarge (size_of drawing) }
 
--- a status tells whether the references of a drawing hold together
+-- an answer tells whether the references of a drawing hold together: its status does, it prints the findings, which are the line `audit yes` alone exactly where they do, and it notes nothing
 pub record TellsSound (drawing : Contents) (answer : Answer) : Type 0 where
   pub sound : (answer.status ≡ Done) ↔ IsSound drawing.objects
   pub unsound : (IsSound drawing.objects → ⊥) → answer.status ≡ Found
+  pub prints : answer ≡ record { output = audit_text (findings drawing.objects); note = []; status = answer.status }
+  pub yes : (answer.output ≡ line (codes "audit yes")) ↔ IsSound drawing.objects
 
 -- `audit` tells it of the drawing that an input spells
 abbrev pub AuditTellsSound : Type 0
@@ -78,9 +127,10 @@ AuditTellsSound = (drawing : Contents) (bytes : List ℕ) → IsInput bytes → 
 abbrev pub RecoverRewritesDrawing : Type 0
 RecoverRewritesDrawing = (drawing : Contents) (bytes : List ℕ) → IsInput bytes → Spelled drawing bytes → said (codes "recover") bytes ≡ said (codes "rewrite") bytes
 
--- an answer writes the canonical file of a valid drawing whose objects are those of frames that stand in the input, where that is within the limit, and notes the first line that fails
+-- an answer writes the canonical file of what is recovered of an input, a valid drawing whose objects are those of frames that stand in it, where that is within the limit, and notes the first line that fails
 pub record Recovers (bytes : List ℕ) (answer : Answer) : Type 0 where
   pub value : RecoveredValue
+  pub recovers : value ≡ recovered bytes
   pub sound : IsSoundAnswer bytes value
   pub refusal : Refusal
   pub first : first_fault ALL_LINES bytes ≡ Some refusal

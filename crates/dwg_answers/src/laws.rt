@@ -1,19 +1,26 @@
 //! Laws of what is answered, as the contract of a function without code of its own.
 
-ghost use Rattle.dwg_answers.specs.OutcomeLaws.{AuditTellsSound, NoDrawingIsRefused, RecoverRewritesDrawing, RecoverWritesFrames, RewriteTellsSize, RewriteWritesDrawing, ShowPrintsDrawing};
+ghost use Rattle.dwg_answers.specs.OutcomeLaws.{AuditTellsSound, ClassesPrintsClasses, NoClassesAreRefused, NoDrawingIsRefused, NoHeaderIsRefused, RecoverRewritesDrawing, RecoverWritesFrames, RewriteTellsSize, RewriteWritesDrawing, SectionsPrintsHeader, ShowPrintsDrawing};
 
-use dwg_audit::finding_laws;
-use dwg_drill::auditable_laws;
+use dwg_audit::{auditable_laws, finding_laws};
+use dwg_classes::classes_laws;
 use dwg_file::{canonical_laws, drawing_laws};
 use dwg_recover::answer_laws;
+use dwg_sections::{file_header_laws, framed_laws};
 
-/// What the commands on drawings answer to an input of at most 32 MiB. Where it spells a drawing, `show` prints the text of that
-/// drawing; `rewrite` writes the canonical file, where that has at most 32 MiB, and it spells the drawing and no other and is
-/// rewritten as it is, and else tells its size; `audit` ends with Done exactly where the references of the drawing hold together, and else with Found; and
-/// `recover` answers as `rewrite` does. Where it spells none, `show`, `rewrite` and `audit` refuse it by the first line that fails,
-/// and print nothing; and `recover` notes that line, ends with Found, and writes the canonical file of a valid drawing whose objects
-/// are those of frames that stand in the input, where that file has at most 32 MiB.
+/// What the commands that read answer to an input of at most 32 MiB. `sections` prints the file header that it begins with, and
+/// `classes` the classes that it has; each refuses an input without them by the first of its lines that fails. Where an input spells a
+/// drawing, `show` prints the text of that drawing; `rewrite` writes the canonical file, where that has at most 32 MiB, and it spells
+/// the drawing and no other and is rewritten as it is, and else tells its size; `audit` prints the findings, which are the line
+/// `audit yes` alone exactly where the references of the drawing hold together, and ends with Done exactly there, and else with Found;
+/// and `recover` answers as `rewrite` does. Where it spells none, `show`, `rewrite` and `audit` refuse it by the first line that fails,
+/// and print nothing; and `recover` notes that line, ends with Found, and writes the canonical file of what is recovered, a valid
+/// drawing whose objects are those of frames that stand in the input, where that file has at most 32 MiB.
 pub fn outcome_laws()
+    ensures sections { SectionsPrintsHeader }
+    ensures no_header { NoHeaderIsRefused }
+    ensures classes { ClassesPrintsClasses }
+    ensures no_classes { NoClassesAreRefused }
     ensures refused { NoDrawingIsRefused }
     ensures show { ShowPrintsDrawing }
     ensures rewrite { RewriteWritesDrawing }
@@ -22,6 +29,9 @@ pub fn outcome_laws()
     ensures recover { RecoverRewritesDrawing }
     ensures damaged { RecoverWritesFrames }
 {
+    file_header_laws();
+    framed_laws();
+    classes_laws();
     drawing_laws();
     canonical_laws();
     auditable_laws();

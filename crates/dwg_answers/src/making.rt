@@ -9,9 +9,8 @@ use crate::answer::{no_bytes, printed_answer, too_large_answer};
 use crate::reply::Reply;
 use crate::status::Status;
 use dwg_base::NoMemory;
-use dwg_drill::{DrillFault, drill};
+use dwg_drill::{DrillFault, drill, drill_text};
 use dwg_make::{MakeFault, make};
-use dwg_report::drill_text;
 use dwg_text::size_note;
 use std::alloc::Global;
 

@@ -5,7 +5,7 @@ use Rattle.std.specs.List.{slice_get, filter, flat_map, sum_by, count_by}
 use Rattle.std.proofs.lemmas.List.{take_more, take_all, length-map, get_or-replicate, length-replicate}
 use Rattle.std.proofs.lemmas.List.Concat.{length-flat_map}
 use Rattle.std.proofs.lemmas.List.Elements.{filter-append}
-use Rattle.std.proofs.lemmas.List.Sums.{sum_by-cons, sum_by_push, count_by-le-length, length-filter, sum_by_more_le_part, get_or-le-sum_by}
+use Rattle.std.proofs.lemmas.List.Sums.{sum_by-cons, sum_by_push, count_by-le-length, length-filter, sum_by_more_le_part}
 use Rattle.std.proofs.lemmas.Option.{slice_get_within, get_or_from_slice_get}
 use Rattle.dwg_audit.specs.Claimed.{Adds, IsOpen, claiming, leads_to, leads_down, claims_held, claim_counts, own_counts, reference_count}
 use Rattle.dwg_audit.specs.Counts.{by_holder}
@@ -173,15 +173,6 @@ pub counts_more_own : (objects : List ObjectValue) (known : Option SpaceHandles)
     → AreCounts objects (take (i + 1) objects) (own_of known) after
 counts_more_own objects known i holder before after at are adds =
     counts_more objects (own_of known) (leads_down known (handle_of holder)) (claiming (kind_of holder) (slots holder)) i holder before after at (λ x. own_counted known x holder) are adds
-
--- the slots of one holder are no more than all
-pub slots_few : (objects : List ObjectValue) (i : ℕ) (holder : ObjectValue) → slice_get objects i ≡ Some holder → reference_count objects < 2 ^ 58 → length (slots holder) < 2 ^ 58
-unfolding reference_count
-slots_few objects i holder at few =
-    let least : length (slots (get_or objects i holder)) ≤ sum_by (λ (x : ObjectValue). length (slots x)) objects =
-    get_or-le-sum_by (λ (x : ObjectValue). length (slots x)) objects i holder (slice_get_within objects i holder at) in
-    let same : length (slots (get_or objects i holder)) ≡ length (slots holder) = ap (λ (x : ObjectValue). length (slots x)) (get_or_from_slice_get objects i holder holder at) in
-    omega (arith, least, same, few)
 
 -- there is room for a holder's slots
 counts_room : (objects : List ObjectValue) (one : ObjectValue → ObjectValue → ℕ) (i : ℕ) (holder : ObjectValue) (counts : List ℕ) → ((x y : ObjectValue) → one x y ≤ length (slots y))

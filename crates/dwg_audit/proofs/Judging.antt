@@ -1,15 +1,13 @@
 -- Findings of one object, in the order of rules, and of all objects, one after the other.
 use Rattle.std.proofs.Common.{◌≡◌, sym, ap, ◌∙◌, subst, ℕ, zero, suc, ◌<◌, ◌≤◌, false, List, [], ◌∷◌, ◌++◌, length, map, drop, Some}
 use Rattle.std.specs.Prelude.{◌↔◌, IsTrue, Result, Ok, Err, IfOk, flat_map, if◌then◌else◌, Option, slice_index_or}
-use Rattle.std.specs.List.{AllByRecursion, slice_get, sum_by}
+use Rattle.std.specs.List.{AllByRecursion, slice_get}
 use Rattle.std.specs.Option.{option_map}
 use Rattle.std.proofs.lemmas.List.{append_assoc, append-nil}
 use Rattle.std.proofs.Math.ListN.{drop_of_length-le}
-use Rattle.std.proofs.lemmas.List.Sums.{get_or-le-sum_by}
-use Rattle.std.proofs.lemmas.Option.{same_Some, slice_get-map, slice_get_within, slice_get-get_or}
+use Rattle.std.proofs.lemmas.Option.{same_Some, slice_get-map, slice_get-get_or}
 use Rattle.dwg_audit.proofs.Choosing.{drop_at_place}
 use Rattle.dwg_base.specs.declared.device.NoMemory.{NoMemory}
-use Rattle.dwg_audit.specs.Claimed.{reference_count}
 use Rattle.dwg_audit.specs.Findings.{control_findings, findings, resolve_findings, claim_findings, chain_findings, path_findings, findings_of}
 use Rattle.dwg_audit.specs.Held.{HoldsFields}
 use Rattle.dwg_audit.specs.declared.finding.Finding.{Finding}
@@ -17,7 +15,6 @@ use Rattle.dwg_graph.specs.declared.owner.SpaceHandles.{SpaceHandles}
 use Rattle.dwg_graph.specs.Graph.{is_typed}
 use Rattle.dwg_graph.specs.Owners.{spaces}
 use Rattle.dwg_graph.specs.SlotLaws.{SlotsAreHeld, OwnersAreHeld}
-use Rattle.dwg_graph.specs.Slots.{slots}
 use Rattle.dwg_object.specs.Objects.{ObjectValue, TypedValue, PlainValue, RawValue}
 use Rattle.dwg_object.specs.Written.{IsWhole}
 
@@ -60,14 +57,6 @@ pub one_of_all : (P : ObjectValue → Type 0) (objects : List ObjectValue) (plac
 one_of_all P [] place x all at = absurd (cc at)
 one_of_all P (first ∷ more) zero x all at = subst P (same_Some first x at) all.0
 one_of_all P (first ∷ more) (suc place) x all at = one_of_all P more place x all.1 at
-
--- one object has no more slots than all have
-pub slots_of_one : (objects : List ObjectValue) (place : ℕ) (x : ObjectValue) → slice_get objects place ≡ Some x → length (slots x) ≤ reference_count objects
-unfolding reference_count
-slots_of_one objects place x at =
-    let within : place < length objects = slice_get_within objects place x at in
-    let stands : slice_index_or objects place x ≡ x = same_Some (slice_index_or objects place x) x (sym (slice_get-get_or objects place x within) ∙ at) in
-    subst (λ y. length (slots y) ≤ sum_by (λ y. length (slots y)) objects) stands (get_or-le-sum_by (λ y. length (slots y)) objects place x within)
 
 -- one object further
 pub one_further : {A B : Type 0} (f : A → List B) (all : List A) (place next : ℕ) (x : A) (before after whole : List B) → slice_get all place ≡ Some x → next ≡ suc place

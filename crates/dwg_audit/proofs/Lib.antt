@@ -8,6 +8,10 @@ pub mod PlacedPaths
 pub mod PlacedChains
 pub mod Placing
 pub mod Homes
+pub mod LookupSteps
+pub mod Slicing
+pub mod HeaderEnds
+pub mod GivenSlots
 pub mod Choosing
 pub mod Sufficing
 pub mod Counting
@@ -15,3 +19,4 @@ pub mod SlotLoops
 pub mod HolderLoops
 pub mod Standings
 pub mod Judging
+pub mod Auditable

@@ -43,7 +43,7 @@ count_of_object objects f table place x same at =
 
 -- what the tables say of an object is so
 pub stands : (objects : List ObjectValue) (tables : Tables) (place : ℕ) (home owner rank : Option ℕ) (all own : ℕ) (chained reached : Bool) → Ascend (handles_of objects) → AreTables objects tables
-    → home ≡ leads tables.homes.items place → owner ≡ leads tables.owners.items place → rank ≡ leads tables.ranks.items place → all ≡ slice_index_or tables.claims.all.items place 0
+    → home ≡ leads tables.homes.items place → owner ≡ leads tables.lookups.owners.items place → rank ≡ leads tables.ranks.items place → all ≡ slice_index_or tables.claims.all.items place 0
     → own ≡ slice_index_or tables.claims.own.items place 0 → chained ≡ marked tables.chains.items place → reached ≡ is_some rank
     → (x : ObjectValue) → slice_get objects place ≡ Some x
     → IsStanding objects x (record { home = home; owner = owner; counts = record { all = all; own = own }; chained = chained; reached = reached })
@@ -51,7 +51,7 @@ stands objects tables place home owner rank all own chained reached ascend are i
     let within : place < length objects = slice_get_within objects place x at in
     record {
       home = is_home ∙ number_of_object objects (home_place objects (spaces objects)) tables.homes.items place x are.homes at;
-      owner = is_owner ∙ number_of_object objects (owner_place objects (spaces objects)) tables.owners.items place x are.owners at;
+      owner = is_owner ∙ number_of_object objects (owner_place objects (spaces objects)) tables.lookups.owners.items place x are.owners at;
       all = is_all ∙ count_of_object objects (λ (y : ObjectValue). length (claims objects (handle_of y))) tables.claims.all.items place x are.claims at;
       own = is_own ∙ count_of_object objects (λ (y : ObjectValue). length (claims_held (owner_of (spaces objects) y) (claims objects (handle_of y)))) tables.claims.own.items place x are.own at;
       chained = is_chained_there ∙ same_truths (marked tables.chains.items place) (is_chained objects (spaces objects) x (ends_of x)) (HasMemberChain objects x)

@@ -1,4 +1,4 @@
--- Claims by their counts. A rule of this project.
+-- How many claims on an object, and how many of them by its owner, are those that are asked for. A rule of this project.
 use Rattle.std.specs.Prelude.{◌==◌, ◌&&◌, ℕ, Bool, if◌then◌else◌}
 use Rattle.dwg_graph.specs.Graph.{Claim}
 

@@ -2,7 +2,6 @@
 use Rattle.std.proofs.Common.{◌≡◌}
 use Rattle.std.specs.Prelude.{◌↔◌, List, [], Contains}
 use Rattle.dwg_audit.specs.declared.finding.Finding.{Finding}
-use Rattle.dwg_audit.specs.declared.finding.Rule.TheVariants as rules
 use Rattle.dwg_audit.specs.Failures.{IsFinding}
 use Rattle.dwg_audit.specs.Findings.{findings}
 use Rattle.dwg_graph.specs.Places.{Ascend, handles_of}

@@ -4,8 +4,6 @@ use Rattle.std.specs.List.{AllByRecursion}
 use Rattle.dwg_audit.specs.Failures.{StandsBefore}
 use Rattle.dwg_audit.specs.Findings.{findings}
 use Rattle.dwg_graph.specs.Places.{Ascend, handles_of}
-use Rattle.dwg_graph.specs.SlotLaws as slot_laws
-use Rattle.dwg_kinds.specs.declared.field.Field.TheVariants as fields
 use Rattle.dwg_object.specs.Objects.{ObjectValue}
 use Rattle.dwg_object.specs.Written.{IsWhole}
 

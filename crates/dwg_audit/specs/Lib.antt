@@ -4,13 +4,17 @@ pub mod Findings
 pub mod Failures
 -- The references of objects as tables of places.
 pub mod Placed
+-- How many probes lookups take, and where the references of objects lead.
+pub mod Lookups
+-- What an audit asks of objects, and that those of a valid drawing are such.
+pub mod Auditable
 -- The findings of a drawing whose handles ascend are exactly its failures, and there are none exactly where it is sound.
 pub mod FindingLaws
 -- The findings of a drawing stand in order, each strictly before those behind it.
 pub mod FindingOrder
 -- The fields of the references of an object are those that its kind has.
 pub mod Held
--- Claims by their counts.
+-- How many claims on an object, and how many of them by its owner, are those that are asked for.
 pub mod Counts
 -- How often objects are claimed, counted slot by slot.
 pub mod Claimed

@@ -1,10 +1,11 @@
 //! The audit of a drawing's objects.
 
-ghost use Rattle.std.specs.Prelude.{◌≡◌, ◌↔◌, ◌<◌, ◌^◌, ◌+◌, ◌++◌, [], Some, length, map, IfOk, OnOk, IsTrue};
+ghost use Rattle.std.specs.Prelude.{◌≡◌, ◌↔◌, ◌<◌, ◌≤◌, ◌^◌, ◌+◌, ◌*◌, ◌++◌, ℕ, [], Some, length, map, IfOk, OnOk, IsTrue};
 ghost use Rattle.std.specs.List.{AllByRecursion, slice_get};
 ghost use Rattle.dwg_audit.specs.Claimed.{reference_count};
 ghost use Rattle.dwg_audit.specs.Findings.{control_findings, findings, findings_of};
 ghost use Rattle.dwg_audit.specs.Held.{HoldsFields};
+ghost use Rattle.dwg_audit.specs.Lookups.{slot_places};
 ghost use Rattle.dwg_audit.specs.Standing.{IsStanding};
 ghost use Rattle.dwg_audit.specs.Tabled.{AreTables};
 ghost use Rattle.dwg_graph.specs.Graph.{is_typed};
@@ -17,12 +18,13 @@ ghost use Rattle.dwg_object.specs.Written.{IsWhole};
 
 use crate::finding::{Finding, Rule};
 use crate::laws::finding_laws;
+use crate::lookups::{places_at, slots_at};
 use crate::resolving::push_unresolved;
 use crate::rules::{is_typed, push_lost, push_unchained, push_unclaimed, push_unless};
 use crate::standing::{Standing, standing_at};
 use crate::tables::{Tables, tabulate};
 use dwg_base::{Handle, Items, NoMemory};
-use dwg_graph::{control_count, slot_laws};
+use dwg_graph::{Slot, SpaceHandles, control_count, slot_laws};
 use dwg_object::Object;
 use dwg_steps::Steps;
 use std::alloc::Global;
@@ -45,30 +47,31 @@ fn push_control(objects: &[Object<'_>], found: &mut Items<Finding>) -> Result<()
 }
 
 /// Finds what a Typed object fails, in the order of rules. The only refusal is want of memory.
-fn judge<L: Ledger>(
+fn judge(
     objects: &[Object<'_>],
-    tables: &Tables,
+    known: &Option<SpaceHandles>,
     object: &Object<'_>,
+    held: &[Slot],
+    places: &[Option<usize>],
     standing: &Standing,
     found: &mut Items<Finding>,
-    steps: &mut Steps<L>,
 ) -> Result<(), NoMemory>
-    requires ascend { Ascend (handles_of (map value_of objects.now)) }
-    requires tables { AreTables (map value_of objects.now) tables.now }
+    requires known { known.now ≡ spaces (map value_of objects.now) }
     requires standing { IsStanding (map value_of objects.now) (value_of object.now) standing.now }
-    requires few { length (slots (value_of object.now)) < 2 ^ 58 }
+    requires held_slots { held.now ≡ slots (value_of object.now) }
+    requires places { places.now ≡ slot_places (handles_of (map value_of objects.now)) (slots (value_of object.now)) }
     requires held { HoldsFields (value_of object.now) }
     requires typed { IsTrue (is_typed (value_of object.now)) }
     ensures { OnOk result (found.new ≡ found.old ++ findings_of (map value_of objects.now) (spaces (map value_of objects.now)) (value_of object.now)) }
 {
-    let known = &tables.known;
-    push_unresolved(objects, &tables.index, known, object, found, steps)?;
+    let owner = standing.owner;
+    push_unresolved(objects, known, object, owner, held, places, found)?;
     push_unclaimed(
         objects,
         known,
         object,
         standing.home,
-        standing.owner,
+        owner,
         &standing.counts,
         found,
     )?;
@@ -77,18 +80,19 @@ fn judge<L: Ledger>(
 }
 
 /// Finds what an object fails. The only refusal is want of memory.
-fn judge_if_typed<L: Ledger>(
+fn judge_if_typed(
     objects: &[Object<'_>],
-    tables: &Tables,
+    known: &Option<SpaceHandles>,
     object: &Object<'_>,
+    held: &[Slot],
+    places: &[Option<usize>],
     standing: &Standing,
     found: &mut Items<Finding>,
-    steps: &mut Steps<L>,
 ) -> Result<(), NoMemory>
-    requires ascend { Ascend (handles_of (map value_of objects.now)) }
-    requires tables { AreTables (map value_of objects.now) tables.now }
+    requires known { known.now ≡ spaces (map value_of objects.now) }
     requires standing { IsStanding (map value_of objects.now) (value_of object.now) standing.now }
-    requires few { length (slots (value_of object.now)) < 2 ^ 58 }
+    requires held_slots { held.now ≡ slots (value_of object.now) }
+    requires places { places.now ≡ slot_places (handles_of (map value_of objects.now)) (slots (value_of object.now)) }
     requires whole { IsWhole (value_of object.now) }
     ensures { OnOk result (found.new ≡ found.old ++ findings_of (map value_of objects.now) (spaces (map value_of objects.now)) (value_of object.now)) }
 {
@@ -96,40 +100,40 @@ fn judge_if_typed<L: Ledger>(
         return Ok(());
     }
     slot_laws();
-    judge(objects, tables, object, standing, found, steps)
+    judge(objects, known, object, held, places, standing, found)
 }
 
 /// What objects fail, by what is known of all of them. The only refusal is want of memory.
-fn judge_all<L: Ledger>(
+fn judge_all(
     alloc: Global,
     objects: &[Object<'_>],
     tables: &Tables,
-    steps: &mut Steps<L>,
 ) -> Result<Items<Finding>, NoMemory>
     requires ascend { Ascend (handles_of (map value_of objects.now)) }
     requires tables { AreTables (map value_of objects.now) tables.now }
     requires whole { AllByRecursion IsWhole (map value_of objects.now) }
-    requires few { length objects.now + reference_count (map value_of objects.now) < 2 ^ 58 }
     ensures { IfOk result (λ found. found ≡ findings (map value_of objects.now)) }
 {
     let mut found = Items::new(alloc);
     push_control(objects, &mut found)?;
     'along: for place in 0..objects.len() {
-        let standing = standing_at(objects, tables, place);
         judge_if_typed(
             objects,
-            tables,
+            &tables.known,
             &objects[place],
-            &standing,
+            slots_at(objects, &tables.lookups.slots, place),
+            places_at(objects, &tables.lookups.slots, place),
+            &standing_at(objects, tables, place),
             &mut found,
-            steps,
         )?;
     }
     Ok(found)
 }
 
 /// What the references of objects fail (a rule of this project): none exactly where the drawing is sound. The findings stand in order
-/// of handle, rule, field and position. A step is one probe of the index of handles. The only refusal is want of memory.
+/// of handle, rule, field and position. A step is one probe of the index of handles. They are bounded by what lookups of each owner, of
+/// what follows each object in a block and of each other reference take, once each, where a lookup takes as many probes as the count of
+/// objects has binary digits. The only refusal is want of memory.
 pub fn audit<L: Ledger>(
     alloc: Global,
     objects: &[Object<'_>],
@@ -138,10 +142,14 @@ pub fn audit<L: Ledger>(
     requires ascending { Ascend (handles_of (map value_of objects.now)) }
     requires whole { AllByRecursion IsWhole (map value_of objects.now) }
     requires few { length objects.now + reference_count (map value_of objects.now) < 2 ^ 58 }
+    // None are found exactly where the drawing is sound.
     ensures findings { IfOk result (λ found. found ≡ findings (map value_of objects.now)) }
     ensures sound { IfOk result (λ found. (found ≡ []) ↔ IsSound (map value_of objects.now)) }
+
+    // As many probes as two lookups for each object and one for each of its other references take, whatever the answer.
+    ensures steps { (k : ℕ) → length objects.now < 2 ^ k → steps.new ≤ steps.old + (2 * length objects.now + reference_count (map value_of objects.now)) * k }
 {
     finding_laws();
     let tables = tabulate(alloc, objects, steps)?;
-    judge_all(alloc, objects, &tables, steps)
+    judge_all(alloc, objects, &tables)
 }

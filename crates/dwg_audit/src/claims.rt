@@ -3,20 +3,20 @@
 ghost use Rattle.std.specs.Prelude.{◌≡◌, ◌<◌, Some, ◌==◌, ◌+◌, ◌^◌, ℕ, List, [], ◌∷◌, length, map, replicate, IfOk, if◌then◌else◌};
 ghost use Rattle.std.specs.List.{slice_get, slice_index_or};
 ghost use Rattle.dwg_audit.specs.Claimed.{IsOpen, Adds, leads_to, leads_down, claiming, raised, reference_count, claim_counts, own_counts};
+ghost use Rattle.dwg_audit.specs.Lookups.{IsSlotTable, slot_places};
+ghost use Rattle.dwg_audit.specs.Placed.{place_in};
 ghost use Rattle.dwg_graph.specs.Graph.{claims_by};
 ghost use Rattle.dwg_graph.specs.Owners.{owner_of};
 ghost use Rattle.dwg_graph.specs.Places.{Ascend, handles_of};
 ghost use Rattle.dwg_graph.specs.Slots.{slots};
 ghost use Rattle.dwg_object.specs.Objects.{ObjectValue, handle_of, kind_of, value_of};
 
-use crate::places::find_place;
+use crate::lookups::{SlotTable, place_at, places_at, slots_at};
 use dwg_base::NoMemory;
-use dwg_graph::{Index, Slot, SpaceHandles, owner_of, slot_at, slot_count};
+use dwg_graph::{Slot, SpaceHandles, owner_of};
 use dwg_kinds::{Field, Kind, is_same};
 use dwg_object::Object;
-use dwg_steps::Steps;
 use std::alloc::Global;
-use std::sync::ledger::Ledger;
 
 /// How often each object is claimed, by places.
 #[derive(Drop)]
@@ -88,18 +88,17 @@ fn is_owned(
     owner_of(&objects[place], *known) == holder.handle()
 }
 
-/// Counts what a slot of a holder claims.
-fn count_slot<L: Ledger>(
+/// Counts what a slot of a holder claims, by where its target stands.
+fn count_slot(
     objects: &[Object<'_>],
     known: &Option<SpaceHandles>,
     holder: &Object<'_>,
     slot: &Slot,
-    index: &Index,
+    place: Option<usize>,
     claimed: &mut Claimed,
-    steps: &mut Steps<L>,
 )
     requires ascend { Ascend (handles_of (map value_of objects.now)) }
-    requires index { index.now ≡ handles_of (map value_of objects.now) }
+    requires place { place ≡ place_in (handles_of (map value_of objects.now)) slot.now.target }
     requires all { IsOpen (map value_of objects.now) 1 claimed.old.all.items }
     requires own { IsOpen (map value_of objects.now) 1 claimed.old.own.items }
     ensures all { Adds (map value_of objects.now) leads_to (claiming (kind_of (value_of holder.now)) (slot.now ∷ [])) claimed.old.all.items claimed.new.all.items }
@@ -108,7 +107,7 @@ fn count_slot<L: Ledger>(
     if !claims(holder.kind(), slot.field) {
         return;
     }
-    let Some(place) = find_place(index, slot.target, steps) else {
+    let Some(place) = place else {
         return;
     };
     let owned = is_owned(objects, known, holder, place);
@@ -117,48 +116,54 @@ fn count_slot<L: Ledger>(
 
 /// Counts what a holder claims.
 #[tactic(auto, using(crate::proofs::SlotLoops::all_counted))]
-fn count_holder<L: Ledger>(
+fn count_holder(
     objects: &[Object<'_>],
     known: &Option<SpaceHandles>,
     holder: &Object<'_>,
-    index: &Index,
+    held: &[Slot],
+    places: &[Option<usize>],
     claimed: &mut Claimed,
-    steps: &mut Steps<L>,
 )
     requires ascend { Ascend (handles_of (map value_of objects.now)) }
-    requires index { index.now ≡ handles_of (map value_of objects.now) }
-    requires few { length (slots (value_of holder.now)) < 2 ^ 58 }
+    requires held_slots { held.now ≡ slots (value_of holder.now) }
+    requires places { places.now ≡ slot_places (handles_of (map value_of objects.now)) (slots (value_of holder.now)) }
     requires all { IsOpen (map value_of objects.now) (length (slots (value_of holder.now))) claimed.old.all.items }
     requires own { IsOpen (map value_of objects.now) (length (slots (value_of holder.now))) claimed.old.own.items }
     ensures all { Adds (map value_of objects.now) leads_to (claiming (kind_of (value_of holder.now)) (slots (value_of holder.now))) claimed.old.all.items claimed.new.all.items }
     ensures own { Adds (map value_of objects.now) (leads_down known.now (handle_of (value_of holder.now))) (claiming (kind_of (value_of holder.now)) (slots (value_of holder.now))) claimed.old.own.items claimed.new.own.items }
 {
-    let count = slot_count(holder);
-    'along: for i in 0..count {
-        let slot = slot_at(holder, i);
-        count_slot(objects, known, holder, &slot, index, claimed, steps);
+    'along: for i in 0..held.len() {
+        count_slot(
+            objects,
+            known,
+            holder,
+            &held[i],
+            place_at(places, i),
+            claimed,
+        );
     }
 }
 
 /// Counts the claims of all objects, from nothing.
 #[tactic(auto, using(crate::proofs::HolderLoops::counts_begin))]
-fn count_all<L: Ledger>(
+fn count_all(
     objects: &[Object<'_>],
     known: &Option<SpaceHandles>,
-    index: &Index,
+    table: &SlotTable,
     claimed: &mut Claimed,
-    steps: &mut Steps<L>,
 )
     requires ascend { Ascend (handles_of (map value_of objects.now)) }
-    requires index { index.now ≡ handles_of (map value_of objects.now) }
+    requires table { IsSlotTable (map value_of objects.now) table.now }
     requires few { reference_count (map value_of objects.now) < 2 ^ 58 }
     requires no_all { claimed.old.all.items ≡ replicate (length objects.now) 0 }
     requires no_own { claimed.old.own.items ≡ replicate (length objects.now) 0 }
     ensures all { claimed.new.all.items ≡ claim_counts (map value_of objects.now) }
     ensures own { claimed.new.own.items ≡ own_counts (map value_of objects.now) known.now }
 {
-    'along: for holder in objects {
-        count_holder(objects, known, holder, index, claimed, steps);
+    'along: for place in 0..objects.len() {
+        let held = slots_at(objects, table, place);
+        let places = places_at(objects, table, place);
+        count_holder(objects, known, &objects[place], held, places, claimed);
     }
 }
 
@@ -173,15 +178,14 @@ fn zeros(alloc: Global, count: usize) -> Result<Vec<u64>, NoMemory>
 }
 
 /// How often each object is claimed, and how often by its owner. Want of memory is the only refusal.
-pub(crate) fn count_claims<L: Ledger>(
+pub(crate) fn count_claims(
     alloc: Global,
     objects: &[Object<'_>],
     known: &Option<SpaceHandles>,
-    index: &Index,
-    steps: &mut Steps<L>,
+    table: &SlotTable,
 ) -> Result<Claimed, NoMemory>
     requires ascend { Ascend (handles_of (map value_of objects.now)) }
-    requires index { index.now ≡ handles_of (map value_of objects.now) }
+    requires table { IsSlotTable (map value_of objects.now) table.now }
     requires few { reference_count (map value_of objects.now) < 2 ^ 58 }
     ensures all { IfOk result (λ claimed. claimed.all.items ≡ claim_counts (map value_of objects.now)) }
     ensures own { IfOk result (λ claimed. claimed.own.items ≡ own_counts (map value_of objects.now) known.now) }
@@ -189,6 +193,6 @@ pub(crate) fn count_claims<L: Ledger>(
     let all = zeros(alloc, objects.len())?;
     let own = zeros(alloc, objects.len())?;
     let mut claimed = Claimed { all, own };
-    count_all(objects, known, index, &mut claimed, steps);
+    count_all(objects, known, table, &mut claimed);
     Ok(claimed)
 }

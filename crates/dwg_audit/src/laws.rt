@@ -1,5 +1,6 @@
-//! Laws of findings, as the contract of a function without code.
+//! Laws of audits, as the contracts of functions without code.
 
+ghost use Rattle.dwg_audit.specs.Auditable.{ValidIsAuditable};
 ghost use Rattle.dwg_audit.specs.FindingLaws.{FindingsStand, NothingIsFoundIfSound};
 ghost use Rattle.dwg_audit.specs.FindingOrder.{FindingsAreOrdered};
 
@@ -11,6 +12,13 @@ pub fn finding_laws()
     ensures stands { FindingsStand }
     ensures sound { NothingIsFoundIfSound }
     ensures ordered { FindingsAreOrdered }
+{
+    slot_laws();
+}
+
+/// What holds of valid drawings: their objects are such as an audit asks for, so that each valid drawing can be audited.
+pub fn auditable_laws()
+    ensures auditable { ValidIsAuditable }
 {
     slot_laws();
 }

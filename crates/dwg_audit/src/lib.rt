@@ -5,13 +5,16 @@ mod auditing;
 mod claims;
 mod finding;
 mod laws;
+mod lookups;
 mod needs;
 mod places;
 mod resolving;
 mod rules;
 mod standing;
 mod tables;
+mod whole;
 
 pub use auditing::audit;
 pub use finding::{Finding, Rule};
-pub use laws::finding_laws;
+pub use laws::{auditable_laws, finding_laws};
+pub use whole::audit_drawing;

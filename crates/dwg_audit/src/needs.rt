@@ -4,18 +4,16 @@ ghost use Rattle.std.specs.Prelude.{◌≡◌, IsTrue, map, false};
 ghost use Rattle.std.specs.List.{slice_get};
 ghost use Rattle.std.specs.Option.{option_and_then, option_map, option_map_or};
 ghost use Rattle.dwg_audit.specs.Findings.{is_attributed, kind_at, meets};
-ghost use Rattle.dwg_graph.specs.Places.{Ascend, handles_of};
+ghost use Rattle.dwg_audit.specs.Placed.{place_in};
+ghost use Rattle.dwg_graph.specs.Places.{handles_of};
 ghost use Rattle.dwg_kinds.specs.Kinds.{is_entity_kind, same_kind};
 ghost use Rattle.dwg_kinds.specs.Needs.{has_field, need_of};
 ghost use Rattle.dwg_object.specs.Objects.{kind_of, value_of};
 
-use crate::places::find_place;
 use dwg_base::Handle;
-use dwg_graph::{Index, Slot};
+use dwg_graph::Slot;
 use dwg_kinds::{Kind, Need, is_entity, is_same, required};
 use dwg_object::Object;
-use dwg_steps::Steps;
-use std::sync::ledger::Ledger;
 
 /// Whether an object was found that is an entity.
 fn is_entity_there(found: Option<Kind>) -> bool
@@ -78,38 +76,18 @@ fn kind_placed(objects: &[Object<'_>], place: Option<usize>) -> Option<Kind>
     }
 }
 
-/// The kind of the object that has a handle, if any has.
+/// Whether a reference of a holder of that kind meets its need, by where its target stands.
 #[tactic(auto, using(crate::proofs::PlacedObjects::object_placed))]
-fn kind_at<L: Ledger>(
+pub(crate) fn is_met(
     objects: &[Object<'_>],
-    index: &Index,
-    handle: Handle,
-    steps: &mut Steps<L>,
-) -> Option<Kind>
-    requires ascend { Ascend (handles_of (map value_of objects.now)) }
-    requires index { index.now ≡ handles_of (map value_of objects.now) }
-    ensures { result ≡ kind_at (map value_of objects.now) handle }
-{
-    kind_placed(objects, find_place(index, handle, steps))
-}
-
-/// Whether a reference of a holder of that kind meets its need.
-pub(crate) fn is_met<L: Ledger>(
-    objects: &[Object<'_>],
-    index: &Index,
     holder: Kind,
     slot: &Slot,
-    steps: &mut Steps<L>,
+    place: Option<usize>,
 ) -> bool
-    requires ascend { Ascend (handles_of (map value_of objects.now)) }
-    requires index { index.now ≡ handles_of (map value_of objects.now) }
+    requires place { place ≡ place_in (handles_of (map value_of objects.now)) slot.now.target }
     requires held { IsTrue (has_field slot.now.field holder) }
     ensures { result ≡ option_map_or (λ need. meets need slot.now.target (kind_at (map value_of objects.now) slot.now.target)) (need_of slot.now.field holder) false }
 {
     let need = required(slot.field, holder);
-    meets(
-        need,
-        slot.target,
-        kind_at(objects, index, slot.target, steps),
-    )
+    meets(need, slot.target, kind_placed(objects, place))
 }

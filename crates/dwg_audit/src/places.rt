@@ -1,95 +1,21 @@
 //! The references of objects as tables of places.
 
-ghost use Rattle.std.specs.Prelude.{◌≡◌, ◌==◌, ℕ, List, [], ◌∷◌, ◌++◌, length, map, IfOk, OnOk};
+ghost use Rattle.std.specs.Prelude.{◌≡◌, ◌==◌, ℕ, List, [], ◌∷◌, ◌++◌, length, map, IfOk};
 ghost use Rattle.std.specs.List.{list_any};
 ghost use Rattle.std.specs.Option.{option_and_then, option_map};
-ghost use Rattle.dwg_audit.specs.Placed.{place_in, owner_table, next_table, root_table, home_table, home_at, end_places, end_table};
+ghost use Rattle.dwg_audit.specs.Lookups.{IsSlotTable, is_of, place_of, slot_places};
+ghost use Rattle.dwg_audit.specs.Placed.{place_in, owner_table, root_table, home_table, home_at, end_places, end_table};
 ghost use Rattle.dwg_graph.specs.Graph.{is_raw, is_header, is_root, is_member, is_member_kind, known_ends, ends_of, TOP_NUMBERS};
-ghost use Rattle.dwg_graph.specs.Owners.{owner_of};
-ghost use Rattle.dwg_graph.specs.Places.{Ascend, handles_of};
+ghost use Rattle.dwg_graph.specs.Slots.{slots};
 ghost use Rattle.dwg_object.specs.Objects.{number_of, value_of};
 
-use dwg_base::{Handle, NoMemory};
-use dwg_graph::{Index, SpaceHandles, next_of, owner_of};
-use dwg_kinds::{Kind, is_entity, is_same};
+use crate::lookups::{SlotTable, places_at, push_item, slots_at};
+use dwg_base::NoMemory;
+use dwg_graph::{Slot, SpaceHandles, owner_of};
+use dwg_kinds::{Field, Kind, is_entity, is_same, number_of};
 use dwg_object::{Body, Object};
 use dwg_paths::Ends;
-use dwg_steps::Steps;
 use std::alloc::Global;
-use std::sync::ledger::Ledger;
-
-/// Puts an item at the end. The only refusal is want of memory.
-fn push_item<T: Drop>(items: &mut Vec<T>, item: T) -> Result<(), NoMemory>
-    ensures { OnOk result (items.new.items ≡ items.old.items ++ item ∷ []) }
-{
-    match items.push(item) {
-        Ok(()) => Ok(()),
-        Err(_) => Err(NoMemory),
-    }
-}
-
-/// The place of a handle among the handles of an index.
-#[tactic(auto, using(crate::proofs::Placing::place_known))]
-pub(crate) fn find_place<L: Ledger>(
-    index: &Index,
-    handle: Handle,
-    steps: &mut Steps<L>,
-) -> Option<usize>
-    requires ascend { Ascend index.now }
-    ensures { result ≡ place_in index.now handle }
-{
-    index.find(handle, steps)
-}
-
-/// Where the owner of an object stands among the objects of an index.
-fn owner_place<L: Ledger>(
-    object: &Object<'_>,
-    known: &Option<SpaceHandles>,
-    index: &Index,
-    steps: &mut Steps<L>,
-) -> Option<usize>
-    requires ascend { Ascend index.now }
-    ensures { result ≡ place_in index.now (owner_of known.now (value_of object.now)) }
-{
-    find_place(index, owner_of(object, *known), steps)
-}
-
-/// For each object where its owner stands. Want of memory is the only refusal.
-pub(crate) fn owner_places<L: Ledger>(
-    alloc: Global,
-    objects: &[Object<'_>],
-    known: &Option<SpaceHandles>,
-    index: &Index,
-    steps: &mut Steps<L>,
-) -> Result<Vec<Option<usize>>, NoMemory>
-    requires ascend { Ascend (handles_of (map value_of objects.now)) }
-    requires index { index.now ≡ handles_of (map value_of objects.now) }
-    ensures { IfOk result (λ places. places.items ≡ owner_table (map value_of objects.now) known.now) }
-{
-    let mut places = Vec::new(alloc);
-    'along: for object in objects {
-        push_item(&mut places, owner_place(object, known, index, steps))?;
-    }
-    Ok(places)
-}
-
-/// For each object where what follows it in a block stands. Want of memory is the only refusal.
-pub(crate) fn next_places<L: Ledger>(
-    alloc: Global,
-    objects: &[Object<'_>],
-    index: &Index,
-    steps: &mut Steps<L>,
-) -> Result<Vec<Option<usize>>, NoMemory>
-    requires ascend { Ascend (handles_of (map value_of objects.now)) }
-    requires index { index.now ≡ handles_of (map value_of objects.now) }
-    ensures { IfOk result (λ places. places.items ≡ next_table (map value_of objects.now)) }
-{
-    let mut places = Vec::new(alloc);
-    'along: for object in objects {
-        push_item(&mut places, find_place(index, next_of(object), steps))?;
-    }
-    Ok(places)
-}
 
 /// Whether objects of a type number stand at the top of a drawing.
 fn is_top(number: u16) -> bool
@@ -245,33 +171,51 @@ pub(crate) fn homes(
     Ok(places)
 }
 
-/// Where the ends of a block stand, none where both are null.
-fn placed_ends<L: Ledger>(
-    ends: &dwg_tables::Ends,
-    index: &Index,
-    steps: &mut Steps<L>,
-) -> Option<Ends>
-    requires ascend { Ascend index.now }
-    ensures { result ≡ option_map (end_places index.now) (known_ends ends.now) }
+/// Whether a slot is of a field.
+fn is_of(field: Field, slot: &Slot) -> bool
+    ensures { result ≡ is_of field slot.now }
+{
+    number_of(field) == number_of(slot.field)
+}
+
+/// Where the target of the first slot of a field stands, if there is one, by where the targets of all slots stand.
+fn place_of(field: Field, held: &[Slot], places: &[Option<usize>]) -> Option<usize>
+    requires { length places.now ≡ length held.now }
+    ensures { (handles : List ℕ) → places.now ≡ slot_places handles held.now → result ≡ place_of handles field held.now }
+{
+    'along: for i in 0..held.len() {
+        if is_of(field, &held[i]) {
+            return places[i];
+        }
+    }
+    None
+}
+
+/// Where the ends of a block stand, none where both are null, by where both handles stand.
+fn placed_ends(ends: &dwg_tables::Ends, first: Option<usize>, last: Option<usize>) -> Option<Ends>
+    ensures { (handles : List ℕ) → first ≡ place_in handles ends.now.first.target → last ≡ place_in handles ends.now.last.target → result ≡ option_map (end_places handles) (known_ends ends.now) }
 {
     if ends.first.target.value() == 0 && ends.last.target.value() == 0 {
         return None;
     }
-    let first = find_place(index, ends.first.target, steps);
-    let last = find_place(index, ends.last.target, steps);
     Some(Ends { first, last })
 }
 
-/// Where the ends of the block of an object stand, none of what isn't a Typed BLOCK HEADER.
+/// Where the ends of the block of an object stand, none of what isn't a Typed BLOCK HEADER. Its slots tell it.
 #[tactic(auto, unfolding(dwg_graph::specs::Graph::ends_of))]
-fn ends_at<L: Ledger>(object: &Object<'_>, index: &Index, steps: &mut Steps<L>) -> Option<Ends>
-    requires ascend { Ascend index.now }
-    ensures { result ≡ option_map (end_places index.now) (ends_of (value_of object.now)) }
+fn ends_at(object: &Object<'_>, held: &[Slot], places: &[Option<usize>]) -> Option<Ends>
+    requires held_slots { held.now ≡ slots (value_of object.now) }
+    requires count { length places.now ≡ length held.now }
+    ensures { (handles : List ℕ) → places.now ≡ slot_places handles held.now → result ≡ option_map (end_places handles) (ends_of (value_of object.now)) }
 {
     match object {
         Object::Typed(typed) => match &typed.body {
             Body::BlockHeader(body) => match &body.ends {
-                Some(ends) => placed_ends(ends, index, steps),
+                Some(ends) => placed_ends(
+                    ends,
+                    place_of(Field::First, held, places),
+                    place_of(Field::Last, held, places),
+                ),
                 None => None,
             },
             _ => None,
@@ -281,19 +225,19 @@ fn ends_at<L: Ledger>(object: &Object<'_>, index: &Index, steps: &mut Steps<L>) 
 }
 
 /// For each object where the ends of its block stand. Want of memory is the only refusal.
-pub(crate) fn end_places<L: Ledger>(
+pub(crate) fn end_places(
     alloc: Global,
     objects: &[Object<'_>],
-    index: &Index,
-    steps: &mut Steps<L>,
+    table: &SlotTable,
 ) -> Result<Vec<Option<Ends>>, NoMemory>
-    requires ascend { Ascend (handles_of (map value_of objects.now)) }
-    requires index { index.now ≡ handles_of (map value_of objects.now) }
+    requires table { IsSlotTable (map value_of objects.now) table.now }
     ensures { IfOk result (λ places. places.items ≡ end_table (map value_of objects.now)) }
 {
-    let mut places = Vec::new(alloc);
-    'along: for object in objects {
-        push_item(&mut places, ends_at(object, index, steps))?;
+    let mut ends = Vec::new(alloc);
+    'along: for place in 0..objects.len() {
+        let held = slots_at(objects, table, place);
+        let places = places_at(objects, table, place);
+        push_item(&mut ends, ends_at(&objects[place], held, places))?;
     }
-    Ok(places)
+    Ok(ends)
 }

@@ -4,21 +4,22 @@ ghost use Rattle.std.specs.Prelude.{◌≡◌, ◌<◌, ◌^◌, ◌++◌, List,
 ghost use Rattle.std.specs.List.{slice_get};
 ghost use Rattle.dwg_audit.specs.Findings.{is_application_field, resolve_findings, unmet};
 ghost use Rattle.dwg_audit.specs.Held.{HoldsFields, chosen};
+ghost use Rattle.dwg_audit.specs.Lookups.{slot_places};
+ghost use Rattle.dwg_audit.specs.Placed.{owner_place, place_in};
 ghost use Rattle.dwg_graph.specs.declared.slot.Slot as declared;
-ghost use Rattle.dwg_graph.specs.Places.{Ascend, handles_of};
+ghost use Rattle.dwg_graph.specs.Places.{handles_of};
 ghost use Rattle.dwg_graph.specs.Slots.{slots};
 ghost use Rattle.dwg_kinds.specs.Needs.{has_field};
 ghost use Rattle.dwg_object.specs.Objects.{kind_of, value_of};
 
 use crate::finding::{Finding, Rule};
+use crate::lookups::place_at;
 use crate::needs::is_met;
 use crate::rules::push_unless;
 use dwg_base::{Items, NoMemory};
-use dwg_graph::{Index, Slot, SpaceHandles, owner_of, slot_at, slot_count};
+use dwg_graph::{Slot, SpaceHandles, owner_of};
 use dwg_kinds::Field;
 use dwg_object::Object;
-use dwg_steps::Steps;
-use std::sync::ledger::Ledger;
 
 /// Whether a field is that of applications.
 fn is_application(field: Field) -> bool
@@ -32,20 +33,18 @@ fn is_application(field: Field) -> bool
 
 /// Finds a reference that doesn't meet its need. The only refusal is want of memory.
 #[tactic(auto, unfolding(crate::specs::Findings::is_met))]
-fn push_unmet<L: Ledger>(
+fn push_unmet(
     objects: &[Object<'_>],
-    index: &Index,
     object: &Object<'_>,
     slot: &Slot,
+    place: Option<usize>,
     found: &mut Items<Finding>,
-    steps: &mut Steps<L>,
 ) -> Result<(), NoMemory>
-    requires ascend { Ascend (handles_of (map value_of objects.now)) }
-    requires index { index.now ≡ handles_of (map value_of objects.now) }
+    requires place { place ≡ place_in (handles_of (map value_of objects.now)) slot.now.target }
     requires held { IsTrue (has_field slot.now.field (kind_of (value_of object.now))) }
     ensures { OnOk result (found.new ≡ found.old ++ unmet (map value_of objects.now) (value_of object.now) slot.now) }
 {
-    let holds = is_met(objects, index, object.kind(), slot, steps);
+    let holds = is_met(objects, object.kind(), slot, place);
     let finding = Finding {
         handle: object.handle(),
         rule: Rule::Resolve,
@@ -57,45 +56,47 @@ fn push_unmet<L: Ledger>(
 }
 
 /// Finds a slot that doesn't meet its need, where it is an application's, or where it isn't.
-fn push_chosen<L: Ledger>(
+fn push_chosen(
     objects: &[Object<'_>],
-    index: &Index,
     object: &Object<'_>,
     slot: &Slot,
+    place: Option<usize>,
     applications: bool,
     found: &mut Items<Finding>,
-    steps: &mut Steps<L>,
 ) -> Result<(), NoMemory>
-    requires ascend { Ascend (handles_of (map value_of objects.now)) }
-    requires index { index.now ≡ handles_of (map value_of objects.now) }
+    requires place { place ≡ place_in (handles_of (map value_of objects.now)) slot.now.target }
     requires held { IsTrue (has_field slot.now.field (kind_of (value_of object.now))) }
     ensures { OnOk result (found.new ≡ found.old ++ flat_map (unmet (map value_of objects.now) (value_of object.now)) (chosen applications (slot.now ∷ []))) }
 {
     if is_application(slot.field) == applications {
-        return push_unmet(objects, index, object, slot, found, steps);
+        return push_unmet(objects, object, slot, place, found);
     }
     Ok(())
 }
 
 /// Finds each slot of an object that doesn't meet its need, of applications or of all others. The only refusal is want of memory.
-fn push_slots<L: Ledger>(
+fn push_slots(
     objects: &[Object<'_>],
-    index: &Index,
     object: &Object<'_>,
+    held: &[Slot],
+    places: &[Option<usize>],
     applications: bool,
     found: &mut Items<Finding>,
-    steps: &mut Steps<L>,
 ) -> Result<(), NoMemory>
-    requires ascend { Ascend (handles_of (map value_of objects.now)) }
-    requires index { index.now ≡ handles_of (map value_of objects.now) }
-    requires few { length (slots (value_of object.now)) < 2 ^ 58 }
+    requires held_slots { held.now ≡ slots (value_of object.now) }
+    requires places { places.now ≡ slot_places (handles_of (map value_of objects.now)) (slots (value_of object.now)) }
     requires held { HoldsFields (value_of object.now) }
     ensures { OnOk result (found.new ≡ found.old ++ flat_map (unmet (map value_of objects.now) (value_of object.now)) (chosen applications (slots (value_of object.now)))) }
 {
-    let count = slot_count(object);
-    'along: for i in 0..count {
-        let slot = slot_at(object, i);
-        push_chosen(objects, index, object, &slot, applications, found, steps)?;
+    'along: for i in 0..held.len() {
+        push_chosen(
+            objects,
+            object,
+            &held[i],
+            place_at(places, i),
+            applications,
+            found,
+        )?;
     }
     Ok(())
 }
@@ -103,26 +104,27 @@ fn push_slots<L: Ledger>(
 /// Finds each reference of an object that doesn't meet its need, in the order of fields, where the owner stands behind the
 /// applications. The only refusal is want of memory.
 #[tactic(auto, unfolding(crate::specs::Findings::resolve_findings, crate::specs::Findings::references))]
-pub(crate) fn push_unresolved<L: Ledger>(
+pub(crate) fn push_unresolved(
     objects: &[Object<'_>],
-    index: &Index,
     known: &Option<SpaceHandles>,
     object: &Object<'_>,
+    owner: Option<usize>,
+    held: &[Slot],
+    places: &[Option<usize>],
     found: &mut Items<Finding>,
-    steps: &mut Steps<L>,
 ) -> Result<(), NoMemory>
-    requires ascend { Ascend (handles_of (map value_of objects.now)) }
-    requires index { index.now ≡ handles_of (map value_of objects.now) }
-    requires few { length (slots (value_of object.now)) < 2 ^ 58 }
+    requires owner { owner ≡ owner_place (map value_of objects.now) known.now (value_of object.now) }
+    requires held_slots { held.now ≡ slots (value_of object.now) }
+    requires places { places.now ≡ slot_places (handles_of (map value_of objects.now)) (slots (value_of object.now)) }
     requires held { HoldsFields (value_of object.now) }
     ensures { OnOk result (found.new ≡ found.old ++ resolve_findings (map value_of objects.now) known.now (value_of object.now)) }
 {
-    let owner = Slot {
+    let owner_slot = Slot {
         field: Field::Owner,
         position: 0,
         target: owner_of(object, *known),
     };
-    push_slots(objects, index, object, true, found, steps)?;
-    push_unmet(objects, index, object, &owner, found, steps)?;
-    push_slots(objects, index, object, false, found, steps)
+    push_slots(objects, object, held, places, true, found)?;
+    push_unmet(objects, object, &owner_slot, owner, found)?;
+    push_slots(objects, object, held, places, false, found)
 }

@@ -60,7 +60,7 @@ pub(crate) fn standing_at(objects: &[Object<'_>], tables: &Tables, place: usize)
 {
     Standing {
         home: number(&tables.homes, place),
-        owner: number(&tables.owners, place),
+        owner: number(&tables.lookups.owners, place),
         counts: ClaimCounts {
             all: count(&tables.claims.all, place),
             own: count(&tables.claims.own, place),

@@ -1,7 +1,8 @@
 //! What is known of all objects before the first of them is judged.
 
-ghost use Rattle.std.specs.Prelude.{◌≡◌, ◌<◌, ◌^◌, ◌+◌, ◌↔◌, ℕ, length, map, IfOk, IsTrue};
+ghost use Rattle.std.specs.Prelude.{◌≡◌, ◌<◌, ◌^◌, ◌+◌, ◌*◌, ◌↔◌, ℕ, length, map, IfOk, IsTrue};
 ghost use Rattle.dwg_audit.specs.Claimed.{reference_count};
+ghost use Rattle.dwg_audit.specs.Lookups.{IsSlotTable, TakeAtMost};
 ghost use Rattle.dwg_audit.specs.Tabled.{AreTables};
 ghost use Rattle.dwg_audit.specs.Placed.{end_table, home_table, next_table, owner_table, root_table};
 ghost use Rattle.dwg_graph.specs.Owners.{spaces};
@@ -10,9 +11,10 @@ ghost use Rattle.dwg_paths.specs.Tables.{HasChainAt, RankIs, ends_at, leads, mar
 ghost use Rattle.dwg_object.specs.Objects.{value_of};
 
 use crate::claims::{Claimed, count_claims};
-use crate::places::{end_places, homes, next_places, owner_places, root_marks};
+use crate::lookups::{Lookups, look_up};
+use crate::places::{end_places, homes, root_marks};
 use dwg_base::NoMemory;
-use dwg_graph::{Index, SpaceHandles, spaces};
+use dwg_graph::{SpaceHandles, spaces};
 use dwg_object::Object;
 use dwg_paths::{chains, ranks};
 use dwg_steps::Steps;
@@ -22,12 +24,10 @@ use std::sync::ledger::Ledger;
 /// What is known of all objects, each by its place.
 #[derive(Drop)]
 pub(crate) struct Tables {
-    /// Where the object of each handle stands.
-    pub(crate) index: Index,
     /// The model and the paper space.
     pub(crate) known: Option<SpaceHandles>,
-    /// Where the owner of each object stands.
-    pub(crate) owners: Vec<Option<usize>>,
+    /// Where the references of each object lead.
+    pub(crate) lookups: Lookups,
     /// Where the block stands of which each object is a member.
     pub(crate) homes: Vec<Option<usize>>,
     /// How many owners there are from each object to a root.
@@ -40,22 +40,20 @@ pub(crate) struct Tables {
 
 /// Which blocks have a chain of their members. Want of memory is the only refusal.
 #[tactic(auto, using(crate::proofs::PlacedPaths::homes_fit))]
-fn chained<L: Ledger>(
+fn chained(
     alloc: Global,
     objects: &[Object<'_>],
     homes: &[Option<usize>],
-    index: &Index,
-    steps: &mut Steps<L>,
+    lookups: &Lookups,
 ) -> Result<Vec<bool>, NoMemory>
-    requires ascend { Ascend (handles_of (map value_of objects.now)) }
-    requires index { index.now ≡ handles_of (map value_of objects.now) }
+    requires next { lookups.now.next.items ≡ next_table (map value_of objects.now) }
+    requires slots { IsSlotTable (map value_of objects.now) lookups.now.slots }
     requires homes { homes.now ≡ home_table (map value_of objects.now) (spaces (map value_of objects.now)) }
     ensures count { IfOk result (λ chains. length chains.items ≡ length objects.now) }
     ensures chains { IfOk result (λ chains. (home : ℕ) → home < length objects.now → IsTrue (marked chains.items home) ↔ HasChainAt (home_table (map value_of objects.now) (spaces (map value_of objects.now))) (next_table (map value_of objects.now)) home (ends_at (end_table (map value_of objects.now)) home)) }
 {
-    let next = next_places(alloc, objects, index, steps)?;
-    let ends = end_places(alloc, objects, index, steps)?;
-    chains(alloc, homes, &next, &ends)
+    let ends = end_places(alloc, objects, &lookups.slots)?;
+    chains(alloc, homes, &lookups.next, &ends)
 }
 
 /// How many owners there are from each object to a root. Want of memory is the only refusal.
@@ -74,7 +72,36 @@ fn ranked(
     ranks(alloc, owners, &roots)
 }
 
-/// All that is known of objects. Want of memory is the only refusal.
+/// All that is known of objects, by where their references lead. Want of memory is the only refusal.
+fn tabulate_by(
+    alloc: Global,
+    objects: &[Object<'_>],
+    known: Option<SpaceHandles>,
+    lookups: Lookups,
+) -> Result<Tables, NoMemory>
+    requires ascend { Ascend (handles_of (map value_of objects.now)) }
+    requires few { length objects.now + reference_count (map value_of objects.now) < 2 ^ 58 }
+    requires known { known ≡ spaces (map value_of objects.now) }
+    requires owners { lookups.owners.items ≡ owner_table (map value_of objects.now) known }
+    requires next { lookups.next.items ≡ next_table (map value_of objects.now) }
+    requires slots { IsSlotTable (map value_of objects.now) lookups.slots }
+    ensures { IfOk result (AreTables (map value_of objects.now)) }
+{
+    let homes = homes(alloc, objects, &known, &lookups.owners)?;
+    let ranks = ranked(alloc, objects, &known, &lookups.owners)?;
+    let chains = chained(alloc, objects, &homes, &lookups)?;
+    let claims = count_claims(alloc, objects, &known, &lookups.slots)?;
+    Ok(Tables {
+        known,
+        lookups,
+        homes,
+        ranks,
+        chains,
+        claims,
+    })
+}
+
+/// All that is known of objects. Each owner, each next and each slot is looked up once. Want of memory is the only refusal.
 pub(crate) fn tabulate<L: Ledger>(
     alloc: Global,
     objects: &[Object<'_>],
@@ -82,22 +109,10 @@ pub(crate) fn tabulate<L: Ledger>(
 ) -> Result<Tables, NoMemory>
     requires ascend { Ascend (handles_of (map value_of objects.now)) }
     requires few { length objects.now + reference_count (map value_of objects.now) < 2 ^ 58 }
-    ensures { IfOk result (λ tables. AreTables (map value_of objects.now) tables) }
+    ensures tables { IfOk result (AreTables (map value_of objects.now)) }
+    ensures steps { TakeAtMost (length objects.now) (2 * length objects.now + reference_count (map value_of objects.now)) steps.old steps.new }
 {
-    let index = Index::build(alloc, objects)?;
     let known = spaces(objects);
-    let owners = owner_places(alloc, objects, &known, &index, steps)?;
-    let homes = homes(alloc, objects, &known, &owners)?;
-    let ranks = ranked(alloc, objects, &known, &owners)?;
-    let chains = chained(alloc, objects, &homes, &index, steps)?;
-    let claims = count_claims(alloc, objects, &known, &index, steps)?;
-    Ok(Tables {
-        index,
-        known,
-        owners,
-        homes,
-        ranks,
-        chains,
-        claims,
-    })
+    let lookups = look_up(alloc, objects, &known, steps)?;
+    tabulate_by(alloc, objects, known, lookups)
 }

@@ -12,7 +12,7 @@ use Rattle.dwg_file.specs.DrawingAt.{drawing_at}
 use Rattle.dwg_file.specs.FileLines.{ALL_LINES}
 use Rattle.dwg_file.specs.Valid.{IsValid}
 use Rattle.dwg_make.specs.Made.{made}
-use Rattle.dwg_report.specs.declared.drill.DrillReport.{DrillReport}
+use Rattle.dwg_drill.specs.declared.report.DrillReport.{DrillReport}
 
 -- what a drill asks of a file, which is that of a drawing
 pub record CanBeDrilled (drawing : Contents) (file : List ℕ) : Type 0 where

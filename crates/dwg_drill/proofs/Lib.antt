@@ -1,3 +1,3 @@
-pub mod Auditable
+pub mod CheckWords
 pub mod Reading
 pub mod Drills

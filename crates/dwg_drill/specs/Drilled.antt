@@ -8,7 +8,7 @@ use Rattle.dwg_file.specs.Canonical.{canonical}
 use Rattle.dwg_file.specs.Contents.{Contents}
 use Rattle.dwg_file.specs.FileLines.{ALL_LINES}
 use Rattle.dwg_make.specs.Made.{made}
-use Rattle.dwg_report.specs.declared.drill.DrillReport.{DrillReport}
+use Rattle.dwg_drill.specs.declared.report.DrillReport.{DrillReport}
 
 -- the seed of a drill's drawing
 abbrev pub DRILL_SEED : ℕ

@@ -13,12 +13,12 @@ ghost use Rattle.dwg_make.specs.Made.{MOST_ENTITIES, made};
 
 use crate::fault::DrillFault;
 use crate::made::make_file;
-use crate::whole::audit_drawing;
+use crate::report::DrillReport;
+use dwg_audit::audit_drawing;
 use dwg_base::{ByteRun, Fault, NoMemory, Refusal};
 use dwg_check::check;
 use dwg_file::{canonical_laws, drawing_laws, read_drawing};
 use dwg_make::make_laws;
-use dwg_report::DrillReport;
 use std::alloc::Global;
 
 /// What the check word of a whole file begins with.

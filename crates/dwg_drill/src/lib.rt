@@ -1,13 +1,11 @@
-//! The audit of a whole drawing, and the drill: a made drawing written, read again and audited, and read with a changed byte.
+//! The drill: a made drawing written, read again and audited, and read with a changed byte; and its text.
 #![tactic(auto)]
 
 mod drilling;
 mod fault;
-mod laws;
 mod made;
-mod whole;
+mod report;
 
 pub use drilling::drill;
 pub use fault::DrillFault;
-pub use laws::auditable_laws;
-pub use whole::audit_drawing;
+pub use report::{DrillReport, drill_text};

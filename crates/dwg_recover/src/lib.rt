@@ -12,8 +12,10 @@ mod objects;
 mod recovery;
 mod scan;
 mod sections;
+mod uncounted;
 mod walk;
 
 pub use laws::{answer_laws, intact_laws, part_laws, recovered_laws};
 pub use loss::{Kept, Loss};
 pub use recovery::{Recovered, recover};
+pub use uncounted::recover_input;

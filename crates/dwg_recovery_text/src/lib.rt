@@ -1,8 +1,6 @@
-//! Recovery of an input, and its notes.
+//! The notes of a recovery.
 #![tactic(auto)]
 
 mod notes;
-mod whole;
 
 pub use notes::recovery_note;
-pub use whole::recover_input;

@@ -1,8 +1,6 @@
-//! The texts of an audit and of a drill.
+//! The text of an audit.
 #![tactic(auto)]
 
 mod audit;
-mod drill;
 
 pub use audit::audit_text;
-pub use drill::{DrillReport, drill_text};

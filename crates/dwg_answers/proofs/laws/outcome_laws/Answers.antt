@@ -1,4 +1,5 @@
 use Rattle.dwg_answers.proofs.OutcomeLaws.{DrawingLaws, FileLaws, no_drawing_is_refused, show_prints_drawing, rewrite_writes_drawing, rewrite_tells_size, audit_tells_sound, recover_rewrites_drawing, recover_writes_frames}
+use Rattle.dwg_answers.proofs.SectionLaws.{PartLaws, sections_prints_header, no_header_is_refused, classes_prints_classes, no_classes_are_refused}
 use Rattle.dwg_answers.proofs.laws.outcome_laws.Goals as goal
 
 pub returns : goal.returns
@@ -10,7 +11,20 @@ returns c =
       valid = λ bytes drawing are within spelled. c.drawing_laws.ensures.valid bytes drawing are within spelled;
     } in
     let files : FileLaws = record { spells = c.canonical_laws.ensures.spells; counted = c.canonical_laws.ensures.counted; no_other = c.canonical_laws.ensures.no_other } in
+    let parts : PartLaws = record {
+      begins = c.file_header_laws.ensures.sound;
+      header = c.file_header_laws.ensures.complete;
+      located = c.file_header_laws.ensures.located;
+      stands = c.framed_laws.ensures.sound;
+      section = c.framed_laws.ensures.complete;
+      classes = λ place content classes are. (c.classes_laws.ensures.read place content classes).1 are;
+      cut = λ place content classes tried. (c.classes_laws.ensures.read place content classes).0 tried;
+    } in
     record {
+      sections = sections_prints_header parts;
+      no_header = no_header_is_refused parts;
+      classes = classes_prints_classes parts;
+      no_classes = no_classes_are_refused parts;
       refused = no_drawing_is_refused laws;
       show = show_prints_drawing laws;
       rewrite = rewrite_writes_drawing laws files;

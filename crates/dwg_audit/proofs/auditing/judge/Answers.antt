@@ -5,9 +5,9 @@ use Rattle.dwg_object.specs.Objects.{value_of}
 use Rattle.dwg_audit.proofs.auditing.judge.Goals as goal
 
 pub returns : goal.returns
-returns g c =
+returns c =
     on_ok_weaker c.push_lost.result
-    (λ last. found_by_rules (map value_of c.args.objects.now) c.args.tables.now.known (value_of c.args.object.now)
+    (λ last. found_by_rules (map value_of c.args.objects.now) c.args.known.now (value_of c.args.object.now)
     c.args.found.now c.push_unresolved.new.found c.push_unclaimed.new.found c.push_unchained.new.found c.push_lost.new.found c.requires.typed (search rules) (search rules) (search rules)
-    last c.requires.tables.known)
+    last c.requires.known)
     c.push_lost.ensures

@@ -1,6 +1,6 @@
 use Rattle.std.proofs.Common.{rules, ◌+◌, map, arith}
 use Rattle.std.proofs.lemmas.List.{length-map}
-use Rattle.dwg_audit.proofs.Judging.{value_at, one_of_all, slots_of_one, one_further, findings_begin, all_found}
+use Rattle.dwg_audit.proofs.Judging.{value_at, one_of_all, one_further, findings_begin, all_found}
 use Rattle.dwg_audit.specs.Findings.{findings_of}
 use Rattle.dwg_graph.specs.Owners.{spaces}
 use Rattle.dwg_object.specs.Objects.{value_of}
@@ -8,34 +8,38 @@ use Rattle.dwg_object.specs.Written.{IsWhole}
 use Rattle.dwg_audit.proofs.auditing.judge_all.Goals as goal
 
 pub along-init : goal.along-init
-along-init g c = findings_begin (map value_of c.args.objects.now) c.new-found.result c.push_control.new.found c.new-found.ensures (search rules)
+along-init c = findings_begin (map value_of c.args.objects.now) c.new-found.result c.push_control.new.found c.new-found.ensures (search rules)
 
 pub judge_if_typed-requires-clause-standing : goal.judge_if_typed-requires-clause-standing
-judge_if_typed-requires-clause-standing g c =
-    c.standing_at-standing.ensures (value_of c.index-objects-place.result) (value_at value_of c.args.objects.now c.along.place c.index-objects-place.result c.along-test.true c.index-objects-place.is)
+judge_if_typed-requires-clause-standing c =
+    c.standing_at.ensures (value_of c.index-objects-place.result) (value_at value_of c.args.objects.now c.along.place c.index-objects-place.result c.along-test.true c.index-objects-place.is)
 
-pub judge_if_typed-requires-clause-few : goal.judge_if_typed-requires-clause-few
-judge_if_typed-requires-clause-few g c =
-    omega (
-      arith,
-      slots_of_one (map value_of c.args.objects.now) c.along.place (value_of c.index-objects-place.result)
-          (value_at value_of c.args.objects.now c.along.place c.index-objects-place.result c.along-test.true c.index-objects-place.is),
-      c.requires.few,
-    )
+pub judge_if_typed-requires-clause-known : goal.judge_if_typed-requires-clause-known
+judge_if_typed-requires-clause-known c = c.requires.tables.known
+
+pub judge_if_typed-requires-clause-held_slots : goal.judge_if_typed-requires-clause-held_slots
+judge_if_typed-requires-clause-held_slots c =
+    c.slots_at.ensures (value_of c.index-objects-place.result)
+    (value_at value_of c.args.objects.now c.along.place c.index-objects-place.result c.along-test.true c.index-objects-place.is)
+
+pub judge_if_typed-requires-clause-places : goal.judge_if_typed-requires-clause-places
+judge_if_typed-requires-clause-places c =
+    c.places_at.ensures (value_of c.index-objects-place.result)
+    (value_at value_of c.args.objects.now c.along.place c.index-objects-place.result c.along-test.true c.index-objects-place.is)
 
 pub judge_if_typed-requires-clause-whole : goal.judge_if_typed-requires-clause-whole
-judge_if_typed-requires-clause-whole g c =
+judge_if_typed-requires-clause-whole c =
     one_of_all IsWhole (map value_of c.args.objects.now) c.along.place (value_of c.index-objects-place.result) c.requires.whole
     (value_at value_of c.args.objects.now c.along.place c.index-objects-place.result c.along-test.true c.index-objects-place.is)
 
 pub along-preserved : goal.along-preserved
-along-preserved g c =
+along-preserved c =
     one_further (findings_of (map value_of c.args.objects.now) (spaces (map value_of c.args.objects.now))) (map value_of c.args.objects.now) c.along.place (c.along.place + 1)
     (value_of c.index-objects-place.result) c.along.found c.judge_if_typed.new.found _
     (value_at value_of c.args.objects.now c.along.place c.index-objects-place.result c.along-test.true c.index-objects-place.is)
     (omega arith) c.along.invariant (search rules)
 
 pub returns : goal.returns
-returns g c =
+returns c =
     all_found (findings_of (map value_of c.args.objects.now) (spaces (map value_of c.args.objects.now))) (map value_of c.args.objects.now) c.along.place c.along.found _
     (omega (arith, c.along-test.false, length-map c.args.objects.now value_of)) c.along.invariant

@@ -5,7 +5,7 @@ use Rattle.dwg_audit.proofs.claims.count_all.Given as goal
 
 -- the holders so far are counted
 abbrev pub invariant-along : goal.invariant-along
-invariant-along g l = record {
-  all : AreCounts (map value_of l.objects) (take l.holder-index (map value_of l.objects)) all_of l.claimed.all.items;
-  own : AreCounts (map value_of l.objects) (take l.holder-index (map value_of l.objects)) (own_of l.known) l.claimed.own.items;
+invariant-along l = record {
+  all : AreCounts (map value_of l.objects) (take l.place (map value_of l.objects)) all_of l.claimed.all.items;
+  own : AreCounts (map value_of l.objects) (take l.place (map value_of l.objects)) (own_of l.known) l.claimed.own.items;
 }

@@ -1,12 +1,14 @@
-use Rattle.std.proofs.Common.{map, arith}
+use Rattle.std.proofs.Common.{ap, length, map, arith}
+use Rattle.dwg_audit.proofs.GivenSlots.{slot_there, places_long, place_there}
 use Rattle.dwg_audit.proofs.SlotLoops.{none_counted, one_counted, still_open}
 use Rattle.dwg_audit.specs.Claimed.{leads_to, leads_down}
+use Rattle.dwg_graph.specs.Places.{handles_of}
 use Rattle.dwg_graph.specs.Slots.{slots}
 use Rattle.dwg_object.specs.Objects.{handle_of, kind_of, value_of}
 use Rattle.dwg_audit.proofs.claims.count_holder.Goals as goal
 
 pub along-init : goal.along-init
-along-init g c =
+along-init c =
     let holder = value_of c.args.holder.now in
     record {
       all = none_counted (map value_of c.args.objects.now) leads_to (kind_of holder) (slots holder) c.args.claimed.now.all.items;
@@ -14,23 +16,32 @@ along-init g c =
     }
 
 pub count_slot-requires-clause-all : goal.count_slot-requires-clause-all
-count_slot-requires-clause-all g c =
+count_slot-requires-clause-all c =
     let holder = value_of c.args.holder.now in
     still_open (map value_of c.args.objects.now) leads_to (kind_of holder) (slots holder) c.along.i c.args.claimed.now.all.items c.along.claimed.all.items
-    (omega (arith, c.along-test.true, c.slot_count-count.ensures)) c.requires.all c.along.invariant.all
+    (omega (arith, c.along-test.true, ap length c.requires.held_slots)) c.requires.all c.along.invariant.all
 
 pub count_slot-requires-clause-own : goal.count_slot-requires-clause-own
-count_slot-requires-clause-own g c =
+count_slot-requires-clause-own c =
     let holder = value_of c.args.holder.now in
     still_open (map value_of c.args.objects.now) (leads_down c.args.known.now (handle_of holder)) (kind_of holder) (slots holder) c.along.i c.args.claimed.now.own.items
-    c.along.claimed.own.items (omega (arith, c.along-test.true, c.slot_count-count.ensures)) c.requires.own c.along.invariant.own
+    c.along.claimed.own.items (omega (arith, c.along-test.true, ap length c.requires.held_slots)) c.requires.own c.along.invariant.own
 
 pub along-preserved : goal.along-preserved
-along-preserved g c =
+along-preserved c =
     let holder = value_of c.args.holder.now in
     record {
-      all = one_counted (map value_of c.args.objects.now) leads_to (kind_of holder) (slots holder) c.along.i c.slot_at-slot.result c.args.claimed.now.all.items c.along.claimed.all.items
-          c.count_slot.new.claimed.all.items c.slot_at-slot.ensures c.along.invariant.all c.count_slot.ensures.all;
-      own = one_counted (map value_of c.args.objects.now) (leads_down c.args.known.now (handle_of holder)) (kind_of holder) (slots holder) c.along.i c.slot_at-slot.result
-          c.args.claimed.now.own.items c.along.claimed.own.items c.count_slot.new.claimed.own.items c.slot_at-slot.ensures c.along.invariant.own c.count_slot.ensures.own;
+      all = one_counted (map value_of c.args.objects.now) leads_to (kind_of holder) (slots holder) c.along.i c.index-held-i.result c.args.claimed.now.all.items c.along.claimed.all.items
+          c.count_slot.new.claimed.all.items (slot_there (slots holder) c.args.held.now c.along.i c.index-held-i.result c.requires.held_slots c.along-test.true c.index-held-i.is) c.along.invariant.all c.count_slot.ensures.all;
+      own = one_counted (map value_of c.args.objects.now) (leads_down c.args.known.now (handle_of holder)) (kind_of holder) (slots holder) c.along.i c.index-held-i.result
+          c.args.claimed.now.own.items c.along.claimed.own.items c.count_slot.new.claimed.own.items (slot_there (slots holder) c.args.held.now c.along.i c.index-held-i.result c.requires.held_slots c.along-test.true c.index-held-i.is) c.along.invariant.own c.count_slot.ensures.own;
     }
+
+pub place_at-requires : goal.place_at-requires
+place_at-requires c =
+    omega (arith, c.along-test.true, places_long (handles_of (map value_of c.args.objects.now)) (slots (value_of c.args.holder.now)) c.args.held.now c.args.places.now c.requires.held_slots c.requires.places)
+
+pub count_slot-requires-clause-place : goal.count_slot-requires-clause-place
+count_slot-requires-clause-place c =
+    place_there (handles_of (map value_of c.args.objects.now)) (slots (value_of c.args.holder.now)) c.args.held.now c.args.places.now c.along.i c.index-held-i.result c.place_at.result
+    c.requires.held_slots c.requires.places c.along-test.true c.index-held-i.is c.place_at.ensures

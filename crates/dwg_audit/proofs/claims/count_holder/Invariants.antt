@@ -7,7 +7,7 @@ use Rattle.dwg_audit.proofs.claims.count_holder.Given as goal
 
 -- the slots so far are counted
 abbrev pub invariant-along : goal.invariant-along
-invariant-along g l = record {
+invariant-along l = record {
   all : IsCounted (map value_of l.objects) leads_to (kind_of (value_of l.holder)) (slots (value_of l.holder)) l.i l.initial.claimed.all.items l.claimed.all.items;
   own : IsCounted (map value_of l.objects) (leads_down l.known (handle_of (value_of l.holder))) (kind_of (value_of l.holder)) (slots (value_of l.holder)) l.i l.initial.claimed.own.items l.claimed.own.items;
 }

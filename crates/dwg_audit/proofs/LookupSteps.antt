@@ -1,0 +1,25 @@
+-- The steps of lookups, one behind the other.
+use Rattle.std.proofs.Common.{◌≡◌, ◌<◌, ◌≤◌, ◌+◌, ◌*◌, ℕ, arith}
+use Rattle.std.proofs.Math.Nat.{mul-le-mul_right}
+use Rattle.dwg_audit.specs.Lookups.{TakeAtMost}
+
+-- no lookup takes a step
+pub none_taken : (handles before : ℕ) → TakeAtMost handles 0 before before
+none_taken handles before k fits = omega arith
+
+-- more lookups may take more
+pub at_most : (handles few many before after : ℕ) → few ≤ many → TakeAtMost handles few before after → TakeAtMost handles many before after
+at_most handles few many before after less taken k fits =
+    let most : few * k ≤ many * k = mul-le-mul_right k less in
+    omega (arith, most, taken k fits)
+
+-- lookups and further ones
+pub both_taken : (handles one other before between after : ℕ) → TakeAtMost handles one before between → TakeAtMost handles other between after → TakeAtMost handles (one + other) before after
+both_taken handles one other before between after first second k fits =
+    let sum : (one + other) * k ≡ one * k + other * k = grind arith in
+    omega (arith, sum, first k fits, second k fits)
+
+-- one lookup more of so many
+pub one_taken : (handles i many before between after : ℕ) → i < many → TakeAtMost handles i before between → TakeAtMost handles 1 between after → TakeAtMost handles many before after
+one_taken handles i many before between after less first second =
+    at_most handles (i + 1) many before after (omega (arith, less)) (both_taken handles i 1 before between after first second)

@@ -1,0 +1,170 @@
+-- The slots of each object are a part of those of all.
+use Rattle.std.proofs.Common.{◌≡◌, refl, sym, ap, subst, ◌∙◌, ◌<◌, ◌≤◌, ◌+◌, ◌-◌, ℕ, zero, suc, List, [], ◌∷◌, ◌++◌, length, map, get_or, take, drop, Some, inl, inr, arith}
+use Rattle.std.specs.Prelude.{◌⊎◌, flat_map}
+use Rattle.std.specs.List.{slice_get, slice_index_or}
+use Rattle.std.proofs.lemmas.Bool.{cases_lt}
+use Rattle.std.proofs.lemmas.List.{append_assoc, append-nil, drop-drop, drop_at, length-append, take_all, take_at, take_more, take-append-le, get_or_append_left, get_or_push}
+use Rattle.std.proofs.lemmas.List.Concat.{length-flat_map}
+use Rattle.std.proofs.lemmas.Option.{same_Some, slice_get_within, get_or_from_slice_get}
+use Rattle.dwg_audit.proofs.Counting.{value_there}
+use Rattle.dwg_audit.specs.Claimed.{reference_count}
+use Rattle.dwg_audit.specs.Lookups.{AreStarts, all_slots}
+use Rattle.dwg_graph.specs.declared.slot.Slot.{Slot}
+use Rattle.dwg_graph.specs.Slots.{slots}
+use Rattle.dwg_object.specs.declared.object.Object as declared
+use Rattle.dwg_object.specs.Objects.{ObjectValue, value_of}
+
+-- a front of joined lists is the first of them
+front_taken : {A : Type 0} (front back : List A) → take (length front) (front ++ back) ≡ front
+front_taken front back = take_at front back (length front) refl
+
+-- what is left behind it
+front_dropped : {A : Type 0} (front back : List A) (more : ℕ) → drop (length front + more) (front ++ back) ≡ drop more back
+front_dropped front back more = sym (drop-drop more (length front) (front ++ back)) ∙ ap (drop more) (drop_at front back (length front) refl)
+
+-- of joined lists, the one of a thing is the part between the lists before it and those with it
+pub part_of_all : {A B : Type 0} (f : A → List B) (things : List A) (place : ℕ) (x : A) → slice_get things place ≡ Some x
+    → take (length (flat_map f (take (suc place) things)) - length (flat_map f (take place things))) (drop (length (flat_map f (take place things))) (flat_map f things)) ≡ f x
+part_of_all {A} {B} f [] place x at = absurd (cc at)
+part_of_all {A} {B} f (first ∷ more) zero x at =
+    let one : length (f first ++ []) - 0 ≡ length (f first) = omega (arith, ap length (append-nil (f first))) in
+    ap (λ (n : ℕ). take n (f first ++ flat_map f more)) one ∙ front_taken (f first) (flat_map f more) ∙ ap f (same_Some first x at)
+part_of_all {A} {B} f (first ∷ more) (suc place) x at =
+    let before : ℕ = length (flat_map f (take place more)) in
+    let with : ℕ = length (flat_map f (take (suc place) more)) in
+    let from : length (f first ++ flat_map f (take place more)) ≡ length (f first) + before = length-append (f first) (flat_map f (take place more)) in
+    let to : length (f first ++ flat_map f (take (suc place) more)) ≡ length (f first) + with = length-append (f first) (flat_map f (take (suc place) more)) in
+    let wide : length (f first ++ flat_map f (take (suc place) more)) - length (f first ++ flat_map f (take place more)) ≡ with - before = omega (arith, from, to) in
+    ap (λ (n : ℕ). take n (drop (length (f first ++ flat_map f (take place more))) (f first ++ flat_map f more))) wide
+    ∙ ap (λ (n : ℕ). take (with - before) (drop n (f first ++ flat_map f more))) from
+    ∙ ap (take (with - before)) (front_dropped (f first) (flat_map f more) before)
+    ∙ part_of_all f more place x at
+
+-- a part of what is seen is what is seen of the part
+pub part_seen : {A B : Type 0} (view : A → B) (wide from : ℕ) (all : List A) → take wide (drop from (map view all)) ≡ map view (take wide (drop from all))
+part_seen {A} {B} view zero from all = refl
+part_seen {A} {B} view (suc wide) zero [] = refl
+part_seen {A} {B} view (suc wide) zero (x ∷ all) = ap (λ rest. view x ∷ rest) (part_seen view wide zero all)
+part_seen {A} {B} view (suc wide) (suc from) [] = refl
+part_seen {A} {B} view (suc wide) (suc from) (x ∷ all) = part_seen view (suc wide) from all
+
+-- joined lists of more things are longer
+grows : {A B : Type 0} (f : A → List B) (things : List A) (place : ℕ) → length (flat_map f (take place things)) ≤ length (flat_map f (take (suc place) things))
+grows {A} {B} f [] zero = omega arith
+grows {A} {B} f [] (suc place) = omega arith
+grows {A} {B} f (first ∷ more) zero = omega arith
+grows {A} {B} f (first ∷ more) (suc place) =
+    omega (arith, length-append (f first) (flat_map f (take place more)), length-append (f first) (flat_map f (take (suc place) more)), grows f more place)
+
+-- and those of all are the longest
+ends : {A B : Type 0} (f : A → List B) (things : List A) (place : ℕ) → length (flat_map f (take place things)) ≤ length (flat_map f things)
+ends {A} {B} f [] zero = omega arith
+ends {A} {B} f [] (suc place) = omega arith
+ends {A} {B} f (first ∷ more) zero = omega arith
+ends {A} {B} f (first ∷ more) (suc place) =
+    omega (arith, length-append (f first) (flat_map f (take place more)), length-append (f first) (flat_map f more), ends f more place)
+
+starts_grow : (objects : List ObjectValue) (place : ℕ) → length (all_slots (take place objects)) ≤ length (all_slots (take (suc place) objects))
+unfolding all_slots
+starts_grow objects place = grows slots objects place
+
+starts_within : (objects : List ObjectValue) (place : ℕ) → length (all_slots (take place objects)) ≤ length (all_slots objects)
+unfolding all_slots
+starts_within objects place = ends slots objects place
+
+slots_of_object : (objects : List ObjectValue) (place : ℕ) (x : ObjectValue) → slice_get objects place ≡ Some x
+    → take (length (all_slots (take (suc place) objects)) - length (all_slots (take place objects))) (drop (length (all_slots (take place objects))) (all_slots objects)) ≡ slots x
+unfolding all_slots
+slots_of_object objects place x at = part_of_all slots objects place x at
+
+-- there are as many as are counted
+pub slots_counted : (objects : List ObjectValue) → length (all_slots objects) ≡ reference_count objects
+unfolding all_slots reference_count
+slots_counted objects = length-flat_map slots objects
+
+-- those of one object more
+pub slots_of_more : (objects : List ObjectValue) (x : ObjectValue) → all_slots (objects ++ x ∷ []) ≡ all_slots objects ++ slots x
+unfolding all_slots
+slots_of_more [] x = append-nil (slots x)
+slots_of_more (first ∷ objects) x = ap (λ rest. slots first ++ rest) (slots_of_more objects x) ∙ sym (append_assoc (slots first) (flat_map slots objects) (slots x))
+
+-- where the slots begin, of one object more
+starts_more : (objects : List ObjectValue) (x : ObjectValue) (starts : List ℕ) (end : ℕ) → AreStarts objects starts → end ≡ length (all_slots (objects ++ x ∷ [])) → AreStarts (objects ++ x ∷ []) (starts ++ end ∷ [])
+starts_more objects x starts end are is = record {
+  count = omega (arith, length-append starts (end ∷ []), length-append objects (x ∷ []), are.count);
+  each = λ place most. each place most (cases_lt place (length starts));
+}
+  where
+    each : (place : ℕ) → place ≤ length (objects ++ x ∷ []) → (place < length starts) ⊎ (length starts ≤ place) → slice_index_or (starts ++ end ∷ []) place 0 ≡ length (all_slots (take place (objects ++ x ∷ [])))
+    each place most (inl before) =
+        get_or_append_left starts (end ∷ []) 0 place before
+        ∙ are.each place (omega (arith, before, are.count))
+        ∙ ap (λ (front : List ObjectValue). length (all_slots front)) (sym (take-append-le place objects (x ∷ []) (omega (arith, before, are.count))))
+    each place most (inr behind) =
+        let last : length starts ≡ place = omega (arith, behind, most, length-append objects (x ∷ []), are.count) in
+        get_or_push starts end 0 place last
+        ∙ is
+        ∙ ap (λ (front : List ObjectValue). length (all_slots front)) (sym (take_all place (objects ++ x ∷ []) (omega (arith, last, length-append objects (x ∷ []), are.count))))
+
+-- no slot of no object
+pub starts_begin : (starts : List ℕ) → starts ≡ 0 ∷ [] → AreStarts [] starts
+unfolding all_slots
+starts_begin starts is = record {
+  count = ap length is;
+  each = λ place most.
+      let first : place ≡ 0 = omega (arith, most) in
+      subst (λ n. slice_index_or starts n 0 ≡ length (flat_map slots (take n []))) (sym first) (ap (λ (all : List ℕ). slice_index_or all 0 0) is);
+}
+
+-- no slots are gathered of no object
+pub no_slots : (slots : List Slot) → slots ≡ [] → slots ≡ all_slots []
+unfolding all_slots
+no_slots slots is = is
+
+-- the objects so far, and one more
+pub one_object_more : (objects : List declared.Object) (i : ℕ) (object : declared.Object) → i < length objects → object ≡ get_or objects i object
+    → take i (map value_of objects) ++ value_of object ∷ [] ≡ take (i + 1) (map value_of objects)
+one_object_more objects i object within is =
+    let there : slice_get (map value_of objects) i ≡ Some (value_of object) = value_there objects i object within is in
+    sym (take_more (map value_of objects) i (value_of object) (slice_get_within (map value_of objects) i (value_of object) there)
+    ∙ ap (λ (x : ObjectValue). take i (map value_of objects) ++ x ∷ []) (get_or_from_slice_get (map value_of objects) i (value_of object) (value_of object) there))
+
+-- the slots of one object more are gathered
+pub gathers_more : (objects : List ObjectValue) (x : ObjectValue) (before after : List Slot) (starts more : List ℕ) → after ≡ before ++ slots x → more ≡ starts ++ length after ∷ []
+    → before ≡ all_slots objects → AreStarts objects starts → (after ≡ all_slots (objects ++ x ∷ [])) × AreStarts (objects ++ x ∷ []) more
+gathers_more objects x before after starts more grown pushed is are = (all, subst (AreStarts (objects ++ x ∷ [])) (sym pushed) (starts_more objects x starts (length after) are (ap length all)))
+  where
+    all : after ≡ all_slots (objects ++ x ∷ [])
+    all = grown ∙ ap (λ front. front ++ slots x) is ∙ sym (slots_of_more objects x)
+
+-- what a table says of where the slots of an object begin and end
+pub record AreBounds (objects : List ObjectValue) (place from to : ℕ) : Type 0 where
+  pub begins : from ≡ length (all_slots (take place objects))
+  pub ends : to ≡ length (all_slots (take (suc place) objects))
+
+pub bounds_told : (objects : List ObjectValue) (starts : List ℕ) (place next from to : ℕ) → AreStarts objects starts → place < length objects → next ≡ suc place
+    → from ≡ slice_index_or starts place 0 → to ≡ slice_index_or starts next 0 → AreBounds objects place from to
+bounds_told objects starts place next from to are within further begins ends_there = record {
+  begins = begins ∙ are.each place (omega (arith, within));
+  ends = ends_there ∙ are.each next (omega (arith, within, further))
+      ∙ ap (λ (n : ℕ). length (all_slots (take n objects))) further;
+}
+
+pub bounds_ordered : (objects : List ObjectValue) (place from to : ℕ) → AreBounds objects place from to → from ≤ to
+bounds_ordered objects place from to are = omega (arith, are.begins, are.ends, starts_grow objects place)
+
+pub bounds_within : (objects : List ObjectValue) (place from to : ℕ) → AreBounds objects place from to → to ≤ length (all_slots objects)
+bounds_within objects place from to are = omega (arith, are.ends, starts_within objects (suc place))
+
+-- the part between them has the slots of the object
+pub part_is : (objects : List ObjectValue) (place from to : ℕ) (x : ObjectValue) → AreBounds objects place from to → slice_get objects place ≡ Some x
+    → take (to - from) (drop from (all_slots objects)) ≡ slots x
+part_is objects place from to x are at =
+    ap (λ (n : ℕ). take (n - from) (drop from (all_slots objects))) are.ends
+    ∙ ap (λ (n : ℕ). take (length (all_slots (take (suc place) objects)) - n) (drop n (all_slots objects))) are.begins
+    ∙ slots_of_object objects place x at
+
+-- and of what is seen of all slots, what is seen of those
+pub part_is_seen : {B : Type 0} (view : Slot → B) (objects : List ObjectValue) (place from to : ℕ) (x : ObjectValue) → AreBounds objects place from to → slice_get objects place ≡ Some x
+    → take (to - from) (drop from (map view (all_slots objects))) ≡ map view (slots x)
+part_is_seen {B} view objects place from to x are at = part_seen view (to - from) from (all_slots objects) ∙ ap (map view) (part_is objects place from to x are at)
