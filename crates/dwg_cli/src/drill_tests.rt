@@ -2,7 +2,7 @@
 
 use crate::test_inputs::input_of;
 use crate::test_runs::{Answers, every_line};
-use crate::tests::Used;
+use crate::tests::{OverDevices, Used};
 use dwg_samples::{Case, bytes_of};
 use std::alloc::Global;
 use std::test::Fail;
@@ -74,6 +74,16 @@ made/2000/1 | 110844 | B3DD",
 dwg rewrite | made/1/1 ~961 | Refused 30 12 713 | - | dwg: refused: objects 12 at 713: check
 dwg rewrite | made/17/1 ~1405 | Refused 28 18 1404 | - | dwg: refused: objects 18 at 1404: length
 dwg rewrite | made/2000/1 ~55422 | Refused 30 1068 55402 | - | dwg: refused: objects 1068 at 55402: check",
+    )
+}
+
+#[test]
+fn drills_the_largest_size(rt: HostRuntime) -> Result<(), Fail> {
+    every_line::<OverDevices>(
+        rt.alloc(),
+        "\
+dwg drill 200000 | 1000000 0 1000000 0 | nothing | Done | \
+drill 200000; objects 200029; bytes 11120301; check 0ADA; changed 5560150 objects 104807 at 5560103: check; findings 0 | -",
     )
 }
 

@@ -2,8 +2,10 @@
 
 use crate::test_inputs::input_of;
 use crate::test_runs::{
-    Answers, PLENTY, Wanted, answers_text, every_line, in_pieces, leaves_in_pieces, lines_of, ran,
+    Answers, Left, PLENTY, Wanted, answers_text, every_line, in_pieces, leaves_in_pieces, lines_of,
+    ran,
 };
+use crate::tests::OverDevices;
 use dwg_answers::Status;
 use dwg_samples::Case;
 use std::alloc::Global;
@@ -203,6 +205,38 @@ fn first_failing_cut(alloc: Global, made: &[u8]) -> Option<usize> {
     (0..1920usize).step_by(10).find(|length| is_cut_recovered(alloc, made, *length) != Some(true))
 }
 
+/// The drawing that is made of 20,000 and 1 with a byte changed: the first of the check word of its map's first page, which begins at
+/// 1053874 and has 2,030 bytes in front of that word.
+const LARGE: &str = "made/20000/1 ~1055904";
+
+/// What is noted of it first.
+const FIRST_NOTES: &str = "\
+dwg: refused: map 0 at 1055904: check
+lost: map page 0 at 1053874
+found: object 1 at 183
+";
+
+/// What is noted of it last, behind the other objects of the page.
+const LAST_NOTES: &str = "
+found: object 3C4 at 48917
+kept 20029
+";
+
+/// Whether a run recovered a whole drawing, with these notes.
+fn is_whole(ran: &Left, whole: &[u8]) -> bool {
+    let notes = ran.notes.as_slice();
+    ran.status == Status::Found
+        && ran.output.as_slice() == whole
+        && notes.starts_with(FIRST_NOTES.as_bytes())
+        && notes.ends_with(LAST_NOTES.as_bytes())
+}
+
+/// Whether recovery of a damaged drawing leaves the whole one, with these notes.
+fn is_recovered_whole(alloc: Global, damaged: &[u8], whole: &[u8]) -> Option<bool> {
+    let ran = ran(alloc, "dwg recover", damaged, in_pieces(PLENTY))?;
+    Some(is_whole(&ran, whole))
+}
+
 #[test]
 fn recovers_a_drawing_as_it_stands(rt: HostRuntime) -> Result<(), Fail> {
     every_line::<Answers>(
@@ -221,6 +255,17 @@ fn recovers_the_smallest_file_of_nothing(rt: HostRuntime) -> Result<(), Fail> {
         "\
 all | nothing | smallest | \
 dwg: refused: header 0 at 0: short; lost: file header; lost: header variables; lost: classes; kept 0",
+    )
+}
+
+#[test]
+fn finds_nothing_where_frames_seem_to_begin_at_each_byte(rt: HostRuntime) -> Result<(), Fail> {
+    // The length of a body of 32,639 bytes stands at each byte but the last.
+    every_line::<OverDevices>(
+        rt.alloc(),
+        "\
+dwg recover | 1000000 0 1000000 0 | 7F*2097152 | Found | file smallest | \
+dwg: refused: header 0 at 0: version; lost: file header; lost: header variables; lost: classes; kept 0",
     )
 }
 
@@ -261,4 +306,13 @@ fn finds_the_frames_in_front_of_a_cut(rt: HostRuntime) -> Result<(), Fail> {
         "\
 end of the map | made/1/7 #1920 | made/1/7 | dwg: refused: map 1 at 1919: short; lost: map end at 1919; kept 30",
     )
+}
+
+#[test]
+fn keeps_all_objects_of_a_large_drawing(rt: HostRuntime) -> Result<(), Fail> {
+    let alloc = rt.alloc();
+    let whole = input_of(alloc, "made/20000/1").ok_or("no drawing")?;
+    let damaged = input_of(alloc, LARGE).ok_or("no drawing")?;
+    assert_eq!(rt; is_recovered_whole(alloc, &damaged, &whole), Some(true));
+    Ok(())
 }

@@ -162,10 +162,20 @@ fn made(alloc: Global, numbers: &str) -> Option<Vec<u8>> {
     Vec::from_slice(alloc, made.as_slice()).ok()
 }
 
-/// A canonical file by its name, the drawing that is made of two numbers, or `nothing`.
+/// A byte so many times.
+fn repeated(alloc: Global, byte: &str, count: &str) -> Option<Vec<u8>> {
+    let byte = u8::from_str_radix(byte, 16).ok()?;
+    let count = count.parse::<usize>().ok()?;
+    vec![in alloc; byte; count].ok()
+}
+
+/// A canonical file by its name, the drawing that is made of two numbers, a byte so many times (`7F*1000`), or `nothing`.
 fn base_of(alloc: Global, name: &str) -> Option<Vec<u8>> {
     if name == "nothing" {
         return Some(Vec::new(alloc));
+    }
+    if let Some((byte, count)) = name.split_once("*") {
+        return repeated(alloc, byte, count);
     }
     match name.strip_prefix("made/") {
         Some(numbers) => made(alloc, numbers),

@@ -8,8 +8,8 @@ use dwg_samples::{Case, first_failing};
 use std::alloc::Global;
 use std::test::Fail;
 
-/// How much a call of a device gives or takes at the most, and how much a sink holds, where nothing holds it back.
-pub(crate) const PLENTY: usize = 1_000_000;
+/// How much a call of a device gives or takes at the most, and how much a sink holds, where nothing holds it back: no drawing is larger.
+pub(crate) const PLENTY: usize = 33_554_432;
 
 /// How the devices of a run behave. Calls are counted from 1; the call 0 is none.
 #[derive(Clone, Copy)]

@@ -70,7 +70,7 @@ fn shows(alloc: Global, input: &str, output: Vec<u8>) -> Option<bool> {
 
 /// `COMMAND LINE | DEVICES | INPUT | STATUS | OUTPUT | NOTES`: what a run over such devices leaves. They are how much a read gives at the
 /// most, the read that fails, how much a write takes at the most, and the write of output that fails; 0 for none.
-struct OverDevices;
+pub(crate) struct OverDevices;
 
 impl Case for OverDevices {
     fn holds(alloc: Global, line: &str) -> bool {

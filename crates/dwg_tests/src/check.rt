@@ -4,7 +4,7 @@ ghost use Rattle.std.specs.Prelude.{◌≡◌, ◌≤◌, ◌<◌, length};
 
 use crate::lines::{Line, Tale, all_hold};
 use crate::told::Told;
-use dwg_check::{SpanChecks, check, header_word, shift};
+use dwg_check::{FRAME_START, SpanChecks, check, header_word, shift};
 use dwg_steps::Steps;
 use std::alloc::Global;
 use std::marker::Brand;
@@ -110,6 +110,38 @@ impl Tale for Spans {
     }
 }
 
+/// How many of the first `count` places stand before one from which the check word of the span up to `to` isn't that of a shift by as many
+/// zeros.
+fn spans_like_shifts(checks: &SpanChecks<'_>, count: usize, to: usize) -> usize
+    requires order { count ≤ to }
+    requires within { to ≤ length checks.now }
+{
+    'places: for from in 0..count {
+        let zeros = (to - from) as u64;
+        if span_word(checks, FRAME_START, from, to) != shift(FRAME_START, zeros) {
+            return from;
+        }
+    }
+    count
+}
+
+/// The same of the first `count` places and the end of the bytes. None for want of memory, and where there are fewer bytes.
+fn spans_to_the_end(alloc: Global, bytes: &[u8], count: usize) -> Option<usize> {
+    if count > bytes.len() {
+        return None;
+    }
+    match SpanChecks::build(alloc, bytes) {
+        Ok(checks) => Some(spans_like_shifts(&checks, count, bytes.len())),
+        Err(_) => None,
+    }
+}
+
+/// The same of so many zero bytes.
+fn spans_of_zeros(alloc: Global, zeros: usize, count: usize) -> Option<usize> {
+    let bytes = vec![in alloc; 0; zeros].ok()?;
+    spans_to_the_end(alloc, &bytes, count)
+}
+
 #[test]
 fn check_words_shifts_and_spans_are_those_of_the_polynomial(rt: HostRuntime) {
     let alloc = rt.alloc();
@@ -172,4 +204,10 @@ fn check_words_shifts_and_spans_are_those_of_the_polynomial(rt: HostRuntime) {
         3 4 : 00 02 01 D0 | xC00 xC00\n\
         4 4 : 00 02 01 D0 | xC0C1 xC0C1",
     );
+}
+
+#[test]
+fn long_spans_of_zeros_are_shifts(rt: HostRuntime) {
+    // Byte by byte that would take more than 130,000 million turns.
+    assert_eq!(rt; spans_of_zeros(rt.alloc(), 2_097_152, 65_536), Some(65_536));
 }
