@@ -1,6 +1,6 @@
 //! The bytes that frames took so far, for overlaps in any order.
 
-ghost use Rattle.std.specs.Prelude.{◌≡◌, ℕ, ◌-◌, ◌<◌, ◌||◌, [], false, IfOk};
+ghost use Rattle.std.specs.Prelude.{◌≡◌, ℕ, ◌+◌, ◌-◌, ◌<◌, ◌≤◌, ◌||◌, [], true, false, IfOk};
 
 use dwg_base::NoMemory;
 use std::alloc::Global;
@@ -45,6 +45,26 @@ impl Taken {
         match self.runs.range(from..).next() {
             Some((_, first)) => *first < end,
             None => false,
+        }
+    }
+
+    /// The place behind the run that a byte lies in; the place of the byte itself where it lies in none.
+    pub fn behind(&self, place: u64) -> u64
+        // No place is left out but such as lie in a run.
+        ensures after { place ≤ result }
+        ensures taken { (other : ℕ) → place ≤ other → other < result → shares self.now other (other + 1) ≡ true }
+
+        ensures free { result ≡ place → shares self.now place (place + 1) ≡ false }
+    {
+        match self.runs.range(place..).next() {
+            Some((last, first)) => {
+                if *first <= place {
+                    *last + 1
+                } else {
+                    place
+                }
+            }
+            None => place,
         }
     }
 

@@ -6,7 +6,7 @@ use Rattle.dwg_file.proofs.taken.Taken.add.Goals as goal
 pub invariant_of-result : goal.invariant_of-result
 invariant_of-result c =
     subst AreRuns (sym c.in-Ok.ensures.entries)
-    (runs_with (c.args.end - 1) c.args.from c.args.end c.self.inside.runs.entries c.self.invariant (omega arith) c.requires.some
+    (runs_with (c.args.end - 1) c.args.from c.args.end c.self.inside.runs.entries c.self.invariant (omega arith) c.ranges.end.fits c.requires.some
     (ap (λ runs. shares runs c.args.from c.args.end) c.self.view_is ∙ c.requires.apart))
 
 pub returns-in-Ok : goal.returns-in-Ok
