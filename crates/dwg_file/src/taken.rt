@@ -57,13 +57,7 @@ impl Taken {
         ensures free { result ≡ place → shares self.now place (place + 1) ≡ false }
     {
         match self.runs.range(place..).next() {
-            Some((last, first)) => {
-                if *first <= place {
-                    *last + 1
-                } else {
-                    place
-                }
-            }
+            Some((last, first)) => { if *first <= place { *last + 1 } else { place } }
             None => place,
         }
     }

@@ -1,7 +1,6 @@
 -- Frames that are looked for: the span at a place, what its body is read as, and whether its frame is kept.
-use Rattle.std.proofs.Common.{◌≡◌, refl, sym, ◌∙◌, ap, ap₂, subst, ℕ, suc, ◌+◌, ◌-◌, ◌*◌, ◌^◌, ◌<◌, ◌≤◌, Bool, true, false, ◌&&◌, List, [], ◌∷◌, ◌++◌, length, drop, Option, Some, None, arith, length-take}
+use Rattle.std.proofs.Common.{◌≡◌, refl, sym, ◌∙◌, ap, ap₂, subst, ℕ, ◌-◌, ◌^◌, ◌<◌, Bool, true, false, ◌&&◌, List, [], ◌∷◌, ◌++◌, length, drop, Option, Some, None, arith, length-take}
 use Rattle.std.specs.Prelude.{option_map, Ok, Err, if◌then◌else◌}
-use Rattle.std.specs.List.{range_with_len}
 use Rattle.std.specs.Option.{IsSome, is_some, option_and_then}
 use Rattle.std.specs.Result.{result_ok}
 use Rattle.std.proofs.lemmas.Bool.{both_ways}
@@ -18,7 +17,7 @@ use Rattle.dwg_object.specs.Frames.{SpanAt}
 use Rattle.dwg_object.proofs.HeadLaws.{begins_head, head_parsed}
 use Rattle.dwg_object.specs.Objects.{HeadParts, ObjectValue}
 use Rattle.dwg_recover.specs.declared.frame.Frame.{Frame}
-use Rattle.dwg_recover.specs.Frames.{has_common_part, is_free, is_new, keep_free, own_of_span, scanned, scanned_of, scanned_over, span_found, with_scanned}
+use Rattle.dwg_recover.specs.Frames.{has_common_part, is_free, is_new, keep_free, own_of_span, scanned, scanned_of, span_found}
 
 -- the body of a span that stands in the input is short
 pub short_body : (bytes body : List ℕ) (span : Span) → SpanAt bytes span → body ≡ span_body bytes span → length body < 2 ^ 60
@@ -139,28 +138,3 @@ pub is_kept : (classes : List Class) (bytes : List ℕ) (kept : List Frame) (pla
     → kept ++ record { pair = None; handle = own; from = place; end = span.end } ∷ [] ≡ keep_free kept (scanned classes bytes place)
 is_kept classes bytes kept place span own tried is free new common =
     sym (of_span classes bytes kept place span (Some own) (span_there bytes place span tried) is ∙ decided classes bytes kept place span own true true true free new common)
-
--- how far the scan is: the frames kept and what is left give all, and each place that was tried took no more than its steps
-pub record IsScanned (classes : List Class) (bytes : List ℕ) (entry kept : List Frame) (place begun steps : ℕ) : Type 0 where
-  pub left : scanned_over classes bytes kept (range_with_len place (length bytes - place)) ≡ with_scanned classes bytes entry
-  pub spent : steps ≤ begun + 15 * place
-
--- it begins at the front
-pub scan_begins : (classes : List Class) (bytes : List ℕ) (kept : List Frame) (begun : ℕ) → IsScanned classes bytes kept kept 0 begun begun
-unfolding with_scanned
-scan_begins classes bytes kept begun =
-    let all : length bytes - 0 ≡ length bytes = omega arith in
-    record { left = ap (λ (n : ℕ). scanned_over classes bytes kept (range_with_len 0 n)) all; spent = omega arith }
-
--- it goes on by one place
-pub scan_goes_on : (classes : List Class) (bytes : List ℕ) (entry kept more : List Frame) (place begun steps spent : ℕ) → IsScanned classes bytes entry kept place begun steps → place < length bytes
-    → more ≡ keep_free kept (scanned classes bytes place) → spent ≤ steps + 15 → IsScanned classes bytes entry more (place + 1) begun spent
-scan_goes_on classes bytes entry kept more place begun steps spent is inside same few =
-    let one : length bytes - place ≡ suc (length bytes - (place + 1)) = omega arith in
-    record {
-      left =
-          ap (λ (frames : List Frame). scanned_over classes bytes frames (range_with_len (place + 1) (length bytes - (place + 1)))) same
-          ∙ sym (ap (λ (n : ℕ). scanned_over classes bytes kept (range_with_len place n)) one)
-          ∙ is.left;
-      spent = omega (arith, is.spent, few);
-    }

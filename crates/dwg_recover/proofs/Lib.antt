@@ -19,6 +19,7 @@ pub mod PlaceOrder
 pub mod RecoveredLaws
 pub mod RecoveryParts
 pub mod ResultLemmas
+pub mod ScanAlong
 pub mod ScanKeeping
 pub mod ScanReading
 pub mod SectionFinding

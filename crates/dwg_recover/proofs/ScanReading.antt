@@ -55,6 +55,7 @@ common_kept classes bytes kept place span own object tried is free new read =
     let form : ObjectValue = form_at classes (span_body bytes span) in
     let common = was_taken (has_common_part form) (value_of object) form read in
     record {
+      from = refl;
       more = is_kept classes bytes kept place span own tried is free new common.0;
       some = (span_inside bytes place span (span_there bytes place span tried)).some;
       free = free;

@@ -1,6 +1,7 @@
 -- The objects of the frames that are kept, and what the scan tells of a place. A rule of this project.
 use Rattle.std.specs.Bool.{then_some}
-use Rattle.std.specs.Prelude.{◌≡◌, ◌<◌, ℕ, true, List, [], ◌∷◌, ◌++◌, map, Option, Some, None}
+use Rattle.std.specs.List.{range_with_len}
+use Rattle.std.specs.Prelude.{◌≡◌, ◌+◌, ◌-◌, ◌*◌, ◌<◌, ◌≤◌, ℕ, true, List, [], ◌∷◌, ◌++◌, length, map, Option, Some, None}
 use Rattle.dwg_classes.specs.declared.class.Class.{Class}
 use Rattle.dwg_object.proofs.FormLaws.{form_at}
 use Rattle.dwg_object.specs.declared.span.Span.{Span}
@@ -9,7 +10,7 @@ use Rattle.dwg_object.specs.Objects.{ObjectValue, value_of}
 use Rattle.dwg_recover.specs.declared.frame.Frame.{Frame}
 use Rattle.dwg_recover.specs.declared.objects.FrameObject.{FrameObject}
 use Rattle.dwg_recover.specs.declared.objects.KeptObjects.{KeptObjects}
-use Rattle.dwg_recover.specs.Frames.{has_common_part, is_free, keep_free, scanned}
+use Rattle.dwg_recover.specs.Frames.{has_common_part, is_free, keep_free, scanned, scanned_over}
 use Rattle.dwg_recover.specs.Recovering.{object_of}
 
 -- the objects are those that the bodies of the frames are read as, one for each in the order of the frames
@@ -22,6 +23,7 @@ common_at classes bytes span = then_some (has_common_part (form_at classes (span
 
 -- a frame is the one that is kept at a place beside others, with which it shares no byte; and its object is the one that its body is read as
 pub record IsKeptAt (classes : List Class) (bytes : List ℕ) (kept : List Frame) (place : ℕ) (found : FrameObject) : Type 0 where
+  pub from : found.frame.from ≡ place
   pub more : kept ++ found.frame ∷ [] ≡ keep_free kept (scanned classes bytes place)
   pub some : found.frame.from < found.frame.end
   pub free : is_free kept found.frame.from found.frame.end ≡ true
@@ -31,3 +33,25 @@ pub record IsKeptAt (classes : List Class) (bytes : List ℕ) (kept : List Frame
 abbrev pub TellsPlace : List Class → List ℕ → List Frame → ℕ → Option FrameObject → Type 0
 TellsPlace classes bytes kept place None = kept ≡ keep_free kept (scanned classes bytes place)
 TellsPlace classes bytes kept place (Some found) = IsKeptAt classes bytes kept place found
+
+-- what is kept of the places from one on
+abbrev pub scanned_from : List Class → List ℕ → List Frame → ℕ → List Frame
+scanned_from classes bytes kept place = scanned_over classes bytes kept (range_with_len place (length bytes - place))
+
+-- how far the scan is behind a place: the frames kept and what is left give all, and no place that was passed took more than its steps
+pub record IsScanned (classes : List Class) (bytes : List ℕ) (entry : List Frame) (from : ℕ) (kept : List Frame) (place begun steps : ℕ) : Type 0 where
+  pub left : scanned_from classes bytes kept place ≡ scanned_from classes bytes entry from
+  pub after : from ≤ place
+  pub spent : steps + 15 * (length bytes - place) ≤ begun + 15 * (length bytes - from)
+
+-- a frame is the next that is kept beside others, at a place or behind it: nothing is kept before it
+pub record IsNext (classes : List Class) (bytes : List ℕ) (kept : List Frame) (from begun steps : ℕ) (found : FrameObject) : Type 0 where
+  pub at : IsKeptAt classes bytes kept found.frame.from found
+  pub after : from ≤ found.frame.from
+  pub within : found.frame.from < length bytes
+  pub scanned : IsScanned classes bytes kept from (kept ++ found.frame ∷ []) (found.frame.from + 1) begun steps
+
+-- what the scan tells from a place on: the next frame, with its object; or nothing, where none is kept any more
+abbrev pub TellsNext : List Class → List ℕ → List Frame → ℕ → ℕ → ℕ → Option FrameObject → Type 0
+TellsNext classes bytes kept from begun steps None = scanned_from classes bytes kept from ≡ kept
+TellsNext classes bytes kept from begun steps (Some found) = IsNext classes bytes kept from begun steps found

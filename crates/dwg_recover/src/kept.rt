@@ -1,6 +1,6 @@
 //! The frames that recovery keeps, with what tells at once whether a further one can be kept.
 
-ghost use Rattle.std.specs.Prelude.{◌≡◌, ◌<◌, ℕ, [], ◌∷◌, ◌++◌, ◌&&◌, ◌||◌, true, nat_eq, nat_le, IfOk};
+ghost use Rattle.std.specs.Prelude.{◌≡◌, ◌+◌, ◌<◌, ◌≤◌, ℕ, [], ◌∷◌, ◌++◌, ◌&&◌, ◌||◌, true, false, nat_eq, nat_le, IfOk};
 ghost use Rattle.std.specs.Ordering.{nat_cmp};
 ghost use Rattle.std.specs.BTreeSet as set;
 ghost use Rattle.dwg_recover.specs.Frames.{is_number};
@@ -95,6 +95,14 @@ impl KeptFrames {
         ensures { result ≡ is_free self.now from end }
     {
         !self.taken.shares(from, end)
+    }
+
+    /// The place behind the frame that a byte lies in; the place of the byte itself where it lies in none.
+    pub(crate) fn behind(&self, place: u64) -> u64
+        ensures after { place ≤ result }
+        ensures taken { (other : ℕ) → place ≤ other → other < result → is_free self.now other (other + 1) ≡ false }
+    {
+        self.taken.behind(place)
     }
 
     /// Whether no frame has the handle.

@@ -1,13 +1,13 @@
 //! Frames that stand where no kept pair of the map leads.
 
-ghost use Rattle.std.specs.Prelude.{◌≡◌, ◌+◌, ◌*◌, ◌≤◌, length, option_map, IfOk};
+ghost use Rattle.std.specs.Prelude.{◌≡◌, ◌+◌, ◌-◌, ◌*◌, ◌≤◌, length, option_map, IfOk};
 ghost use Rattle.std.specs.Bool.{then_some};
 ghost use Rattle.std.specs.List.{AllByRecursion};
 ghost use Rattle.std.specs.Option.{IsSome};
 ghost use Rattle.dwg_object.specs.Frames.{SpanAt};
 ghost use Rattle.dwg_object.specs.Objects.{value_of};
-ghost use Rattle.dwg_recover.specs.Frames.{has_common_part, keep_free, own_of_span, scanned, with_scanned};
-ghost use Rattle.dwg_recover.specs.KeptObjects.{HoldsObjects, TellsPlace, common_at};
+ghost use Rattle.dwg_recover.specs.Frames.{has_common_part, own_of_span, with_scanned};
+ghost use Rattle.dwg_recover.specs.KeptObjects.{HoldsObjects, TellsNext, TellsPlace, common_at};
 ghost use Rattle.dwg_recover.specs.Placing.{IsFound};
 
 use crate::frame::{Frame, own_of_span};
@@ -98,30 +98,36 @@ fn scan_place<'a, L: Ledger>(
     }
 }
 
-/// The frames kept with their objects, and the one at a place where it is kept. The only refusal is want of memory.
-fn keep_scanned<'a, L: Ledger>(
+/// The next frame that is kept beside others, at a place or behind it, with its object; none where none is. The only refusal is
+/// want of memory.
+fn next_scanned<'a, L: Ledger>(
     alloc: Global,
     bytes: &'a [u8],
     checks: &SpanChecks<'_>,
     hints: &Hints<'_>,
-    kept: KeptObjects<'a>,
-    place: u64,
+    kept: &KeptFrames,
+    from: u64,
     steps: &mut Steps<L>,
-) -> Result<KeptObjects<'a>, NoMemory>
+) -> Result<Option<FrameObject<'a>>, NoMemory>
     requires same { checks.now ≡ bytes.now }
-    requires objects { HoldsObjects hints.now bytes.now kept }
-    ensures frames { IfOk result (λ more. more.frames ≡ keep_free kept.entry.frames (scanned hints.now bytes.now place)) }
-    ensures objects { IfOk result (HoldsObjects hints.now bytes.now) }
-    ensures steps { steps.new ≤ steps.old + 15 }
+    ensures next { IfOk result (TellsNext hints.now bytes.now kept.now from steps.old steps.new) }
+    ensures steps { steps.new ≤ steps.old + 15 * (length bytes.now - from) }
 {
-    let found = match scan_place(alloc, bytes, checks, hints, &kept.frames, place, steps)? {
-        Some(found) => found,
-        None => return Ok(kept),
-    };
-    match with_frame(kept, found) {
-        Ok(more) => Ok(more),
-        Err(NoMemory) => Err(NoMemory),
+    let length = bytes.len() as u64;
+    let mut place = from;
+    'along: while place < length {
+        // What begins inside a kept frame shares a byte with it.
+        let behind = kept.behind(place);
+        if place < behind {
+            place = behind;
+            continue;
+        }
+        match scan_place(alloc, bytes, checks, hints, kept, place, steps)? {
+            Some(found) => return Ok(Some(found)),
+            None => place += 1,
+        }
     }
+    Ok(None)
 }
 
 /// The frames kept with their objects, and those that are kept at any place of the input, in ascending order of place. The only
@@ -141,10 +147,16 @@ fn with_scanned<'a, L: Ledger>(
     ensures steps { steps.new ≤ steps.old + 15 * length bytes.now }
 {
     let mut kept = kept;
-    'along: for place in 0..bytes.len() {
-        kept = keep_scanned(alloc, bytes, checks, hints, kept, place as u64, steps)?;
+    let mut place = 0;
+    'along: loop {
+        match next_scanned(alloc, bytes, checks, hints, &kept.frames, place, steps)? {
+            Some(found) => {
+                place = found.frame.from + 1;
+                kept = with_frame(kept, found)?;
+            }
+            None => return Ok(kept),
+        }
     }
-    Ok(kept)
 }
 
 /// The frames that are kept for pairs of the map, and those that are kept at any place of the input, all with their objects. The

@@ -1,13 +1,16 @@
-use Rattle.dwg_recover.proofs.FrameScanning.{scan_begins, scan_goes_on}
+use Rattle.std.proofs.Common.{sym, ◌∙◌, arith}
+use Rattle.dwg_recover.proofs.ScanAlong.{next_told, none_told, scan_begins, scan_whole}
 use Rattle.dwg_recover.proofs.scan.with_scanned.Goals as goal
 
 pub along-init : goal.along-init
-along-init g c = record { scanned = scan_begins c.args.hints.now c.args.bytes.now c.args.kept.frames c.args.steps.now; objects = c.requires.objects }
+along-init g c = record { scanned = scan_begins c.args.hints.now c.args.bytes.now c.args.kept.frames 0 c.args.steps.now; objects = c.requires.objects }
 
-pub along-preserved : goal.along-preserved
-along-preserved g c = record {
-  scanned =
-      scan_goes_on c.args.hints.now c.args.bytes.now c.args.kept.frames c.along.kept.frames c.in_ok-kept.kept.frames c.along.place c.args.steps.now c.along.steps c.keep_scanned.new.steps
-      c.along.invariant.scanned c.along-test.true c.in_ok-kept.ensures.frames c.in_ok-kept.ensures.steps;
-  objects = c.in_ok-kept.ensures.objects;
-}
+pub along-smaller : goal.along-smaller
+along-smaller g c =
+    let next = next_told c.args.hints.now c.args.bytes.now c.along.kept.frames c.along.place c.along.steps c.next_scanned.new.steps _ c.in-Some.found c.in-Some.is c.in_ok-found.ensures.next in
+    omega (arith, next.after, next.within)
+
+pub returns-in-None-clause-frames : goal.returns-in-None-clause-frames
+returns-in-None-clause-frames g c =
+    sym (none_told c.args.hints.now c.args.bytes.now c.along.kept.frames c.along.place c.along.steps c.next_scanned.new.steps _ c.in-None.is c.in_ok-found.ensures.next)
+    ∙ c.along.invariant.scanned.left ∙ scan_whole c.args.hints.now c.args.bytes.now c.args.kept.frames

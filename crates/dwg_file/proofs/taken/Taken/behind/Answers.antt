@@ -5,13 +5,18 @@ use Rattle.dwg_file.proofs.taken.Taken.behind.Goals as goal
 
 pub overflow_add-result : goal.overflow_add-result
 overflow_add-result c =
-    omega (arith, first_fits c.args.place c.self.inside.runs.entries c.next.new.self (c.in-Some.last.now, c.in-Some.first.now) c.self.invariant
-    (sym (c.range.ensures.between tt) ∙ c.in-Some.ensures.steps))
+    omega (
+      arith,
+      first_fits c.args.place c.self.inside.runs.entries c.next.new.self (c.in-Some.last.now, c.in-Some.first.now) c.self.invariant
+          (sym (c.range.ensures.between tt) ∙ c.in-Some.ensures.steps),
+    )
 
 pub returns-then-first-place-clause-after : goal.returns-then-first-place-clause-after
-returns-then-first-place-clause-after c = omega (arith,
+returns-then-first-place-clause-after c = omega (
+  arith,
   (behind_first c.args.place c.self.inside.runs.entries c.next.new.self (c.in-Some.last.now, c.in-Some.first.now) c.self.invariant
-    (sym (c.range.ensures.between tt) ∙ c.in-Some.ensures.steps) c.if-first-place.true).after)
+      (sym (c.range.ensures.between tt) ∙ c.in-Some.ensures.steps) c.if-first-place.true).after,
+)
 
 pub returns-then-first-place-clause-taken : goal.returns-then-first-place-clause-taken
 returns-then-first-place-clause-taken c = λ other from within.
