@@ -7,6 +7,8 @@ mod audit_tests;
 #[cfg(test)]
 mod drill_tests;
 #[cfg(test)]
+mod hostile_tests;
+#[cfg(test)]
 mod recover_tests;
 #[cfg(test)]
 mod reference_tests;

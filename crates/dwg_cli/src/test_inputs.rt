@@ -1,7 +1,7 @@
 //! Inputs of the program, for tests: each is named by a text.
 
 use crate::test_runs::{PLENTY, written};
-use dwg_samples::{bytes_of, file_of, frame_of, framed};
+use dwg_samples::{bytes_of, file_of, frame_of, framed, with_header_word};
 use std::alloc::Global;
 
 /// Canonical files, a paragraph each: its name, the content of its header variables, that of its classes, and its frames.
@@ -18,6 +18,16 @@ one_object
 -
 -
 42 C : '10101010 00 / 4.0 3.0
+
+hostile_items
+-
+-
+42 C : '1010 '00 FFFFFFFF '10 00 / 4.0 3.0
+
+hostile_reactors
+-
+-
+42 C : '10 '00 FFFFFFFF '1010 00 / 4.0 3.0
 
 one_page
 -
@@ -218,8 +228,12 @@ fn complemented(alloc: Global, bytes: &[u8], place: usize) -> Option<Vec<u8>> {
 }
 
 /// The bytes with one change: `PLACE=BYTES` puts bytes over those from a place on, `FROM..TO=BYTES` in the place of some, `+BYTES` behind
-/// the last; `#LENGTH` cuts to a length or fills up to it with zeros; `~PLACE` complements a byte.
+/// the last; `#LENGTH` cuts to a length or fills up to it with zeros; `~PLACE` complements a byte; `sealed` makes the check word of a
+/// header of three locators right.
 fn changed(alloc: Global, bytes: &[u8], change: &str) -> Option<Vec<u8>> {
+    if change == "sealed" {
+        return with_header_word(alloc, bytes);
+    }
     if let Some(length) = change.strip_prefix("#") {
         return resized(alloc, bytes, length.parse().ok()?);
     }

@@ -24,6 +24,8 @@ pub(crate) struct Devices {
     pub(crate) failing_write: u64,
     /// How much the output holds.
     pub(crate) room: usize,
+    /// The write of notes that fails.
+    pub(crate) failing_note: u64,
 }
 
 /// Devices that don't fail, and give and take at most `most` bytes a call.
@@ -34,6 +36,7 @@ pub(crate) fn in_pieces(most: usize) -> Devices {
         write: most,
         failing_write: 0,
         room: PLENTY,
+        failing_note: 0,
     }
 }
 
@@ -92,7 +95,7 @@ pub(crate) fn ran(alloc: Global, line: &str, bytes: &[u8], devices: Devices) -> 
     let words = words_of(alloc, line)?;
     let mut input = source(alloc, bytes, devices.read, devices.failing_read)?;
     let mut output = sink(alloc, devices.room, devices.write, devices.failing_write)?;
-    let mut notes = sink(alloc, PLENTY, devices.write, 0)?;
+    let mut notes = sink(alloc, PLENTY, devices.write, devices.failing_note)?;
     let status = ended(alloc, &words, &mut input, &mut output, &mut notes);
     Some(Left {
         status,

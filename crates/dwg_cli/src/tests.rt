@@ -87,6 +87,7 @@ fn devices_of(text: &str) -> Option<Devices> {
         write: words.next()?.parse().ok()?,
         failing_write: words.next()?.parse().ok()?,
         room: PLENTY,
+        failing_note: 0,
     })
 }
 

@@ -23,6 +23,9 @@ const HEADER_CHANGE: u16 = 0xA598;
 /// How many bytes a header of three locators has.
 const HEADER_SIZE: u32 = 70;
 
+/// How many of them stand before its check word.
+const HEADER_FIELDS: usize = 52;
+
 /// How many bytes stand around the content of a framed section.
 const AROUND: u32 = 38;
 
@@ -172,6 +175,17 @@ fn header_fields(alloc: Global, sizes: &Sizes) -> Option<Vec<u8>> {
     push_locator(&mut header, 1, sizes.at_classes(), sizes.classes)?;
     push_locator(&mut header, 2, sizes.at_map(), sizes.map)?;
     Some(header)
+}
+
+/// A file whose header has three locators, with the check word of the header made right.
+pub fn with_header_word(alloc: Global, file: &[u8]) -> Option<Vec<u8>> {
+    let fields = file.get(..HEADER_FIELDS)?;
+    let behind = file.get(HEADER_FIELDS + 2..)?;
+    let word = check(0, fields) ^ HEADER_CHANGE;
+    let mut sealed = Vec::from_slice(alloc, fields).ok()?;
+    sealed.extend_from_slice(&word.to_le_bytes()).ok()?;
+    sealed.extend_from_slice(behind).ok()?;
+    Some(sealed)
 }
 
 /// The file header over parts of these sizes.
