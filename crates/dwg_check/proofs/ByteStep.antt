@@ -26,7 +26,7 @@ shifts_bits at (suc n) word number =
     ∙ ap (λ k. bit_xor (fold turn (turn word (bit_at number at)) (map (bit_at number) (range_with_len (at + 1) n))) (number / 2 ^ k)) last
 
 -- a byte turns the word as eight shifts do once the byte is xored into it
-byte_shifts : (word byte : ℕ) → byte < 2 ^ 8 → fold turn word (low_bits_first byte) ≡ shifts 8 (bit_xor word byte)
+pub byte_shifts : (word byte : ℕ) → byte < 2 ^ 8 → fold turn word (low_bits_first byte) ≡ shifts 8 (bit_xor word byte)
 byte_shifts word byte h =
     let whole : byte / 2 ^ 0 ≡ byte = omega arith in
     let rest : byte / 2 ^ 8 ≡ 0 = div-eq_of_lt h in
@@ -44,7 +44,7 @@ shift_double number =
     rw even half
 
 -- a number with n bits 0 below it loses them in n shifts
-shifts_up : (n number : ℕ) → shifts n (number * 2 ^ n) ≡ number
+pub shifts_up : (n number : ℕ) → shifts n (number * 2 ^ n) ≡ number
 unfolding shifts
 shifts_up zero number = omega arith
 shifts_up (suc n) number =

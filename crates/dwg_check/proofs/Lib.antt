@@ -5,3 +5,4 @@ pub mod ByteStep
 pub mod Linear
 pub mod Powers
 pub mod Periods
+pub mod ShortDamage

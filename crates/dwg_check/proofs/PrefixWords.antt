@@ -46,7 +46,7 @@ word_at words bytes k word all h is =
     ∙ get_or-map-range_with_len (λ n. check_word 0 (take n bytes)) 0 (length bytes + 1) k k word (omega (arith, h)) (omega arith)
 
 -- a word that is xored twice is gone
-xor_back : (a b : ℕ) → bit_xor b (bit_xor a b) ≡ a
+pub xor_back : (a b : ℕ) → bit_xor b (bit_xor a b) ≡ a
 xor_back a b = ap (bit_xor b) (xor_comm a b) ∙ sym (xor_assoc b b a) ∙ ap (λ x. bit_xor x a) (xor_self b)
 
 -- the check word of bytes, from that which another start gives them

@@ -4,3 +4,5 @@ pub mod CheckWord
 pub mod CheckWordLaws
 -- The check words of the fronts of a run of bytes, and of its spans (a rule of this project).
 pub mod Spans
+-- A change of one byte, or of two neighbouring ones, changes a check word; so bytes that carry their check word never differ so.
+pub mod ShortDamage

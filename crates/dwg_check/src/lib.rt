@@ -4,11 +4,13 @@
 ghost use Rattle.std.specs.Prelude.{◌≡◌, ◌≤◌};
 ghost use Rattle.dwg_check.specs.CheckWord.{check_word, header_check_word};
 
+mod damage;
 mod laws;
 mod spans;
 mod table;
 mod zeros;
 
+pub use damage::short_damage_laws;
 pub use laws::check_word_laws;
 pub use spans::SpanChecks;
 use table::after_byte;
