@@ -46,7 +46,7 @@ frames_stand classes bytes (object ∷ objects) place are stands = (
 )
 
 -- each begins at the first place or behind it
-frames_behind : (objects : List ObjectValue) (end place : ℕ) → end ≤ place → AllByRecursion (λ (frame : PairFrame). end ≤ frame.pair.place) (frames_from place objects)
+pub frames_behind : (objects : List ObjectValue) (end place : ℕ) → end ≤ place → AllByRecursion (λ (frame : PairFrame). end ≤ frame.pair.place) (frames_from place objects)
 frames_behind [] end place before = tt
 frames_behind (object ∷ objects) end place before = (before, frames_behind objects end (place + length (frame_bytes object)) (omega arith))
 

@@ -2,6 +2,8 @@ pub mod CanonicalFrames
 pub mod CanonicalHeader
 pub mod CanonicalLaws
 pub mod CanonicalParts
+pub mod DamagedFrame
+pub mod DamagedParts
 pub mod FrameReading
 pub mod FrameRefusalLemmas
 pub mod FramesFound
@@ -17,7 +19,9 @@ pub mod SectionNumbers
 pub mod SectionPlaces
 pub mod SectionRefusalLemmas
 pub mod SevenPieces
+pub mod ShortDamage
 pub mod SortedObjects
+pub mod Splices
 pub mod ValidLaws
 pub mod TakenRuns
 pub mod PairReading
@@ -31,3 +35,4 @@ pub mod PlanMap
 pub mod PlanFacts
 pub mod PlanWriting
 pub mod PartRefusals
+pub mod WrittenFrames

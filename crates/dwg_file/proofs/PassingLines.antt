@@ -80,3 +80,33 @@ all_hold bytes each =
     (row_more map_row (frames_row ∷ sections_row ∷ []) bytes each.map
     (row_more frames_row (sections_row ∷ []) bytes each.frames
     (row_more sections_row [] bytes each.sections refl))))))
+
+-- no line before those on frames fails
+pub record EachBefore (bytes : List ℕ) : Type 0 where
+  pub header : first_fault HEADER_LINES bytes ≡ None
+  pub variables : first_fault (framed_lines Variables (section_place 0 bytes)) bytes ≡ None
+  pub class_section : first_fault (framed_lines Classes (section_place 1 bytes)) bytes ≡ None
+  pub classes : fault_of (classes_tried bytes) ≡ None
+  pub map : fault_of (map_tried bytes) ≡ None
+
+-- a row that holds leaves to those behind it what is told
+row_passes : (row : RefusalRow) (rows : List RefusalRow) (bytes : List ℕ) → row bytes ≡ None → first_fault (row ∷ rows) bytes ≡ first_fault rows bytes
+row_passes row rows bytes none = ap (λ refused. option_or refused (first_fault rows bytes)) none
+
+-- and so do rows that hold
+rows_pass : (rows others : List RefusalRow) (bytes : List ℕ) → first_fault rows bytes ≡ None → first_fault (rows ++ others) bytes ≡ first_fault others bytes
+rows_pass [] others bytes none = refl
+rows_pass (row ∷ rows) others bytes none =
+    let both = or_none (row bytes) (first_fault rows bytes) none in
+    row_passes row (rows ++ others) bytes both.0 ∙ rows_pass rows others bytes both.1
+
+-- so the first line that fails is the one on frames where none before it fails
+pub frames_first : (bytes : List ℕ) (refusal : Refusal) → EachBefore bytes → frames_row bytes ≡ Some refusal → first_fault ALL_LINES bytes ≡ Some refusal
+unfolding variables_row classes_section_row classes_row map_row
+frames_first bytes refusal each fails =
+    rows_pass HEADER_LINES (variables_row ∷ classes_section_row ∷ classes_row ∷ map_row ∷ frames_row ∷ sections_row ∷ []) bytes each.header
+    ∙ row_passes variables_row (classes_section_row ∷ classes_row ∷ map_row ∷ frames_row ∷ sections_row ∷ []) bytes each.variables
+    ∙ row_passes classes_section_row (classes_row ∷ map_row ∷ frames_row ∷ sections_row ∷ []) bytes each.class_section
+    ∙ row_passes classes_row (map_row ∷ frames_row ∷ sections_row ∷ []) bytes each.classes
+    ∙ row_passes map_row (frames_row ∷ sections_row ∷ []) bytes each.map
+    ∙ ap (λ refused. option_or refused (first_fault (sections_row ∷ []) bytes)) fails

@@ -1,6 +1,7 @@
 //! Whole drawings: read from their bytes, and written by their canonical file.
 #![tactic(auto)]
 
+mod damage;
 mod drawing;
 mod frames;
 mod laws;
@@ -15,6 +16,7 @@ mod sections;
 mod taken;
 mod written_laws;
 
+pub use damage::short_damage_laws;
 pub use drawing::Drawing;
 pub use frames::ObjectFrame;
 pub use laws::drawing_laws;

@@ -1,0 +1,203 @@
+-- What stands in a canonical file beside a frame that is damaged: it stands in the damaged input too.
+use Rattle.std.proofs.Common.{◌≡◌, refl, ◌∙◌, ap, subst, inl, inr, ℕ, ◌+◌, ◌≤◌, List, [], ◌∷◌, ◌++◌, length, length-append, arith}
+use Rattle.std.specs.Prelude.{map, AllPairs}
+use Rattle.std.specs.Int.{w16, to_le_bytes}
+use Rattle.std.specs.List.{AllByRecursion}
+use Rattle.std.proofs.lemmas.List.{map-append}
+use Rattle.dwg_base.specs.Bytes.{StandsAt}
+use Rattle.dwg_base.specs.Devices.{MOST_BYTES}
+use Rattle.dwg_check.specs.CheckWord.{FRAME_START, check_word}
+use Rattle.dwg_classes.specs.declared.class.Class.{Class}
+use Rattle.dwg_object.specs.Frames.{frame_bytes, framed_body}
+use Rattle.dwg_object.specs.FrameLines.{bytes_from}
+use Rattle.dwg_object.proofs.StandingLemmas.{drop_stands}
+use Rattle.dwg_object.specs.Objects.{ObjectValue}
+use Rattle.dwg_objmap.proofs.FillingLemmas.{map_is_written}
+use Rattle.dwg_objmap.specs.Pages.{MapOf}
+use Rattle.dwg_sections.specs.declared.framed.Framed.TheVariants.{Variables, Classes}
+use Rattle.dwg_sections.specs.FileHeader.{BeginsWithHeader, header_bytes}
+use Rattle.dwg_sections.specs.Framed.{FramedAt, framed_bytes}
+use Rattle.dwg_file.specs.Canonical.{canonical, class_content, classes_place, frames_bytes, header_of, map_of, map_place, objects_place, others_place, placed, preview_place, size_of, variables_place}
+use Rattle.dwg_file.specs.CanonicalFrames.{frames_from}
+use Rattle.dwg_file.proofs.CanonicalFrames.{frames_apart, frames_stand, pairs_of_frames}
+use Rattle.dwg_file.proofs.CanonicalHeader.{header_fits}
+use Rattle.dwg_file.proofs.CanonicalLaws.{canonical_ascends, canonical_is_counted, header_reaches, parts_stand}
+use Rattle.dwg_file.proofs.CanonicalParts.{length_of_framed}
+use Rattle.dwg_file.specs.Contents.{Contents}
+use Rattle.dwg_file.specs.ShortDamage.{IsDamagedShortly}
+use Rattle.dwg_file.specs.Spelled.{PairFrame, IsFrameOfPair, AreApart}
+use Rattle.dwg_file.proofs.Splices.{IsSpliced, same_part, spliced_long, stands_still}
+use Rattle.dwg_file.specs.Valid.{IsValid}
+use Rattle.dwg_file.proofs.WrittenFrames.{all_of_front, lies_among, pairs_of_front}
+
+-- the damaged input has in the middle other bytes than the canonical file
+abbrev pub damaged_spliced : (drawing : Contents) (frame : PairFrame) (bytes : List ℕ) (is : IsDamagedShortly drawing frame bytes)
+    → IsSpliced (canonical drawing) bytes (length is.before) (length is.before + length is.here)
+damaged_spliced drawing frame bytes is =
+    record { before = is.before; here = is.here; there = is.there; behind = is.behind; first = is.first; second = is.second; long = is.long; begins = refl; ends = refl }
+
+-- an input has the bytes of the canonical file of a drawing from a place up to another
+abbrev pub HasSame : Contents → List ℕ → ℕ → ℕ → Type 0
+HasSame drawing bytes from to = bytes_from bytes from to ≡ bytes_from (canonical drawing) from to
+
+-- a damaged input has all else as it is in the canonical file: header, framed sections, map pages, unknown sections and each other frame
+pub record ElseIsSame (drawing : Contents) (bytes : List ℕ) (earlier later : List PairFrame) : Type 0 where
+  pub long : length bytes ≡ length (canonical drawing)
+  pub header : HasSame drawing bytes 0 (variables_place drawing)
+  pub variables : HasSame drawing bytes (variables_place drawing) (classes_place drawing)
+  pub classes : HasSame drawing bytes (classes_place drawing) (preview_place drawing)
+  pub mapped : HasSame drawing bytes (map_place drawing) (others_place drawing)
+  pub others : HasSame drawing bytes (others_place drawing) (size_of drawing)
+  pub before : AllByRecursion (λ (one : PairFrame). HasSame drawing bytes one.pair.place one.end) earlier
+  pub behind : AllByRecursion (λ (one : PairFrame). HasSame drawing bytes one.pair.place one.end) later
+
+-- places that are in order, the last of them in the file
+pub record AreInOrder (most : ℕ) (frame : PairFrame) : Type 0 where
+  pub order : frame.pair.place ≤ frame.end
+  pub within : frame.end ≤ most
+
+-- each frame of objects one behind the other is
+frames_in_order : (objects : List ObjectValue) (place most : ℕ) → place + length (frames_bytes objects) ≤ most → AllByRecursion (AreInOrder most) (frames_from place objects)
+frames_in_order [] place most fits = tt
+frames_in_order (object ∷ objects) place most fits =
+    let long : length (frames_bytes (object ∷ objects)) ≡ length (frame_bytes object) + length (frames_bytes objects) = length-append (frame_bytes object) (frames_bytes objects) in
+    (record { order = omega arith; within = omega (arith, fits, long) }, frames_in_order objects (place + length (frame_bytes object)) most (omega (arith, fits, long)))
+
+-- frames that end before the damage are as they were
+before_same : (drawing : Contents) (bytes : List ℕ) (from to : ℕ) → IsSpliced (canonical drawing) bytes from to → (limit : ℕ) → limit ≤ from → (frames : List PairFrame)
+    → AllByRecursion (AreInOrder (length (canonical drawing))) frames → AllByRecursion (λ (one : PairFrame). one.end ≤ limit) frames
+    → AllByRecursion (λ (one : PairFrame). HasSame drawing bytes one.pair.place one.end) frames
+before_same drawing bytes from to is limit ahead [] are end = tt
+before_same drawing bytes from to is limit ahead (one ∷ frames) are end = (
+  same_part (canonical drawing) bytes from to is one.pair.place one.end are.0.order are.0.within (inl (omega (arith, ahead, end.0))),
+  before_same drawing bytes from to is limit ahead frames are.1 end.1,
+)
+
+-- so are those that begin behind it
+behind_same : (drawing : Contents) (bytes : List ℕ) (from to : ℕ) → IsSpliced (canonical drawing) bytes from to → (limit : ℕ) → to ≤ limit → (frames : List PairFrame)
+    → AllByRecursion (AreInOrder (length (canonical drawing))) frames → AllByRecursion (λ (one : PairFrame). limit ≤ one.pair.place) frames
+    → AllByRecursion (λ (one : PairFrame). HasSame drawing bytes one.pair.place one.end) frames
+behind_same drawing bytes from to is limit past [] are begin = tt
+behind_same drawing bytes from to is limit past (one ∷ frames) are begin = (
+  same_part (canonical drawing) bytes from to is one.pair.place one.end are.0.order are.0.within (inr (omega (arith, past, begin.0))),
+  behind_same drawing bytes from to is limit past frames are.1 begin.1,
+)
+
+-- so it has
+pub else_is_same : (drawing : Contents) (bytes : List ℕ) (earlier : List PairFrame) (frame : PairFrame) (later : List PairFrame) → IsValid drawing → size_of drawing ≤ MOST_BYTES
+    → frames_from (objects_place drawing) drawing.objects ≡ earlier ++ frame ∷ later → IsDamagedShortly drawing frame bytes → ElseIsSame drawing bytes earlier later
+else_is_same drawing bytes earlier frame later is small whole damaged =
+    let splice = damaged_spliced drawing frame bytes damaged in
+    let from : ℕ = length damaged.before in
+    let to : ℕ = length damaged.before + length damaged.here in
+    let among = lies_among drawing.objects (objects_place drawing) earlier frame later whole in
+    let size : length (canonical drawing) ≡ size_of drawing = (canonical_is_counted drawing is small).0 in
+    let ahead : frame.pair.place ≤ from = omega (arith, damaged.from) in
+    let past : to ≤ frame.end = damaged.to in
+    let stays = same_part (canonical drawing) bytes from to splice in
+    let orders = all_of_front (AreInOrder (length (canonical drawing))) earlier (frame ∷ later)
+    (subst (AllByRecursion (AreInOrder (length (canonical drawing)))) whole
+    (frames_in_order drawing.objects (objects_place drawing) (length (canonical drawing)) (omega (arith, size)))) in
+    record {
+      long = spliced_long (canonical drawing) bytes from to splice;
+      header = stays 0 (variables_place drawing) (omega arith) (omega (arith, size)) (inl (omega (arith, ahead, among.from)));
+      variables = stays (variables_place drawing) (classes_place drawing) (omega arith) (omega (arith, size)) (inl (omega (arith, ahead, among.from)));
+      classes = stays (classes_place drawing) (preview_place drawing) (omega arith) (omega (arith, size)) (inl (omega (arith, ahead, among.from)));
+      mapped = stays (map_place drawing) (others_place drawing) (omega arith) (omega (arith, size)) (inr (omega (arith, past, among.to)));
+      others = stays (others_place drawing) (size_of drawing) (omega arith) (omega (arith, size)) (inr (omega (arith, past, among.to)));
+      before = before_same drawing bytes from to splice frame.pair.place ahead earlier orders.0 among.before;
+      behind = behind_same drawing bytes from to splice frame.end past later orders.1.1 among.behind;
+    }
+
+-- so header, framed sections and map stand in the damaged input
+pub record DamagedStands (drawing : Contents) (bytes : List ℕ) : Type 0 where
+  pub begins : BeginsWithHeader bytes (header_of drawing)
+  pub variables : FramedAt bytes (variables_place drawing) Variables drawing.variables
+  pub classes : FramedAt bytes (classes_place drawing) Classes (class_content drawing.classes)
+  pub mapped : MapOf bytes (map_place drawing) (placed (objects_place drawing) drawing.objects)
+
+pub damaged_stands : (drawing : Contents) (bytes : List ℕ) (earlier : List PairFrame) (frame : PairFrame) (later : List PairFrame) → IsValid drawing → size_of drawing ≤ MOST_BYTES
+    → frames_from (objects_place drawing) drawing.objects ≡ earlier ++ frame ∷ later → IsDamagedShortly drawing frame bytes → DamagedStands drawing bytes
+damaged_stands drawing bytes earlier frame later is small whole damaged =
+    let fits = header_fits drawing is small in
+    let stand = parts_stand drawing fits in
+    let from : ℕ = length damaged.before in
+    let to : ℕ = length damaged.before + length damaged.here in
+    let among = lies_among drawing.objects (objects_place drawing) earlier frame later whole in
+    let ahead : objects_place drawing ≤ from = omega (arith, damaged.from, among.from) in
+    let past : to ≤ map_place drawing = omega (arith, damaged.to, among.to) in
+    let still = stands_still (canonical drawing) bytes from to (damaged_spliced drawing frame bytes damaged) in
+    let header : List ℕ = header_bytes (header_of drawing) in
+    let variables : List ℕ = framed_bytes Variables drawing.variables in
+    let classes : List ℕ = framed_bytes Classes (class_content drawing.classes) in
+    let first : StandsAt (canonical drawing) 0 header = record { before = []; behind = stand.begins.0; whole = stand.begins.1; far = refl } in
+    let front : StandsAt bytes 0 header = still 0 header first (inl (omega (arith, ahead, header_reaches drawing fits))) in
+    record {
+      begins = record { in_range = fits; stands = (front.behind, drop_stands bytes 0 header front) };
+      variables = record {
+        size = omega arith;
+        stands = still (variables_place drawing) variables stand.variables (inl (omega (arith, ahead, length_of_framed Variables drawing.variables)));
+      };
+      classes = record {
+        size = omega arith;
+        stands = still (classes_place drawing) classes stand.classes (inl (omega (arith, ahead, length_of_framed Classes (class_content drawing.classes))));
+      };
+      mapped =
+          map_is_written (map_place drawing) bytes (placed (objects_place drawing) drawing.objects) (canonical_ascends drawing is)
+          (still (map_place drawing) (map_of drawing) stand.mapped (inr past));
+    }
+
+-- a frame that ends before the damage stands there still
+frame_still : (classes : List Class) (one other : List ℕ) (from to : ℕ) → IsSpliced one other from to → (frame : PairFrame) → frame.end ≤ from → IsFrameOfPair classes one frame
+    → IsFrameOfPair classes other frame
+frame_still classes one other from to splice frame ahead is =
+    let piece : List ℕ = framed_body is.stands.size frame.body in
+    let front : List ℕ = is.stands.size ++ frame.body in
+    let long : length piece ≡ length is.stands.size + length frame.body + 2 =
+    length-append front (to_le_bytes w16 (check_word FRAME_START front)) ∙ ap (λ n. n + 2) (length-append is.stands.size frame.body) in
+    record {
+      stands = record {
+        size = is.stands.size;
+        spelled = is.stands.spelled;
+        stands = stands_still one other from to splice frame.pair.place piece is.stands.stands (inl (omega (arith, long, ahead, is.stands.ends)));
+        ends = is.stands.ends;
+      };
+      form = is.form;
+      own = is.own;
+    }
+
+-- so do all that do
+frames_still : (classes : List Class) (one other : List ℕ) (from to : ℕ) → IsSpliced one other from to → (limit : ℕ) → limit ≤ from → (frames : List PairFrame)
+    → AllByRecursion (λ (frame : PairFrame). frame.end ≤ limit) frames → AllByRecursion (IsFrameOfPair classes one) frames → AllByRecursion (IsFrameOfPair classes other) frames
+frames_still classes one other from to splice limit ahead [] end are = tt
+frames_still classes one other from to splice limit ahead (frame ∷ frames) end are = (
+  frame_still classes one other from to splice frame (omega (arith, ahead, end.0)) are.0,
+  frames_still classes one other from to splice limit ahead frames end.1 are.1,
+)
+
+-- the earlier frames stand in the damaged input, share no byte, and end before the damaged one
+pub record EarlierStand (drawing : Contents) (bytes : List ℕ) (earlier : List PairFrame) (frame : PairFrame) (later : List PairFrame) : Type 0 where
+  pub stand : AllByRecursion (IsFrameOfPair drawing.classes bytes) earlier
+  pub apart : AllPairs AreApart earlier
+  pub before : AllByRecursion (λ (one : PairFrame). one.end ≤ frame.pair.place) earlier
+  pub whole : placed (objects_place drawing) drawing.objects ≡ map (λ (one : PairFrame). one.pair) earlier ++ frame.pair ∷ map (λ (one : PairFrame). one.pair) later
+
+pub earlier_stand : (drawing : Contents) (bytes : List ℕ) (earlier : List PairFrame) (frame : PairFrame) (later : List PairFrame) → IsValid drawing → size_of drawing ≤ MOST_BYTES
+    → frames_from (objects_place drawing) drawing.objects ≡ earlier ++ frame ∷ later → IsDamagedShortly drawing frame bytes → EarlierStand drawing bytes earlier frame later
+earlier_stand drawing bytes earlier frame later is small whole damaged =
+    let stand = parts_stand drawing (header_fits drawing is small) in
+    let among = lies_among drawing.objects (objects_place drawing) earlier frame later whole in
+    let all = frames_stand drawing.classes (canonical drawing) drawing.objects (objects_place drawing) is.objects stand.frames in
+    let to : ℕ = length damaged.before + length damaged.here in
+    record {
+      stand =
+          frames_still drawing.classes (canonical drawing) bytes (length damaged.before) to (damaged_spliced drawing frame bytes damaged) frame.pair.place (omega (arith, damaged.from)) earlier
+          among.before
+          (all_of_front (IsFrameOfPair drawing.classes (canonical drawing)) earlier (frame ∷ later)
+          (subst (AllByRecursion (IsFrameOfPair drawing.classes (canonical drawing))) whole all)).0;
+      apart = pairs_of_front AreApart earlier (frame ∷ later) (subst (AllPairs AreApart) whole (frames_apart drawing.objects (objects_place drawing)));
+      before = among.before;
+      whole =
+          pairs_of_frames drawing.objects (objects_place drawing) ∙ ap (map (λ (one : PairFrame). one.pair)) whole
+          ∙ map-append (λ (one : PairFrame). one.pair) earlier (frame ∷ later);
+    }

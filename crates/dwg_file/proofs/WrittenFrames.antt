@@ -1,0 +1,101 @@
+-- The frames of the canonical file as they are written, and where one of them lies among the others.
+use Rattle.std.proofs.Common.{◌≡◌, refl, ap, subst, ℕ, ◌+◌, ◌≤◌, List, [], ◌∷◌, ◌++◌, length, length-append, arith}
+use Rattle.std.specs.Prelude.{AllPairs}
+use Rattle.std.specs.List.{AllByRecursion}
+use Rattle.std.proofs.lemmas.List.Elements.{All-from_recursion}
+use Rattle.std.proofs.lemmas.List.Kept.{AllPairs-cons}
+use Rattle.dwg_base.specs.Bytes.{StandsAt}
+use Rattle.dwg_base.specs.Devices.{MOST_BYTES}
+use Rattle.dwg_classes.specs.declared.class.Class.{Class}
+use Rattle.dwg_object.specs.Frames.{frame_bytes}
+use Rattle.dwg_object.specs.Objects.{ObjectValue, handle_of}
+use Rattle.dwg_object.proofs.StandingLemmas.{stands_first, stands_next}
+use Rattle.dwg_object.specs.Written.{IsValidObject, body_bytes}
+use Rattle.dwg_file.specs.Canonical.{canonical, frames_bytes, objects_place, size_of}
+use Rattle.dwg_file.specs.CanonicalFrames.{frames_from}
+use Rattle.dwg_file.proofs.CanonicalFrames.{frames_behind}
+use Rattle.dwg_file.proofs.CanonicalHeader.{header_fits, pairs_head, pairs_tail}
+use Rattle.dwg_file.proofs.CanonicalLaws.{parts_stand}
+use Rattle.dwg_file.specs.Contents.{Contents}
+use Rattle.dwg_file.specs.Spelled.{PairFrame}
+use Rattle.dwg_file.specs.Valid.{IsValid}
+
+-- the frame of an object as it is written
+pub record IsWritten (classes : List Class) (bytes : List ℕ) (frame : PairFrame) : Type 0 where
+  pub stands : StandsAt bytes frame.pair.place (frame_bytes frame.object)
+  pub ends : frame.end ≡ frame.pair.place + length (frame_bytes frame.object)
+  pub body : frame.body ≡ body_bytes frame.object
+  pub own : frame.pair.handle ≡ handle_of frame.object
+  pub valid : IsValidObject classes frame.object
+
+-- frames one behind the other are
+frames_written : (classes : List Class) (bytes : List ℕ) (objects : List ObjectValue) (place : ℕ) → AllByRecursion (IsValidObject classes) objects → StandsAt bytes place (frames_bytes objects)
+    → AllByRecursion (IsWritten classes bytes) (frames_from place objects)
+frames_written classes bytes [] place are stands = tt
+frames_written classes bytes (object ∷ objects) place are stands = (
+  record { stands = stands_first bytes place (frame_bytes object) (frames_bytes objects) stands; ends = refl; body = refl; own = refl; valid = are.0 },
+  frames_written classes bytes objects (place + length (frame_bytes object)) are.1 (stands_next bytes place (frame_bytes object) (frames_bytes objects) stands),
+)
+
+-- so are those of the canonical file
+pub canonical_written : (drawing : Contents) → IsValid drawing → size_of drawing ≤ MOST_BYTES
+    → AllByRecursion (IsWritten drawing.classes (canonical drawing)) (frames_from (objects_place drawing) drawing.objects)
+canonical_written drawing is small =
+    frames_written drawing.classes (canonical drawing) drawing.objects (objects_place drawing) is.objects (parts_stand drawing (header_fits drawing is small)).frames
+
+-- the frames before one of those that stand one behind the other end before it, and those behind it begin behind its end
+pub record LiesAmong (place : ℕ) (objects : List ObjectValue) (earlier : List PairFrame) (frame : PairFrame) (later : List PairFrame) : Type 0 where
+  pub from : place ≤ frame.pair.place
+  pub order : frame.pair.place ≤ frame.end
+  pub to : frame.end ≤ place + length (frames_bytes objects)
+  pub before : AllByRecursion (λ (one : PairFrame). one.end ≤ frame.pair.place) earlier
+  pub behind : AllByRecursion (λ (one : PairFrame). frame.end ≤ one.pair.place) later
+
+pub lies_among : (objects : List ObjectValue) (place : ℕ) (earlier : List PairFrame) (frame : PairFrame) (later : List PairFrame) → frames_from place objects ≡ earlier ++ frame ∷ later
+    → LiesAmong place objects earlier frame later
+lies_among [] place [] frame later same = absurd cc
+lies_among [] place (one ∷ earlier) frame later same = absurd cc
+lies_among (object ∷ objects) place [] frame later same =
+    let end : ℕ = place + length (frame_bytes object) in
+    let is : PairFrame = record { pair = record { handle = handle_of object; place = place }; body = body_bytes object; end = end; object = object } in
+    let first : is ≡ frame = cc in
+    let rest : frames_from end objects ≡ later = cc in
+    let long : length (frames_bytes (object ∷ objects)) ≡ length (frame_bytes object) + length (frames_bytes objects) = length-append (frame_bytes object) (frames_bytes objects) in
+    let begins : place ≡ frame.pair.place = ap (λ (one : PairFrame). one.pair.place) first in
+    let ends : end ≡ frame.end = ap (λ (one : PairFrame). one.end) first in
+    record {
+      from = omega (arith, begins);
+      order = omega (arith, begins, ends);
+      to = omega (arith, ends, long);
+      before = tt;
+      behind =
+          subst (AllByRecursion (λ (one : PairFrame). frame.end ≤ one.pair.place)) rest
+          (subst (λ n. AllByRecursion (λ (one : PairFrame). n ≤ one.pair.place) (frames_from end objects)) ends (frames_behind objects end end (omega arith)));
+    }
+lies_among (object ∷ objects) place (one ∷ earlier) frame later same =
+    let end : ℕ = place + length (frame_bytes object) in
+    let is : PairFrame = record { pair = record { handle = handle_of object; place = place }; body = body_bytes object; end = end; object = object } in
+    let first : is ≡ one = cc in
+    let rest : frames_from end objects ≡ earlier ++ frame ∷ later = cc in
+    let more = lies_among objects end earlier frame later rest in
+    let long : length (frames_bytes (object ∷ objects)) ≡ length (frame_bytes object) + length (frames_bytes objects) = length-append (frame_bytes object) (frames_bytes objects) in
+    let ends : end ≡ one.end = ap (λ (one : PairFrame). one.end) first in
+    record {
+      from = omega (arith, more.from);
+      order = more.order;
+      to = omega (arith, more.to, long);
+      before = (omega (arith, more.from, ends), more.before);
+      behind = more.behind;
+    }
+
+-- what holds of all members holds of those of a front and of those behind it
+pub all_of_front : {X : Type 0} (P : X → Type 0) (front behind : List X) → AllByRecursion P (front ++ behind) → AllByRecursion P front × AllByRecursion P behind
+all_of_front P [] behind all = (tt, all)
+all_of_front P (x ∷ front) behind all = let more = all_of_front P front behind all.1 in ((all.0, more.0), more.1)
+
+-- so does what holds of all pairs
+pub pairs_of_front : {X : Type 0} (R : X → X → Type 0) (front behind : List X) → AllPairs R (front ++ behind) → AllPairs R front
+pairs_of_front R [] behind all = λ i j d before inside. absurd (omega arith)
+pairs_of_front R (x ∷ front) behind all =
+    AllPairs-cons R x front (All-from_recursion (R x) front (all_of_front (R x) front behind (pairs_head R x (front ++ behind) all)).0)
+    (pairs_of_front R front behind (pairs_tail R x (front ++ behind) all))
