@@ -9,7 +9,6 @@ use Rattle.dwg_base.specs.Devices.{MOST_BYTES}
 use Rattle.dwg_check.specs.CheckWord.{FRAME_START, check_word}
 use Rattle.dwg_classes.specs.declared.class.Class.{Class}
 use Rattle.dwg_object.specs.Frames.{frame_bytes, framed_body}
-use Rattle.dwg_object.specs.FrameLines.{bytes_from}
 use Rattle.dwg_object.proofs.StandingLemmas.{drop_stands}
 use Rattle.dwg_object.specs.Objects.{ObjectValue}
 use Rattle.dwg_objmap.proofs.FillingLemmas.{map_is_written}
@@ -24,7 +23,7 @@ use Rattle.dwg_file.proofs.CanonicalHeader.{header_fits}
 use Rattle.dwg_file.proofs.CanonicalLaws.{canonical_ascends, canonical_is_counted, header_reaches, parts_stand}
 use Rattle.dwg_file.proofs.CanonicalParts.{length_of_framed}
 use Rattle.dwg_file.specs.Contents.{Contents}
-use Rattle.dwg_file.specs.ShortDamage.{IsDamagedShortly}
+use Rattle.dwg_file.specs.ShortDamage.{AllElseIsSame, HasSame, IsDamagedShortly}
 use Rattle.dwg_file.specs.Spelled.{PairFrame, IsFrameOfPair, AreApart}
 use Rattle.dwg_file.proofs.Splices.{IsSpliced, same_part, spliced_long, stands_still}
 use Rattle.dwg_file.specs.Valid.{IsValid}
@@ -35,21 +34,6 @@ abbrev pub damaged_spliced : (drawing : Contents) (frame : PairFrame) (bytes : L
     → IsSpliced (canonical drawing) bytes (length is.before) (length is.before + length is.here)
 damaged_spliced drawing frame bytes is =
     record { before = is.before; here = is.here; there = is.there; behind = is.behind; first = is.first; second = is.second; long = is.long; begins = refl; ends = refl }
-
--- an input has the bytes of the canonical file of a drawing from a place up to another
-abbrev pub HasSame : Contents → List ℕ → ℕ → ℕ → Type 0
-HasSame drawing bytes from to = bytes_from bytes from to ≡ bytes_from (canonical drawing) from to
-
--- a damaged input has all else as it is in the canonical file: header, framed sections, map pages, unknown sections and each other frame
-pub record ElseIsSame (drawing : Contents) (bytes : List ℕ) (earlier later : List PairFrame) : Type 0 where
-  pub long : length bytes ≡ length (canonical drawing)
-  pub header : HasSame drawing bytes 0 (variables_place drawing)
-  pub variables : HasSame drawing bytes (variables_place drawing) (classes_place drawing)
-  pub classes : HasSame drawing bytes (classes_place drawing) (preview_place drawing)
-  pub mapped : HasSame drawing bytes (map_place drawing) (others_place drawing)
-  pub others : HasSame drawing bytes (others_place drawing) (size_of drawing)
-  pub before : AllByRecursion (λ (one : PairFrame). HasSame drawing bytes one.pair.place one.end) earlier
-  pub behind : AllByRecursion (λ (one : PairFrame). HasSame drawing bytes one.pair.place one.end) later
 
 -- places that are in order, the last of them in the file
 pub record AreInOrder (most : ℕ) (frame : PairFrame) : Type 0 where
@@ -84,8 +68,7 @@ behind_same drawing bytes from to is limit past (one ∷ frames) are begin = (
 )
 
 -- so it has
-pub else_is_same : (drawing : Contents) (bytes : List ℕ) (earlier : List PairFrame) (frame : PairFrame) (later : List PairFrame) → IsValid drawing → size_of drawing ≤ MOST_BYTES
-    → frames_from (objects_place drawing) drawing.objects ≡ earlier ++ frame ∷ later → IsDamagedShortly drawing frame bytes → ElseIsSame drawing bytes earlier later
+pub else_is_same : AllElseIsSame
 else_is_same drawing bytes earlier frame later is small whole damaged =
     let splice = damaged_spliced drawing frame bytes damaged in
     let from : ℕ = length damaged.before in

@@ -1,3 +1,4 @@
+use Rattle.dwg_file.proofs.DamagedParts.{else_is_same}
 use Rattle.dwg_file.proofs.ShortDamage.{damaged_frame_fails, short_damage_is_refused}
 use Rattle.dwg_file.proofs.damage.short_damage_laws.Goals as goal
 
@@ -14,3 +15,6 @@ returns-clause-refused c =
 
 pub returns-clause-frame : goal.returns-clause-frame
 returns-clause-frame c = damaged_frame_fails c.short_damage_laws.ensures.sealed_shows
+
+pub returns-clause-elsewhere : goal.returns-clause-elsewhere
+returns-clause-elsewhere c = else_is_same
