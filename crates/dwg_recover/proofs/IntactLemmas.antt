@@ -22,6 +22,7 @@ use Rattle.dwg_file.specs.SortedObjects.{sorted}
 use Rattle.dwg_file.proofs.SortedObjects.{sorted_same}
 use Rattle.dwg_file.specs.Spelled.{IsFrameOfPair, PairFrame, Spelled}
 use Rattle.dwg_file.specs.Valid.{IsValid}
+use Rattle.dwg_file.proofs.WrittenFrames.{IsWritten, canonical_written}
 use Rattle.dwg_object.proofs.FormLaws.{form_at, form_is_at, forms_same, head_of_form, valid_is_form}
 use Rattle.dwg_object.specs.Forms.{FormOf}
 use Rattle.dwg_object.proofs.FrameLaws.{held_frame}
@@ -44,7 +45,7 @@ use Rattle.dwg_recover.proofs.FoundFrames.{candidates_hold}
 use Rattle.dwg_recover.specs.Intact.{HasPart, IntactObjectsAreKept, IsPartlyIntact, canonical_frames, kept_frame, pairs_framed}
 use Rattle.dwg_recover.proofs.IntactFrames.{HoldsOrNone, IsKeptFrame, intact_is_kept, one_ordered}
 use Rattle.dwg_recover.proofs.IntactMap.{map_is_read}
-use Rattle.dwg_recover.proofs.IntactParts.{IntactParts, IsWritten, body_is_found, canonical_written, classes_are_found, classes_are_intact, frame_is_intact, intact_holds, parts_are_intact, written_positive}
+use Rattle.dwg_recover.proofs.IntactParts.{IntactParts, body_is_found, classes_are_found, classes_are_intact, frame_is_intact, intact_holds, parts_are_intact, written_positive}
 use Rattle.dwg_recover.specs.ListMembers.{IsOneOf}
 use Rattle.dwg_recover.proofs.ListMembers.{all_of_each, mapped_from, one_mapped, one_of_all, one_permuted}
 use Rattle.dwg_recover.proofs.FoundParts.{header_is_found}

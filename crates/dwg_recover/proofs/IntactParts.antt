@@ -21,6 +21,7 @@ use Rattle.dwg_file.specs.Contents.{Contents}
 use Rattle.dwg_file.proofs.ReadingLemmas.{SectionLaws}
 use Rattle.dwg_file.specs.Spelled.{PairFrame}
 use Rattle.dwg_file.specs.Valid.{IsValid}
+use Rattle.dwg_file.proofs.WrittenFrames.{IsWritten}
 use Rattle.dwg_object.specs.declared.span.Span.{Span}
 use Rattle.dwg_object.specs.Forms.{BeginsWithHead, FormOf}
 use Rattle.dwg_object.proofs.FormLaws.{head_of_form, valid_fits, valid_handle, valid_is_form, written_frame}
@@ -101,27 +102,6 @@ classes_are_intact drawing bytes is small intact same =
     let section : List ℕ = framed_bytes framed.Classes (class_content drawing.classes) in
     let reaches : preview_place drawing ≡ classes_place drawing + length section = omega (arith, length_of_framed framed.Classes (class_content drawing.classes)) in
     record { size = omega arith; stands = stands_also bytes (canonical drawing) section (classes_place drawing) (preview_place drawing) intact.long stand.classes reaches same }
-
--- the frame of an object as it is written
-pub record IsWritten (classes : List Class) (bytes : List ℕ) (frame : PairFrame) : Type 0 where
-  pub stands : StandsAt bytes frame.pair.place (frame_bytes frame.object)
-  pub ends : frame.end ≡ frame.pair.place + length (frame_bytes frame.object)
-  pub own : frame.pair.handle ≡ handle_of frame.object
-  pub valid : IsValidObject classes frame.object
-
--- frames one behind the other are
-frames_written : (classes : List Class) (bytes : List ℕ) (objects : List ObjectValue) (place : ℕ) → AllByRecursion (IsValidObject classes) objects → StandsAt bytes place (frames_bytes objects)
-    → AllByRecursion (IsWritten classes bytes) (frames_from place objects)
-frames_written classes bytes [] place are stands = tt
-frames_written classes bytes (object ∷ objects) place are stands = (
-  record { stands = stands_first bytes place (frame_bytes object) (frames_bytes objects) stands; ends = refl; own = refl; valid = are.0 },
-  frames_written classes bytes objects (place + length (frame_bytes object)) are.1 (stands_next bytes place (frame_bytes object) (frames_bytes objects) stands),
-)
-
--- so are those of the canonical file
-pub canonical_written : (drawing : Contents) → IsValid drawing → size_of drawing ≤ MOST_BYTES → AllByRecursion (IsWritten drawing.classes (canonical drawing)) (canonical_frames drawing)
-canonical_written drawing is small =
-    frames_written drawing.classes (canonical drawing) drawing.objects (objects_place drawing) is.objects (parts_stand drawing (header_fits drawing is small)).frames
 
 -- the pairs of written frames have positive handles
 pub written_positive : (classes : List Class) (bytes : List ℕ) (frames : List PairFrame) → AllByRecursion (IsWritten classes bytes) frames
