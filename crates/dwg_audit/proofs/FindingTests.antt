@@ -23,10 +23,10 @@ use Rattle.dwg_kinds.specs.Kinds.{is_entity_kind, same_kind}
 use Rattle.dwg_kinds.specs.Needs.{need_of}
 use Rattle.dwg_object.specs.Objects.{ObjectValue, handle_of, kind_of}
 use Rattle.dwg_paths.specs.Ways.{has_path}
-use Rattle.dwg_paths.specs.ChainLaws.{AreChainTests}
+use Rattle.dwg_paths.specs.ChainTests.{AreChainTests}
 use Rattle.dwg_paths.proofs.ChainLaws.{chain_decided}
 use Rattle.dwg_paths.proofs.MemberLemmas.{contains_none, contains_cases}
-use Rattle.dwg_paths.specs.PathLaws.{IsClosed}
+use Rattle.dwg_paths.specs.Ways.{IsClosed}
 use Rattle.dwg_paths.proofs.PathLaws.{path_decided}
 use Rattle.dwg_paths.proofs.TestLemmas.{passing_of_found, found_of_passing, one_of_any, any_of_one}
 use Rattle.dwg_paths.proofs.WayLemmas.{option_map_found, option_then_found}

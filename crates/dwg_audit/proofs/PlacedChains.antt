@@ -14,9 +14,9 @@ use Rattle.dwg_graph.specs.Graph.{object_at, is_header, is_raw, is_member, is_me
 use Rattle.dwg_graph.specs.Owners.{spaces, owner_of, next_of}
 use Rattle.dwg_graph.specs.Places.{Ascend, handles_of}
 use Rattle.dwg_object.specs.Objects.{ObjectValue, handle_of, kind_of}
-use Rattle.dwg_paths.specs.ChainLaws.{IsAmong}
+use Rattle.dwg_paths.specs.ChainTests.{IsAmong}
 use Rattle.dwg_paths.specs.Paths.{AreDistinct}
-use Rattle.dwg_paths.specs.PlaceLaws.{TestsAgree}
+use Rattle.dwg_paths.specs.ThingsAtPlaces.{TestsAgree}
 use Rattle.dwg_paths.proofs.PlaceLaws.{chain_seen, contains_of_place, place_of_contained}
 use Rattle.dwg_paths.specs.Tables.{leads, lives_at, is_at, ends_at, HasChainAt}
 use Rattle.dwg_paths.specs.declared.tables.Ends.{Ends}

@@ -13,10 +13,10 @@ use Rattle.dwg_graph.specs.Graph.{object_at, there, is_root, is_member, owner_st
 use Rattle.dwg_graph.specs.Owners.{owner_of}
 use Rattle.dwg_graph.specs.Places.{Ascend, handles_of}
 use Rattle.dwg_object.specs.Objects.{ObjectValue, handle_of}
-use Rattle.dwg_paths.specs.PathLaws.{IsClosed}
+use Rattle.dwg_paths.specs.Ways.{IsClosed}
 use Rattle.dwg_paths.proofs.PathLaws.{path_decided}
 use Rattle.dwg_paths.specs.Paths.{HasPath}
-use Rattle.dwg_paths.specs.PlaceLaws.{IsSeen, TestsAgree}
+use Rattle.dwg_paths.specs.ThingsAtPlaces.{IsSeen, TestsAgree}
 use Rattle.dwg_paths.proofs.PlaceLaws.{path_seen, contains_of_place}
 use Rattle.dwg_paths.proofs.RankLemmas.{path_of_rank, rank_of_path}
 use Rattle.dwg_paths.specs.Tables.{leads, marked, RankIs, AreWithin}

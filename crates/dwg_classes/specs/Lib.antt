@@ -2,7 +2,7 @@
 pub mod Class
 -- The lines of the table of refusals on classes, tried class by class.
 pub mod ClassLines
--- Classes that are written: which lists of classes have spellings, and that what is written of them, padded, is cut into them.
+-- Classes that are written: which classes can be, and the bits that are written of them, padded to whole bytes.
 pub mod WrittenClasses
 -- The first class of a number in a list of classes.
 pub mod FirstClass

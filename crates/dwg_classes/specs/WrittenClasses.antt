@@ -1,4 +1,4 @@
--- Classes that are written: which lists of classes have spellings, and that what is written of them, padded, is cut into them. A rule of this project.
+-- Classes that are written: which classes can be, and the bits that are written of them, padded to whole bytes. A rule of this project.
 use Rattle.std.proofs.Common.{◌≤◌, Bool, List, ◌++◌, length}
 use Rattle.std.specs.List.{AllByRecursion}
 use Rattle.dwg_bits.specs.Sink.{padding}

@@ -1,4 +1,4 @@
--- These bodies meet the laws of bodies.
+-- Controls, dictionaries and records meet the laws of bodies.
 use Rattle.std.proofs.Common.{◌≡◌, refl, sym, ◌∙◌, ap, ap₂, ℕ, ◌^◌, ◌<◌, List, length}
 use Rattle.dwg_common.proofs.MemberLaws.{joined_counted, told_of_joined, names_of_joined, joined_again}
 use Rattle.dwg_grammar.specs.Codes.{bl, bs, rc, tv}

@@ -6,5 +6,5 @@ pub mod EntriesAndTwo
 pub mod Dictionaries
 -- Records: bytes of an application, and objects that they name.
 pub mod XRecords
--- These bodies meet the laws of bodies.
+-- Controls, dictionaries and records meet the laws of bodies.
 pub mod DictLaws

@@ -1,4 +1,4 @@
--- These bodies meet the laws of bodies.
+-- Texts, attributes and their definitions, inserts, and the begin and end of blocks meet the laws of bodies.
 use Rattle.std.proofs.Common.{◌≡◌, refl, ap, ℕ, ◌^◌, ◌<◌, Bool, Option, arith}
 use Rattle.dwg_grammar.specs.Codes.{rc, rd, bs, bd, bd3, be, tv}
 use Rattle.dwg_grammar.proofs.CombinatorLemmas.{any_letters_closed, always_is_code, seq_is_code}

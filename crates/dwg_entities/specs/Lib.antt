@@ -18,5 +18,5 @@ pub mod BlockEnds
 pub mod FlagLaws
 -- The scale of an insert is a code.
 pub mod ScaleLaws
--- These bodies meet the laws of bodies.
+-- Texts, attributes and their definitions, inserts, and the begin and end of blocks meet the laws of bodies.
 pub mod BodiesLaws

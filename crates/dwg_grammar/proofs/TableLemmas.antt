@@ -9,7 +9,7 @@ use Rattle.dwg_grammar.specs.Combinators.{fixed, seq, tagged}
 use Rattle.dwg_grammar.proofs.CombinatorLemmas.{any_letters_closed, fixed_is_code, always_is_code, never_is_code, seq_is_code, struct_is_code, tagged_is_code}
 use Rattle.dwg_grammar.proofs.ListLemmas.{counted_is_code}
 use Rattle.dwg_grammar.specs.declared.points.Point3.{Point3}
-use Rattle.dwg_grammar.specs.Codes.{rc, ONE, bs_by, bs, bl_by, bl, bd_by, bd, bt_by, bt, IsPoint3, bd3, UPWARD, be_by, be, tv}
+use Rattle.dwg_grammar.specs.Codes.{rc, ONE, bs_by, bs, bl_by, bl, bd_by, bd, bt_by, bt, IsPoint3, bd3, UPWARD, be_by, be_tag, be, tv}
 use Rattle.dwg_grammar.proofs.NumberLemmas.{bytes_of_items, items_of_bytes, rc_is_code, rs_is_code, rl_is_code, rd_is_code, length_of_rc, length_of_rs, length_of_rl}
 
 -- a code behind a tag of so many bits is a code: all tags are as long
@@ -215,17 +215,13 @@ be_by_value zero point fits = fits
 be_by_value (suc zero) point fits = subst IsPoint3 (sym fits) (record { x = omega arith; y = omega arith; z = omega arith })
 be_by_value (suc (suc tag)) point fits = absurd fits
 
--- the tag that is written of a BE, by what the tests say
-abbrev pub be_tag : Bool → Bool → Bool → ℕ
-be_tag no_x no_y one_z = if no_x then (if no_y then (if one_z then 1 else 0) else 0) else 0
-
--- and by the point
-abbrev pub be_pick : Point3 → ℕ
-be_pick point = be_tag (point.x == 0) (point.y == 0) (point.z == ONE)
+-- the tag that is written of a BE, by what the tests say of its point
+abbrev be_tag_by : Bool → Bool → Bool → ℕ
+be_tag_by no_x no_y one_z = if no_x then (if no_y then (if one_z then 1 else 0) else 0) else 0
 
 -- a point has the tag that is written of it
 be_picked : (point : Point3) (no_x no_y one_z : Bool) → (point.x == 0) ≡ no_x → (point.y == 0) ≡ no_y → (point.z == ONE) ≡ one_z → IsPoint3 point
-    → (be_tag no_x no_y one_z < 2 ^ 1) × (be_by (be_tag no_x no_y one_z)).IsValue point
+    → (be_tag_by no_x no_y one_z < 2 ^ 1) × (be_by (be_tag_by no_x no_y one_z)).IsValue point
 be_picked point true true true no_x no_y one_z fits = (
   omega arith,
   ap (λ (x : ℕ). let p : Point3 = record { x = x; y = point.y; z = point.z } in p) ((Decides-eqb point.x 0).0 no_x)
@@ -237,21 +233,21 @@ be_picked point true false one no_x no_y one_z fits = (omega arith, fits)
 be_picked point false y one no_x no_y one_z fits = (omega arith, fits)
 
 -- behind the tag that is written there are no more bits than behind another
-be_least : (point : Point3) (tag : ℕ) → (be_by tag).IsValue point → length ((be_by (be_pick point)).short point) ≤ length ((be_by tag).short point)
+be_least : (point : Point3) (tag : ℕ) → (be_by tag).IsValue point → length ((be_by (be_tag point)).short point) ≤ length ((be_by tag).short point)
 be_least point zero fits = by_tests (point.x == 0) (point.y == 0) (point.z == ONE)
   where
-    by_tests : (no_x no_y one_z : Bool) → length ((be_by (be_tag no_x no_y one_z)).short point) ≤ length ((be_by 0).short point)
+    by_tests : (no_x no_y one_z : Bool) → length ((be_by (be_tag_by no_x no_y one_z)).short point) ≤ length ((be_by 0).short point)
     by_tests true true true = omega arith
     by_tests true true false = omega arith
     by_tests true false one_z = omega arith
     by_tests false no_y one_z = omega arith
-be_least point (suc zero) fits = subst (λ (p : Point3). length ((be_by (be_pick p)).short p) ≤ 0) (sym fits) (omega arith)
+be_least point (suc zero) fits = subst (λ (p : Point3). length ((be_by (be_tag p)).short p) ≤ 0) (sym fits) (omega arith)
 be_least point (suc (suc tag)) fits = absurd fits
 
 -- a BE is a code
 pub be_is_code : IsCode AnyLetters be
 be_is_code =
-    bit_tagged_is_code 1 be_by IsPoint3 be_pick
+    bit_tagged_is_code 1 be_by IsPoint3 be_tag
     (λ tag in_range. be_by_is_code tag) (λ tag point in_range fits. be_by_value tag point fits)
     (λ point fits. be_picked point (point.x == 0) (point.y == 0) (point.z == ONE) refl refl refl fits)
     (λ tag point in_range fits. be_least point tag fits)

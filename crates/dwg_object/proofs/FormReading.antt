@@ -24,12 +24,12 @@ use Rattle.dwg_object.proofs.CommonForms.{IsCutAt, same_fronts, common_in_cut, c
 use Rattle.dwg_object.specs.declared.object.Object.{Object}
 use Rattle.dwg_object.specs.declared.reading.Rest.{Rest}
 use Rattle.dwg_object.specs.Forms.{CommonForm, HasCommonForm, HasTypedForm, PlainForm, HasPlainForm, FormOf, kind_under, common_part}
-use Rattle.dwg_object.specs.HeadLaws.{IsHeadAt}
+use Rattle.dwg_object.specs.Heads.{IsHeadAt}
 use Rattle.dwg_object.specs.Objects.{HeadParts, ObjectValue, PlainValue, value_of}
 use Rattle.dwg_object.specs.OwnBodies.{own_body}
 use Rattle.dwg_object.proofs.OwnLaws.{own_is_body}
 use Rattle.dwg_object.proofs.PlainLemmas.{plain_of_cut, plain_cut, common_of_plain}
-use Rattle.dwg_object.specs.TypedLaws.{AreOwn, HasOwn}
+use Rattle.dwg_object.specs.OwnBits.{AreOwn, HasOwn}
 use Rattle.dwg_object.proofs.TypedLaws.{typed_own, common_of_typed}
 
 -- a body is cut at the place behind its head and at its bit size

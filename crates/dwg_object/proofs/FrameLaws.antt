@@ -17,8 +17,7 @@ use Rattle.dwg_object.specs.Frames.{FrameAt, FrameHolds, SpanAt}
 use Rattle.dwg_object.specs.FrameLines.{frame_refusal, span_of, bytes_from, span_body, has_check_word, head_at, head_tried, frame_checked, tried_span, tried_frame}
 use Rattle.dwg_object.specs.FrameCauses.{IsFramed, TellsSpan, TellsFrame}
 use Rattle.dwg_object.proofs.StandingLemmas.{take_stands, stands_first, stands_next, stands_same, stands_bytes}
-use Rattle.dwg_object.specs.HeadLaws.{TellsHead}
-use Rattle.dwg_object.proofs.HeadLaws.{head_told, head_only, head_begins, begins_head}
+use Rattle.dwg_object.proofs.HeadLaws.{TellsHead, head_told, head_only, head_begins, begins_head}
 use Rattle.dwg_object.proofs.SpanLaws.{lengths_same, span_size, span_told, tried_span_means}
 use Rattle.dwg_object.specs.FrameLaws.{FramesAreHeld, FramesAreOne, FramesAreTold}
 

@@ -1,4 +1,4 @@
--- Heads are a code, and a body begins with one at the most.
+-- Heads are a code, so what is parsed of bits is the one head that they begin with.
 use Rattle.std.proofs.Common.{◌≡◌, refl, sym, ◌∙◌, ap, ℕ, Bool, List, Option, Some, None}
 use Rattle.std.specs.Prelude.{option_map}
 use Rattle.dwg_grammar.specs.Grammar.{IsCode, AnyLetters}
@@ -12,7 +12,7 @@ use Rattle.dwg_grammar.proofs.OwnLemmas.{own_is_code}
 use Rattle.dwg_grammar.specs.ReferenceCodes.{own_handle}
 use Rattle.dwg_object.specs.Objects.{HeadParts}
 use Rattle.dwg_object.specs.Forms.{IsHead, HasHead, BeginsWithHead, head}
-use Rattle.dwg_object.specs.HeadLaws.{HeadsAreOne, TellsHead, own_of}
+use Rattle.dwg_object.specs.Heads.{HeadsAreOne, own_of}
 
 -- heads are a code
 pub head_is_code : IsCode AnyLetters head
@@ -39,7 +39,7 @@ head_begins letters number own begins = record { front = begins.front; rest = be
 pub begins_head : (letters : List Bool) (parts : HeadParts) → HasHead letters parts → BeginsWithHead letters parts.number parts.own
 begins_head letters parts is = record { size = parts.size; front = is.front; rest = is.rest; spelled = is.spelled; whole = is.whole }
 
--- so they are
+-- so they have one number and one own handle
 pub begins_same : HeadsAreOne
 begins_same letters number own other other_own is was =
     let same = heads_same letters _ _ (head_begins letters number own is) (head_begins letters other other_own was) in
@@ -57,6 +57,11 @@ head_parsed letters rest parts same = let is = head_is_code.sound letters rest p
 -- where none is parsed, they begin with none
 pub head_unparsed : (letters : List Bool) → head.parse letters ≡ None → (parts : HeadParts) → HasHead letters parts → ⊥
 head_unparsed letters same parts is = (reads_none AnyLetters head letters head_is_code same).0 (parts, is.front, is.rest, is.spelled, is.whole)
+
+-- what the front of the bits tells of a head: its parts, or that there is none
+abbrev pub TellsHead : List Bool → Option HeadParts → Type 0
+TellsHead letters (Some parts) = HasHead letters parts
+TellsHead letters None = (parts : HeadParts) → HasHead letters parts → ⊥
 
 -- what is parsed of a head is what the bits tell
 pub head_told : (letters : List Bool) → TellsHead letters (option_map (λ (found : HeadParts × List Bool). found.0) (head.parse letters))

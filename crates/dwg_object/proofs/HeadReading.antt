@@ -13,7 +13,7 @@ use Rattle.dwg_grammar.specs.ReferenceCodes.{own_handle}
 use Rattle.dwg_codes.proofs.SeqReading.{seq_read, first_unread, second_unread}
 use Rattle.dwg_object.specs.Objects.{HeadParts}
 use Rattle.dwg_object.specs.Forms.{head, HasHead}
-use Rattle.dwg_object.specs.HeadLaws.{IsHeadAt, own_of}
+use Rattle.dwg_object.specs.Heads.{IsHeadAt, own_of}
 use Rattle.dwg_object.proofs.HeadLaws.{own_told}
 
 -- a bit size and an own handle

@@ -1,4 +1,4 @@
--- Typed forms: a body has one at the most, and whether it has one follows from its bits.
+-- Typed forms of a body: one at the most, and they are decided by what its common part and its own bits are read as.
 use Rattle.std.proofs.Common.{◌≡◌, refl, sym, ◌∙◌, ap, subst, ℕ, ◌^◌, ◌<◌, Bool, true, false, List, [], ◌∷◌, ◌++◌, length, Option, Some, None, inl, inr, arith}
 use Rattle.std.specs.Prelude.{◌⊎◌, nat_lt}
 use Rattle.std.proofs.lemmas.Bool.Decides.{nat_tests}
@@ -15,7 +15,7 @@ use Rattle.dwg_object.specs.Forms.{HasHead, CommonForm, HasCommonForm, TypedForm
 use Rattle.dwg_object.proofs.CommonForms.{common_form_decided, common_forms_same, fits_of_common}
 use Rattle.dwg_object.specs.OwnBodies.{own_body}
 use Rattle.dwg_object.proofs.OwnLaws.{own_is_body}
-use Rattle.dwg_object.specs.TypedLaws.{AreOwn, HasOwn}
+use Rattle.dwg_object.specs.OwnBits.{AreOwn, HasOwn}
 
 -- so they are in a Typed form
 pub own_of_typed : (classes : List Class) (body : List ℕ) (number handle : ℕ) (common : Common) (value : Body) (is : TypedForm classes body number handle common value)

@@ -14,15 +14,15 @@ pub mod FrameLines
 pub mod FrameCauses
 -- What a call that reads a frame answers.
 pub mod FoundFrames
--- Heads are a code, and a body begins with one at the most.
-pub mod HeadLaws
+-- The head that bits begin with: where it ends, its own handle, and that there is one at the most.
+pub mod Heads
 -- The span that is tried at a place is the one that stands there.
 pub mod SpanLaws
 -- The frame that is tried at a place is the one that stands there, and there is one at the most.
 pub mod FrameLaws
 -- What a kind has of its own is a body, and is of that kind.
 pub mod OwnLaws
--- Typed forms: a body has one at the most, and whether it has one follows from its bits.
-pub mod TypedLaws
+-- A kind's own bits and own references: when they are wholly what it has of its own, but for fewer than eight bits.
+pub mod OwnBits
 -- Forms: a body is read as at most one object, and an object that is written is read as itself.
 pub mod FormLaws

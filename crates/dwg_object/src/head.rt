@@ -6,7 +6,7 @@ ghost use Rattle.dwg_bits.specs.Cursor.{rest};
 ghost use Rattle.dwg_grammar.specs.Grammar.{Reads};
 ghost use Rattle.dwg_bits.specs.Sink.{Extends};
 ghost use Rattle.dwg_object.specs.Forms.{BeginsWithHead, HasHead, head};
-ghost use Rattle.dwg_object.specs.HeadLaws.{IsHeadAt, own_of};
+ghost use Rattle.dwg_object.specs.Heads.{IsHeadAt, own_of};
 ghost use Rattle.dwg_object.specs.Objects.{HeadParts, parts_of};
 
 use dwg_base::Handle;

@@ -10,9 +10,9 @@ ghost use Rattle.dwg_grammar.specs.ReferenceCodes.{reference};
 ghost use Rattle.dwg_kinds.specs.declared.kind.Kind.TheVariants as kinds;
 ghost use Rattle.dwg_object.specs.declared.reading.Rest.{Rest};
 ghost use Rattle.dwg_object.specs.Forms.{BeginsWithHead, CommonForm, FormOf, HasCommonForm, HasPlainForm, HasTypedForm, kind_under};
-ghost use Rattle.dwg_object.specs.HeadLaws.{IsHeadAt};
+ghost use Rattle.dwg_object.specs.Heads.{IsHeadAt};
 ghost use Rattle.dwg_object.specs.Objects.{HoldsItsBytes, PlainValue, parts_of, value_of};
-ghost use Rattle.dwg_object.specs.TypedLaws.{AreOwn, HasOwn};
+ghost use Rattle.dwg_object.specs.OwnBits.{AreOwn, HasOwn};
 
 use crate::body::Body;
 use crate::common::Common;

@@ -10,7 +10,7 @@ use Rattle.dwg_paths.proofs.MemberLemmas.{contains_first, contains_behind, disti
 use Rattle.dwg_paths.proofs.TestLemmas.{each_of_all, all_of_each, one_of_any, any_of_one, kept_of_passing, passing_of_kept, passing_of_found, found_of_passing}
 use Rattle.dwg_paths.proofs.RankLemmas.{IsStraight, path_of_straight}
 use Rattle.dwg_paths.proofs.WayLemmas.{straight_is_found, found_is_straight, option_then_found}
-use Rattle.dwg_paths.specs.ChainLaws.{AreChainTests, IsAmong, PassesOnce, TellsApart}
+use Rattle.dwg_paths.specs.ChainTests.{AreChainTests, IsAmong, PassesOnce, TellsApart}
 
 -- a list that ends with what passes contains what passes
 end_passes : {A : Type 0} (test : A → Bool) (x : A) (rest : List A) → Ends test (x ∷ rest) → (y : A) × Contains (x ∷ rest) y × IsTrue (test y)

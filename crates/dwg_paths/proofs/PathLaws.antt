@@ -6,7 +6,7 @@ use Rattle.dwg_paths.specs.Ways.{way, has_path}
 use Rattle.dwg_paths.proofs.MemberLemmas.{contains_none, contains_cases, distinct_at_most}
 use Rattle.dwg_paths.proofs.RankLemmas.{IsStraight, straight_of_rank, path_of_straight, distinct_along, rank_of_path}
 use Rattle.dwg_paths.proofs.WayLemmas.{straight_is_found, found_is_straight}
-use Rattle.dwg_paths.specs.PathLaws.{IsClosed}
+use Rattle.dwg_paths.specs.Ways.{IsClosed}
 
 -- a straight way from a thing of a closed list stays in it
 stays_along : {A : Type 0} (all : List A) (step : A → Option A) (goal : A → Bool) → IsClosed all step → (x : A) (rest : List A) → Contains all x → IsStraight step goal x rest → (y : A) → Contains (x ∷ rest) y → Contains all y

@@ -5,8 +5,8 @@ use Rattle.std.specs.Prelude.{⊤, ℕ, zero, suc, ◌<◌, ◌↔◌, Bool, Lis
 use Rattle.dwg_paths.specs.Paths.{AreDistinct, Follows, Begins, Ends, HasPath, HasRank, HasChain}
 use Rattle.dwg_paths.proofs.MemberLemmas.{contains_none, contains_first, contains_behind, contains_cases}
 use Rattle.dwg_paths.proofs.RankLemmas.{path_of_rank, rank_of_path}
-use Rattle.dwg_paths.specs.ChainLaws.{IsAmong}
-use Rattle.dwg_paths.specs.PlaceLaws.{AreChainsSeen, IsSeen, TestsAgree}
+use Rattle.dwg_paths.specs.ChainTests.{IsAmong}
+use Rattle.dwg_paths.specs.ThingsAtPlaces.{AreChainsSeen, IsSeen, TestsAgree}
 
 -- where the thing at a place leads to another, the place leads to one where that stands
 place_ahead : {B : Type 0} (all : List B) (step_place : ℕ → Option ℕ) (step_thing : B → Option B) → IsSeen all step_place step_thing → (i : ℕ) (x y : B) → slice_get all i ≡ Some x → step_thing x ≡ Some y → (j : ℕ) × (step_place i ≡ Some j) × (slice_get all j ≡ Some y)

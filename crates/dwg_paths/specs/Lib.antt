@@ -4,12 +4,10 @@ pub mod Paths
 pub mod Ways
 -- Tables of places: where each place leads, which are goals, and whose member each is.
 pub mod Tables
--- Laws of paths among finitely many things: as many steps as there are things find a path, if there is one.
-pub mod PathLaws
--- Laws of chains among finitely many things: what is found from the first to the last is a chain exactly where there is one.
-pub mod ChainLaws
--- Laws of places and things: where steps and tests over the places of a list say what they say over its things, so do ranks, paths and chains.
-pub mod PlaceLaws
+-- Tests of finitely many things by which a chain of them is found: they tell things apart, and pass few.
+pub mod ChainTests
+-- Steps and tests over the places of a list that say what steps and tests over the things there say.
+pub mod ThingsAtPlaces
 -- Marks of places.
 pub mod Marks
 -- What is known of the ranks of places while they are sought.

@@ -1,7 +1,11 @@
 -- How paths and chains are sought among finitely many things: by steps, of which as many are tried as there are things. A rule of this project.
-use Rattle.std.specs.Prelude.{ℕ, zero, suc, Bool, false, List, [], ◌∷◌, length, Option, Some, None, is_some, find, ◌&&◌, if◌then◌else◌}
+use Rattle.std.specs.Prelude.{◌≡◌, ℕ, zero, suc, Bool, false, List, [], ◌∷◌, length, Option, Some, None, Contains, is_some, find, ◌&&◌, if◌then◌else◌}
 use Rattle.std.specs.List.{list_all, list_any, filter}
 use Rattle.std.specs.Option.{option_and_then, option_map, option_map_or}
+
+-- things of a list lead only to things of it
+abbrev pub IsClosed : {A : Type 0} → List A → (A → Option A) → Type 0
+IsClosed {A} all step = (x y : A) → Contains all x → step x ≡ Some y → Contains all y
 
 -- the way from x to the first goal, in at most so many steps
 unfoldable pub way : {A : Type 0} → (A → Option A) → (A → Bool) → ℕ → A → Option (List A)

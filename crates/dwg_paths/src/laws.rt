@@ -3,9 +3,9 @@
 ghost use Rattle.std.specs.Prelude.{◌≡◌, ◌<◌, ◌↔◌, ℕ, Bool, List, length, Option, Some, slice_get, IsTrue, Contains};
 ghost use Rattle.dwg_paths.specs.Paths.{HasPath, HasRank, HasChain};
 ghost use Rattle.dwg_paths.specs.Ways.{has_path, has_chain};
-ghost use Rattle.dwg_paths.specs.PathLaws.{IsClosed};
-ghost use Rattle.dwg_paths.specs.ChainLaws.{AreChainTests};
-ghost use Rattle.dwg_paths.specs.PlaceLaws.{IsSeen, TestsAgree, AreChainsSeen};
+ghost use Rattle.dwg_paths.specs.Ways.{IsClosed};
+ghost use Rattle.dwg_paths.specs.ChainTests.{AreChainTests};
+ghost use Rattle.dwg_paths.specs.ThingsAtPlaces.{IsSeen, TestsAgree, AreChainsSeen};
 
 /// What holds of ranks and paths: a thing has one rank; a path leads from what has a rank, and what a path leads from has one. Of
 /// things that lead only to each other: a rank is less than their count; and as many steps as there are things find a path exactly

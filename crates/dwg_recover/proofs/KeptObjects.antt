@@ -20,8 +20,7 @@ use Rattle.dwg_object.specs.declared.span.Span.{Span}
 use Rattle.dwg_object.specs.Forms.{FormOf, HasHead}
 use Rattle.dwg_object.proofs.FormLaws.{form_at, form_is_at, head_of_form}
 use Rattle.dwg_object.specs.FrameLines.{has_check_word, head_at, span_body}
-use Rattle.dwg_object.specs.HeadLaws.{TellsHead}
-use Rattle.dwg_object.proofs.HeadLaws.{head_fits, head_told, heads_same}
+use Rattle.dwg_object.proofs.HeadLaws.{TellsHead, head_fits, head_told, heads_same}
 use Rattle.dwg_object.specs.Objects.{HeadParts, ObjectValue, handle_of}
 use Rattle.dwg_objmap.specs.Pages.{AreHandles}
 use Rattle.dwg_recover.specs.declared.frame.Frame.{Frame}

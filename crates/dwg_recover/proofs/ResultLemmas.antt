@@ -34,7 +34,7 @@ use Rattle.dwg_recover.specs.Frames.{candidates, kept_of, scanned}
 use Rattle.dwg_recover.specs.FoundFrames.{frame_of}
 use Rattle.dwg_recover.proofs.FoundFrames.{candidates_hold}
 use Rattle.dwg_recover.specs.Intact.{pairs_framed}
-use Rattle.dwg_recover.specs.Told.{DamagedIsAnswered, IsSoundAnswer, MappedAreTold, RecoveredIsSound, SpelledIsAnswered, named}
+use Rattle.dwg_recover.specs.Told.{DamagedIsAnswered, IsValidAnswer, MappedAreTold, RecoveredIsValid, SpelledIsAnswered, named}
 use Rattle.dwg_recover.proofs.IntactParts.{body_is_found, form_holds}
 use Rattle.dwg_recover.specs.KeptFrames.{AreKept, AreOther}
 use Rattle.dwg_recover.proofs.MapKeeping.{mapped_are_numbered}
@@ -47,9 +47,9 @@ use Rattle.dwg_recover.proofs.ToldLemmas.{AreTold, kept_are_told}
 use Rattle.dwg_recover.proofs.WholeLemmas.{candidates_are_found}
 
 -- of a damaged input the answer is sound
-damaged_is_sound : SectionLaws → (bytes : List ℕ) → AreBytes bytes → IsSoundAnswer bytes (recovered_damaged bytes)
+damaged_is_valid : SectionLaws → (bytes : List ℕ) → AreBytes bytes → IsValidAnswer bytes (recovered_damaged bytes)
 unfolding recovered_damaged drawing_recovered
-damaged_is_sound laws bytes are =
+damaged_is_valid laws bytes are =
     let classes : List Class = classes_found bytes in
     let frames : List Frame = frames_kept bytes in
     let all = kept_are_told classes bytes frames are (frames_are_kept bytes) in
@@ -132,9 +132,9 @@ found_are_spelled laws drawing bytes spelled are none =
     ∙ spelled_candidates drawing.classes bytes spelled.frames 0 are spelled.stand mapped.handles.positive
 
 -- of an input that spells a drawing the answer is sound
-whole_is_sound : SectionLaws → (bytes : List ℕ) → AreBytes bytes → first_fault ALL_LINES bytes ≡ None → IsSoundAnswer bytes (recovered_whole bytes)
+whole_is_valid : SectionLaws → (bytes : List ℕ) → AreBytes bytes → first_fault ALL_LINES bytes ≡ None → IsValidAnswer bytes (recovered_whole bytes)
 unfolding recovered_whole
-whole_is_sound laws bytes are none = record {
+whole_is_valid laws bytes are none = record {
   apart = all.apart;
   stand = all.stand;
   objects =
@@ -173,13 +173,13 @@ whole_is_sound laws bytes are none = record {
     objects = ap (map (object_of drawing.classes bytes)) same ∙ spelled_objects drawing.classes bytes spelled.frames 0 are spelled.stand
 
 -- so every answer is sound
-pub recovered_is_sound : SectionLaws → RecoveredIsSound
+pub recovered_is_valid : SectionLaws → RecoveredIsValid
 unfolding recovered
-recovered_is_sound laws bytes are = of_fault (first_fault ALL_LINES bytes) refl
+recovered_is_valid laws bytes are = of_fault (first_fault ALL_LINES bytes) refl
   where
-    of_fault : (fault : Option Refusal) → first_fault ALL_LINES bytes ≡ fault → IsSoundAnswer bytes (if is_none fault then recovered_whole bytes else recovered_damaged bytes)
-    of_fault None none = whole_is_sound laws bytes are none
-    of_fault (Some refusal) refused = damaged_is_sound laws bytes are
+    of_fault : (fault : Option Refusal) → first_fault ALL_LINES bytes ≡ fault → IsValidAnswer bytes (if is_none fault then recovered_whole bytes else recovered_damaged bytes)
+    of_fault None none = whole_is_valid laws bytes are none
+    of_fault (Some refusal) refused = damaged_is_valid laws bytes are
 
 -- what is recovered of an input that spells a drawing is that drawing, and the frames that it is spelled with are told
 pub spelled_is_answered : SectionLaws → SpelledIsAnswered

@@ -1,4 +1,4 @@
--- What is recovered of an input.
+-- What is recovered of an input: its drawing, its refusal, its losses and the frames that are kept, where it spells a drawing and where it is damaged.
 pub mod Recovering
 -- What recovery answers, as a plain value.
 pub mod Results
@@ -22,7 +22,7 @@ pub mod KeptFrames
 pub mod OrderOfPlace
 -- Where the header variables and the classes are found: at the place of their locator, or else where the first whole section stands.
 pub mod Sections
--- The walk over the pages of the map, past those whose check word is wrong, and that there is one, with few pairs.
+-- The walk over the pages of the map, past those whose check word is wrong; the pairs and the losses of its pages; and that there is one walk.
 pub mod Walks
 -- Which frames are kept: those that the pairs of the map name, and then those that stand elsewhere.
 pub mod Frames
@@ -34,7 +34,7 @@ pub mod Placing
 pub mod MapFrames
 -- The objects of the frames that are kept, and what the scan tells of a place.
 pub mod KeptObjects
--- What is noted of the frames that are kept.
+-- What runs, sets and an end note of frames: their bytes, their handles, the numbers of their pairs, and where the last ends.
 pub mod Keeping
 -- A member of a list, whatever it lists, and where it stands there.
 pub mod ListMembers

@@ -1,4 +1,4 @@
--- What is recovered of an input. A rule of this project.
+-- What is recovered of an input: its drawing, its refusal, its losses and the frames that are kept, where it spells a drawing and where it is damaged. A rule of this project.
 use Rattle.std.specs.Prelude.{ℕ, ◌+◌, List, [], ◌∷◌, ◌++◌, length, map, replicate, Option, Some, None, if◌then◌else◌}
 use Rattle.std.specs.Option.{is_none}
 use Rattle.std.specs.Result.{result_unwrap_or}

@@ -39,15 +39,15 @@ pub record IsTold (classes : List Class) (bytes : List ℕ) (kept : Kept) : Type
   pub own : handle_of (object_told classes bytes kept) ≡ kept.handle
 
 -- the frames stand in the input, in order of place, and share no byte and no handle; the objects are those of the frames under the classes of the drawing; and the drawing is valid
-pub record IsSoundAnswer (bytes : List ℕ) (value : RecoveredValue) : Type 0 where
+pub record IsValidAnswer (bytes : List ℕ) (value : RecoveredValue) : Type 0 where
   pub apart : AreToldApart value.kept
   pub stand : AllByRecursion (IsTold value.drawing.classes bytes) value.kept
   pub objects : IsPermutation (map (object_told value.drawing.classes bytes) value.kept) value.drawing.objects
   pub valid : length bytes ≤ MOST_BYTES → IsValid value.drawing
 
 -- so it is of every input
-abbrev pub RecoveredIsSound : Type 0
-RecoveredIsSound = (bytes : List ℕ) → AreBytes bytes → IsSoundAnswer bytes (recovered bytes)
+abbrev pub RecoveredIsValid : Type 0
+RecoveredIsValid = (bytes : List ℕ) → AreBytes bytes → IsValidAnswer bytes (recovered bytes)
 
 -- of the frames that are kept of a damaged input, those of the map are told as mapped, and no others
 abbrev pub MappedAreTold : Type 0

@@ -1,4 +1,4 @@
--- The walk over the pages of the map, past those whose check word is wrong, and that there is one, with few pairs. A rule of this project, over the map of the Open Design Specification, "Object map".
+-- The walk over the pages of the map, past those whose check word is wrong; the pairs and the losses of its pages; and that there is one walk. A rule of this project, over the map of the Open Design Specification, "Object map".
 use Rattle.std.specs.Prelude.{◌≡◌, ◌≢◌, ◌⊎◌, ℕ, zero, suc, ◌+◌, List, [], ◌∷◌, length, flat_map, ◌==◌, Option, Some, None, if◌then◌else◌}
 use Rattle.dwg_objmap.specs.declared.pair.Pair.{Pair}
 use Rattle.dwg_objmap.specs.MapLines.{body_at}

@@ -7,7 +7,7 @@ ghost use Rattle.dwg_recover.specs.Intact.{CanonicalPartsStand, IntactObjectsAre
 ghost use Rattle.dwg_recover.specs.KeptFrames.{MapKeepsExactly, NoOthersAreKept, ObjectsAreOfFrames, ScanKeepsExactly};
 ghost use Rattle.dwg_recover.specs.OrderOfPlace.{PlacesAreInOrder};
 ghost use Rattle.dwg_recover.specs.RecoveredLaws.{FramesAreKept, PairsAreFew, RecoveredPartsAreRead};
-ghost use Rattle.dwg_recover.specs.Told.{DamagedIsAnswered, MappedAreTold, RecoveredIsSound, SpelledIsAnswered};
+ghost use Rattle.dwg_recover.specs.Told.{DamagedIsAnswered, MappedAreTold, RecoveredIsValid, SpelledIsAnswered};
 ghost use Rattle.dwg_recover.specs.ToldLosses.{LossesAreTold};
 ghost use Rattle.dwg_recover.specs.Walks.{WalkIsOne, WalkStands};
 
@@ -76,7 +76,7 @@ pub fn part_laws()
 /// any other its first refusal is told; just the frames that are kept for pairs of the map are told as mapped; and each of what is
 /// lost is told, and nothing else.
 pub fn answer_laws()
-    ensures sound { RecoveredIsSound }
+    ensures valid { RecoveredIsValid }
     ensures spelled { SpelledIsAnswered }
     ensures damaged { DamagedIsAnswered }
     ensures mapped { MappedAreTold }

@@ -23,8 +23,8 @@ pub record HasRoom (which : Framed) (bytes : List ℕ) (place : ℕ) : Type 0 wh
   pub room : place + 38 + size_at bytes place ≤ length bytes
 
 -- the check word of the section at a place is right
-abbrev pub HasCheckWord : List ℕ → ℕ → Type 0
-HasCheckWord bytes place = rs_at bytes (place + 20 + size_at bytes place) ≡ check_word FRAME_START (bytes_at bytes (place + 16) (4 + size_at bytes place))
+abbrev pub HasSectionCheckWord : List ℕ → ℕ → Type 0
+HasSectionCheckWord bytes place = rs_at bytes (place + 20 + size_at bytes place) ≡ check_word FRAME_START (bytes_at bytes (place + 16) (4 + size_at bytes place))
 
 -- the end sentinel of the section at a place stands behind it
 abbrev pub HasEnd : Framed → List ℕ → ℕ → Type 0
@@ -36,8 +36,8 @@ RefusesFramed which place bytes refusal =
     ((refusal ≡ framed_refusal (first_line which) place) × (length bytes < place + 20))
     ⊎ ((refusal ≡ framed_refusal (first_line which + 1) place) × (place + 20 ≤ length bytes) × (bytes_at bytes place 16 ≡ begin_sentinel which → ⊥))
     ⊎ ((refusal ≡ framed_refusal (first_line which + 2) (place + 16)) × HasBegin which bytes place × (length bytes < place + 38 + size_at bytes place))
-    ⊎ ((refusal ≡ framed_refusal (first_line which + 3) (place + 20 + size_at bytes place)) × HasRoom which bytes place × (HasCheckWord bytes place → ⊥))
-    ⊎ ((refusal ≡ framed_refusal (first_line which + 4) (place + 22 + size_at bytes place)) × HasRoom which bytes place × HasCheckWord bytes place × (HasEnd which bytes place → ⊥))
+    ⊎ ((refusal ≡ framed_refusal (first_line which + 3) (place + 20 + size_at bytes place)) × HasRoom which bytes place × (HasSectionCheckWord bytes place → ⊥))
+    ⊎ ((refusal ≡ framed_refusal (first_line which + 4) (place + 22 + size_at bytes place)) × HasRoom which bytes place × HasSectionCheckWord bytes place × (HasEnd which bytes place → ⊥))
 
 -- the lines on a section at a place refuse an input exactly as the section there is refused
 abbrev pub SectionIsRefused : Type 0

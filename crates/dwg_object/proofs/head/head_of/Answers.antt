@@ -1,6 +1,6 @@
 use Rattle.std.proofs.Common.{sym, subst, ℕ}
 use Rattle.dwg_bits.specs.Bits.{bits}
-use Rattle.dwg_object.specs.HeadLaws.{IsHeadAt}
+use Rattle.dwg_object.specs.Heads.{IsHeadAt}
 use Rattle.dwg_object.specs.Objects.{parts_of}
 use Rattle.dwg_object.proofs.HeadReading.{body_begins, body_begins_not}
 use Rattle.dwg_object.proofs.head.head_of.Goals as goal

@@ -1,11 +1,11 @@
 use Rattle.dwg_recover.proofs.ToldLosses.{losses_told}
-use Rattle.dwg_recover.proofs.ResultLemmas.{damaged_is_answered, mapped_are_told, recovered_is_sound, spelled_is_answered}
+use Rattle.dwg_recover.proofs.ResultLemmas.{damaged_is_answered, mapped_are_told, recovered_is_valid, spelled_is_answered}
 use Rattle.dwg_recover.proofs.SectionsOfFile.{section_laws}
 use Rattle.dwg_recover.proofs.laws.answer_laws.Goals as goal
 
-pub returns-clause-sound : goal.returns-clause-sound
-returns-clause-sound c =
-    recovered_is_sound (section_laws c.file_header_laws.ensures.sound c.file_header_laws.ensures.complete c.framed_laws.ensures.sound c.framed_laws.ensures.complete)
+pub returns-clause-valid : goal.returns-clause-valid
+returns-clause-valid c =
+    recovered_is_valid (section_laws c.file_header_laws.ensures.sound c.file_header_laws.ensures.complete c.framed_laws.ensures.sound c.framed_laws.ensures.complete)
 
 pub returns-clause-spelled : goal.returns-clause-spelled
 returns-clause-spelled c =

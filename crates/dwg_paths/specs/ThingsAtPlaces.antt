@@ -1,8 +1,8 @@
--- Laws of places and things: where steps and tests over the places of a list say what they say over its things, so do ranks, paths and chains.
+-- Steps and tests over the places of a list that say what steps and tests over the things there say. A rule of this project.
 use Rattle.std.proofs.Common.{◌≡◌}
 use Rattle.std.specs.Prelude.{ℕ, ◌<◌, Bool, List, length, Option, Some, None, slice_get, IsTrue}
 use Rattle.dwg_paths.specs.Paths.{AreDistinct}
-use Rattle.dwg_paths.specs.ChainLaws.{IsAmong}
+use Rattle.dwg_paths.specs.ChainTests.{IsAmong}
 
 -- a step over places says where the things there lead
 pub record IsSeen {B : Type 0} (all : List B) (step_place : ℕ → Option ℕ) (step_thing : B → Option B) : Type 0 where

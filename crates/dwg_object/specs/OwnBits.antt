@@ -1,4 +1,4 @@
--- Typed forms: a body has one at the most, and whether it has one follows from its bits.
+-- A kind's own bits and own references: when they are wholly what it has of its own, but for fewer than eight bits.
 use Rattle.std.proofs.Common.{ℕ, ◌<◌, Bool, List, [], length}
 use Rattle.dwg_grammar.specs.Bodies.{BeginsWithBody}
 use Rattle.dwg_kinds.specs.declared.kind.Kind.{Kind}

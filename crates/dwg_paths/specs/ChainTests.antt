@@ -1,4 +1,4 @@
--- Laws of chains among finitely many things: what is found from the first to the last is a chain exactly where there is one.
+-- Tests of finitely many things by which a chain of them is found: they tell things apart, and pass few. A rule of this project.
 use Rattle.std.proofs.Common.{◌≡◌}
 use Rattle.std.specs.Prelude.{◌↔◌, Bool, List, IsTrue, Contains}
 
