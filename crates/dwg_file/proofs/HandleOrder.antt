@@ -1,6 +1,6 @@
 -- Objects sorted by their handles, which are distinct, ascend.
 use Rattle.std.proofs.Common.{◌≡◌, ◌≢◌, refl, sym, ◌∙◌, ap, subst, ℕ, ◌<◌, ◌≤◌, List, [], ◌∷◌, length, map, get_or, ◌==◌, arith}
-use Rattle.std.specs.Prelude.{AllPairs, Ok, Err}
+use Rattle.std.specs.Prelude.{AllPairs, Ok}
 use Rattle.std.specs.List.Sorted.{IsPermutation, IsNonDecreasingBy}
 use Rattle.std.proofs.lemmas.Bool.Decides.{Decides-eqb, nat_tests}
 use Rattle.std.proofs.lemmas.List.{get_or-map, get_or_default, length-map}
@@ -8,8 +8,6 @@ use Rattle.std.proofs.lemmas.List.Sorted.{IsPermutation-map}
 use Rattle.std.proofs.lemmas.Map.Keys.{IsDistinct-IsPermutation}
 use Rattle.std.proofs.lemmas.Map.Made.{AllPairs-from_IsDistinct, IsDistinct-from_AllPairs}
 use Rattle.dwg_base.specs.Refusals.{Tried}
-use Rattle.dwg_base.specs.declared.refusal.Fault.{Fault}
-use Rattle.dwg_base.specs.declared.refusal.Fault.TheVariants.{NoMemory, Refused}
 use Rattle.dwg_classes.specs.declared.class.Class.{Class}
 use Rattle.dwg_object.specs.declared.object.Object.{Object}
 use Rattle.dwg_object.specs.Objects.{ObjectValue, value_of, handle_of}
@@ -84,8 +82,3 @@ pub objects_answered : (classes : List Class) (bytes : List ℕ) (tried : Tried 
     → IsPermutation (values_of read.objects.items) (values_of list) → AreAscending (values_of list) → AnswersObjects classes bytes tried (Ok (record { objects = list; frames = read.frames }))
 objects_answered classes bytes tried read list answers same ascend =
     (answers.0, answers.1, record { values = values_of read.objects.items; forms = answers.2; same = same; ascending = ascend }, answers.3)
-
--- a fault of reading frames is one of reading objects
-pub objects_refused : (classes : List Class) (bytes : List ℕ) (tried : Tried (List FoundFrame)) (fault : Fault) → AnswersFrames classes bytes tried (Err fault) → AnswersObjects classes bytes tried (Err fault)
-objects_refused classes bytes tried NoMemory answers = tt
-objects_refused classes bytes tried (Refused refusal) answers = answers

@@ -1,9 +1,10 @@
 -- The drawing that is read of an input, as a function of its bytes. A rule of this project.
-use Rattle.std.specs.Prelude.{ℕ, List, [], map}
+use Rattle.std.specs.Prelude.{◌≡◌, ℕ, List, [], map}
 use Rattle.std.specs.Result.{result_unwrap_or}
 use Rattle.dwg_classes.specs.declared.class.Class.{Class}
 use Rattle.dwg_object.specs.Objects.{ObjectValue}
 use Rattle.dwg_object.proofs.FormLaws.{form_at}
+use Rattle.dwg_object.specs.Forms.{FormOf}
 use Rattle.dwg_object.specs.FrameLines.{span_body}
 use Rattle.dwg_sections.specs.HeaderLines.{header_at}
 use Rattle.dwg_sections.specs.FramedLines.{content_at}
@@ -11,6 +12,10 @@ use Rattle.dwg_file.specs.Contents.{Contents}
 use Rattle.dwg_file.specs.FileLines.{FoundFrame, section_place, classes_tried, frames_tried}
 use Rattle.dwg_file.specs.ReadAs.{sections_at}
 use Rattle.dwg_file.specs.SortedObjects.{sorted}
+
+-- the object that a body is read as is the one that `form_at` finds
+abbrev pub FormsAreFound : Type 0
+FormsAreFound = (classes : List Class) (body : List ℕ) (value : ObjectValue) → FormOf classes body value → form_at classes body ≡ value
 
 -- the objects that the bodies of frames are read as
 abbrev pub objects_at : List Class → List ℕ → List FoundFrame → List ObjectValue

@@ -7,7 +7,7 @@ ghost use Rattle.dwg_base.specs.Refusals.{first_fault};
 ghost use Rattle.dwg_file.specs.Contents.{Contents};
 ghost use Rattle.dwg_file.specs.FileLines.{ALL_LINES};
 ghost use Rattle.dwg_file.specs.FrameRefusals.{FramesAreRefused};
-ghost use Rattle.dwg_file.specs.DrawingAt.{drawing_at};
+ghost use Rattle.dwg_file.specs.DrawingAt.{FormsAreFound, drawing_at};
 ghost use Rattle.dwg_file.specs.PartRefusals.{VariablesAreRefused, ClassSectionIsRefused, ClassesAreRefused, MapIsRefused};
 ghost use Rattle.dwg_file.specs.ReadAs.{ReadsAs};
 ghost use Rattle.dwg_file.specs.SectionRefusals.{SectionsAreRefused};
@@ -19,7 +19,7 @@ use dwg_sections::{file_header_laws, framed_laws};
 
 /// What holds of every input: it spells one drawing at the most; it spells one exactly where no line of the table fails;
 /// what is read of it by its places, where none fails, is what it spells, and the other way round; and what an input of at
-/// most 32 MiB spells is valid. The lines on the header variables, the section of the classes and the map refuse an input with a header
+/// most 32 MiB spells is valid. The object that a body is read as is the one that is found from its head (`form_at`). The lines on the header variables, the section of the classes and the map refuse an input with a header
 /// exactly as the first thing in them that fails is refused, and so do the lines on the classes where their section stands. The lines on
 /// frames refuse an input with a map exactly where behind frames that stand, with
 /// their pairs' handles and without a common byte, a pair is the first whose frame fails, and as it does; and the line on
@@ -31,6 +31,7 @@ pub fn drawing_laws()
     ensures spelled { (bytes : List ℕ) → AreBytes bytes → first_fault ALL_LINES bytes ≡ None → Spelled (drawing_at bytes) bytes }
     ensures read { (bytes : List ℕ) (drawing : Contents) → AreBytes bytes → ReadsAs drawing bytes → Spelled drawing bytes }
     ensures again { (bytes : List ℕ) (drawing : Contents) → AreBytes bytes → Spelled drawing bytes → ReadsAs drawing bytes }
+    ensures form { FormsAreFound }
     ensures variables { VariablesAreRefused }
     ensures class_section { ClassSectionIsRefused }
     ensures classes { ClassesAreRefused }

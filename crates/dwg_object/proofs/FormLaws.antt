@@ -1,4 +1,4 @@
--- Forms: a body is read as at most one object, and an object that is written is read as itself.
+-- Forms of a body: one object at the most, which is found from its head; and that of a body that is written is the object itself.
 use Rattle.std.proofs.Common.{◌≡◌, refl, sym, ◌∙◌, ap, subst, ℕ, ◌+◌, ◌^◌, ◌<◌, Bool, List, ◌++◌, length, Option, Some, None, inl, inr, arith}
 use Rattle.std.specs.Prelude.{◌⊎◌}
 use Rattle.std.specs.Int.{w16, to_le_bytes}
@@ -121,7 +121,7 @@ form_found : (classes : List Class) (body : List ℕ) (found : Option (HeadParts
 form_found classes body None same = RawValue 0 0 body
 form_found classes body (Some (parts, rest)) same = (form_of_head classes body parts (head_parsed (bits body) rest parts same)).0
 
--- the object that a body is read as, as a function of its bytes
+-- the object that a body is read as, as a function of its bytes; `drawing_laws` of `dwg_file` pins it by `FormOf`
 pub form_at : List Class → List ℕ → ObjectValue
 form_at classes body = form_found classes body (head.parse (bits body)) refl
 
@@ -136,6 +136,12 @@ found_is_form classes body parts is (Some (told, rest)) same = (form_of_head cla
 pub form_is_at : (classes : List Class) (body : List ℕ) (parts : HeadParts) → HasHead (bits body) parts → FormOf classes body (form_at classes body)
 unfolding form_at
 form_is_at classes body parts is = found_is_form classes body parts is (head.parse (bits body)) refl
+
+-- and every object that it is read as is that one
+pub form_at_same : (classes : List Class) (body : List ℕ) (value : ObjectValue) → FormOf classes body value → form_at classes body ≡ value
+form_at_same classes body value is =
+    let has = head_of_form classes body value is in
+    forms_same classes body (form_at classes body) value (form_is_at classes body has.0 has.1) is
 
 -- so it is
 pub form_is_valid : FormsAreValid

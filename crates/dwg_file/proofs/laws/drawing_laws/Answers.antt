@@ -1,3 +1,4 @@
+use Rattle.dwg_object.proofs.FormLaws.{form_at_same}
 use Rattle.dwg_sections.specs.HeaderLaws.{PassingBytesBeginWithHeader, HeaderIsRead}
 use Rattle.dwg_sections.specs.FramedLaws.{PassingBytesHaveSection, SectionIsRead}
 use Rattle.dwg_file.proofs.ReadingLemmas.{SectionLaws, reads_spelled, spelled_reads, spelled_passes, spelled_once}
@@ -31,6 +32,9 @@ returns-clause-again c bytes drawing are spelled =
 pub returns-clause-spelled : goal.returns-clause-spelled
 returns-clause-spelled c bytes are none =
     passing_is_spelled (laws c.file_header_laws.ensures.sound c.file_header_laws.ensures.complete c.framed_laws.ensures.sound c.framed_laws.ensures.complete) bytes are none
+
+pub returns-clause-form : goal.returns-clause-form
+returns-clause-form c = form_at_same
 
 pub returns-clause-parts : goal.returns-clause-parts
 returns-clause-parts c = parts_are_valid
