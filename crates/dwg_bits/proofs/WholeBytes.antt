@@ -1,6 +1,7 @@
 -- The bytes of a list of bits, eight bits a byte. A rule of this project.
 use Rattle.std.proofs.Common.{◌≡◌, refl, sym, ◌∙◌, ap, ap₂, ℕ, ◌*◌, ◌%◌, Bool, List, [], ◌∷◌, ◌++◌, length, length-append, arith}
 use Rattle.dwg_base.specs.Bytes.{AreBytes}
+use Rattle.dwg_base.proofs.ByteLists.{joined_are_bytes}
 use Rattle.dwg_bits.specs.Bits.{bits}
 use Rattle.dwg_bits.proofs.BitLaws.{low_bits_of_num, num_fits, length_of_bits, bits_joined, bits_same}
 use Rattle.dwg_bits.specs.WholeBytes.{whole_bytes}
@@ -29,11 +30,6 @@ whole_of_bits bytes all =
 -- whole bytes are as many as an eighth of their bits
 pub length_of_whole : (s : List Bool) → length s % 8 ≡ 0 → length s ≡ 8 * length (whole_bytes s)
 length_of_whole s whole = sym (ap length (bits_of_whole s whole)) ∙ length_of_bits (whole_bytes s)
-
--- bytes joined are bytes
-joined_are_bytes : (a b : List ℕ) → AreBytes a → AreBytes b → AreBytes (a ++ b)
-joined_are_bytes [] b all all_b = all_b
-joined_are_bytes (byte ∷ a) b all all_b = (all.0, joined_are_bytes a b all.1 all_b)
 
 -- the bits of bytes behind whole bytes make these bytes behind those
 pub whole_joined : (s : List Bool) (bytes : List ℕ) → length s % 8 ≡ 0 → AreBytes bytes → whole_bytes (s ++ bits bytes) ≡ whole_bytes s ++ bytes

@@ -6,6 +6,7 @@ use Rattle.std.proofs.lemmas.Bool.Decides.{nat_tests}
 use Rattle.std.proofs.lemmas.List.{append-nil}
 use Rattle.std.specs.Int.{w16, to_be_bytes}
 use Rattle.dwg_base.specs.Bytes.{AreBytes, StandsAt}
+use Rattle.dwg_base.proofs.ByteLists.{joined_are_bytes}
 use Rattle.dwg_check.specs.CheckWord.{FRAME_START, check_word}
 use Rattle.dwg_grammar.specs.Combinators.{short_chain}
 use Rattle.dwg_grammar.proofs.ModularBytes.{AreFewBytes, mc_few, signed_mc_few}
@@ -17,11 +18,6 @@ use Rattle.dwg_objmap.specs.MapLines.{last_of}
 use Rattle.dwg_objmap.proofs.PairChains.{origin_is_pair, last_of_more, spell_more, pair_has_bytes}
 use Rattle.dwg_objmap.proofs.MapLemmas.{joined}
 use Rattle.dwg_objmap.specs.Writing.{MOST_PAGE, OpenPage, FRESH, told_behind, told_from, added, has_room, given, filled, closing_body, closing, map_behind, map_bytes, Ascend, body_of, HasNoRoom, AreFilled, IsFilling}
-
--- bytes joined are bytes
-joined_are_bytes : (a b : List ℕ) → AreBytes a → AreBytes b → AreBytes (a ++ b)
-joined_are_bytes [] b all all_b = all_b
-joined_are_bytes (byte ∷ a) b all all_b = (all.0, joined_are_bytes a b all.1 all_b)
 
 -- what spells a pair are at most twenty bytes
 pub pair_few : (before pair : Pair) (bytes : List ℕ) → (pair_behind before).Spells pair bytes → AreFewBytes 20 bytes

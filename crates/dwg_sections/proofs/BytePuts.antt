@@ -1,17 +1,12 @@
 -- Bytes that are appended piece by piece.
 use Rattle.std.proofs.Common.{◌≡◌, ℕ, ◌%◌, ◌<◌, List, [], ◌∷◌, ◌++◌, length, get_or, sym, ap, subst, ◌∙◌, arith, length-append}
 use Rattle.dwg_base.specs.Bytes.{AreBytes}
-use Rattle.dwg_base.proofs.ByteLists.{are_bytes}
+use Rattle.dwg_base.proofs.ByteLists.{are_bytes, joined_are_bytes}
 use Rattle.dwg_bits.specs.Bits.{bits}
 use Rattle.dwg_bits.proofs.BitLaws.{bits_joined, bits_same, length_of_bits}
 use Rattle.dwg_bits.specs.Sink.{Written, Extends}
 use Rattle.dwg_bits.proofs.SinkLemmas.{extends_by_none, extends_by_both}
 use Rattle.dwg_sections.specs.Writing.{Puts}
-
--- two lists of bytes joined are bytes
-are_bytes_joined : (a b : List ℕ) → AreBytes a → AreBytes b → AreBytes (a ++ b)
-are_bytes_joined [] b first second = second
-are_bytes_joined (byte ∷ a) b first second = (first.0, are_bytes_joined a b first.1 second)
 
 -- a sink that grew by the bits of bytes in hand grew by these bytes
 pub puts_bytes : (old new : Written) (bytes : List ℕ) → ((i : ℕ) → get_or bytes i 0 < 256) → Extends old new (bits bytes) → Puts old new bytes
@@ -35,7 +30,7 @@ pub puts_both : (first second third : Written) (some others : List ℕ) → Puts
 puts_both first second third some others by_some by_others = record {
   written = subst (Extends first third) (sym (bits_joined some others)) (extends_by_both first second third (bits some) (bits others) by_some.written by_others.written);
   spare = omega (arith, by_some.spare, by_others.spare, length-append some others);
-  small = are_bytes_joined some others by_some.small by_others.small;
+  small = joined_are_bytes some others by_some.small by_others.small;
 }
 
 -- a sink that was empty holds whole bytes
