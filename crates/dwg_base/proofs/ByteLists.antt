@@ -1,4 +1,4 @@
--- Lists of bytes.
+-- When lists are lists of bytes: by their places, and where they are joined.
 use Rattle.std.specs.Prelude.{ℕ, zero, suc, ◌<◌, List, [], ◌∷◌, ◌++◌, get_or}
 use Rattle.std.proofs.Common.{arith}
 use Rattle.dwg_base.specs.Bytes.{AreBytes}

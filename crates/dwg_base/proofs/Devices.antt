@@ -1,4 +1,4 @@
--- What a call does to a device: to its count of faults, to the bytes that it still gives, and to those that it took. A rule of this project.
+-- A count of faults rises by one.
 use Rattle.std.specs.Prelude.{◌≡◌, ℕ, ◌≤◌}
 use Rattle.std.proofs.Common.{arith}
 use Rattle.dwg_base.specs.Devices.{LAST_COUNT, Rose, next_count}

@@ -1,4 +1,4 @@
--- What holds of bits: the bits of numbers, of bytes and of parts of them, and the numbers that they spell.
+-- The lemmas on bits, by recursion over them: of numbers, of joined bytes, between two places, and where one is taken.
 use Rattle.std.proofs.Common.{◌≡◌, refl, sym, ◌∙◌, ap, ap₂, ℕ, zero, suc, ◌+◌, ◌-◌, ◌*◌, ◌/◌, ◌%◌, ◌^◌, ◌<◌, ◌≤◌, Bool, true, false, List, [], ◌∷◌, ◌++◌, length, take, drop, get_or, arith, mod-eq_of_lt, take-add, drop-drop}
 use Rattle.std.specs.Prelude.{◌==◌, if◌then◌else◌}
 use Rattle.std.specs.Int.{bit_at}

@@ -1,4 +1,4 @@
--- What padding does to a list of bits.
+-- Padding adds as many bits as are missing, so that whole bytes are there.
 use Rattle.std.proofs.Common.{◌≡◌, ◌+◌, ◌%◌, ◌<◌, Bool, List, length, arith}
 use Rattle.std.proofs.lemmas.List.{length-replicate}
 use Rattle.std.specs.Prelude.{false}

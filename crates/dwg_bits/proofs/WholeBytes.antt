@@ -1,4 +1,4 @@
--- The bytes of a list of bits, eight bits a byte. A rule of this project.
+-- Whole bytes and their bits follow from each other, also where bytes are joined.
 use Rattle.std.proofs.Common.{◌≡◌, refl, sym, ◌∙◌, ap, ap₂, ℕ, ◌*◌, ◌%◌, Bool, List, [], ◌∷◌, ◌++◌, length, length-append, arith}
 use Rattle.dwg_base.specs.Bytes.{AreBytes}
 use Rattle.dwg_base.proofs.ByteLists.{joined_are_bytes}

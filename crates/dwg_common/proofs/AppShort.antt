@@ -1,4 +1,4 @@
--- What is written of application data, item by item.
+-- The list of application data is written by its items and the mark behind them.
 use Rattle.std.proofs.Common.{◌≡◌, refl, sym, ◌∙◌, ap, ℕ, List, [], ◌∷◌, ◌++◌}
 use Rattle.std.proofs.lemmas.List.{append_assoc}
 use Rattle.dwg_grammar.specs.Codes.{bs}

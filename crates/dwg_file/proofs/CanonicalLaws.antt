@@ -1,4 +1,4 @@
--- The canonical file of a valid drawing that isn't too large spells it, has the size that is counted, and is bytes.
+-- Each part of the canonical file stands at its place, so it spells its drawing, and rewriting twice is rewriting once.
 use Rattle.std.proofs.Common.{◌≡◌, refl, ap, subst, inl, ℕ, ◌+◌, ◌≤◌, List, ◌++◌, length, None, arith}
 use Rattle.std.specs.Prelude.{map}
 use Rattle.std.specs.List.Sorted.{IsPermutation}

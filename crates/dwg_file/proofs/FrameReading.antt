@@ -1,4 +1,4 @@
--- What the steps of reading frames do to what is left to try. A rule of this project.
+-- The frames that were read so far, and what is left to try, give the whole.
 use Rattle.std.specs.Prelude.{◌≡◌, ℕ, List, [], take, drop}
 use Rattle.dwg_classes.specs.declared.class.Class.{Class}
 use Rattle.dwg_objmap.specs.declared.pair.Pair.{Pair}

@@ -87,13 +87,3 @@ sections_on bytes index locators locator none others more whole within is added 
     ∙ ap (λ all. others ++ all)
     (sym (whole_first bytes locator (drop (index + 1) locators)) ∙ sym (ap (λ all. sections_at bytes (whole_locators bytes all)) (left_of locators index locator none within is)))
     ∙ left
-
--- behind the last, those so far are all
-pub sections_over : (bytes : List ℕ) (index : ℕ) (locators : List Locator) (others whole : List OtherValue) → length locators ≤ index
-    → others ++ sections_at bytes (whole_locators bytes (drop index locators)) ≡ whole → others ≡ whole
-sections_over bytes index locators others whole past left =
-    sym (ap (λ all. others ++ sections_at bytes (whole_locators bytes all)) (drop_all index locators past) ∙ append_none others) ∙ left
-  where
-    append_none : (all : List OtherValue) → all ++ [] ≡ all
-    append_none [] = refl
-    append_none (one ∷ all) = ap (λ rest. one ∷ rest) (append_none all)

@@ -21,7 +21,7 @@ use Rattle.dwg_file.specs.Spelled.{Spelled, AreAscending}
 use Rattle.dwg_file.proofs.PassingLines.{each_holds, ok_of_fault}
 use Rattle.dwg_file.proofs.FramesFound.{AreFound, frames_found}
 use Rattle.dwg_file.proofs.FramesSpelled.{own_of_head}
-use Rattle.dwg_file.proofs.ReadingLemmas.{SectionLaws, reads_spelled, reads_once}
+use Rattle.dwg_file.proofs.ReadingLemmas.{SectionLaws, reads_spelled}
 use Rattle.dwg_file.specs.DrawingAt.{objects_at, classes_at, drawing_at}
 use Rattle.dwg_file.specs.SortedObjects.{sorted}
 use Rattle.dwg_file.proofs.SortedObjects.{sorted_same, sorted_ascends, distinct_objects}
@@ -80,10 +80,6 @@ drawing_is_read bytes are none =
       ascending = subst (λ (v : List ObjectValue). AreAscending (sorted v)) same (sorted_ascends values (distinct_objects values handles.distinct));
       others = refl;
     }
-
--- what is read of an input is the drawing by its places
-pub read_is_at : (bytes : List ℕ) (drawing : Contents) → AreBytes bytes → ReadsAs drawing bytes → drawing ≡ drawing_at bytes
-read_is_at bytes drawing are reads = reads_once bytes drawing (drawing_at bytes) reads (drawing_is_read bytes are reads.holds)
 
 -- so where no line fails it is spelled
 pub passing_is_spelled : SectionLaws → (bytes : List ℕ) → AreBytes bytes → first_fault ALL_LINES bytes ≡ None → Spelled (drawing_at bytes) bytes

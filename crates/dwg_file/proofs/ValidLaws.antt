@@ -1,4 +1,4 @@
--- What is read of an input makes a valid drawing.
+-- The parts that are read of an input, each in its range, are those of a valid drawing.
 use Rattle.std.proofs.Common.{◌≡◌, sym, ◌∙◌, ap, subst, ℕ, ◌+◌, ◌*◌, ◌^◌, ◌<◌, ◌≤◌, List, [], ◌∷◌, length, length-append, arith}
 use Rattle.std.specs.Prelude.{map, not, AllPairs}
 use Rattle.std.specs.List.{AllByRecursion}

@@ -1,4 +1,4 @@
--- The frame that is tried at a place is the one that stands there, and there is one at the most.
+-- What is tried of a frame is what the input tells: by its span, by the check word of that, and by the head of its body.
 use Rattle.std.proofs.Common.{◌≡◌, refl, sym, ◌∙◌, ap, ap₂, subst, ℕ, ◌+◌, ◌-◌, Bool, true, false, List, ◌++◌, length, Option, Some, None, inl, inr, arith}
 use Rattle.std.specs.Prelude.{◌==◌, not, Ok, Err, if◌then◌else◌}
 use Rattle.std.specs.Int.{w16, from_le_bytes, to_le_bytes}

@@ -1,4 +1,4 @@
--- What a kind has of its own is a body, and is of that kind.
+-- Kind by kind: what it has of its own is a body, and is of that kind.
 use Rattle.std.proofs.Common.{◌≡◌, refl, ap, ℕ, ◌^◌, ◌<◌, Bool, List}
 use Rattle.dwg_grammar.specs.Bodies.{IsBody}
 use Rattle.dwg_grammar.proofs.BodyLemmas.{lawful_of_body}

@@ -1,4 +1,4 @@
--- The span that is tried at a place is the one that stands there.
+-- What is tried of a span is what the input tells: by the length that is parsed at the place, and its room.
 use Rattle.std.proofs.Common.{◌≡◌, refl, sym, ◌∙◌, ap, subst, ℕ, ◌+◌, ◌-◌, ◌<◌, ◌≤◌, Bool, true, false, List, ◌++◌, length, take, drop, Option, Some, None, inl, inr, arith}
 use Rattle.std.specs.Prelude.{nat_lt, not, Ok, Err, if◌then◌else◌}
 use Rattle.std.proofs.lemmas.Bool.Decides.{nat_tests}

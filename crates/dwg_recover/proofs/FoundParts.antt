@@ -1,4 +1,4 @@
--- The parts that recovery finds are those that stand in the input: its file header, whole sections, the walk over its map, and the pairs of a page.
+-- What is found is what stands: header, classes, sections, walk and pairs, one by one.
 use Rattle.std.proofs.Common.{◌≡◌, refl, sym, ◌∙◌, ap, ap₂, subst, ℕ, ◌+◌, Bool, true, false, List, [], Option, Some, None}
 use Rattle.std.specs.Prelude.{◌&&◌, ◌∷◌, Ok, cond, not, if◌then◌else◌}
 use Rattle.std.specs.Option.{is_none}

@@ -1,4 +1,4 @@
--- A member of a list, whatever it lists, and where it stands there.
+-- Where the members of lists come from and stay: of joined, mapped, ordered and filtered lists.
 use Rattle.std.proofs.Common.{◌≡◌, refl, sym, ◌∙◌, ap, subst, ℕ, ◌+◌, Bool, true, false, List, [], ◌∷◌, ◌++◌, length, map, inl, inr, arith}
 use Rattle.std.specs.Prelude.{◌⊎◌, cond}
 use Rattle.std.specs.List.{AllByRecursion, filter}

@@ -1,4 +1,4 @@
--- The order of place: each frame begins no later than those behind it, and those of one place are what they were.
+-- Frames gathered place by place begin in order, and all are there.
 use Rattle.std.proofs.Common.{◌≡◌, refl, ◌∙◌, ap, ap₂, ℕ, zero, suc, ◌+◌, ◌<◌, ◌≤◌, Bool, true, false, List, [], ◌∷◌, ◌++◌, arith, ◌==◌, cond}
 use Rattle.std.specs.Prelude.{flat_map}
 use Rattle.std.specs.List.{AllByRecursion, range_with_len}

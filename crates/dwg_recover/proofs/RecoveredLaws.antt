@@ -1,4 +1,4 @@
--- What holds of what is recovered of a damaged input: its pairs are few, its frames share nothing, and its parts are read of it. A rule of this project.
+-- The parts that are recovered of a damaged input, one by one: pairs, frames, header, header variables and classes.
 use Rattle.std.proofs.Common.{◌≡◌, refl, subst, ℕ, ◌+◌, ◌*◌, ◌^◌, ◌<◌, ◌≤◌, List, [], length, Option, Some, None, arith}
 use Rattle.std.specs.Prelude.{AllPairs, Ok, if◌then◌else◌}
 use Rattle.std.specs.List.{AllByRecursion}

@@ -1,4 +1,4 @@
--- Which losses are told of a damaged input: each of what is lost, and no other.
+-- Each loss is told exactly where the test on it holds: of sections, pages, pairs and the end of the map.
 use Rattle.std.proofs.Common.{◌≡◌, refl, sym, ◌∙◌, ap, subst, ℕ, ◌+◌, ◌<◌, ◌≤◌, Bool, true, false, List, [], ◌∷◌, ◌++◌, length, Option, Some, None, inl, inr, arith}
 use Rattle.std.specs.Prelude.{◌⊎◌, ◌↔◌, ◌≢◌, ◌||◌, if◌then◌else◌}
 use Rattle.std.specs.Option.{is_none}

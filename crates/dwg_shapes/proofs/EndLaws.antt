@@ -1,4 +1,4 @@
--- The ends of a line are a code.
+-- Which ends may stand behind each z-zero.
 use Rattle.std.proofs.Common.{◌≡◌, ◌∙◌, ap, ℕ, true, false}
 use Rattle.dwg_shapes.specs.declared.line.Ends.{Ends}
 use Rattle.dwg_shapes.specs.Lines.{ends_by, AreEnds}
