@@ -18,7 +18,7 @@ use Rattle.dwg_recover.proofs.FoundFrames.{candidate_is}
 use Rattle.dwg_recover.specs.Intact.{pairs_framed}
 use Rattle.dwg_recover.specs.KeptFrames.{AreOther}
 use Rattle.dwg_recover.proofs.MapKeeping.{before_differ, candidates_are_of_pairs, map_keeps_exactly, ordered_is_one}
-use Rattle.dwg_recover.specs.ListMembers.{IsOneOf, IsSplit}
+use Rattle.dwg_recover.specs.ListMembers.{IsAt, IsOneOf, IsSplit}
 use Rattle.dwg_recover.proofs.ListMembers.{filtered_one, in_first, one_mapped, one_of_all, one_stays, split_at}
 use Rattle.dwg_recover.specs.OrderOfPlace.{AreUp, at_place}
 use Rattle.dwg_recover.proofs.OrderOfPlace.{places_are_in_order}
@@ -169,6 +169,16 @@ all_are_kept bytes pairs objects place ascending among frame is =
             of_sides : (other.end ≤ frame.from) ⊎ (frame.end ≤ other.from) → other.end ≤ frame.from
             of_sides (inl ends) = ends
             of_sides (inr begins) = absurd (omega (arith, begins, no_later, placed.0))
+
+-- so the frame of a pair that holds is kept for the number of that pair
+pub numbered_is_kept : CandidatesHold → (bytes : List ℕ) (objects : List ObjectValue) (place number : ℕ) (frame : PairFrame) → AreBytes bytes → AreAscending objects
+    → AllByRecursion (λ (one : PairFrame). 0 < one.pair.handle) (frames_from place objects) → AllByRecursion (HoldsOrNone bytes) (frames_from place objects)
+    → IsAt number frame.pair (pairs_framed (frames_from place objects)) → 0 < frame.pair.handle → FrameHolds bytes frame.pair.place frame.pair.handle frame.end
+    → IsOneOf (frame_of number frame.pair frame.end) (mapped_frames bytes (pairs_framed (frames_from place objects)))
+numbered_is_kept held bytes objects place number frame are ascending some each at positive holds =
+    let frames : List PairFrame = frames_from place objects in
+    all_are_kept bytes (pairs_framed frames) objects place ascending (candidates_named held bytes frames 0 are some each) (frame_of number frame.pair frame.end)
+    ((candidates_are_of_pairs bytes (pairs_framed frames) (frame_of number frame.pair frame.end)).1 (number, frame.pair, at, (held bytes number frame.pair frame.end are).0 (positive, holds)))
 
 -- the frame of a pair is kept, under the number of its pair
 pub record IsKeptFrame (bytes : List ℕ) (pairs : List Pair) (frame : PairFrame) : Type 0 where

@@ -63,7 +63,7 @@ record IsIntact (drawing : Contents) (bytes : List ℕ) (frame : PairFrame) : Ty
   kept : IsKeptFrame bytes (pairs_framed (canonical_frames drawing)) frame
 
 -- each frame of the canonical file holds, or none does at its place
-each_holds_or_none : (drawing : Contents) (bytes : List ℕ) → IsValid drawing → size_of drawing ≤ MOST_BYTES → IsPartlyIntact drawing bytes → AllByRecursion (HoldsOrNone bytes) (canonical_frames drawing)
+pub each_holds_or_none : (drawing : Contents) (bytes : List ℕ) → IsValid drawing → size_of drawing ≤ MOST_BYTES → IsPartlyIntact drawing bytes → AllByRecursion (HoldsOrNone bytes) (canonical_frames drawing)
 each_holds_or_none drawing bytes is small intact = all_of_each (HoldsOrNone bytes) (canonical_frames drawing) (λ frame one. of_case frame one (intact.frames frame one))
   where
     of_case : (frame : PairFrame) → IsOneOf frame (canonical_frames drawing)

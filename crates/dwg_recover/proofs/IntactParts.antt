@@ -34,6 +34,7 @@ use Rattle.dwg_object.proofs.StandingLemmas.{drop_stands, stands_drop, stands_fi
 use Rattle.dwg_object.specs.Written.{IsValidObject, body_bytes}
 use Rattle.dwg_objmap.proofs.FillingLemmas.{map_is_written}
 use Rattle.dwg_objmap.specs.Pages.{MapOf}
+use Rattle.dwg_sections.specs.declared.framed.Framed.{Framed}
 use Rattle.dwg_sections.specs.declared.framed.Framed.TheVariants as framed
 use Rattle.dwg_sections.specs.declared.header.FileHeader.{FileHeader}
 use Rattle.dwg_sections.specs.FileHeader.{BeginsWithHeader, header_bytes}
@@ -43,7 +44,7 @@ use Rattle.dwg_recover.specs.Frames.{span_found}
 use Rattle.dwg_recover.specs.Intact.{CanonicalPartsStand, HasPart, IsPartlyIntact, canonical_frames, pairs_framed, part}
 use Rattle.dwg_recover.proofs.FoundParts.{content_is_taken, section_is_whole}
 use Rattle.dwg_recover.specs.Recovering.{body_tried, classes_found, frame_body}
-use Rattle.dwg_recover.specs.Sections.{classes_of, first_whole, header_of, is_whole, locators_of, section_found, whole_at}
+use Rattle.dwg_recover.specs.Sections.{classes_of, first_whole, header_of, is_whole, locators_of, number_of_section, section_found, whole_at}
 
 -- what stands in an input stands in each of its length that has that part of it
 stands_also : (bytes others piece : List ℕ) (from to : ℕ) → length bytes ≡ length others → StandsAt others from piece → to ≡ from + length piece → part bytes from to ≡ part others from to
@@ -103,6 +104,15 @@ classes_are_intact drawing bytes is small intact same =
     let reaches : preview_place drawing ≡ classes_place drawing + length section = omega (arith, length_of_framed framed.Classes (class_content drawing.classes)) in
     record { size = omega arith; stands = stands_also bytes (canonical drawing) section (classes_place drawing) (preview_place drawing) intact.long stand.classes reaches same }
 
+-- and so with the header variables
+pub variables_are_intact : (drawing : Contents) (bytes : List ℕ) → IsValid drawing → size_of drawing ≤ MOST_BYTES → IsPartlyIntact drawing bytes
+    → HasPart drawing bytes (variables_place drawing) (classes_place drawing) → FramedAt bytes (variables_place drawing) framed.Variables drawing.variables
+variables_are_intact drawing bytes is small intact same =
+    let stand = parts_stand drawing (header_fits drawing is small) in
+    let section : List ℕ = framed_bytes framed.Variables drawing.variables in
+    let reaches : classes_place drawing ≡ variables_place drawing + length section = omega (arith, length_of_framed framed.Variables drawing.variables) in
+    record { size = omega arith; stands = stands_also bytes (canonical drawing) section (variables_place drawing) (classes_place drawing) intact.long stand.variables reaches same }
+
 -- the pairs of written frames have positive handles
 pub written_positive : (classes : List Class) (bytes : List ℕ) (frames : List PairFrame) → AllByRecursion (IsWritten classes bytes) frames
     → AllByRecursion (λ (frame : PairFrame). 0 < frame.pair.handle) frames
@@ -141,18 +151,31 @@ body_is_found bytes place body end are frame =
     let is = span_of_frame bytes place body end frame in
     ap (λ (tried : Tried Span). body_tried bytes (result_ok tried)) ((tried_span_means bytes place 0 (Ok is.span) are).1 (is.framed.stands, is.framed.from)) ∙ is.same_body
 
--- the classes of the section that the locator of the header leads to are found
+-- where the locator of a section leads to a whole one, that one is found
+located_is_found : (which : Framed) (bytes : List ℕ) (header : FileHeader) (place : ℕ) → header_of bytes ≡ Some header → place_of (number_of_section which) header.locators ≡ Some place
+    → is_whole which bytes place ≡ true → section_found which bytes ≡ Some place
+unfolding section_found
+located_is_found which bytes header place is located whole =
+    ap (λ (header : Option FileHeader). option_or (option_and_then (whole_at which bytes) (place_of (number_of_section which) (locators_of header))) (first_whole which bytes)) is
+    ∙ ap (λ (at : Option ℕ). option_or (option_and_then (whole_at which bytes) at) (first_whole which bytes)) located
+    ∙ ap (λ (test : Bool). option_or (if test then Some place else None) (first_whole which bytes)) whole
+
+-- so are the header variables
+pub variables_are_found : SectionLaws → (bytes : List ℕ) (header : FileHeader) (place : ℕ) (content : List ℕ) → AreBytes bytes → header_of bytes ≡ Some header
+    → place_of 0 header.locators ≡ Some place → FramedAt bytes place framed.Variables content → section_found framed.Variables bytes ≡ Some place
+variables_are_found laws bytes header place content are is located section =
+    located_is_found framed.Variables bytes header place is located ((section_is_whole laws framed.Variables bytes place are).1 (content, section, tt))
+
+-- and the section of the classes
+pub class_section_is_found : SectionLaws → (bytes : List ℕ) (header : FileHeader) (place : ℕ) (content : List ℕ) (classes : List Class) → AreBytes bytes → header_of bytes ≡ Some header
+    → place_of 1 header.locators ≡ Some place → FramedAt bytes place framed.Classes content → AreClasses content classes → section_found framed.Classes bytes ≡ Some place
+class_section_is_found laws bytes header place content classes are is located section cut =
+    located_is_found framed.Classes bytes header place is located ((section_is_whole laws framed.Classes bytes place are).1 (content, section, (classes, cut)))
+
+-- so the classes of that section are found
 pub classes_are_found : SectionLaws → (bytes : List ℕ) (header : FileHeader) (place : ℕ) (content : List ℕ) (classes : List Class) → AreBytes bytes → header_of bytes ≡ Some header
     → place_of 1 header.locators ≡ Some place → FramedAt bytes place framed.Classes content → AreClasses content classes → classes_found bytes ≡ classes
-unfolding classes_found section_found
+unfolding classes_found
 classes_are_found laws bytes header place content classes are is located section cut =
-    ap (classes_of bytes) found ∙ (content_is_taken laws bytes place content).1 classes section cut
-  where
-    whole : is_whole framed.Classes bytes place ≡ true
-    whole = (section_is_whole laws framed.Classes bytes place are).1 (content, section, (classes, cut))
-
-    found : section_found framed.Classes bytes ≡ Some place
-    found =
-        ap (λ (header : Option FileHeader). option_or (option_and_then (whole_at framed.Classes bytes) (place_of 1 (locators_of header))) (first_whole framed.Classes bytes)) is
-        ∙ ap (λ (at : Option ℕ). option_or (option_and_then (whole_at framed.Classes bytes) at) (first_whole framed.Classes bytes)) located
-        ∙ ap (λ (test : Bool). option_or (if test then Some place else None) (first_whole framed.Classes bytes)) whole
+    ap (classes_of bytes) (class_section_is_found laws bytes header place content classes are is located section cut)
+    ∙ (content_is_taken laws bytes place content).1 classes section cut

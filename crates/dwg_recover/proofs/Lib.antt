@@ -13,6 +13,7 @@ pub mod KeptMembers
 pub mod KeptObjects
 pub mod ListMembers
 pub mod LossesAlong
+pub mod LostPairs
 pub mod MapKeeping
 pub mod OrderOfPlace
 pub mod PlaceOrder
@@ -23,6 +24,7 @@ pub mod ScanAlong
 pub mod ScanKeeping
 pub mod ScanReading
 pub mod SectionFinding
+pub mod ShortDamage
 pub mod ToldLemmas
 pub mod ToldLosses
 pub mod WalkAlong

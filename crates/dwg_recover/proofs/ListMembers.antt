@@ -1,5 +1,5 @@
 -- Where the members of lists come from and stay: of joined, mapped, ordered and filtered lists.
-use Rattle.std.proofs.Common.{◌≡◌, refl, sym, ◌∙◌, ap, subst, ℕ, ◌+◌, Bool, true, false, List, [], ◌∷◌, ◌++◌, length, map, inl, inr, arith}
+use Rattle.std.proofs.Common.{◌≡◌, refl, sym, ◌∙◌, ap, subst, ℕ, ◌+◌, Bool, true, false, List, [], ◌∷◌, ◌++◌, length, length-append, map, append_assoc, inl, inr, arith}
 use Rattle.std.specs.Prelude.{◌⊎◌, cond}
 use Rattle.std.specs.List.{AllByRecursion, filter}
 use Rattle.std.specs.List.Sorted.{IsPermutation}
@@ -77,6 +77,46 @@ none_at {A} place one at = of_before at.split.before at.split.whole
     of_before : (before : List A) → [] ≡ before ++ one ∷ at.split.behind → ⊥
     of_before [] whole = cc
     of_before (first ∷ before) whole = cc
+
+-- what stands at a place is a member
+pub one_at : {A : Type 0} (place : ℕ) (one : A) (all : List A) → IsAt place one all → IsOneOf one all
+one_at place one all at = subst (IsOneOf one) (sym at.split.whole) (in_second one at.split.before (one ∷ at.split.behind) (inl refl))
+
+-- and stands at that place of the list with others behind it, or at one further on with others before it
+pub at_front : {A : Type 0} (place : ℕ) (one : A) (front back : List A) → IsAt place one front → IsAt place one (front ++ back)
+at_front place one front back at = record {
+  split = record {
+    before = at.split.before;
+    behind = at.split.behind ++ back;
+    whole = ap (λ all. all ++ back) at.split.whole ∙ append_assoc at.split.before (one ∷ at.split.behind) back;
+  };
+  far = at.far;
+}
+
+pub at_back : {A : Type 0} (place : ℕ) (one : A) (front back : List A) → IsAt place one back → IsAt (length front + place) one (front ++ back)
+at_back place one front back at = record {
+  split = record {
+    before = front ++ at.split.before;
+    behind = at.split.behind;
+    whole = ap (λ all. front ++ all) at.split.whole ∙ sym (append_assoc front at.split.before (one ∷ at.split.behind));
+  };
+  far = length-append front at.split.before ∙ ap (λ n. length front + n) at.far;
+}
+
+-- two that stand at one place are one
+pub same_at : {A : Type 0} (place : ℕ) (one other : A) (all : List A) → IsAt place one all → IsAt place other all → one ≡ other
+same_at place one other [] at there = absurd (none_at place one at)
+same_at {A} place one other (first ∷ all) at there =
+    of_cases (at_cases place one first all at) (at_cases place other first all there) (λ next here also. same_at next one other all here also)
+  where
+    of_cases : ((place ≡ 0) × (one ≡ first)) ⊎ ((next : ℕ) × (place ≡ next + 1) × IsAt next one all) → ((place ≡ 0) × (other ≡ first)) ⊎ ((next : ℕ) × (place ≡ next + 1) × IsAt next other all)
+        → ((next : ℕ) → IsAt next one all → IsAt next other all → one ≡ other) → one ≡ other
+    of_cases (inl (zero_here, same)) (inl (zero_there, also)) behind = same ∙ sym also
+    of_cases (inl (zero_here, same)) (inr (next, is, there)) behind = absurd (omega (arith, zero_here, is))
+    of_cases (inr (next, is, here)) (inl (zero_there, also)) behind = absurd (omega (arith, zero_there, is))
+    of_cases (inr (next, is, here)) (inr (after, was, there)) behind =
+        let both : after ≡ next = omega (arith, is, was) in
+        behind next here (subst (λ n. IsAt n other all) both there)
 
 -- one is mapped to one
 pub one_mapped : {A B : Type 0} (f : A → B) (one : A) (all : List A) → IsOneOf one all → IsOneOf (f one) (map f all)

@@ -154,7 +154,7 @@ pairs_told kept number (pair ∷ pairs) loss = of_test (is_kept_pair kept number
         of_place index one free same (inr (next, is, at)) = inr (others.1 (behind index next one is at free same))
 
 -- no frame is kept for a pair exactly where none has its number
-free_told : (frames : List Frame) (number : ℕ) → (is_kept_pair frames number ≡ false) ↔ ((frame : Frame) → IsOneOf frame frames → frame.pair ≢ Some number)
+pub free_told : (frames : List Frame) (number : ℕ) → (is_kept_pair frames number ≡ false) ↔ ((frame : Frame) → IsOneOf frame frames → frame.pair ≢ Some number)
 free_told [] number = ((λ none frame is. absurd is), λ none. refl)
 free_told (first ∷ frames) number = of_test (is_number number first.pair) refl (free_told frames number)
   where

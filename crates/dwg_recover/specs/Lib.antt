@@ -8,6 +8,8 @@ pub mod Told
 pub mod ToldLosses
 -- What is asked of an input so that the intact objects of a drawing are recovered of it: its header and its map are those of the drawing's canonical file, and each frame either is that file's or doesn't hold.
 pub mod Intact
+-- Canonical files in which one byte, or two neighbouring ones, of one object's frame are changed: that object alone is lost.
+pub mod ShortDamage
 -- What holds of what is recovered of a damaged input: its pairs are few, its frames share nothing, and its parts are read of it.
 pub mod RecoveredLaws
 -- The parts that recovery finds are those that stand in the input: its file header, whole sections, the walk over its map, and the pairs of a page.

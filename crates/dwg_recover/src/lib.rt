@@ -2,6 +2,7 @@
 #![tactic(auto)]
 
 mod candidates;
+mod damage;
 mod frame;
 mod kept;
 mod laws;
@@ -15,6 +16,7 @@ mod sections;
 mod uncounted;
 mod walk;
 
+pub use damage::short_damage_laws;
 pub use laws::{answer_laws, intact_laws, part_laws, recovered_laws};
 pub use loss::{Kept, Loss};
 pub use recovery::{Recovered, recover};

@@ -1,0 +1,26 @@
+-- Canonical files in which one byte, or two neighbouring ones, of one object's frame are changed: that object alone is lost. A rule of this project.
+use Rattle.std.proofs.Common.{◌≡◌, ℕ, ◌≤◌, List, [], ◌∷◌, ◌++◌, length, Some}
+use Rattle.dwg_base.specs.Bytes.{AreBytes}
+use Rattle.dwg_base.specs.Devices.{MOST_BYTES}
+use Rattle.dwg_file.specs.Canonical.{size_of}
+use Rattle.dwg_file.specs.Contents.{Contents}
+use Rattle.dwg_file.specs.ShortDamage.{IsDamagedShortly}
+use Rattle.dwg_file.specs.Spelled.{PairFrame}
+use Rattle.dwg_file.specs.Valid.{IsValid}
+use Rattle.dwg_object.specs.FrameLines.{frame_refusal}
+use Rattle.dwg_recover.specs.declared.loss.Loss.TheVariants.{Object}
+use Rattle.dwg_recover.specs.Intact.{canonical_frames}
+use Rattle.dwg_recover.specs.ListMembers.{IsOneOf}
+use Rattle.dwg_recover.specs.Recovering.{recovered}
+
+-- recovery of an input tells the refusal of the object of a frame for its check word, loses that object and nothing else, and has every other one
+pub record CostsOneObject (bytes : List ℕ) (earlier : List PairFrame) (frame : PairFrame) (later : List PairFrame) : Type 0 where
+  pub refusal : (recovered bytes).refusal ≡ Some (frame_refusal 30 (length earlier) frame.pair.place)
+  pub losses : (recovered bytes).losses ≡ Object frame.pair.handle frame.pair.place ∷ []
+  pub others : (other : PairFrame) → IsOneOf other (earlier ++ later) → IsOneOf other.object (recovered bytes).drawing.objects
+
+-- an input that differs from the canonical file of a drawing in one byte, or in two neighbouring ones, inside the frame of one object costs that object alone
+abbrev pub ShortDamageCostsOneObject : Type 0
+ShortDamageCostsOneObject =
+    (drawing : Contents) (bytes : List ℕ) (earlier : List PairFrame) (frame : PairFrame) (later : List PairFrame) → IsValid drawing → size_of drawing ≤ MOST_BYTES → AreBytes bytes
+    → canonical_frames drawing ≡ earlier ++ frame ∷ later → IsDamagedShortly drawing frame bytes → CostsOneObject bytes earlier frame later
