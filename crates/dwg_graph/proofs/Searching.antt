@@ -1,33 +1,37 @@
 -- A search among handles that ascend: all before what is left are less than the handle, and all behind it are greater.
-use Rattle.std.proofs.Common.{◌≡◌, sym, ◌∙◌, ap, subst, inl, inr, ◌<◌, ◌≤◌, ◌+◌, ◌*◌, ◌-◌, ◌/◌, ◌^◌, pow-add, ℕ, List, length, arith}
-use Rattle.std.specs.Prelude.{◌⊎◌, true, false, Contains, ◌==◌}
+use Rattle.std.proofs.Common.{◌≡◌, refl, sym, ◌∙◌, ap, subst, inl, inr, ◌<◌, ◌≤◌, ◌+◌, ◌*◌, ◌-◌, ◌/◌, ◌^◌, pow-add, ℕ, zero, suc, List, length, arith}
+use Rattle.std.specs.Prelude.{◌⊎◌, true, false, Contains, ◌==◌, min}
 use Rattle.std.specs.Ordering.{is_lt, nat_cmp}
 use Rattle.std.proofs.lemmas.Bool.Decides.{nat_tests}
 use Rattle.std.proofs.lemmas.Map.Keys.{ge_from_not_lt}
 use Rattle.std.specs.List.{slice_index_or}
 use Rattle.std.proofs.lemmas.Bool.{cases_lt}
-use Rattle.std.proofs.Math.Nat.{lt_of_not-le, mul-le-mul_right}
+use Rattle.std.proofs.Math.Nat.{le-min, lt_of_not-le, min-eq_left, min-eq_right, min-le_left, mul-le-mul_right}
 use Rattle.std.proofs.Math.Pow.{pow_mono}
 use Rattle.std.proofs.lemmas.List.{get_or_default}
-use Rattle.dwg_graph.specs.Places.{Ascend}
+use Rattle.dwg_graph.specs.Places.{Ascend, CanStand}
 
 -- so many handles are left from a place on, after so many probes
 pub record IsSearch (handles : List ℕ) (handle from width spent : ℕ) : Type 0 where
-  pub within : from + width ≤ length handles
-  pub below : (i : ℕ) → i < from → slice_index_or handles i 0 < handle
-  pub above : (i : ℕ) → from + width ≤ i → i < length handles → handle < slice_index_or handles i 0
+  pub left : CanStand handles handle from width
   pub halved : width * 2 ^ spent ≤ length handles
   pub taken : (k : ℕ) → length handles < 2 ^ k → spent ≤ k
 
--- the search begins with all
-pub begins : (handles : List ℕ) (handle : ℕ) → IsSearch handles handle 0 (length handles) 0
-begins handles handle = record {
-  within = omega arith;
-  below = λ i less. absurd (omega (arith, less));
-  above = λ i more less. absurd (omega (arith, more, less));
-  halved = omega arith;
-  taken = λ k fits. omega arith;
-}
+-- a search that has taken these steps
+abbrev pub Spends : List ℕ → ℕ → ℕ → ℕ → ℕ → ℕ → Type 0
+Spends handles handle from width start steps = (start ≤ steps) × IsSearch handles handle from width (steps - start)
+
+-- the search begins where the handle can stand
+pub begins : (handles : List ℕ) (handle from width start : ℕ) → CanStand handles handle from width → Spends handles handle from width start start
+begins handles handle from width start can =
+    let none : start - start ≡ 0 = omega arith in (
+      omega arith,
+      subst (IsSearch handles handle from width) (sym none) (record {
+        left = can;
+        halved = omega (arith, can.within);
+        taken = λ k fits. omega arith;
+      }),
+    )
 
 -- a number whose power of two is less than that of another is less
 less_from_powers : (s k : ℕ) → 2 ^ s < 2 ^ k → s < k
@@ -70,9 +74,11 @@ at_or_behind handles handle i at ascend within greater least (inr near) =
 pub goes_on_behind : (handles : List ℕ) (handle from width spent : ℕ) → Ascend handles → IsSearch handles handle from width spent → 0 < width
     → slice_index_or handles (from + width / 2) 0 < handle → IsSearch handles handle (from + width / 2 + 1) (width - width / 2 - 1) (spent + 1)
 goes_on_behind handles handle from width spent ascend is some less = record {
-  within = omega (arith, is.within, some);
-  below = λ i before. at_or_before handles handle i (from + width / 2) ascend (omega (arith, is.within, some)) less (omega (arith, before)) (cases_lt i (from + width / 2));
-  above = λ i behind within. is.above i (omega (arith, behind, some)) within;
+  left = record {
+    within = omega (arith, is.left.within, some);
+    below = λ i before. at_or_before handles handle i (from + width / 2) ascend (omega (arith, is.left.within, some)) less (omega (arith, before)) (cases_lt i (from + width / 2));
+    above = λ i behind within. is.left.above i (omega (arith, behind, some)) within;
+  };
   halved = halved_again width (width - width / 2 - 1) spent (length handles) is.halved (omega (arith, some));
   taken = λ k fits. probed handles handle from width spent is some k fits;
 }
@@ -81,9 +87,11 @@ goes_on_behind handles handle from width spent ascend is some less = record {
 pub goes_on_before : (handles : List ℕ) (handle from width spent : ℕ) → Ascend handles → IsSearch handles handle from width spent → 0 < width
     → handle < slice_index_or handles (from + width / 2) 0 → IsSearch handles handle from (width / 2) (spent + 1)
 goes_on_before handles handle from width spent ascend is some greater = record {
-  within = omega (arith, is.within);
-  below = is.below;
-  above = λ i behind within. at_or_behind handles handle i (from + width / 2) ascend within greater behind (cases_lt (from + width / 2) i);
+  left = record {
+    within = omega (arith, is.left.within);
+    below = is.left.below;
+    above = λ i behind within. at_or_behind handles handle i (from + width / 2) ascend within greater behind (cases_lt (from + width / 2) i);
+  };
   halved = halved_again width (width / 2) spent (length handles) is.halved (omega arith);
   taken = λ k fits. probed handles handle from width spent is some k fits;
 }
@@ -95,12 +103,8 @@ is_missing handles handle from width spent is none (i, within, same) =
     not_here here (cases_lt i from)
   where
     not_here : slice_index_or handles i 0 ≡ handle → (i < from) ⊎ (from ≤ i) → ⊥
-    not_here here (inl before) = omega (arith, is.below i before, here)
-    not_here here (inr behind) = omega (arith, is.above i (omega (arith, behind, none)) within, here)
-
--- a search that has taken these steps
-abbrev pub Spends : List ℕ → ℕ → ℕ → ℕ → ℕ → ℕ → Type 0
-Spends handles handle from width start steps = (start ≤ steps) × IsSearch handles handle from width (steps - start)
+    not_here here (inl before) = omega (arith, is.left.below i before, here)
+    not_here here (inr behind) = omega (arith, is.left.above i (omega (arith, behind, none)) within, here)
 
 -- a probe that finds a lesser handle
 pub spends_behind : (handles : List ℕ) (handle from width start steps more here : ℕ) → Ascend handles → Spends handles handle from width start steps → 0 < width
@@ -109,7 +113,7 @@ pub spends_behind : (handles : List ℕ) (handle from width start steps more her
 spends_behind handles handle from width start steps more here ascend is some at less one =
     let spent : (steps - start) + 1 ≡ more - start = omega (arith, is.0, one) in
     let zero_default : slice_index_or handles (from + width / 2) here ≡ slice_index_or handles (from + width / 2) 0 =
-    get_or_default handles (from + width / 2) here 0 (omega (arith, is.1.within, some)) in
+    get_or_default handles (from + width / 2) here 0 (omega (arith, is.1.left.within, some)) in
     let lesser : slice_index_or handles (from + width / 2) 0 < handle = grind (arith, nat_tests, at, zero_default, less) in (
       omega (arith, is.0, one),
       subst (IsSearch handles handle (from + width / 2 + 1) (width - width / 2 - 1)) spent
@@ -123,9 +127,66 @@ pub spends_before : (handles : List ℕ) (handle from width start steps more her
 spends_before handles handle from width start steps more here ascend is some at differ not_less one =
     let spent : (steps - start) + 1 ≡ more - start = omega (arith, is.0, one) in
     let zero_default : slice_index_or handles (from + width / 2) here ≡ slice_index_or handles (from + width / 2) 0 =
-    get_or_default handles (from + width / 2) here 0 (omega (arith, is.1.within, some)) in
+    get_or_default handles (from + width / 2) here 0 (omega (arith, is.1.left.within, some)) in
     let greater : handle < slice_index_or handles (from + width / 2) 0 = grind (arith, nat_tests, at, zero_default, differ, ge_from_not_lt here handle (sym not_less)) in (
       omega (arith, is.0, one),
       subst (IsSearch handles handle from (width / 2)) spent
           (goes_on_before handles handle from width (steps - start) ascend is.1 some greater),
     )
+
+-- each handle is greater than the one before it: one that stands so much further on is at least so much greater
+far_apart : (handles : List ℕ) (i j more : ℕ) → Ascend handles → j ≡ i + more → j < length handles → slice_index_or handles i 0 + more ≤ slice_index_or handles j 0
+far_apart handles i j zero ascend is within =
+    let same : slice_index_or handles j 0 ≡ slice_index_or handles i 0 = ap (λ n. slice_index_or handles n 0) (omega (arith, is)) in
+    omega (arith, same)
+far_apart handles i j (suc more) ascend is within =
+    let before : slice_index_or handles i 0 + more ≤ slice_index_or handles (i + more) 0 = far_apart handles i (i + more) more ascend refl (omega (arith, is, within)) in
+    omega (arith, before, ascend (i + more) j 0 (omega (arith, is)) within)
+
+-- what is known of the bounds between which a handle can stand: how much it differs from the highest and from the lowest
+pub record AreBounds (handles : List ℕ) (handle lowest highest from end : ℕ) : Type 0 where
+  pub ascend : Ascend handles
+  pub first : lowest ≡ slice_index_or handles 0 0
+  pub last : highest ≡ slice_index_or handles (length handles - 1) 0
+  pub least : lowest ≤ handle
+  pub most : handle ≤ highest
+  pub begins : from ≡ length handles - (highest - handle + 1)
+  pub ends : end ≡ min (length handles) (handle - lowest + 1)
+
+-- they are in order
+pub in_order : (handles : List ℕ) (handle lowest highest from end : ℕ) → AreBounds handles handle lowest highest from end → from ≤ end
+in_order handles handle lowest highest from end are = go (cases_lt 0 (length handles))
+  where
+    few : length handles ≤ (highest - handle + 1) + (handle - lowest + 1) → from ≤ end
+    few most = omega (arith, are.ends, le-min {k = from} {a = length handles} {b = handle - lowest + 1} (omega (arith, are.begins)) (omega (arith, are.begins, most)))
+
+    go : (0 < length handles) ⊎ (length handles ≤ 0) → from ≤ end
+    go (inl some) =
+        let apart : slice_index_or handles 0 0 + (length handles - 1) ≤ slice_index_or handles (length handles - 1) 0 =
+        far_apart handles 0 (length handles - 1) (length handles - 1) are.ascend (omega arith) (omega (arith, some)) in
+        few (omega (arith, apart, are.first, are.last, are.least, are.most))
+    go (inr none) = few (omega (arith, none))
+
+-- the second is behind all handles, or tells how much greater than the lowest one can be
+end_told : (count below end : ℕ) → end ≡ min count (below + 1) → end < count → end ≡ below + 1
+end_told count below end is less = go (cases_lt count (below + 1))
+  where
+    go : (count < below + 1) ⊎ (below + 1 ≤ count) → end ≡ below + 1
+    go (inl more) = absurd (omega (arith, is, less, min-eq_left {n = count} {m = below + 1} (omega (arith, more))))
+    go (inr few) = is ∙ min-eq_right {n = below + 1} {m = count} few
+
+-- the handle can stand between them
+pub between : (handles : List ℕ) (handle lowest highest from end : ℕ) → AreBounds handles handle lowest highest from end → CanStand handles handle from (end - from)
+between handles handle lowest highest from end are =
+    let ordered : from ≤ end = in_order handles handle lowest highest from end are in
+    record {
+      within = omega (arith, are.ends, ordered, min-le_left (length handles) (handle - lowest + 1));
+      below = λ i before.
+          let apart : slice_index_or handles i 0 + (length handles - 1 - i) ≤ slice_index_or handles (length handles - 1) 0 =
+          far_apart handles i (length handles - 1) (length handles - 1 - i) are.ascend (omega (arith, before, are.begins)) (omega (arith, before, are.begins)) in
+          omega (arith, apart, before, are.begins, are.last, are.most);
+      above = λ i behind inside.
+          let apart : slice_index_or handles 0 0 + i ≤ slice_index_or handles i 0 = far_apart handles 0 i i are.ascend (omega arith) inside in
+          let least : end ≡ handle - lowest + 1 = end_told (length handles) (handle - lowest) end are.ends (omega (arith, behind, inside, ordered)) in
+          omega (arith, apart, behind, inside, ordered, are.first, are.least, least);
+    }

@@ -96,6 +96,7 @@ fn searched<T: Refers>(place: u64, field: Field, items: &[T]) -> Walk
 }
 
 /// Gathers the slots of a field that is a list behind those so far.
+#[inline(always)]
 fn gathered<T: Refers>(slots: Items<Slot>, field: Field, items: &[T]) -> Walk
     ensures { IsGathered (slots ++ tables.listed field (map T.refers items.now)) result }
 {
@@ -117,6 +118,7 @@ fn gathered<T: Refers>(slots: Items<Slot>, field: Field, items: &[T]) -> Walk
 impl Walk {
     /// Goes on along the slots of a field that is a list.
     #[tactic(auto, unfolding(crate::specs::SlotWalks::IsBehind))]
+    #[inline(always)]
     fn along<T: Refers>(self, field: Field, items: &[T]) -> Walk
         ensures { Passes self (tables.listed field (map T.refers items.now)) result }
     {
@@ -129,6 +131,7 @@ impl Walk {
     }
 
     /// Goes on along the slots of a field that is a list.
+    #[inline(always)]
     pub(crate) fn listed<T: Refers>(self, field: Field, items: &Items<T>) -> Walk
         ensures { Passes self (tables.listed field (map T.refers items.now)) result }
     {
@@ -137,6 +140,7 @@ impl Walk {
 
     /// Goes on along the slots of a field that is a list of references.
     #[tactic(auto, using(crate::proofs::Passing::all_themselves))]
+    #[inline(always)]
     pub(crate) fn references(self, field: Field, items: &Items<Ref>) -> Walk
         ensures { Passes self (tables.listed field items.now) result }
     {
@@ -144,6 +148,7 @@ impl Walk {
     }
 
     /// Goes on along the slots of a field that is two references.
+    #[inline(always)]
     pub(crate) fn pair(self, field: Field, first: Ref, second: Ref) -> Walk
         ensures { Passes self (tables.listed field (first ∷ second ∷ [])) result }
     {
@@ -151,6 +156,7 @@ impl Walk {
     }
 
     /// Goes on along the slot of a field that is one reference.
+    #[inline(always)]
     pub(crate) fn one(self, field: Field, reference: Ref) -> Walk
         ensures { Passes self (tables.one field reference) result }
     {
@@ -159,6 +165,7 @@ impl Walk {
 
     /// Goes on along the slot of a field that may be there.
     #[tactic(auto, using(crate::proofs::Passing::passes_none))]
+    #[inline(always)]
     pub(crate) fn maybe(self, field: Field, reference: Option<Ref>) -> Walk
         ensures { Passes self (tables.maybe field reference) result }
     {
