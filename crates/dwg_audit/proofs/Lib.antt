@@ -10,6 +10,7 @@ pub mod Placing
 pub mod Homes
 pub mod LookupSteps
 pub mod Slicing
+pub mod LookingUp
 pub mod HeaderEnds
 pub mod GivenSlots
 pub mod Choosing

@@ -1,14 +1,17 @@
 -- The slots of each object are a part of those of all.
-use Rattle.std.proofs.Common.{◌≡◌, refl, sym, ap, subst, ◌∙◌, ◌<◌, ◌≤◌, ◌+◌, ◌-◌, ℕ, zero, suc, List, [], ◌∷◌, ◌++◌, length, map, get_or, take, drop, Some, inl, inr, arith}
+use Rattle.std.proofs.Common.{◌≡◌, refl, sym, ap, subst, ◌∙◌, ◌<◌, ◌≤◌, ◌+◌, ◌-◌, ℕ, zero, suc, List, [], ◌∷◌, ◌++◌, length, map, get_or, take, drop, Option, Some, inl, inr, arith}
 use Rattle.std.specs.Prelude.{◌⊎◌, flat_map}
 use Rattle.std.specs.List.{slice_get, slice_index_or}
 use Rattle.std.proofs.lemmas.Bool.{cases_lt}
-use Rattle.std.proofs.lemmas.List.{append_assoc, append-nil, drop-drop, drop_at, length-append, take_all, take_at, take_more, take-append-le, get_or_append_left, get_or_push}
+use Rattle.std.proofs.lemmas.List.{append_assoc, append-nil, map-append, drop-drop, drop_at, length-append, length-map, take_all, take_at, take_more, take-append-le, get_or_append_left, get_or_push}
 use Rattle.std.proofs.lemmas.List.Concat.{length-flat_map}
 use Rattle.std.proofs.lemmas.Option.{same_Some, slice_get_within, get_or_from_slice_get}
 use Rattle.dwg_audit.proofs.Counting.{value_there}
 use Rattle.dwg_audit.specs.Claimed.{reference_count}
-use Rattle.dwg_audit.specs.Lookups.{AreStarts, all_slots}
+use Rattle.dwg_audit.specs.declared.lookups.Gathered.{Gathered}
+use Rattle.dwg_audit.specs.Lookups.{AreGathered, AreStarts, all_slots, part_of}
+use Rattle.dwg_graph.specs.declared.owner.SpaceHandles.{SpaceHandles}
+use Rattle.dwg_graph.specs.Owners.{next_of, owner_of}
 use Rattle.dwg_graph.specs.declared.slot.Slot.{Slot}
 use Rattle.dwg_graph.specs.Slots.{slots}
 use Rattle.dwg_object.specs.declared.object.Object as declared
@@ -129,13 +132,29 @@ one_object_more objects i object within is =
     sym (take_more (map value_of objects) i (value_of object) (slice_get_within (map value_of objects) i (value_of object) there)
     ∙ ap (λ (x : ObjectValue). take i (map value_of objects) ++ x ∷ []) (get_or_from_slice_get (map value_of objects) i (value_of object) (value_of object) there))
 
--- the slots of one object more are gathered
-pub gathers_more : (objects : List ObjectValue) (x : ObjectValue) (before after : List Slot) (starts more : List ℕ) → after ≡ before ++ slots x → more ≡ starts ++ length after ∷ []
-    → before ≡ all_slots objects → AreStarts objects starts → (after ≡ all_slots (objects ++ x ∷ [])) × AreStarts (objects ++ x ∷ []) more
-gathers_more objects x before after starts more grown pushed is are = (all, subst (AreStarts (objects ++ x ∷ [])) (sym pushed) (starts_more objects x starts (length after) are (ap length all)))
+-- what one object more refers to is gathered
+pub gathers_more : (objects : List ObjectValue) (known : Option SpaceHandles) (x : ObjectValue) (before after : Gathered) → AreGathered objects known before
+    → after.owners.items ≡ before.owners.items ++ owner_of known x ∷ [] → after.next.items ≡ before.next.items ++ next_of x ∷ []
+    → after.slots ≡ before.slots ++ slots x → after.starts.items ≡ before.starts.items ++ length after.slots ∷ [] → AreGathered (objects ++ x ∷ []) known after
+gathers_more objects known x before after are owner next grown start = record {
+  owners = owner ∙ ap (λ front. front ++ owner_of known x ∷ []) are.owners ∙ sym (map-append (owner_of known) objects (x ∷ []));
+  next = next ∙ ap (λ front. front ++ next_of x ∷ []) are.next ∙ sym (map-append next_of objects (x ∷ []));
+  slots = all;
+  starts = subst (AreStarts (objects ++ x ∷ [])) (sym start) (starts_more objects x before.starts.items (length after.slots) are.starts (ap length all));
+}
   where
-    all : after ≡ all_slots (objects ++ x ∷ [])
-    all = grown ∙ ap (λ front. front ++ slots x) is ∙ sym (slots_of_more objects x)
+    all : after.slots ≡ all_slots (objects ++ x ∷ [])
+    all = grown ∙ ap (λ front. front ++ slots x) are.slots ∙ sym (slots_of_more objects x)
+
+-- nothing is gathered of no object
+pub gathers_none : (known : Option SpaceHandles) (gathered : Gathered) → gathered.owners.items ≡ [] → gathered.next.items ≡ [] → gathered.slots ≡ [] → gathered.starts.items ≡ 0 ∷ []
+    → AreGathered [] known gathered
+gathers_none known gathered owners next slots starts = record {
+  owners = owners;
+  next = next;
+  slots = no_slots gathered.slots slots;
+  starts = starts_begin gathered.starts.items starts;
+}
 
 -- what a table says of where the slots of an object begin and end
 pub record AreBounds (objects : List ObjectValue) (place from to : ℕ) : Type 0 where
@@ -150,21 +169,29 @@ bounds_told objects starts place next from to are within further begins ends_the
       ∙ ap (λ (n : ℕ). length (all_slots (take n objects))) further;
 }
 
+-- the same of objects that are in hand
+pub bounds_there : (objects : List declared.Object) (starts : List ℕ) (place from to : ℕ) → AreStarts (map value_of objects) starts → place < length objects
+    → from ≡ slice_index_or starts place 0 → to ≡ slice_index_or starts (place + 1) 0 → AreBounds (map value_of objects) place from to
+bounds_there objects starts place from to are within begins ends =
+    bounds_told (map value_of objects) starts place (place + 1) from to are (omega (arith, within, length-map objects value_of)) (omega arith) begins ends
+
 pub bounds_ordered : (objects : List ObjectValue) (place from to : ℕ) → AreBounds objects place from to → from ≤ to
 bounds_ordered objects place from to are = omega (arith, are.begins, are.ends, starts_grow objects place)
 
 pub bounds_within : (objects : List ObjectValue) (place from to : ℕ) → AreBounds objects place from to → to ≤ length (all_slots objects)
 bounds_within objects place from to are = omega (arith, are.ends, starts_within objects (suc place))
 
--- the part between them has the slots of the object
-pub part_is : (objects : List ObjectValue) (place from to : ℕ) (x : ObjectValue) → AreBounds objects place from to → slice_get objects place ≡ Some x
-    → take (to - from) (drop from (all_slots objects)) ≡ slots x
-part_is objects place from to x are at =
-    ap (λ (n : ℕ). take (n - from) (drop from (all_slots objects))) are.ends
-    ∙ ap (λ (n : ℕ). take (length (all_slots (take (suc place) objects)) - n) (drop n (all_slots objects))) are.begins
-    ∙ slots_of_object objects place x at
+-- the part between them is that of the object
+pub part_told : {T : Type 0} (objects : List ObjectValue) (place from to : ℕ) (things : List T) → AreBounds objects place from to → take (to - from) (drop from things) ≡ part_of objects place things
+part_told objects place from to things are =
+    ap (λ (n : ℕ). take (n - from) (drop from things)) are.ends ∙ ap (λ (n : ℕ). take (length (all_slots (take (suc place) objects)) - n) (drop n things)) are.begins
+
+-- of all slots it has those of the object
+pub part_is : (objects : List ObjectValue) (place : ℕ) (x : ObjectValue) → slice_get objects place ≡ Some x → part_of objects place (all_slots objects) ≡ slots x
+part_is objects place x at = slots_of_object objects place x at
 
 -- and of what is seen of all slots, what is seen of those
-pub part_is_seen : {B : Type 0} (view : Slot → B) (objects : List ObjectValue) (place from to : ℕ) (x : ObjectValue) → AreBounds objects place from to → slice_get objects place ≡ Some x
-    → take (to - from) (drop from (map view (all_slots objects))) ≡ map view (slots x)
-part_is_seen {B} view objects place from to x are at = part_seen view (to - from) from (all_slots objects) ∙ ap (map view) (part_is objects place from to x are at)
+pub part_is_seen : {B : Type 0} (view : Slot → B) (objects : List ObjectValue) (place : ℕ) (x : ObjectValue) → slice_get objects place ≡ Some x → part_of objects place (map view (all_slots objects)) ≡ map view (slots x)
+part_is_seen {B} view objects place x at =
+    part_seen view (length (all_slots (take (suc place) objects)) - length (all_slots (take place objects))) (length (all_slots (take place objects))) (all_slots objects)
+    ∙ ap (map view) (part_is objects place x at)

@@ -1,10 +1,14 @@
 -- How many probes lookups take, and where the references of objects lead. A rule of this project.
-use Rattle.std.specs.Prelude.{◌≡◌, ◌==◌, ◌<◌, ◌≤◌, ◌+◌, ◌*◌, ◌^◌, ℕ, Bool, List, length, map, take, find, flat_map, Option}
+use Rattle.std.specs.Prelude.{◌≡◌, ◌==◌, ◌<◌, ◌≤◌, ◌+◌, ◌-◌, ◌*◌, ◌^◌, ℕ, suc, Bool, List, length, map, take, drop, find, flat_map, Option}
 use Rattle.std.specs.List.{slice_index_or}
 use Rattle.std.specs.Option.{option_and_then}
+use Rattle.dwg_audit.specs.declared.lookups.Gathered.{Gathered}
+use Rattle.dwg_audit.specs.declared.lookups.Lookups.{Lookups}
 use Rattle.dwg_audit.specs.declared.lookups.SlotTable.{SlotTable}
-use Rattle.dwg_audit.specs.Placed.{place_in}
+use Rattle.dwg_audit.specs.Placed.{next_table, owner_table, place_in}
+use Rattle.dwg_graph.specs.declared.owner.SpaceHandles.{SpaceHandles}
 use Rattle.dwg_graph.specs.declared.slot.Slot.{Slot}
+use Rattle.dwg_graph.specs.Owners.{next_of, owner_of}
 use Rattle.dwg_graph.specs.Places.{handles_of}
 use Rattle.dwg_graph.specs.Slots.{slots}
 use Rattle.dwg_kinds.specs.declared.field.Field.{Field}
@@ -41,3 +45,21 @@ pub record IsSlotTable (objects : List ObjectValue) (table : SlotTable) : Type 0
   pub slots : table.slots ≡ all_slots objects
   pub places : table.places.items ≡ slot_places (handles_of objects) (all_slots objects)
   pub starts : AreStarts objects table.starts.items
+
+-- of things that stand along the slots of all objects, those of the object at a place
+abbrev pub part_of : {T : Type 0} → List ObjectValue → ℕ → List T → List T
+part_of {T} objects place things =
+    take (length (all_slots (take (suc place) objects)) - length (all_slots (take place objects))) (drop (length (all_slots (take place objects))) things)
+
+-- what objects refer to is gathered
+pub record AreGathered (objects : List ObjectValue) (known : Option SpaceHandles) (gathered : Gathered) : Type 0 where
+  pub owners : gathered.owners.items ≡ map (owner_of known) objects
+  pub next : gathered.next.items ≡ map next_of objects
+  pub slots : gathered.slots ≡ all_slots objects
+  pub starts : AreStarts objects gathered.starts.items
+
+-- it is looked up
+pub record AreLookups (objects : List ObjectValue) (known : Option SpaceHandles) (lookups : Lookups) : Type 0 where
+  pub owners : lookups.owners.items ≡ owner_table objects known
+  pub next : lookups.next.items ≡ next_table objects
+  pub slots : IsSlotTable objects lookups.slots

@@ -2,7 +2,7 @@
 use Rattle.std.specs.Prelude.{◌≡◌, ◌<◌, ◌↔◌, ℕ, List, length, IsTrue}
 use Rattle.dwg_audit.specs.Claimed.{claim_counts, own_counts}
 use Rattle.dwg_audit.specs.declared.tables.Tables.{Tables}
-use Rattle.dwg_audit.specs.Lookups.{IsSlotTable}
+use Rattle.dwg_audit.specs.Lookups.{AreLookups}
 use Rattle.dwg_audit.specs.Placed.{owner_table, next_table, root_table, home_table, end_table}
 use Rattle.dwg_graph.specs.Owners.{spaces}
 use Rattle.dwg_object.specs.Objects.{ObjectValue}
@@ -11,8 +11,7 @@ use Rattle.dwg_paths.specs.Tables.{leads, marked, ends_at, RankIs, HasChainAt}
 -- the tables say of the objects what they are for
 pub record AreTables (objects : List ObjectValue) (tables : Tables) : Type 0 where
   pub known : tables.known ≡ spaces objects
-  pub owners : tables.lookups.owners.items ≡ owner_table objects (spaces objects)
-  pub slots : IsSlotTable objects tables.lookups.slots
+  pub lookups : AreLookups objects (spaces objects) tables.lookups
   pub homes : tables.homes.items ≡ home_table objects (spaces objects)
   pub rank_count : length tables.ranks.items ≡ length objects
   pub ranks : (place : ℕ) → place < length objects → RankIs (owner_table objects (spaces objects)) (root_table objects (spaces objects)) place (leads tables.ranks.items place)

@@ -1,11 +1,10 @@
 //! Where the references of all objects lead: each is looked up once.
 
-ghost use Rattle.std.specs.Prelude.{◌≡◌, ◌<◌, ◌≤◌, ◌+◌, ◌*◌, ◌^◌, ◌-◌, ◌++◌, ℕ, List, [], ◌∷◌, None, Some, length, map, take, drop, IfOk, OnOk};
+ghost use Rattle.std.specs.Prelude.{◌≡◌, ◌<◌, ◌≤◌, ◌+◌, ◌*◌, ◌^◌, ◌-◌, ◌++◌, ℕ, suc, List, [], ◌∷◌, None, Some, length, map, take, drop, IfOk, OnOk};
 ghost use Rattle.std.specs.List.{slice_get, slice_index_or};
 ghost use Rattle.dwg_audit.specs.Claimed.{reference_count};
-ghost use Rattle.dwg_audit.specs.Lookups.{AreStarts, IsSlotTable, TakeAtMost, all_slots, slot_places};
-ghost use Rattle.dwg_audit.specs.Placed.{next_table, owner_table, place_in};
-ghost use Rattle.dwg_graph.specs.Owners.{owner_of};
+ghost use Rattle.dwg_audit.specs.Lookups.{AreGathered, AreLookups, AreStarts, IsSlotTable, TakeAtMost, all_slots, part_of, slot_places};
+ghost use Rattle.dwg_audit.specs.Placed.{place_in};
 ghost use Rattle.dwg_graph.specs.Places.{Ascend, handles_of};
 ghost use Rattle.dwg_graph.specs.Slots.{slots};
 ghost use Rattle.dwg_object.specs.Objects.{ObjectValue, value_of};
@@ -37,6 +36,16 @@ pub(crate) struct Lookups {
     pub(crate) slots: SlotTable,
 }
 
+/// An empty list with room for so many items. The only refusal is want of memory.
+pub(crate) fn with_room<T: Drop>(alloc: Global, count: usize) -> Result<Vec<T>, NoMemory>
+    ensures { IfOk result (λ items. items.items ≡ []) }
+{
+    match Vec::with_capacity(alloc, count) {
+        Ok(items) => Ok(items),
+        Err(_) => Err(NoMemory),
+    }
+}
+
 /// Puts an item at the end. The only refusal is want of memory.
 pub(crate) fn push_item<T: Drop>(items: &mut Vec<T>, item: T) -> Result<(), NoMemory>
     ensures { OnOk result (items.new.items ≡ items.old.items ++ item ∷ []) }
@@ -44,6 +53,35 @@ pub(crate) fn push_item<T: Drop>(items: &mut Vec<T>, item: T) -> Result<(), NoMe
     match items.push(item) {
         Ok(()) => Ok(()),
         Err(_) => Err(NoMemory),
+    }
+}
+
+/// What names an object by its handle.
+trait Names {
+    /// The handle.
+    ghost named: { Self → ℕ };
+
+    /// The handle.
+    fn handle(&self) -> Handle
+        ensures { result ≡ named self.now };
+}
+
+impl Names for Handle {
+    ghost named = { λ handle. handle };
+
+    fn handle(&self) -> Handle {
+        *self
+    }
+}
+
+/// A slot names its target.
+impl Names for Slot {
+    ghost use Rattle.dwg_graph.specs.declared.slot.Slot as declared;
+
+    ghost named = { λ (slot : declared.Slot). slot.target };
+
+    fn handle(&self) -> Handle {
+        self.target
     }
 }
 
@@ -57,119 +95,119 @@ fn find_place<L: Ledger>(index: &Index, handle: Handle, steps: &mut Steps<L>) ->
     index.find(handle, steps)
 }
 
-/// For each object where its owner stands. Want of memory is the only refusal.
-fn owner_places<L: Ledger>(
+/// Where the objects stand that are named, each looked up once. Want of memory is the only refusal.
+fn find_all<T: Names, L: Ledger>(
     alloc: Global,
-    objects: &[Object<'_>],
-    known: &Option<SpaceHandles>,
-    index: &Index,
-    steps: &mut Steps<L>,
-) -> Result<Vec<Option<usize>>, NoMemory>
-    requires ascend { Ascend (handles_of (map value_of objects.now)) }
-    requires index { index.now ≡ handles_of (map value_of objects.now) }
-    ensures places { IfOk result (λ places. places.items ≡ owner_table (map value_of objects.now) known.now) }
-    ensures steps { TakeAtMost (length index.now) (length objects.now) steps.old steps.new }
-{
-    let mut places = Vec::new(alloc);
-    'along: for object in objects {
-        let place = find_place(index, owner_of(object, *known), steps);
-        push_item(&mut places, place)?;
-    }
-    Ok(places)
-}
-
-/// For each object where what follows it in a block stands. Want of memory is the only refusal.
-fn next_places<L: Ledger>(
-    alloc: Global,
-    objects: &[Object<'_>],
-    index: &Index,
-    steps: &mut Steps<L>,
-) -> Result<Vec<Option<usize>>, NoMemory>
-    requires ascend { Ascend (handles_of (map value_of objects.now)) }
-    requires index { index.now ≡ handles_of (map value_of objects.now) }
-    ensures places { IfOk result (λ places. places.items ≡ next_table (map value_of objects.now)) }
-    ensures steps { TakeAtMost (length index.now) (length objects.now) steps.old steps.new }
-{
-    let mut places = Vec::new(alloc);
-    'along: for object in objects {
-        let place = find_place(index, next_of(object), steps);
-        push_item(&mut places, place)?;
-    }
-    Ok(places)
-}
-
-/// For each slot where its target stands. Want of memory is the only refusal.
-fn target_places<L: Ledger>(
-    alloc: Global,
-    slots: &[Slot],
+    names: &[T],
     index: &Index,
     steps: &mut Steps<L>,
 ) -> Result<Vec<Option<usize>>, NoMemory>
     requires ascend { Ascend index.now }
-    ensures places { IfOk result (λ places. places.items ≡ slot_places index.now slots.now) }
-    ensures steps { TakeAtMost (length index.now) (length slots.now) steps.old steps.new }
+    ensures places { IfOk result (λ places. places.items ≡ map (λ name. place_in index.now (T.named name)) names.now) }
+    ensures steps { TakeAtMost (length index.now) (length names.now) steps.old steps.new }
 {
-    let mut places = Vec::new(alloc);
-    'along: for slot in slots {
-        let place = find_place(index, slot.target, steps);
+    let mut places = with_room(alloc, names.len())?;
+    'along: for name in names {
+        let place = find_place(index, name.handle(), steps);
         push_item(&mut places, place)?;
     }
     Ok(places)
 }
 
-/// The slots of all objects, and where those of each begin.
+/// What all objects refer to.
 #[derive(Drop)]
-struct Gathered {
+pub(crate) struct Gathered {
+    // The owner of each, and what follows each in a block.
+    owners: Vec<Handle>,
+    next: Vec<Handle>,
     slots: Items<Slot>,
     starts: Vec<usize>,
 }
 
-/// The slots of the objects so far, and of one more. The only refusal is want of memory.
-fn with_object(gathered: Gathered, object: &Object<'_>) -> Result<Gathered, NoMemory>
-    ensures { IfOk result (λ more. (objects : List ObjectValue) → gathered.slots ≡ all_slots objects → AreStarts objects gathered.starts.items → (more.slots ≡ all_slots (objects ++ value_of object.now ∷ [])) × AreStarts (objects ++ value_of object.now ∷ []) more.starts.items) }
+/// What the objects so far refer to, and one more. The only refusal is want of memory.
+fn with_object(
+    gathered: Gathered,
+    object: &Object<'_>,
+    known: &Option<SpaceHandles>,
+) -> Result<Gathered, NoMemory>
+    ensures { IfOk result (λ more. (objects : List ObjectValue) → AreGathered objects known.now gathered → AreGathered (objects ++ value_of object.now ∷ []) known.now more) }
 {
-    let Gathered { slots, starts } = gathered;
+    let Gathered {
+        owners,
+        next,
+        slots,
+        starts,
+    } = gathered;
     let slots = with_slots(slots, object)?;
+    let mut owners = owners;
+    let mut next = next;
     let mut starts = starts;
+    push_item(&mut owners, owner_of(object, *known))?;
+    push_item(&mut next, next_of(object))?;
     push_item(&mut starts, slots.as_slice().len())?;
-    Ok(Gathered { slots, starts })
+    Ok(Gathered {
+        owners,
+        next,
+        slots,
+        starts,
+    })
 }
 
-/// The slots of all objects, each object walked over once. The only refusal is want of memory.
-fn gather_slots(alloc: Global, objects: &[Object<'_>]) -> Result<Gathered, NoMemory>
-    ensures slots { IfOk result (λ gathered. gathered.slots ≡ all_slots (map value_of objects.now)) }
-    ensures starts { IfOk result (λ gathered. AreStarts (map value_of objects.now) gathered.starts.items) }
+/// No references, with room for those of so many objects. The only refusal is want of memory.
+fn none_gathered(alloc: Global, count: usize) -> Result<Gathered, NoMemory>
+    requires { count < 2 ^ 63 }
+    ensures { IfOk result (λ gathered. (known : _) → AreGathered [] known gathered) }
 {
-    let mut starts = Vec::new(alloc);
+    let mut starts = with_room(alloc, count + 1)?;
     push_item(&mut starts, 0)?;
-    let mut gathered = Gathered {
+    Ok(Gathered {
+        owners: with_room(alloc, count)?,
+        next: with_room(alloc, count)?,
         slots: Items::new(alloc),
         starts,
-    };
+    })
+}
+
+/// What all objects refer to, each object walked over once. The only refusal is want of memory.
+fn gather(
+    alloc: Global,
+    objects: &[Object<'_>],
+    known: &Option<SpaceHandles>,
+) -> Result<Gathered, NoMemory>
+    ensures { IfOk result (AreGathered (map value_of objects.now) known.now) }
+{
+    let mut gathered = none_gathered(alloc, objects.len())?;
     'along: for object in objects {
-        gathered = with_object(gathered, object)?;
+        gathered = with_object(gathered, object, known)?;
     }
     Ok(gathered)
 }
 
-/// The slots of all objects, each with where its target stands. The only refusal is want of memory.
-fn look_up_slots<L: Ledger>(
+/// Looks up what objects refer to. The only refusal is want of memory.
+fn look_up_gathered<L: Ledger>(
     alloc: Global,
     objects: &[Object<'_>],
-    index: &Index,
+    known: &Option<SpaceHandles>,
+    gathered: Gathered,
     steps: &mut Steps<L>,
-) -> Result<SlotTable, NoMemory>
+) -> Result<Lookups, NoMemory>
     requires ascend { Ascend (handles_of (map value_of objects.now)) }
-    requires index { index.now ≡ handles_of (map value_of objects.now) }
-    ensures table { IfOk result (IsSlotTable (map value_of objects.now)) }
-    ensures steps { TakeAtMost (length index.now) (reference_count (map value_of objects.now)) steps.old steps.new }
+    requires gathered { AreGathered (map value_of objects.now) known.now gathered }
+    ensures lookups { IfOk result (AreLookups (map value_of objects.now) known.now) }
+    ensures steps { TakeAtMost (length objects.now) (2 * length objects.now + reference_count (map value_of objects.now)) steps.old steps.new }
 {
-    let Gathered { slots, starts } = gather_slots(alloc, objects)?;
-    let places = target_places(alloc, slots.as_slice(), index, steps)?;
-    Ok(SlotTable {
-        slots,
-        places,
-        starts,
+    let index = Index::build(alloc, objects)?;
+    let owners = find_all(alloc, gathered.owners.as_slice(), &index, steps)?;
+    let next = find_all(alloc, gathered.next.as_slice(), &index, steps)?;
+    let places = find_all(alloc, gathered.slots.as_slice(), &index, steps)?;
+    Ok(Lookups {
+        owners,
+        next,
+        slots: SlotTable {
+            slots: gathered.slots,
+            places,
+            starts: gathered.starts,
+        },
     })
 }
 
@@ -181,20 +219,11 @@ pub(crate) fn look_up<L: Ledger>(
     steps: &mut Steps<L>,
 ) -> Result<Lookups, NoMemory>
     requires ascend { Ascend (handles_of (map value_of objects.now)) }
-    ensures owners { IfOk result (λ found. found.owners.items ≡ owner_table (map value_of objects.now) known.now) }
-    ensures next { IfOk result (λ found. found.next.items ≡ next_table (map value_of objects.now)) }
-    ensures slots { IfOk result (λ found. IsSlotTable (map value_of objects.now) found.slots) }
+    ensures lookups { IfOk result (AreLookups (map value_of objects.now) known.now) }
     ensures steps { TakeAtMost (length objects.now) (2 * length objects.now + reference_count (map value_of objects.now)) steps.old steps.new }
 {
-    let index = Index::build(alloc, objects)?;
-    let owners = owner_places(alloc, objects, known, &index, steps)?;
-    let next = next_places(alloc, objects, &index, steps)?;
-    let slots = look_up_slots(alloc, objects, &index, steps)?;
-    Ok(Lookups {
-        owners,
-        next,
-        slots,
-    })
+    let gathered = gather(alloc, objects, known)?;
+    look_up_gathered(alloc, objects, known, gathered, steps)
 }
 
 /// Where the slots of the object at a place begin.
@@ -222,15 +251,30 @@ fn part<T>(items: &[T], from: usize, to: usize) -> &[T]
     &items[from..to]
 }
 
+/// Of items that stand along the slots of all objects, those of the object at a place.
+fn part_at<'t, T>(
+    objects: &[Object<'_>],
+    table: &SlotTable,
+    items: &'t [T],
+    place: usize,
+) -> &'t [T]
+    requires table { IsSlotTable (map value_of objects.now) table.now }
+    requires along { length items.now ≡ length (all_slots (map value_of objects.now)) }
+    requires within { place < length objects.now }
+    ensures { result.now ≡ part_of (map value_of objects.now) place items.now }
+{
+    let from = start_at(table, place);
+    let to = start_at(table, place + 1);
+    part(items, from, to)
+}
+
 /// The slots of the object at a place.
 pub(crate) fn slots_at<'t>(objects: &[Object<'_>], table: &'t SlotTable, place: usize) -> &'t [Slot]
     requires table { IsSlotTable (map value_of objects.now) table.now }
     requires within { place < length objects.now }
     ensures { (x : ObjectValue) → slice_get (map value_of objects.now) place ≡ Some x → result.now ≡ slots x }
 {
-    let from = start_at(table, place);
-    let to = start_at(table, place + 1);
-    part(table.slots.as_slice(), from, to)
+    part_at(objects, table, table.slots.as_slice(), place)
 }
 
 /// Where the targets of the slots of the object at a place stand.
@@ -243,7 +287,5 @@ pub(crate) fn places_at<'t>(
     requires within { place < length objects.now }
     ensures { (x : ObjectValue) → slice_get (map value_of objects.now) place ≡ Some x → result.now ≡ slot_places (handles_of (map value_of objects.now)) (slots x) }
 {
-    let from = start_at(table, place);
-    let to = start_at(table, place + 1);
-    part(table.places.as_slice(), from, to)
+    part_at(objects, table, table.places.as_slice(), place)
 }

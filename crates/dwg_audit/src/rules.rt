@@ -73,13 +73,13 @@ fn is_exempt(
     requires home { home ≡ home_place (map value_of objects.now) known.now (value_of object.now) }
     ensures { result ≡ is_exempt (map value_of objects.now) known.now (value_of object.now) }
 {
-    if is_root(object, known) {
+    if home.is_some() {
         return true;
     }
     if is_same(Kind::Attrib, object.kind()) {
         return true;
     }
-    home.is_some()
+    is_root(object, known)
 }
 
 /// Whether these claims are those that are asked for, by the object's owner: one, by the owner, where that is Typed, and none where

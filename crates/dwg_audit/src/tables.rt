@@ -2,7 +2,7 @@
 
 ghost use Rattle.std.specs.Prelude.{◌≡◌, ◌<◌, ◌^◌, ◌+◌, ◌*◌, ◌↔◌, ℕ, length, map, IfOk, IsTrue};
 ghost use Rattle.dwg_audit.specs.Claimed.{reference_count};
-ghost use Rattle.dwg_audit.specs.Lookups.{IsSlotTable, TakeAtMost};
+ghost use Rattle.dwg_audit.specs.Lookups.{AreLookups, TakeAtMost};
 ghost use Rattle.dwg_audit.specs.Tabled.{AreTables};
 ghost use Rattle.dwg_audit.specs.Placed.{end_table, home_table, next_table, owner_table, root_table};
 ghost use Rattle.dwg_graph.specs.Owners.{spaces};
@@ -46,8 +46,7 @@ fn chained(
     homes: &[Option<usize>],
     lookups: &Lookups,
 ) -> Result<Vec<bool>, NoMemory>
-    requires next { lookups.now.next.items ≡ next_table (map value_of objects.now) }
-    requires slots { IsSlotTable (map value_of objects.now) lookups.now.slots }
+    requires lookups { AreLookups (map value_of objects.now) (spaces (map value_of objects.now)) lookups.now }
     requires homes { homes.now ≡ home_table (map value_of objects.now) (spaces (map value_of objects.now)) }
     ensures count { IfOk result (λ chains. length chains.items ≡ length objects.now) }
     ensures chains { IfOk result (λ chains. (home : ℕ) → home < length objects.now → IsTrue (marked chains.items home) ↔ HasChainAt (home_table (map value_of objects.now) (spaces (map value_of objects.now))) (next_table (map value_of objects.now)) home (ends_at (end_table (map value_of objects.now)) home)) }
@@ -82,9 +81,7 @@ fn tabulate_by(
     requires ascend { Ascend (handles_of (map value_of objects.now)) }
     requires few { length objects.now + reference_count (map value_of objects.now) < 2 ^ 58 }
     requires known { known ≡ spaces (map value_of objects.now) }
-    requires owners { lookups.owners.items ≡ owner_table (map value_of objects.now) known }
-    requires next { lookups.next.items ≡ next_table (map value_of objects.now) }
-    requires slots { IsSlotTable (map value_of objects.now) lookups.slots }
+    requires lookups { AreLookups (map value_of objects.now) known lookups }
     ensures { IfOk result (AreTables (map value_of objects.now)) }
 {
     let homes = homes(alloc, objects, &known, &lookups.owners)?;

@@ -4,6 +4,5 @@ use Rattle.dwg_object.specs.Objects.{value_of}
 use Rattle.dwg_audit.proofs.lookups.with_object.Goals as goal
 
 pub returns : goal.returns
-returns c objects is are =
-    gathers_more objects (value_of c.args.object.now) c.args.gathered.slots c.in_ok-slots.slots c.args.gathered.starts.items c.push_item.new.items.items
-    c.in_ok-slots.ensures (search rules) is are
+returns c objects are =
+    gathers_more objects c.args.known.now (value_of c.args.object.now) c.args.gathered _ are (search rules) (search rules) (search rules) (search rules)

@@ -1,0 +1,6 @@
+use Rattle.std.proofs.Common.{ap, ◌∙◌, ◌++◌, ◌∷◌, [], ℕ, List, rules}
+use Rattle.dwg_audit.proofs.Slicing.{gathers_none}
+use Rattle.dwg_audit.proofs.lookups.none_gathered.Goals as goal
+
+pub returns : goal.returns
+returns c known = gathers_none known _ (search rules) (search rules) (search rules) (search rules)
