@@ -1,5 +1,5 @@
 -- What objects refer to, and where that stands.
-use Rattle.std.proofs.Common.{◌≡◌, sym, ap, subst, ◌∙◌, ◌<◌, ◌+◌, ◌*◌, ℕ, List, length, map, Option}
+use Rattle.std.proofs.Common.{◌≡◌, sym, ap, subst, ◌∙◌, ◌+◌, ◌*◌, ℕ, List, length, map, Option}
 use Rattle.std.proofs.lemmas.List.{length-map}
 use Rattle.std.proofs.lemmas.Simd.{map-map}
 use Rattle.dwg_audit.proofs.LookupSteps.{all_taken}

@@ -1,14 +1,12 @@
 //! The audit of a drawing's objects.
 
-ghost use Rattle.std.specs.Prelude.{◌≡◌, ◌↔◌, ◌<◌, ◌≤◌, ◌^◌, ◌+◌, ◌*◌, ◌++◌, ℕ, [], Some, length, map, IfOk, OnOk, IsTrue};
+ghost use Rattle.std.specs.Prelude.{◌≡◌, ◌↔◌, ◌<◌, ◌≤◌, ◌^◌, ◌+◌, ◌*◌, ◌++◌, ℕ, [], Some, length, map, IfOk, OnOk};
 ghost use Rattle.std.specs.List.{AllByRecursion, slice_get};
 ghost use Rattle.dwg_audit.specs.Claimed.{reference_count};
 ghost use Rattle.dwg_audit.specs.Findings.{control_findings, findings, findings_of};
-ghost use Rattle.dwg_audit.specs.Held.{HoldsFields};
 ghost use Rattle.dwg_audit.specs.Lookups.{slot_places};
 ghost use Rattle.dwg_audit.specs.Standing.{IsStanding};
 ghost use Rattle.dwg_audit.specs.Tabled.{AreTables};
-ghost use Rattle.dwg_graph.specs.Graph.{is_typed};
 ghost use Rattle.dwg_graph.specs.Owners.{spaces};
 ghost use Rattle.dwg_graph.specs.Places.{Ascend, handles_of};
 ghost use Rattle.dwg_graph.specs.Slots.{slots};
@@ -46,41 +44,8 @@ fn push_control(objects: &[Object<'_>], found: &mut Items<Finding>) -> Result<()
     push_unless(found, count == 1, finding)
 }
 
-/// Finds what a Typed object fails, in the order of rules. The only refusal is want of memory.
+/// Finds what an object fails, in the order of rules, nothing of one that isn't Typed. The only refusal is want of memory.
 fn judge(
-    objects: &[Object<'_>],
-    known: &Option<SpaceHandles>,
-    object: &Object<'_>,
-    held: &[Slot],
-    places: &[Option<usize>],
-    standing: &Standing,
-    found: &mut Items<Finding>,
-) -> Result<(), NoMemory>
-    requires known { known.now ≡ spaces (map value_of objects.now) }
-    requires standing { IsStanding (map value_of objects.now) (value_of object.now) standing.now }
-    requires held_slots { held.now ≡ slots (value_of object.now) }
-    requires places { places.now ≡ slot_places (handles_of (map value_of objects.now)) (slots (value_of object.now)) }
-    requires held { HoldsFields (value_of object.now) }
-    requires typed { IsTrue (is_typed (value_of object.now)) }
-    ensures { OnOk result (found.new ≡ found.old ++ findings_of (map value_of objects.now) (spaces (map value_of objects.now)) (value_of object.now)) }
-{
-    let owner = standing.owner;
-    push_unresolved(objects, known, object, owner, held, places, found)?;
-    push_unclaimed(
-        objects,
-        known,
-        object,
-        standing.home,
-        owner,
-        &standing.counts,
-        found,
-    )?;
-    push_unchained(objects, known, object, standing.chained, found)?;
-    push_lost(objects, known, object, standing.reached, found)
-}
-
-/// Finds what an object fails. The only refusal is want of memory.
-fn judge_if_typed(
     objects: &[Object<'_>],
     known: &Option<SpaceHandles>,
     object: &Object<'_>,
@@ -100,7 +65,19 @@ fn judge_if_typed(
         return Ok(());
     }
     slot_laws();
-    judge(objects, known, object, held, places, standing, found)
+    let owner = standing.owner;
+    push_unresolved(objects, known, object, owner, held, places, found)?;
+    push_unclaimed(
+        objects,
+        known,
+        object,
+        standing.home,
+        owner,
+        &standing.counts,
+        found,
+    )?;
+    push_unchained(objects, known, object, standing.chained, found)?;
+    push_lost(objects, known, object, standing.reached, found)
 }
 
 /// What objects fail, by what is known of all of them. The only refusal is want of memory.
@@ -117,7 +94,7 @@ fn judge_all(
     let mut found = Items::new(alloc);
     push_control(objects, &mut found)?;
     'along: for place in 0..objects.len() {
-        judge_if_typed(
+        judge(
             objects,
             &tables.known,
             &objects[place],

@@ -15,7 +15,7 @@ ghost use Rattle.dwg_object.specs.Objects.{kind_of, value_of};
 use crate::finding::{Finding, Rule};
 use crate::lookups::place_at;
 use crate::needs::is_met;
-use crate::rules::push_unless;
+use crate::rules::push;
 use dwg_base::{Items, NoMemory};
 use dwg_graph::{Slot, SpaceHandles, owner_of};
 use dwg_kinds::Field;
@@ -33,6 +33,7 @@ fn is_application(field: Field) -> bool
 
 /// Finds a reference that doesn't meet its need. The only refusal is want of memory.
 #[tactic(auto, unfolding(crate::specs::Findings::is_met))]
+#[inline(always)]
 fn push_unmet(
     objects: &[Object<'_>],
     object: &Object<'_>,
@@ -44,7 +45,9 @@ fn push_unmet(
     requires held { IsTrue (has_field slot.now.field (kind_of (value_of object.now))) }
     ensures { OnOk result (found.new ≡ found.old ++ unmet (map value_of objects.now) (value_of object.now) slot.now) }
 {
-    let holds = is_met(objects, object.kind(), slot, place);
+    if is_met(objects, object.kind(), slot, place) {
+        return Ok(());
+    }
     let finding = Finding {
         handle: object.handle(),
         rule: Rule::Resolve,
@@ -52,10 +55,11 @@ fn push_unmet(
         position: slot.position,
         target: slot.target,
     };
-    push_unless(found, holds, finding)
+    push(found, finding)
 }
 
 /// Finds a slot that doesn't meet its need, where it is an application's, or where it isn't.
+#[inline(always)]
 fn push_chosen(
     objects: &[Object<'_>],
     object: &Object<'_>,

@@ -4,7 +4,7 @@ ghost use Rattle.std.specs.Prelude.{◌≡◌, ◌++◌, List, [], ◌∷◌, fa
 ghost use Rattle.std.specs.List.{filter, slice_get};
 ghost use Rattle.std.specs.Option.{option_and_then, option_map_or};
 ghost use Rattle.dwg_audit.specs.Counts.{by_counts, by_holder};
-ghost use Rattle.dwg_audit.specs.Findings.{claim_findings, chain_findings, is_chained, is_exempt, path_findings, unless};
+ghost use Rattle.dwg_audit.specs.Findings.{claim_findings, chain_findings, is_chained, is_claimed, is_exempt, path_findings, unless};
 ghost use Rattle.dwg_audit.specs.Placed.{home_place, owner_place};
 ghost use Rattle.dwg_graph.specs.Graph.{claims, EndHandles, ends_of, is_typed, owner_step, root_at};
 ghost use Rattle.dwg_graph.specs.Owners.{owner_of};
@@ -29,7 +29,7 @@ pub(crate) struct ClaimCounts {
 }
 
 /// Puts a finding behind those that are found. The only refusal is want of memory.
-fn push(found: &mut Items<Finding>, finding: Finding) -> Result<(), NoMemory>
+pub(crate) fn push(found: &mut Items<Finding>, finding: Finding) -> Result<(), NoMemory>
     ensures { OnOk result (found.new ≡ found.old ++ finding ∷ []) }
 {
     match found.push(finding) {
@@ -107,8 +107,24 @@ fn suffices_at(objects: &[Object<'_>], owner: Option<usize>, counts: &ClaimCount
     }
 }
 
+/// Whether an object is claimed as it should be.
+fn is_claimed(
+    objects: &[Object<'_>],
+    known: &Option<SpaceHandles>,
+    object: &Object<'_>,
+    owner: Option<usize>,
+    counts: &ClaimCounts,
+) -> bool
+    requires owner { owner ≡ owner_place (map value_of objects.now) known.now (value_of object.now) }
+    requires all { counts.now.all ≡ length (claims (map value_of objects.now) (handle_of (value_of object.now))) }
+    requires own { counts.now.own ≡ length (filter (by_holder (owner_of known.now (value_of object.now))) (claims (map value_of objects.now) (handle_of (value_of object.now)))) }
+    ensures { result ≡ is_claimed (map value_of objects.now) known.now (value_of object.now) }
+{
+    suffices_at(objects, owner, counts)
+}
+
 /// Finds an object of which a claim is asked and that isn't claimed as it should be. The only refusal is want of memory.
-#[tactic(auto, unfolding(crate::specs::Findings::claim_findings), using(crate::proofs::Sufficing::claimed_by_counts))]
+#[tactic(auto, unfolding(crate::specs::Findings::claim_findings))]
 pub(crate) fn push_unclaimed(
     objects: &[Object<'_>],
     known: &Option<SpaceHandles>,
@@ -124,8 +140,12 @@ pub(crate) fn push_unclaimed(
     requires own { counts.now.own ≡ length (filter (by_holder (owner_of known.now (value_of object.now))) (claims (map value_of objects.now) (handle_of (value_of object.now)))) }
     ensures { OnOk result (found.new ≡ found.old ++ claim_findings (map value_of objects.now) known.now (value_of object.now)) }
 {
-    let exempt = is_exempt(objects, known, object, home);
-    let holds = exempt || suffices_at(objects, owner, counts);
+    if is_exempt(objects, known, object, home) {
+        return Ok(());
+    }
+    if is_claimed(objects, known, object, owner, counts) {
+        return Ok(());
+    }
     let finding = Finding {
         handle: object.handle(),
         rule: Rule::Claim,
@@ -133,7 +153,7 @@ pub(crate) fn push_unclaimed(
         position: counts.all,
         target: owner_of(object, *known),
     };
-    push_unless(found, holds, finding)
+    push(found, finding)
 }
 
 /// The last entity that a block names, null where it names none, or both ends are null.
@@ -165,7 +185,12 @@ pub(crate) fn push_unchained(
     requires chained { chained ≡ is_chained (map value_of objects.now) known.now (value_of object.now) (ends_of (value_of object.now)) }
     ensures { OnOk result (found.new ≡ found.old ++ chain_findings (map value_of objects.now) known.now (value_of object.now)) }
 {
-    let holds = !is_header(object) || chained;
+    if !is_header(object) {
+        return Ok(());
+    }
+    if chained {
+        return Ok(());
+    }
     let finding = Finding {
         handle: object.handle(),
         rule: Rule::Chain,
@@ -173,7 +198,7 @@ pub(crate) fn push_unchained(
         position: 0,
         target: last_of(object),
     };
-    push_unless(found, holds, finding)
+    push(found, finding)
 }
 
 /// Finds an object whose owners don't lead to a root. The only refusal is want of memory.
@@ -188,6 +213,9 @@ pub(crate) fn push_lost(
     requires reached { reached ≡ has_path (handles_of (map value_of objects.now)) (owner_step (map value_of objects.now) known.now) (root_at (map value_of objects.now) known.now) (handle_of (value_of object.now)) }
     ensures { OnOk result (found.new ≡ found.old ++ path_findings (map value_of objects.now) known.now (value_of object.now)) }
 {
+    if reached {
+        return Ok(());
+    }
     let finding = Finding {
         handle: object.handle(),
         rule: Rule::Path,
@@ -195,5 +223,5 @@ pub(crate) fn push_lost(
         position: 0,
         target: owner_of(object, *known),
     };
-    push_unless(found, reached, finding)
+    push(found, finding)
 }

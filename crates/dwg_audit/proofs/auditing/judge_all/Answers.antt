@@ -10,32 +10,32 @@ use Rattle.dwg_audit.proofs.auditing.judge_all.Goals as goal
 pub along-init : goal.along-init
 along-init c = findings_begin (map value_of c.args.objects.now) c.new-found.result c.push_control.new.found c.new-found.ensures (search rules)
 
-pub judge_if_typed-requires-clause-standing : goal.judge_if_typed-requires-clause-standing
-judge_if_typed-requires-clause-standing c =
+pub judge-requires-clause-standing : goal.judge-requires-clause-standing
+judge-requires-clause-standing c =
     c.standing_at.ensures (value_of c.index-objects-place.result) (value_at value_of c.args.objects.now c.along.place c.index-objects-place.result c.along-test.true c.index-objects-place.is)
 
-pub judge_if_typed-requires-clause-known : goal.judge_if_typed-requires-clause-known
-judge_if_typed-requires-clause-known c = c.requires.tables.known
+pub judge-requires-clause-known : goal.judge-requires-clause-known
+judge-requires-clause-known c = c.requires.tables.known
 
-pub judge_if_typed-requires-clause-held_slots : goal.judge_if_typed-requires-clause-held_slots
-judge_if_typed-requires-clause-held_slots c =
+pub judge-requires-clause-held_slots : goal.judge-requires-clause-held_slots
+judge-requires-clause-held_slots c =
     c.slots_at.ensures (value_of c.index-objects-place.result)
     (value_at value_of c.args.objects.now c.along.place c.index-objects-place.result c.along-test.true c.index-objects-place.is)
 
-pub judge_if_typed-requires-clause-places : goal.judge_if_typed-requires-clause-places
-judge_if_typed-requires-clause-places c =
+pub judge-requires-clause-places : goal.judge-requires-clause-places
+judge-requires-clause-places c =
     c.places_at.ensures (value_of c.index-objects-place.result)
     (value_at value_of c.args.objects.now c.along.place c.index-objects-place.result c.along-test.true c.index-objects-place.is)
 
-pub judge_if_typed-requires-clause-whole : goal.judge_if_typed-requires-clause-whole
-judge_if_typed-requires-clause-whole c =
+pub judge-requires-clause-whole : goal.judge-requires-clause-whole
+judge-requires-clause-whole c =
     one_of_all IsWhole (map value_of c.args.objects.now) c.along.place (value_of c.index-objects-place.result) c.requires.whole
     (value_at value_of c.args.objects.now c.along.place c.index-objects-place.result c.along-test.true c.index-objects-place.is)
 
 pub along-preserved : goal.along-preserved
 along-preserved c =
     one_further (findings_of (map value_of c.args.objects.now) (spaces (map value_of c.args.objects.now))) (map value_of c.args.objects.now) c.along.place (c.along.place + 1)
-    (value_of c.index-objects-place.result) c.along.found c.judge_if_typed.new.found _
+    (value_of c.index-objects-place.result) c.along.found c.judge.new.found _
     (value_at value_of c.args.objects.now c.along.place c.index-objects-place.result c.along-test.true c.index-objects-place.is)
     (omega arith) c.along.invariant (search rules)
 

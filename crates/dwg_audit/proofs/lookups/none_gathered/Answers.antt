@@ -1,4 +1,4 @@
-use Rattle.std.proofs.Common.{ap, ◌∙◌, ◌++◌, ◌∷◌, [], ℕ, List, rules}
+use Rattle.std.proofs.Common.{rules}
 use Rattle.dwg_audit.proofs.Slicing.{gathers_none}
 use Rattle.dwg_audit.proofs.lookups.none_gathered.Goals as goal
 
