@@ -1,6 +1,7 @@
 -- What a call does to a device: to its count of faults, to the bytes that it still gives, and to those that it took. A rule of this project.
 use Rattle.std.specs.Prelude.{◌≡◌, ℕ, ◌+◌, ◌-◌, ◌^◌, ◌<◌, ◌≤◌, ◌⊎◌, min, List, ◌++◌, Option, Result, MatchResult, OnOk, OnErr}
-use Rattle.std.specs.Io.KnownBytes.{Appends}
+use Rattle.std.specs.Io.KnownBytes.{Appends, Consumes}
+use Rattle.dwg_base.specs.Bytes.{AreBytes}
 
 -- the last value of a count of faults or of calls, at which it stands still
 abbrev pub LAST_COUNT : ℕ
@@ -32,6 +33,10 @@ AppendsFront old new whole = (front : List ℕ) × IsFront front whole × Append
 -- a call that sends the whole to a sink: all of it at Ok, and a front of it at Err
 abbrev pub Sends : {T E : Type 0} → Option (List ℕ) → Option (List ℕ) → List ℕ → Result T E → Type 0
 Sends old new whole result = MatchResult result (λ _. Appends old new whole) (λ _. AppendsFront old new whole)
+
+-- some bytes came from a source, by what it tells before them and behind them, and this holds of these bytes
+abbrev pub Came : Option (List ℕ) → Option (List ℕ) → (List ℕ → Type 0) → Type 0
+Came old new Holds = (came : List ℕ) × Consumes old new came × AreBytes came × Holds came
 
 -- the most bytes that an input may have, and the most that a written file may have
 abbrev pub MOST_BYTES : ℕ

@@ -2,10 +2,12 @@
 
 ghost use Rattle.std.specs.Prelude.{◌≡◌, ℕ, ◌+◌, ◌≤◌, ◌<◌, ◌^◌, ◌⊎◌, List, length, IfOk, OnOk, OnErr, IsErrOf};
 ghost use Rattle.std.specs.Io.KnownBytes.{Consumes, IsAtEnd};
-ghost use Rattle.dwg_base.specs.Devices.{LAST_COUNT, Rose};
+ghost use Rattle.dwg_base.specs.Bytes.{AreBytes};
+ghost use Rattle.dwg_base.specs.Devices.{Came, LAST_COUNT, Rose};
 
 use crate::bytes::ByteRun;
 use crate::device::{Failed, Source};
+use crate::slices::bounded_bytes;
 use std::alloc::Global;
 use thiserror::Error;
 
@@ -36,12 +38,13 @@ pub fn read_all<R: Source>(alloc: Global, source: &mut R, limit: u64) -> Result<
     // All bytes that were left, and no more than the limit.
     ensures whole { IfOk result (λ run. Consumes (R.left source.old) (R.left source.new) run) }
     ensures end { OnOk result (IsAtEnd (R.left source.new)) }
+    ensures bytes { IfOk result (λ run. AreBytes run) }
     ensures within { IfOk result (λ run. length run ≤ limit) }
 
     // One byte more than the limit came, and no fault; fewer came before a fault. What came before a refusal is gone.
-    ensures too_long { IsErrOf result Intake.TooLong → (gone : List ℕ) × (length gone ≡ limit + 1) × Consumes (R.left source.old) (R.left source.new) gone }
-    ensures read_fault { IsErrOf result Intake.ReadFault → (gone : List ℕ) × (length gone ≤ limit) × Consumes (R.left source.old) (R.left source.new) gone }
-    ensures gone { OnErr result ((gone : List ℕ) × (length gone ≤ limit + 1) × Consumes (R.left source.old) (R.left source.new) gone) }
+    ensures too_long { IsErrOf result Intake.TooLong → Came (R.left source.old) (R.left source.new) (λ gone. length gone ≡ limit + 1) }
+    ensures read_fault { IsErrOf result Intake.ReadFault → Came (R.left source.old) (R.left source.new) (λ gone. length gone ≤ limit) }
+    ensures gone { OnErr result (Came (R.left source.old) (R.left source.new) (λ gone. length gone ≤ limit + 1)) }
 
     // A read fault comes only where the count of faults rose, which else stays as it was.
     ensures rose { IsErrOf result Intake.ReadFault → Rose (R.faults source.old) (R.faults source.new) }
@@ -57,7 +60,7 @@ pub fn read_all<R: Source>(alloc: Global, source: &mut R, limit: u64) -> Result<
         match source.read(&mut piece[..room]) {
             Err(Failed) => return Err(Intake::ReadFault),
             Ok(0) => return Ok(ByteRun::from_vec(bytes)),
-            Ok(n) => match bytes.extend_from_slice(&piece[..n]) {
+            Ok(n) => match bytes.extend_from_slice(bounded_bytes(&piece[..n])) {
                 Ok(()) => {}
                 Err(_) => return Err(Intake::NoMemory),
             },
