@@ -21,9 +21,10 @@ use Rattle.dwg_file.specs.CanonicalFrames.{frames_from}
 use Rattle.dwg_file.proofs.CanonicalFrames.{frames_apart, frames_stand, pairs_of_frames}
 use Rattle.dwg_file.proofs.CanonicalHeader.{header_fits}
 use Rattle.dwg_file.proofs.CanonicalLaws.{canonical_ascends, canonical_is_counted, header_reaches, parts_stand}
+use Rattle.dwg_file.specs.CanonicalParts.{HasPart}
 use Rattle.dwg_file.proofs.CanonicalParts.{length_of_framed}
 use Rattle.dwg_file.specs.Contents.{Contents}
-use Rattle.dwg_file.specs.ShortDamage.{AllElseIsSame, HasSame, IsDamagedShortly}
+use Rattle.dwg_file.specs.ShortDamage.{AllElseIsSame, IsDamagedShortly}
 use Rattle.dwg_file.specs.Spelled.{PairFrame, IsFrameOfPair, AreApart}
 use Rattle.dwg_file.proofs.Splices.{IsSpliced, same_part, spliced_long, stands_still}
 use Rattle.dwg_file.specs.Valid.{IsValid}
@@ -50,7 +51,7 @@ frames_in_order (object ∷ objects) place most fits =
 -- frames that end before the damage are as they were
 before_same : (drawing : Contents) (bytes : List ℕ) (from to : ℕ) → IsSpliced (canonical drawing) bytes from to → (limit : ℕ) → limit ≤ from → (frames : List PairFrame)
     → AllByRecursion (AreInOrder (length (canonical drawing))) frames → AllByRecursion (λ (one : PairFrame). one.end ≤ limit) frames
-    → AllByRecursion (λ (one : PairFrame). HasSame drawing bytes one.pair.place one.end) frames
+    → AllByRecursion (λ (one : PairFrame). HasPart drawing bytes one.pair.place one.end) frames
 before_same drawing bytes from to is limit ahead [] are end = tt
 before_same drawing bytes from to is limit ahead (one ∷ frames) are end = (
   same_part (canonical drawing) bytes from to is one.pair.place one.end are.0.order are.0.within (inl (omega (arith, ahead, end.0))),
@@ -60,7 +61,7 @@ before_same drawing bytes from to is limit ahead (one ∷ frames) are end = (
 -- so are those that begin behind it
 behind_same : (drawing : Contents) (bytes : List ℕ) (from to : ℕ) → IsSpliced (canonical drawing) bytes from to → (limit : ℕ) → to ≤ limit → (frames : List PairFrame)
     → AllByRecursion (AreInOrder (length (canonical drawing))) frames → AllByRecursion (λ (one : PairFrame). limit ≤ one.pair.place) frames
-    → AllByRecursion (λ (one : PairFrame). HasSame drawing bytes one.pair.place one.end) frames
+    → AllByRecursion (λ (one : PairFrame). HasPart drawing bytes one.pair.place one.end) frames
 behind_same drawing bytes from to is limit past [] are begin = tt
 behind_same drawing bytes from to is limit past (one ∷ frames) are begin = (
   same_part (canonical drawing) bytes from to is one.pair.place one.end are.0.order are.0.within (inr (omega (arith, past, begin.0))),

@@ -6,9 +6,10 @@ use Rattle.dwg_base.specs.Devices.{MOST_BYTES}
 use Rattle.dwg_base.specs.Refusals.{first_fault}
 use Rattle.dwg_grammar.specs.ModularCodes.{ms}
 use Rattle.dwg_object.specs.Frames.{FrameHolds}
-use Rattle.dwg_object.specs.FrameLines.{bytes_from, frame_refusal}
+use Rattle.dwg_object.specs.FrameLines.{frame_refusal}
 use Rattle.dwg_file.specs.Canonical.{canonical, classes_place, map_place, objects_place, others_place, preview_place, size_of, variables_place}
 use Rattle.dwg_file.specs.CanonicalFrames.{frames_from}
+use Rattle.dwg_file.specs.CanonicalParts.{HasPart}
 use Rattle.dwg_file.specs.Contents.{Contents}
 use Rattle.dwg_file.specs.FileLines.{ALL_LINES}
 use Rattle.dwg_file.specs.Spelled.{PairFrame}
@@ -42,20 +43,16 @@ DamagedFrameFails =
     → frames_from (objects_place drawing) drawing.objects ≡ earlier ++ frame ∷ later → IsDamagedShortly drawing frame bytes
     → (end : ℕ) → FrameHolds bytes frame.pair.place frame.pair.handle end → ⊥
 
--- an input has the bytes of the canonical file of a drawing from a place up to another
-abbrev pub HasSame : Contents → List ℕ → ℕ → ℕ → Type 0
-HasSame drawing bytes from to = bytes_from bytes from to ≡ bytes_from (canonical drawing) from to
-
 -- a damaged input has all else as it is in the canonical file: header, framed sections, map pages, unknown sections and each other frame
 pub record ElseIsSame (drawing : Contents) (bytes : List ℕ) (earlier later : List PairFrame) : Type 0 where
   pub long : length bytes ≡ length (canonical drawing)
-  pub header : HasSame drawing bytes 0 (variables_place drawing)
-  pub variables : HasSame drawing bytes (variables_place drawing) (classes_place drawing)
-  pub classes : HasSame drawing bytes (classes_place drawing) (preview_place drawing)
-  pub mapped : HasSame drawing bytes (map_place drawing) (others_place drawing)
-  pub others : HasSame drawing bytes (others_place drawing) (size_of drawing)
-  pub before : AllByRecursion (λ (one : PairFrame). HasSame drawing bytes one.pair.place one.end) earlier
-  pub behind : AllByRecursion (λ (one : PairFrame). HasSame drawing bytes one.pair.place one.end) later
+  pub header : HasPart drawing bytes 0 (variables_place drawing)
+  pub variables : HasPart drawing bytes (variables_place drawing) (classes_place drawing)
+  pub classes : HasPart drawing bytes (classes_place drawing) (preview_place drawing)
+  pub mapped : HasPart drawing bytes (map_place drawing) (others_place drawing)
+  pub others : HasPart drawing bytes (others_place drawing) (size_of drawing)
+  pub before : AllByRecursion (λ (one : PairFrame). HasPart drawing bytes one.pair.place one.end) earlier
+  pub behind : AllByRecursion (λ (one : PairFrame). HasPart drawing bytes one.pair.place one.end) later
 
 -- so it has
 abbrev pub AllElseIsSame : Type 0

@@ -11,11 +11,11 @@ use Rattle.dwg_base.specs.Refusals.{Tried}
 use Rattle.dwg_bits.specs.Bits.{bits}
 use Rattle.dwg_classes.specs.declared.class.Class.{Class}
 use Rattle.dwg_classes.specs.Class.{AreClasses}
-use Rattle.dwg_file.specs.Canonical.{canonical, class_content, classes_place, frames_bytes, header_of as canonical_header, map_of, map_place, objects_place, others_place, placed, preview_place, size_of, variables_place}
-use Rattle.dwg_file.specs.CanonicalFrames.{frames_from}
+use Rattle.dwg_file.specs.Canonical.{canonical, class_content, classes_place, header_of as canonical_header, map_of, map_place, objects_place, others_place, placed, preview_place, size_of, variables_place}
 use Rattle.dwg_file.proofs.CanonicalFrames.{frames_stand, objects_of_frames, pairs_of_frames as placed_pairs}
 use Rattle.dwg_file.proofs.CanonicalHeader.{header_fits}
 use Rattle.dwg_file.proofs.CanonicalLaws.{canonical_ascends, header_reaches, parts_stand}
+use Rattle.dwg_file.specs.CanonicalParts.{HasPart}
 use Rattle.dwg_file.proofs.CanonicalParts.{length_of_framed}
 use Rattle.dwg_file.specs.Contents.{Contents}
 use Rattle.dwg_file.proofs.ReadingLemmas.{SectionLaws}
@@ -26,12 +26,13 @@ use Rattle.dwg_object.specs.declared.span.Span.{Span}
 use Rattle.dwg_object.specs.Forms.{BeginsWithHead, FormOf}
 use Rattle.dwg_object.proofs.FormLaws.{head_of_form, valid_fits, valid_handle, valid_is_form, written_frame}
 use Rattle.dwg_object.proofs.FrameLaws.{span_of_frame}
+use Rattle.dwg_object.specs.FrameLines.{bytes_from}
 use Rattle.dwg_object.specs.Frames.{FrameAt, FrameHolds, frame_bytes}
 use Rattle.dwg_object.proofs.HeadLaws.{begins_head}
 use Rattle.dwg_object.specs.Objects.{ObjectValue, handle_of}
 use Rattle.dwg_object.proofs.SpanLaws.{tried_span_means}
-use Rattle.dwg_object.proofs.StandingLemmas.{drop_stands, stands_drop, stands_first, stands_next, stands_within, take_stands}
-use Rattle.dwg_object.specs.Written.{IsValidObject, body_bytes}
+use Rattle.dwg_object.proofs.StandingLemmas.{drop_stands, stands_drop, stands_within, take_stands}
+use Rattle.dwg_object.specs.Written.{body_bytes}
 use Rattle.dwg_objmap.proofs.FillingLemmas.{map_is_written}
 use Rattle.dwg_objmap.specs.Pages.{MapOf}
 use Rattle.dwg_sections.specs.declared.framed.Framed.{Framed}
@@ -41,13 +42,13 @@ use Rattle.dwg_sections.specs.FileHeader.{BeginsWithHeader, header_bytes}
 use Rattle.dwg_sections.specs.Framed.{FramedAt, framed_bytes}
 use Rattle.dwg_sections.specs.HeaderLines.{place_of}
 use Rattle.dwg_recover.specs.Frames.{span_found}
-use Rattle.dwg_recover.specs.Intact.{CanonicalPartsStand, HasPart, IsPartlyIntact, canonical_frames, pairs_framed, part}
+use Rattle.dwg_recover.specs.Intact.{CanonicalPartsStand, IsPartlyIntact, canonical_frames, pairs_framed}
 use Rattle.dwg_recover.proofs.FoundParts.{content_is_taken, section_is_whole}
 use Rattle.dwg_recover.specs.Recovering.{body_tried, classes_found, frame_body}
 use Rattle.dwg_recover.specs.Sections.{classes_of, first_whole, header_of, is_whole, locators_of, number_of_section, section_found, whole_at}
 
 -- what stands in an input stands in each of its length that has that part of it
-stands_also : (bytes others piece : List ℕ) (from to : ℕ) → length bytes ≡ length others → StandsAt others from piece → to ≡ from + length piece → part bytes from to ≡ part others from to
+stands_also : (bytes others piece : List ℕ) (from to : ℕ) → length bytes ≡ length others → StandsAt others from piece → to ≡ from + length piece → bytes_from bytes from to ≡ bytes_from others from to
     → StandsAt bytes from piece
 stands_also bytes others piece from to long stands reaches same =
     let count : length piece ≡ to - from = omega (arith, reaches) in

@@ -1,10 +1,11 @@
 -- What is asked of an input so that the intact objects of a drawing are recovered of it: its header and its map are those of the drawing's canonical file, and each frame either is that file's or doesn't hold. A rule of this project.
-use Rattle.std.specs.Prelude.{◌≡◌, ◌⊎◌, ℕ, ◌-◌, ◌≤◌, true, List, length, map, take, drop}
+use Rattle.std.specs.Prelude.{◌≡◌, ◌⊎◌, ℕ, ◌≤◌, true, List, length, map}
 use Rattle.std.specs.List.{AllByRecursion}
 use Rattle.dwg_base.specs.Bytes.{AreBytes, StandsAt}
 use Rattle.dwg_base.specs.Devices.{MOST_BYTES}
 use Rattle.dwg_file.specs.Canonical.{canonical, class_content, classes_place, map_of, map_place, objects_place, others_place, preview_place, size_of, variables_place, header_of as canonical_header}
 use Rattle.dwg_file.specs.CanonicalFrames.{frames_from}
+use Rattle.dwg_file.specs.CanonicalParts.{HasPart}
 use Rattle.dwg_file.specs.Contents.{Contents}
 use Rattle.dwg_file.specs.Spelled.{IsFrameOfPair, PairFrame}
 use Rattle.dwg_file.specs.Valid.{IsValid}
@@ -17,14 +18,6 @@ use Rattle.dwg_sections.specs.Framed.{FramedAt}
 use Rattle.dwg_recover.specs.declared.loss.Kept.{Kept}
 use Rattle.dwg_recover.specs.ListMembers.{IsOneOf}
 use Rattle.dwg_recover.specs.Recovering.{recovered}
-
--- the bytes from a place up to another
-abbrev pub part : List ℕ → ℕ → ℕ → List ℕ
-part bytes from to = take (to - from) (drop from bytes)
-
--- an input has the bytes of the canonical file of a drawing from a place up to another
-abbrev pub HasPart : Contents → List ℕ → ℕ → ℕ → Type 0
-HasPart drawing bytes from to = part bytes from to ≡ part (canonical drawing) from to
 
 -- the frames of the canonical file, in the order of its map
 abbrev pub canonical_frames : Contents → List PairFrame
