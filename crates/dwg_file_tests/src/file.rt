@@ -9,7 +9,7 @@ use dwg_check::check;
 use dwg_classes::Class;
 use dwg_file::{
     Drawing, Other, Parts, Plan, PlanFault, canonical_laws, classes_of_file, drawing_laws,
-    read_drawing,
+    read_drawing, short_damage_laws,
 };
 use dwg_object::Object;
 use dwg_samples::{bytes_of, frame_of};
@@ -310,6 +310,7 @@ impl Telling for Drawings {
 fn a_drawing_is_read_and_written(rt: HostRuntime) -> Result<(), Fail> {
     drawing_laws();
     canonical_laws();
+    short_damage_laws();
     let cases = "\
         smallest | smallest => same\n\
         one object | one object => same\n\
