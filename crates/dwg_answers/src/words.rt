@@ -6,20 +6,20 @@ ghost use Rattle.std.specs.List.{list_all};
 ghost use Rattle.std.specs.Char.{is_ascii_digit};
 ghost use Rattle.dwg_answers.specs.Words.{texts, is_numeral, number_of, make_of, drill_of, reading_of, reads, command_of};
 
-/// A command that reads the input, by what it says of it.
+/// A command that reads the input: what it says of it is told at the `Command` of the same name.
 #[derive(Clone, Copy, Debug, PartialEq, Eq)]
 pub enum Reading {
-    /// The text of the file's locators.
+    /// `sections`.
     Sections,
-    /// The text of the file's classes.
+    /// `classes`.
     Classes,
-    /// The text of the drawing.
+    /// `show`.
     Show,
-    /// The canonical file of the drawing.
+    /// `rewrite`.
     Rewrite,
-    /// What the references of the drawing fail.
+    /// `audit`.
     Audit,
-    /// The canonical file of the drawing, or of all that is left of it.
+    /// `recover`.
     Recover,
 }
 

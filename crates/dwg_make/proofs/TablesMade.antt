@@ -14,7 +14,7 @@ use Rattle.dwg_tables.specs.InsertMarks.{mark_counts}
 use Rattle.dwg_tables.specs.LayerBody.{layer_body}
 use Rattle.dwg_tables.specs.LtypeBody.{ltype_main, ltype_body}
 use Rattle.dwg_tables.specs.StyleBody.{style_form, style_body}
-use Rattle.dwg_make.specs.Fixed.{header_of}
+use Rattle.dwg_make.specs.Fixed.{header_of, style_of}
 use Rattle.dwg_make.specs.Parts.{soft_pointer, hard_owner, hard_pointer, entry, ORIGIN}
 use Rattle.dwg_make.proofs.CodeSizes.{Few, no_letters, both, loosely, rc_few, bs_few, bl_few, b_few, bd_few, bd3_few, items_few, ref_few}
 use Rattle.dwg_make.proofs.PartsMade.{IsMade, IsWord, word_fits, word_few, ref_fits, no_word}
@@ -43,18 +43,7 @@ layer_made base name colour word small = record {
 
 -- a text style
 pub style_made : (base : ℕ) (name font : List ℕ) → IsWord name → IsWord font
-    → IsMade (style_body base) (record {
-      entry = entry name;
-      flag_a = false;
-      flag_b = false;
-      height = 0;
-      width = ONE;
-      oblique = 0;
-      generation = 0;
-      last_height = 0;
-      font = font;
-      big_font = [];
-    })
+    → IsMade (style_body base) (style_of name font)
 unfolding style_body style_form
 style_made base name font word drawn = record {
   fits = (

@@ -6,6 +6,7 @@ use Rattle.dwg_object.specs.declared.body.Body.{Body}
 use Rattle.dwg_object.specs.declared.body.Body.TheVariants as bodies
 use Rattle.dwg_tables.specs.declared.block_header.BlockHeader.{BlockHeader}
 use Rattle.dwg_tables.specs.declared.block_header.InsertMark.{InsertMark}
+use Rattle.dwg_tables.specs.declared.style.Style.{Style}
 use Rattle.dwg_make.specs.Parts.{soft_owner, hard_owner, soft_pointer, hard_pointer, flat_point, point, ORIGIN, other_object, links, model_entity, paper_entity, owned_entity, entry, plain_text}
 
 -- the control of the blocks
@@ -39,21 +40,24 @@ unfoldable pub layer : ℕ → List ℕ → ℕ → ObjectValue
 layer handle name colour =
     other_object 51 handle 0x2 (bodies.Layer (record { entry = entry name; values = 0; colour = colour; plotstyle = hard_pointer 0; linetype = hard_pointer 0x16 }))
 
+-- what a text style tells, by its name and the file of its letters
+abbrev pub style_of : List ℕ → List ℕ → Style
+style_of name font = record {
+  entry = entry name;
+  flag_a = false;
+  flag_b = false;
+  height = 0;
+  width = ONE;
+  oblique = 0;
+  generation = 0;
+  last_height = 0;
+  font = font;
+  big_font = [];
+}
+
 -- the text style
 unfoldable pub style : ObjectValue
-style =
-    other_object 53 0x11 0x3 (bodies.Style (record {
-      entry = entry (codes "STANDARD");
-      flag_a = false;
-      flag_b = false;
-      height = 0;
-      width = ONE;
-      oblique = 0;
-      generation = 0;
-      last_height = 0;
-      font = codes "txt";
-      big_font = [];
-    }))
+style = other_object 53 0x11 0x3 (bodies.Style (style_of (codes "STANDARD") (codes "txt")))
 
 -- the application
 unfoldable pub appid : ObjectValue
