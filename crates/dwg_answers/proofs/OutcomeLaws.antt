@@ -19,7 +19,7 @@ use Rattle.dwg_file.specs.Spelled.{Spelled}
 use Rattle.dwg_file.specs.Valid.{IsValid}
 use Rattle.dwg_graph.specs.Sound.{IsSound}
 use Rattle.dwg_recover.specs.Recovering.{RecoveredValue, recovered}
-use Rattle.dwg_recover.specs.Told.{RecoveredIsSound, SpelledIsAnswered, DamagedIsAnswered}
+use Rattle.dwg_recover.specs.Told.{RecoveredIsValid, SpelledIsAnswered, DamagedIsAnswered}
 use Rattle.dwg_recovery_text.specs.RecoveryNote.{recovery_note}
 use Rattle.dwg_report.specs.AuditText.{audit_text, finding_line, verdict}
 use Rattle.dwg_show.specs.DrawingText.{show_text}
@@ -214,8 +214,8 @@ damaged_is : (value : RecoveredValue) (refusal : Refusal) → value.refusal ≡ 
 unfolding recovered_answer
 damaged_is value refusal is = ap (λ first. filed value.drawing (recovery_notes first value.losses value.kept) (recovery_status first)) is
 
-pub recover_writes_frames : DrawingLaws → RecoveredIsSound → DamagedIsAnswered → RecoverWritesFrames
-recover_writes_frames laws sound damaged bytes input none =
+pub recover_writes_frames : DrawingLaws → RecoveredIsValid → DamagedIsAnswered → RecoverWritesFrames
+recover_writes_frames laws valid damaged bytes input none =
     let fails = first_failing laws bytes input none in
     let told = damaged bytes fails.0 fails.1 in
     let value = recovered bytes in
@@ -224,7 +224,7 @@ recover_writes_frames laws sound damaged bytes input none =
     record {
       value = value;
       recovers = refl;
-      sound = sound bytes input.are;
+      valid = valid bytes input.are;
       refusal = fails.0;
       first = fails.1;
       writes = λ small. is ∙ filed_within value.drawing _ Found small;

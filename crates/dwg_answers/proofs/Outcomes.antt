@@ -5,7 +5,7 @@ use Rattle.std.specs.Prelude.{Bool, Option, Result, Ok, Err, IfOk, nat_lt, if◌
 use Rattle.std.specs.Io.KnownBytes.{Consumes, IsAtEnd}
 use Rattle.dwg_audit.specs.declared.finding.Finding.{Finding}
 use Rattle.dwg_audit.specs.Findings.{findings}
-use Rattle.dwg_base.specs.Devices.{MOST_BYTES}
+use Rattle.dwg_base.specs.Devices.{Came, MOST_BYTES}
 use Rattle.dwg_base.specs.declared.refusal.Refusal.{Refusal}
 use Rattle.dwg_base.specs.Refusals.{first_fault}
 use Rattle.dwg_text.specs.Notes.{usage_note, too_long_note, too_large_note}
@@ -25,7 +25,7 @@ use Rattle.dwg_answers.specs.Outcome.{noted, refused_or, filed, made_answer, dri
 use Rattle.dwg_recover.specs.Recovering.{RecoveredValue, recovered}
 use Rattle.dwg_answers.specs.Words.{IsReading, reads}
 use Rattle.dwg_answers.specs.Requests.{asked}
-use Rattle.dwg_answers.specs.Run.{Feeds, Came, IsDrained}
+use Rattle.dwg_answers.specs.Run.{Feeds, IsDrained}
 
 -- a refusal, and an answer behind no refusal, come of an input that was read to its end
 refused_or_is_drained : (first : Option Refusal) (answer : Answer) → IsDrained answer.status → IsDrained (refused_or first answer).status
@@ -162,5 +162,5 @@ answered_by {E} named reading (Err stop) left names answered = tt
 pub came_by : {E : Type 0} (named : Option Command) (reading : Reading) (result : Result Request E) (left left' : Option (List ℕ)) → named ≡ Some (reads reading)
     → IfOk result (λ request. Came left left' (λ came. (length came ≤ MOST_BYTES + 1) × (asked request ≡ outcome_of_input reading came)))
     → IfOk result (λ request. Came left left' (λ came. (length came ≤ MOST_BYTES + 1) × (asked request ≡ outcome_of named came)))
-came_by {E} named reading (Ok request) left left' names (came, gave, (few, is)) = (came, gave, (few, is ∙ outcome_of_reading named reading came names))
+came_by {E} named reading (Ok request) left left' names (came, gave, are, (few, is)) = (came, gave, are, (few, is ∙ outcome_of_reading named reading came names))
 came_by {E} named reading (Err stop) left left' names came = tt

@@ -13,7 +13,7 @@ use Rattle.dwg_file.specs.FileLines.{ALL_LINES, classes_row, classes_section_row
 use Rattle.dwg_file.specs.Spelled.{Spelled}
 use Rattle.dwg_graph.specs.Sound.{IsSound}
 use Rattle.dwg_recover.specs.Recovering.{RecoveredValue, recovered}
-use Rattle.dwg_recover.specs.Told.{IsSoundAnswer}
+use Rattle.dwg_recover.specs.Told.{IsValidAnswer}
 use Rattle.dwg_recovery_text.specs.RecoveryNote.{recovery_note}
 use Rattle.dwg_report.specs.AuditText.{audit_text}
 use Rattle.dwg_sections.specs.declared.framed.Framed.TheVariants as framed
@@ -131,7 +131,7 @@ RecoverRewritesDrawing = (drawing : Contents) (bytes : List ℕ) → IsInput byt
 pub record Recovers (bytes : List ℕ) (answer : Answer) : Type 0 where
   pub value : RecoveredValue
   pub recovers : value ≡ recovered bytes
-  pub sound : IsSoundAnswer bytes value
+  pub valid : IsValidAnswer bytes value
   pub refusal : Refusal
   pub first : first_fault ALL_LINES bytes ≡ Some refusal
   pub writes :

@@ -1,6 +1,6 @@
 -- What a run of the program does to its three devices. A rule of this project.
 use Rattle.std.specs.Prelude.{◌≡◌, ⊤, ℕ, List, [], Option, Some, ◌⊎◌, ◌+◌, ◌≤◌, length, IfSome}
-use Rattle.std.specs.Io.KnownBytes.{Appends, Consumes}
+use Rattle.std.specs.Io.KnownBytes.{Appends}
 use Rattle.dwg_base.specs.Devices.{Rose, AppendsFront, MOST_BYTES}
 use Rattle.dwg_text.specs.Notes.{read_fault_note}
 use Rattle.dwg_answers.specs.declared.words.Command.{Command}
@@ -13,10 +13,6 @@ use Rattle.dwg_answers.specs.Outcome.{outcome}
 -- the bytes are those that the input tells, where the command reads; a command that doesn't read needs no telling
 abbrev pub Feeds : Option Command → Option (List ℕ) → List ℕ → Type 0
 Feeds command told bytes = IsReading command → told ≡ Some bytes
-
--- some bytes came from the input, and this holds of them
-abbrev pub Came : Option (List ℕ) → Option (List ℕ) → (List ℕ → Type 0) → Type 0
-Came left left' Holds = (came : List ℕ) × Consumes left left' came × Holds came
 
 -- neither a device nor memory failed
 abbrev pub IsSettled : Status → Type 0

@@ -1,11 +1,11 @@
 //! What the program is asked, by its words and its input.
 
 ghost use Rattle.std.specs.Prelude.{◌≡◌, ◌+◌, ◌≤◌, ◌⊎◌, IfOk, OnErr, length, List, Some, IsErrOf, None, ℕ};
-ghost use Rattle.dwg_base.specs.Devices.{Rose, MOST_BYTES};
+ghost use Rattle.dwg_base.specs.Devices.{Came, Rose, MOST_BYTES};
 ghost use Rattle.dwg_answers.specs.Words.{texts as words_of, command_of, IsReading, IsUsage};
 ghost use Rattle.dwg_answers.specs.Outcome.{outcome_of_input, outcome};
 ghost use Rattle.dwg_answers.specs.Requests.{asked, IsWithin};
-ghost use Rattle.dwg_answers.specs.Run.{Feeds, Came, IsSettled, IsDrained, IsDrainedSource};
+ghost use Rattle.dwg_answers.specs.Run.{Feeds, IsSettled, IsDrained, IsDrainedSource};
 
 use crate::status::Status;
 use crate::words::{Command, Reading, read_words};

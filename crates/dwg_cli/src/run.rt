@@ -2,11 +2,11 @@
 
 ghost use Rattle.std.specs.Prelude.{◌≡◌, ◌<◌, ◌⊎◌, ℕ, ◌≤◌, length, List, [], Some, IfSome};
 ghost use Rattle.std.specs.Io.KnownBytes.{Appends};
-ghost use Rattle.dwg_base.specs.Devices.{Rose, AppendsFront, MOST_BYTES};
+ghost use Rattle.dwg_base.specs.Devices.{Came, Rose, AppendsFront, MOST_BYTES};
 ghost use Rattle.dwg_text.specs.Notes as texts;
 ghost use Rattle.dwg_answers.specs.Words.{texts as words_of, command_of, IsReading, IsUsage};
 ghost use Rattle.dwg_answers.specs.Outcome.{outcome};
-ghost use Rattle.dwg_answers.specs.Run.{Feeds, Came, AnswersTo, IsSettled, IsStopped, IsFailed, IsDrained, Delivers, IsCut, StopsAtFault};
+ghost use Rattle.dwg_answers.specs.Run.{Feeds, AnswersTo, IsSettled, IsStopped, IsFailed, IsDrained, Delivers, IsCut, StopsAtFault};
 
 use dwg_answers::{Status, Stop, answer_request, request_for};
 use dwg_base::{Sink, Source, put_all};

@@ -31,5 +31,5 @@ returns c =
       large = rewrite_tells_size laws;
       audit = audit_tells_sound laws c.auditable_laws.ensures.auditable c.finding_laws.ensures.sound;
       recover = recover_rewrites_drawing laws c.answer_laws.ensures.spelled;
-      damaged = recover_writes_frames laws c.answer_laws.ensures.sound c.answer_laws.ensures.damaged;
+      damaged = recover_writes_frames laws c.answer_laws.ensures.valid c.answer_laws.ensures.damaged;
     }

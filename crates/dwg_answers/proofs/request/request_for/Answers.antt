@@ -10,14 +10,14 @@ pub returns-in-None-clause-answered : goal.returns-in-None-clause-answered
 returns-in-None-clause-answered g c = λ bytes fed. outcome_of_no_command _ bytes (sym c.in-None.ensures.named)
 
 pub returns-in-None-clause-came : goal.returns-in-None-clause-came
-returns-in-None-clause-came g c = ([], Consumes-nil _, (omega arith, outcome_of_no_command _ [] (sym c.in-None.ensures.named)))
+returns-in-None-clause-came g c = ([], Consumes-nil _, tt, (omega arith, outcome_of_no_command _ [] (sym c.in-None.ensures.named)))
 
 pub returns-in-Some-Make-clause-answered : goal.returns-in-Some-Make-clause-answered
 returns-in-Some-Make-clause-answered g c = λ bytes fed. outcome_of_making _ c.in-Some-Make.n c.in-Some-Make.seed bytes (sym c.in-Some-Make.ensures.named ∙ ap Some c.in-Some-Make.field-0-is)
 
 pub returns-in-Some-Make-clause-came : goal.returns-in-Some-Make-clause-came
 returns-in-Some-Make-clause-came g c =
-    ([], Consumes-nil _, (omega arith, outcome_of_making _ c.in-Some-Make.n c.in-Some-Make.seed [] (sym c.in-Some-Make.ensures.named ∙ ap Some c.in-Some-Make.field-0-is)))
+    ([], Consumes-nil _, tt, (omega arith, outcome_of_making _ c.in-Some-Make.n c.in-Some-Make.seed [] (sym c.in-Some-Make.ensures.named ∙ ap Some c.in-Some-Make.field-0-is)))
 
 pub returns-in-Some-Make-clause-settled : goal.returns-in-Some-Make-clause-settled
 returns-in-Some-Make-clause-settled g c = made_settled c.in-Some-Make.n c.in-Some-Make.seed
@@ -33,7 +33,7 @@ returns-in-Some-Drill-clause-answered g c = λ bytes fed. outcome_of_drilling _ 
 
 pub returns-in-Some-Drill-clause-came : goal.returns-in-Some-Drill-clause-came
 returns-in-Some-Drill-clause-came g c =
-    ([], Consumes-nil _, (omega arith, outcome_of_drilling _ c.in-Some-Drill.n [] (sym c.in-Some-Drill.ensures.named ∙ ap Some c.in-Some-Drill.field-0-is)))
+    ([], Consumes-nil _, tt, (omega arith, outcome_of_drilling _ c.in-Some-Drill.n [] (sym c.in-Some-Drill.ensures.named ∙ ap Some c.in-Some-Drill.field-0-is)))
 
 pub returns-in-Some-Drill-clause-settled : goal.returns-in-Some-Drill-clause-settled
 returns-in-Some-Drill-clause-settled g c = drill_settled c.in-Some-Drill.n

@@ -10,6 +10,7 @@ pub returns-in-Ok-clause-came : goal.returns-in-Ok-clause-came
 returns-in-Ok-clause-came g c = (
   c.in-Ok.bytes,
   c.in-Ok.ensures.whole,
+  c.in-Ok.ensures.bytes,
   (omega (arith, c.in-Ok.ensures.within), outcome_of_few c.args.reading c.in-Ok.bytes _ c.in-Ok.ensures.within refl),
 )
 
@@ -19,12 +20,13 @@ returns-in-Ok-clause-status g c = inr (outcome_is_drained c.args.reading c.in-Ok
 pub returns-in-Err-TooLong-clause-answered : goal.returns-in-Err-TooLong-clause-answered
 returns-in-Err-TooLong-clause-answered g c = λ bytes told.
     let gone = c.read_all.ensures.too_long (c.in-Err-TooLong.is ∙ ap Err c.in-Err-TooLong.field-0-is) in
-    answered_too_long c.args.reading _ _ gone.0 bytes _ gone.2 gone.1 refl told
+    answered_too_long c.args.reading _ _ gone.0 bytes _ gone.1 gone.3 refl told
 
 pub returns-in-Err-TooLong-clause-came : goal.returns-in-Err-TooLong-clause-came
 returns-in-Err-TooLong-clause-came g c =
     let gone = c.read_all.ensures.too_long (c.in-Err-TooLong.is ∙ ap Err c.in-Err-TooLong.field-0-is) in (
       gone.0,
+      gone.1,
       gone.2,
-      (omega (arith, gone.1), outcome_of_many c.args.reading gone.0 _ (omega (arith, gone.1)) refl),
+      (omega (arith, gone.3), outcome_of_many c.args.reading gone.0 _ (omega (arith, gone.3)) refl),
     )
