@@ -2,21 +2,7 @@
 #![tactic(auto)]
 
 mod adapters;
-#[cfg(test)]
-mod audit_tests;
-#[cfg(test)]
-mod drill_tests;
-#[cfg(test)]
-mod hostile_tests;
-#[cfg(test)]
-mod recover_tests;
-#[cfg(test)]
-mod reference_tests;
 mod run;
-#[cfg(test)]
-mod test_inputs;
-#[cfg(test)]
-mod test_runs;
 #[cfg(test)]
 mod tests;
 

@@ -3,20 +3,4 @@
 #![tactic(auto)]
 
 #[cfg(test)]
-mod common;
-#[cfg(test)]
-mod file;
-#[cfg(test)]
-mod forms;
-#[cfg(test)]
-mod inputs;
-#[cfg(test)]
-mod kinds;
-#[cfg(test)]
-mod objects;
-#[cfg(test)]
-mod objmap;
-#[cfg(test)]
-mod table;
-#[cfg(test)]
-mod told;
+mod tests;

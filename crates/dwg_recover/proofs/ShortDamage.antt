@@ -34,7 +34,8 @@ use Rattle.dwg_recover.specs.Intact.{HasPart, IsPartlyIntact, canonical_frames, 
 use Rattle.dwg_recover.proofs.IntactFrames.{numbered_is_kept}
 use Rattle.dwg_recover.proofs.IntactLemmas.{each_holds_or_none, intact_objects_are_kept}
 use Rattle.dwg_recover.proofs.IntactMap.{IsWholeWalk, map_is_walked}
-use Rattle.dwg_recover.proofs.IntactParts.{IntactParts, IsWritten, canonical_written, class_section_is_found, classes_are_intact, intact_holds, parts_are_intact, variables_are_found, variables_are_intact, written_positive}
+use Rattle.dwg_file.proofs.WrittenFrames.{IsWritten, canonical_written}
+use Rattle.dwg_recover.proofs.IntactParts.{IntactParts, class_section_is_found, classes_are_intact, intact_holds, parts_are_intact, variables_are_found, variables_are_intact, written_positive}
 use Rattle.dwg_recover.specs.ListMembers.{IsAt, IsOneOf}
 use Rattle.dwg_recover.proofs.ListMembers.{at_back, at_front, at_next, in_first, in_second, mapped_from, of_joined, one_at, one_of_all, same_at}
 use Rattle.dwg_recover.proofs.LostPairs.{AllKept, kept_told, one_lost}

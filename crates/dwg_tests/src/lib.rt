@@ -5,32 +5,4 @@
 #![tactic(auto)]
 
 #[cfg(test)]
-mod base;
-#[cfg(test)]
-mod bits;
-#[cfg(test)]
-mod check;
-#[cfg(test)]
-mod classes;
-#[cfg(test)]
-mod codes;
-#[cfg(test)]
-mod handles;
-#[cfg(test)]
-mod laws;
-#[cfg(test)]
-mod lines;
-#[cfg(test)]
-mod modular;
-#[cfg(test)]
-mod pieces;
-#[cfg(test)]
-mod sections;
-#[cfg(test)]
-mod sinks;
-#[cfg(test)]
-mod text;
-#[cfg(test)]
-mod told;
-#[cfg(test)]
-mod travels;
+mod tests;

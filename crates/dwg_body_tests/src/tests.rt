@@ -1,0 +1,10 @@
+//! The tests, by what they are of; and how their cases are read and told.
+
+mod dicts;
+mod entities;
+mod fields;
+mod forms;
+mod laws;
+mod shapes;
+mod table;
+mod tables;

@@ -1,0 +1,156 @@
+//! Hostile use over devices in memory: inputs cut at each length, devices that fail at each call, counts that lie, and each byte of an
+//! object damaged.
+
+use crate::tests::commands::OverDevices;
+use crate::tests::inputs::input_of;
+use crate::tests::runs::{Answers, PLENTY, answers_text, every_line, in_pieces, ran};
+use dwg_answers::Status;
+use std::alloc::Global;
+use std::test::Fail;
+
+/// A case for each number from one up to another.
+trait Numbered {
+    /// What is said of a number that fails.
+    const WHAT: &'static str;
+
+    /// Whether the case of a number holds. None for want of memory.
+    fn holds(alloc: Global, number: usize) -> Option<bool>;
+}
+
+/// Fails unless the case of every number from one up to another holds.
+fn every_number<N: Numbered>(alloc: Global, from: usize, to: usize) -> Result<(), Fail> {
+    for number in from..to {
+        if N::holds(alloc, number) != Some(true) {
+            return Err(Fail::new(N::WHAT));
+        }
+    }
+    Ok(())
+}
+
+/// The exit status of a run over an input.
+fn code_of(alloc: Global, line: &str, input: &str) -> Option<u8> {
+    let bytes = input_of(alloc, input)?;
+    Some(ran(alloc, line, &bytes, in_pieces(PLENTY))?.status.code())
+}
+
+/// The drawing with one object, cut to a length, is refused by `rewrite`, and `recover` says that it is damaged.
+struct Cut;
+
+impl Numbered for Cut {
+    const WHAT: &'static str = "cut to a length";
+
+    fn holds(alloc: Global, number: usize) -> Option<bool> {
+        let input = format!(in alloc; "one_object #{}", number).ok()?;
+        let rewritten = code_of(alloc, "dwg rewrite", input.as_str())?;
+        let recovered = code_of(alloc, "dwg recover", input.as_str())?;
+        Some(rewritten == 3 && recovered == 1)
+    }
+}
+
+/// Where a read fails, `rewrite` of that drawing byte by byte tells the read fault and writes nothing.
+struct FailingRead;
+
+impl Numbered for FailingRead {
+    const WHAT: &'static str = "a read that fails";
+
+    fn holds(alloc: Global, number: usize) -> Option<bool> {
+        let bytes = input_of(alloc, "one_object")?;
+        let mut devices = in_pieces(1);
+        devices.failing_read = number as u64;
+        let left = ran(alloc, "dwg rewrite", &bytes, devices)?;
+        Some(left.status == Status::ReadFault && left.output.as_slice().is_empty())
+    }
+}
+
+/// Where a write fails, `rewrite` of that drawing tells the write fault, and what it wrote are the pieces before.
+struct FailingWrite;
+
+impl Numbered for FailingWrite {
+    const WHAT: &'static str = "a write that fails";
+
+    fn holds(alloc: Global, number: usize) -> Option<bool> {
+        let bytes = input_of(alloc, "one_object")?;
+        let mut devices = in_pieces(10);
+        devices.failing_write = number as u64;
+        let left = ran(alloc, "dwg rewrite", &bytes, devices)?;
+        let before = number.checked_sub(1)?.checked_mul(10)?;
+        Some(left.status == Status::WriteFault && left.output.as_slice() == bytes.get(..before)?)
+    }
+}
+
+/// With a byte changed to its complement, that drawing is refused for the check word of its object, and just the object is lost.
+struct Damaged;
+
+impl Numbered for Damaged {
+    const WHAT: &'static str = "a damaged byte";
+
+    fn holds(alloc: Global, number: usize) -> Option<bool> {
+        let input = format!(in alloc; "one_object ~{}", number).ok()?;
+        let refused = "Refused 30 0 183 | - | dwg: refused: objects 0 at 183: check";
+        let lost =
+            "Found | file smallest | dwg: refused: objects 0 at 183: check; lost: object C at 183; kept 0";
+        let rewritten = answers_text(alloc, "dwg rewrite", input.as_str(), refused)?;
+        let recovered = answers_text(alloc, "dwg recover", input.as_str(), lost)?;
+        Some(rewritten && recovered)
+    }
+}
+
+#[test]
+fn every_cut_is_told(rt: HostRuntime) -> Result<(), Fail> {
+    every_number::<Cut>(rt.alloc(), 0, 210)
+}
+
+#[test]
+fn every_failing_read_is_told(rt: HostRuntime) -> Result<(), Fail> {
+    every_number::<FailingRead>(rt.alloc(), 1, 212)
+}
+
+#[test]
+fn every_failing_write_is_told(rt: HostRuntime) -> Result<(), Fail> {
+    every_number::<FailingWrite>(rt.alloc(), 1, 22)
+}
+
+/// How `rewrite` of no input ends where the first write of notes fails.
+fn status_without_notes(alloc: Global) -> Option<Status> {
+    let mut devices = in_pieces(PLENTY);
+    devices.failing_note = 1;
+    Some(ran(alloc, "dwg rewrite", &[], devices)?.status)
+}
+
+#[test]
+fn failing_notes_are_told(rt: HostRuntime) -> Result<(), Fail> {
+    assert_eq!(rt; status_without_notes(rt.alloc()), Some(Status::WriteFault));
+    Ok(())
+}
+
+#[test]
+fn devices_of_a_large_drawing_are_told(rt: HostRuntime) -> Result<(), Fail> {
+    every_line::<OverDevices>(
+        rt.alloc(),
+        "\
+dwg rewrite | 1 0 1 0 | made/1/7 | Done | file made/1/7 | -
+dwg audit | 1 0 1 0 | made/1/7 | Done | audit yes | -
+dwg rewrite | 1000 2 1000000 0 | made/1/7 | ReadFault | - | dwg: read fault
+dwg rewrite | 1000000 0 10 3 | made/1/7 | WriteFault | file made/1/7 #20 | -",
+    )
+}
+
+#[test]
+fn hostile_numbers_are_told(rt: HostRuntime) -> Result<(), Fail> {
+    every_line::<Answers>(
+        rt.alloc(),
+        "\
+dwg rewrite | smallest 86=FFFFFFFF | Refused 11 0 86 | - | dwg: refused: variables 0 at 86: length
+dwg rewrite | smallest 183=FFFF | Refused 21 0 183 | - | dwg: refused: map 0 at 183: short
+dwg rewrite | smallest 183=0000 | Refused 22 0 183 | - | dwg: refused: map 0 at 183: size
+dwg rewrite | smallest 44=FFFFFFFF sealed | Refused 21 0 4294967295 | - | dwg: refused: map 0 at 4294967295: short
+dwg rewrite | one_object 183=FFFFFFFFFFFFFFFF | Refused 28 0 183 | - | dwg: refused: objects 0 at 183: length
+dwg show | hostile_items | Done | drawing AC1015 codepage 0 lead 00000000000000 mark 0000; variables -; classes 0; objects 1; object C DICTIONARY plain 42;   owner 4.0;   xdict 3.0;   bits 44;   rest 3fffffffe000 | -
+dwg show | hostile_reactors | Done | drawing AC1015 codepage 0 lead 00000000000000 mark 0000; variables -; classes 0; objects 1; object C DICTIONARY raw 42;   bytes 4a9a800000004323fffffffe80100c00 | -",
+    )
+}
+
+#[test]
+fn every_damaged_byte_is_told(rt: HostRuntime) -> Result<(), Fail> {
+    every_number::<Damaged>(rt.alloc(), 185, 199)
+}

@@ -1,0 +1,306 @@
+//! Inputs of the program, for tests: each is named by a text.
+
+use crate::tests::runs::{PLENTY, written};
+use dwg_samples::{bytes_of, file_of, frame_of, framed, with_header_word};
+use std::alloc::Global;
+
+/// Canonical files, a paragraph each: its name, the content of its header variables, that of its classes, and its frames.
+const FILES: &str = "\
+smallest
+-
+-
+
+one_class
+-
+'00 F401 '10 '01 0141 '01 0142 '01 0143 '0 '00 F201
+
+one_object
+-
+-
+42 C : '10101010 00 / 4.0 3.0
+
+hostile_items
+-
+-
+42 C : '1010 '00 FFFFFFFF '10 00 / 4.0 3.0
+
+hostile_reactors
+-
+-
+42 C : '10 '00 FFFFFFFF '1010 00 / 4.0 3.0
+
+one_page
+-
+-
+42 A : '10101010 00 / 4.0 3.0
+42 B : '10101010 00 / 4.0 3.0
+42 C : '10101010 00 / 4.0 3.0
+
+outer
+-
+-
+79 A : '1010 '01 10 0C004A9280000000432A80100C001F49 '10 / 4.0 3.0";
+
+/// Other files, a paragraph each: its name, a canonical file or a made drawing with changes, and what stands behind that.
+///
+/// - `sections` has an unknown section of number 7 behind the map, and `two_sections` two of them, each of 17,000,000 bytes from 0 on.
+/// - `null` names the null handle in its map, and `twice` a handle twice.
+/// - `overlap` has an XRECORD whose content is the frame of the dictionary, and a map that names both.
+/// - `pages` has a map of three pages, with a pair each.
+/// - `plain_and_raw` has an object of handle 1 that has no meaning, and an entity of handle 2 of which no more is told, with five own
+///   bits and a reference of its own.
+/// - `dictionaries` has two dictionaries behind a made drawing, each the other's owner and only item.
+/// - `more` has these objects behind a made drawing, so that each field has a holder here or there whose reference isn't null, in one
+///   byte:
+///
+/// | handle | object |
+/// |---|---|
+/// | 32, 34, 36, 38, 3A | controls of layers, styles, linetypes, applications and blocks, all raw |
+/// | 33, 35, 37, 39 | an entry of each of the first four; the linetype has a dash with a style and one without |
+/// | 3B, 3C | a block and its end, both raw |
+/// | 3D, 3E | entries of the last: one without ends, one whose members are 42 and 48 |
+/// | 3F | a text in 44, with an application, a reactor, a linetype, a plot style and the dictionary 40 |
+/// | 40, 41 | a dictionary with an item 41 and an item that is null, spelled with a byte of zeros, and a record |
+/// | 42, 43 | a plain entity in 3E, and an end of attributes that it owns |
+/// | 44, 45 | an entry of blocks and a layer, both raw |
+/// | 46, 47 | a plain object of number 70, and a dictionary that it owns |
+/// | 48 | a line in 3E |
+const CHANGED_FILES: &str = "\
+sections
+smallest 0..70=\
+414331303135000000000000009B0000000000000004000000004F0000002600000001750000002600000002C00000000400\
+000007C4000000030000004E7595A04E2899821AE55E41E05F9D3A4D00 +414243
+
+two_sections
+smallest 0..70=\
+41433130313500000000000000A40000000000000005000000005800000026000000017E0000002600000002C90000000400\
+0000030000000040660301040000000040660301DB9095A04E2899821AE55E41E05F9D3A4D00 #17000000
+
+null
+one_object 201=00 204=2DB7
+
+twice
+one_object 48=0D 53=19 199=00070CB7010010C2A7000201D0
+
+overlap
+outer 48=0D 53=15 215=00070AB701020BA96E000201D0
+
+pages
+one_page #231 +00050AB7012F97 +00050BC7012FE3 +00050CD7012E5F +000201D0
+
+plain_and_raw
+smallest 44=DD 48=0D 52=546A #183
+body '01 C8 00000000 0.1 '000000 2A00
+35 2 : '10 '0 '10 '01 01 '1 '11 '01 '00 '00 '10 1D '10101 / 4.5 3.0 5.10 A.3
+bytes 000701B701010E9B0B000201D0
+
+dictionaries
+made/1/7 44=67 48=4C 52=7599 #1851
+42 50 : '1010 '01 01 '10 00 '01 01 41 / 4.51 3.0 2.51
+42 51 : '1010 '01 01 '10 00 '01 01 42 / 4.50 3.0 2.50
+bytes \
+004601B701011501130211041503110119011A0216011701210217019B02019B02019E02011B012A01210114012801210314\
+0124011A013E01300A1601390116011F1F320116DB63000201D0
+
+more
+made/1/7 44=430A 48=77 52=A796 #1851
+body '01 32 E8030000 0.32
+51 33 : '1010 '10 '0 '10 '0 '10 '10 / 4.32 3.0 5.20 5.11 5.16
+body '01 34 E8030000 0.34
+53 35 : '1010 '10 '0 '10 '0 '0 '0 '10 '10 '10 00 '10 '10 '10 / 4.34 3.0 5.20
+body '01 38 E8030000 0.36
+57 37 : '1010 '10 '0 '10 '0 '10 '10 00 02 \
+'10 '10 0000000000000000 0000000000000000 '10 '10 '10 '10 '10 0000000000000000 0000000000000000 '10 '10 '10 \
+0000000000000000000000000000000000000000000000000000000000000000 \
+0000000000000000000000000000000000000000000000000000000000000000 \
+0000000000000000000000000000000000000000000000000000000000000000 \
+0000000000000000000000000000000000000000000000000000000000000000 \
+0000000000000000000000000000000000000000000000000000000000000000 \
+0000000000000000000000000000000000000000000000000000000000000000 \
+0000000000000000000000000000000000000000000000000000000000000000 \
+0000000000000000000000000000000000000000000000000000000000000000 / 4.36 3.0 5.20 5.11 5.0
+body '01 42 E8030000 0.38
+67 39 : '1010 '10 '0 '10 '0 00 / 4.38 3.0 5.20
+body '01 30 40040000 0.3A '1010 '10 4.0 3.0 3.18 3.1B
+body '01 04 E8030000 0.3B
+body '01 05 E8030000 0.3C
+49 3D : '1010 '10 '0 '10 '0 '0 '0 '1 '0 '0 '10 '10 '10 '10 01 00 '10 '10 / 4.3A 3.0 5.C 3.3B 3.3C 4.30 5.C
+49 3E : '1010 '10 '0 '10 '0 '0 '0 '0 '0 '0 '10 '10 '10 '10 00 '10 '10 / 4.3A 3.0 5.0 3.3B 4.42 4.48 3.3C 5.0
+1 3F : '01 01 5.12 41 '10 '0 '00 '01 01 '1 '11 '01 '11 '11 '10 1D FF 0000000000000000 0000000000000000 '1 '1 \
+0000000000000000 '10 / 4.44 4.30 3.40 5.45 5.16 5.11 5.11
+42 40 : '01 01 5.12 41 '10 '01 01 '01 02 '10 00 '01 01 58 '01 01 59 / 4.3F 4.3F 3.0 2.41 2100
+79 41 : '10101010 / 4.40 3.0 4.0 4.10
+15 42 : '10 '0 '00 '10 '0 '11 '01 '00 '00 '10 1D '10110 / 4.3E 3.0 4.0 4.48 5.10
+6 43 : '10 '0 '00 '10 '1 '11 '01 '00 '00 '10 1D / 4.42 3.0 5.10
+body '01 31 E8030000 0.44
+body '01 33 E8030000 0.45
+70 46 : '1010 '1 / 4.0 3.0
+42 47 : '10101010 00 / 4.46 3.0
+19 48 : '10 '0 '00 '10 '0 '11 '01 '00 '00 '10 1D '1 0000000000000000 '00 0000000000000000 '00 '1 '1 \
+/ 4.3E 3.0 4.42 4.0 5.10
+bytes \
+007101B701011501130211041503110119011A0216011701210217019B02019B02019E02011B012A01210114012801210314\
+0124011A013E01300A1601390116011F0132010C0116010C0115010C01BA02010C01130112010C010C011E011D013C012101\
+1301180114010C010C010E0111115F000201D0";
+
+/// What stands below a title in a text of paragraphs.
+fn paragraph<'a>(text: &'a str, title: &str) -> Option<&'a str> {
+    for paragraph in text.split("\n\n") {
+        if let Some((first, rest)) = paragraph.split_once("\n") {
+            if first == title {
+                return Some(rest);
+            }
+        }
+    }
+    None
+}
+
+/// The canonical file of a paragraph.
+fn canonical(alloc: Global, text: &str) -> Option<Vec<u8>> {
+    let (variables, rest) = text.split_once("\n")?;
+    let (classes, frames) = rest.split_once("\n").unwrap_or((rest, ""));
+    let variables = bytes_of(alloc, variables)?;
+    let classes = bytes_of(alloc, classes)?;
+    file_of(alloc, &variables, &classes, frames)
+}
+
+/// The drawing that is made of `SIZE/SEED`.
+fn made(alloc: Global, numbers: &str) -> Option<Vec<u8>> {
+    let (size, seed) = numbers.split_once("/")?;
+    let line = format!(in alloc; "dwg make {} {}", size, seed).ok()?;
+    let made = written(alloc, line.as_str(), &[], PLENTY)?;
+    Vec::from_slice(alloc, made.as_slice()).ok()
+}
+
+/// A byte so many times.
+fn repeated(alloc: Global, byte: &str, count: &str) -> Option<Vec<u8>> {
+    let byte = u8::from_str_radix(byte, 16).ok()?;
+    let count = count.parse::<usize>().ok()?;
+    vec![in alloc; byte; count].ok()
+}
+
+/// A canonical file by its name, the drawing that is made of two numbers, a byte so many times (`7F*1000`), or `nothing`.
+fn base_of(alloc: Global, name: &str) -> Option<Vec<u8>> {
+    if name == "nothing" {
+        return Some(Vec::new(alloc));
+    }
+    if let Some((byte, count)) = name.split_once("*") {
+        return repeated(alloc, byte, count);
+    }
+    match name.strip_prefix("made/") {
+        Some(numbers) => made(alloc, numbers),
+        None => canonical(alloc, paragraph(FILES, name)?),
+    }
+}
+
+/// The bytes with others in the place of those from a place up to another.
+fn spliced(alloc: Global, bytes: &[u8], from: usize, to: usize, run: &[u8]) -> Option<Vec<u8>> {
+    let mut list = Vec::from_slice(alloc, bytes.get(..from)?).ok()?;
+    list.extend_from_slice(run).ok()?;
+    list.extend_from_slice(bytes.get(to..).unwrap_or(&[])).ok()?;
+    Some(list)
+}
+
+/// The bytes with others at a place, `FROM`, or in the place of some, `FROM..TO`.
+fn overlaid(alloc: Global, bytes: &[u8], place: &str, run: &[u8]) -> Option<Vec<u8>> {
+    match place.split_once("..") {
+        Some((from, to)) => spliced(alloc, bytes, from.parse().ok()?, to.parse().ok()?, run),
+        None => {
+            let from = place.parse::<usize>().ok()?;
+            spliced(alloc, bytes, from, from.checked_add(run.len())?, run)
+        }
+    }
+}
+
+/// The bytes cut to a length, or filled up to it with zeros.
+fn resized(alloc: Global, bytes: &[u8], length: usize) -> Option<Vec<u8>> {
+    let mut list = Vec::from_slice(alloc, bytes).ok()?;
+    list.resize(length, 0).ok()?;
+    Some(list)
+}
+
+/// The bytes with the one at a place changed to its complement.
+fn complemented(alloc: Global, bytes: &[u8], place: usize) -> Option<Vec<u8>> {
+    let mut list = Vec::from_slice(alloc, bytes).ok()?;
+    let byte = list.get_mut(place)?;
+    *byte = !*byte;
+    Some(list)
+}
+
+/// The bytes with one change: `PLACE=BYTES` puts bytes over those from a place on, `FROM..TO=BYTES` in the place of some, `+BYTES` behind
+/// the last; `#LENGTH` cuts to a length or fills up to it with zeros; `~PLACE` complements a byte; `sealed` makes the check word of a
+/// header of three locators right.
+fn changed(alloc: Global, bytes: &[u8], change: &str) -> Option<Vec<u8>> {
+    if change == "sealed" {
+        return with_header_word(alloc, bytes);
+    }
+    if let Some(length) = change.strip_prefix("#") {
+        return resized(alloc, bytes, length.parse().ok()?);
+    }
+    if let Some(place) = change.strip_prefix("~") {
+        return complemented(alloc, bytes, place.parse().ok()?);
+    }
+    if let Some(more) = change.strip_prefix("+") {
+        let more = bytes_of(alloc, more)?;
+        return spliced(alloc, bytes, bytes.len(), bytes.len(), &more);
+    }
+    let (place, run) = change.split_once("=")?;
+    let run = bytes_of(alloc, run)?;
+    overlaid(alloc, bytes, place, &run)
+}
+
+/// The bytes with changes, which stand apart by blanks.
+fn changed_by_all(alloc: Global, bytes: Vec<u8>, changes: &str) -> Option<Vec<u8>> {
+    let mut bytes = bytes;
+    for change in changes.split_whitespace() {
+        bytes = changed(alloc, &bytes, change)?;
+    }
+    Some(bytes)
+}
+
+/// A frame: of a body that stands behind the word `body`, or of an object; and what else stands behind the word `bytes`.
+fn frame_of_line(alloc: Global, line: &str) -> Option<Vec<u8>> {
+    if let Some(bytes) = line.strip_prefix("bytes ") {
+        return bytes_of(alloc, bytes);
+    }
+    match line.strip_prefix("body ") {
+        Some(body) => framed(alloc, &bytes_of(alloc, body)?),
+        None => frame_of(alloc, line),
+    }
+}
+
+/// The bytes with frames behind them, a line each.
+fn with_frames(alloc: Global, bytes: Vec<u8>, frames: &str) -> Option<Vec<u8>> {
+    let mut bytes = bytes;
+    for line in frames.lines() {
+        bytes.extend_from_slice(&frame_of_line(alloc, line)?).ok()?;
+    }
+    Some(bytes)
+}
+
+/// The first word and what stands behind it.
+fn first_word(text: &str) -> (&str, &str) {
+    text.split_once(" ").unwrap_or((text, ""))
+}
+
+/// The changed file of a paragraph.
+fn changed_file(alloc: Global, text: &str) -> Option<Vec<u8>> {
+    let (first, frames) = text.split_once("\n").unwrap_or((text, ""));
+    let (base, changes) = first_word(first);
+    let bytes = changed_by_all(alloc, base_of(alloc, base)?, changes)?;
+    with_frames(alloc, bytes, frames)
+}
+
+/// A file by its name.
+fn sample_of(alloc: Global, name: &str) -> Option<Vec<u8>> {
+    match paragraph(CHANGED_FILES, name) {
+        Some(text) => changed_file(alloc, text),
+        None => base_of(alloc, name),
+    }
+}
+
+/// An input by its text: the name of a file, and changes behind it.
+pub(crate) fn input_of(alloc: Global, text: &str) -> Option<Vec<u8>> {
+    let (name, changes) = first_word(text);
+    changed_by_all(alloc, sample_of(alloc, name)?, changes)
+}

@@ -1,9 +1,0 @@
-use Rattle.std.proofs.Common.{◌≡◌, false}
-use Rattle.dwg_file_tests.proofs.objmap.write_map.Given as goal
-
--- the writer is open, and its last handle is the last one that was put
-abbrev pub invariant-along : goal.invariant-along
-invariant-along l = record {
-  still_open : l.writer.ended ≡ false;
-  last : l.writer.last.handle ≡ l.handle;
-}

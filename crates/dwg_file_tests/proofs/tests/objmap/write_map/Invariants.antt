@@ -1,0 +1,9 @@
+use Rattle.std.proofs.Common.{◌≡◌, false}
+use Rattle.dwg_file_tests.proofs.tests.objmap.write_map.Given as goal
+
+-- the writer is open, and its last handle is the last one that was put
+abbrev pub invariant-along : goal.invariant-along
+invariant-along l = record {
+  still_open : l.writer.ended ≡ false;
+  last : l.writer.last.handle ≡ l.handle;
+}

@@ -1,0 +1,11 @@
+//! The tests, by what they are of; and how their cases are read and told.
+
+mod common;
+mod file;
+mod forms;
+mod inputs;
+mod kinds;
+mod objects;
+mod objmap;
+mod table;
+mod told;

@@ -1,0 +1,405 @@
+//! Whole drawings: read, and written by their canonical file.
+
+use crate::tests::inputs::canonical_file;
+use crate::tests::objmap::{long_map, sink};
+use crate::tests::table::{Telling, hold};
+use crate::tests::told;
+use dwg_base::{Items, LIMIT, MemSink};
+use dwg_check::check;
+use dwg_classes::Class;
+use dwg_file::{
+    Drawing, Other, Parts, Plan, PlanFault, canonical_laws, classes_of_file, drawing_laws,
+    read_drawing, short_damage_laws,
+};
+use dwg_object::Object;
+use dwg_samples::{bytes_of, frame_of};
+use dwg_sections::read_file_header;
+use std::alloc::Global;
+use std::test::Fail;
+
+/// `NAME | BYTES`, or `NAME | CLASSES | FRAME ; FRAME ; ..` of a canonical file without header variables:
+/// - the smallest file; that of one dictionary;
+/// - an entity, an object of a class, an entity whose mode is 3, and one of type 8 with every part;
+/// - an entity of five bits of its own, behind whose references seven bits are left, and a record of one target, behind which six are;
+///   the same with ones in these places;
+/// - a class of polylines, a line, a line with one further bit, entities of type 35 and 200, a block inserted with an attribute, and a
+///   polyline of the class without points;
+/// - two unknown sections, the first of them empty;
+/// - lead, mark, code page, header variables, a class, two objects and an unknown section; the same with its parts in another order,
+///   without a preview, with slack behind the class, and with a map whose first page has the greater handle by a spelling longer than is
+///   needed;
+/// - the plain and the typed objects from above, spelled longer than is needed, with ones behind references;
+/// - the begin of a file whose two unknown sections begin with it and have 17,000,000 bytes each;
+/// - the header of a file of 1,100 dictionaries.
+const FILES: &str = "\
+    smallest | - | -\n\
+    one object | - | \
+      42 C : '10 '10 '10 '10 00 / 4.0 3.0\n\
+    plain | '00 F401 '10 '01 01 41 '01 01 42 '01 01 43 '0 '00 F301 | \
+      45 80 : ENTITY '101 / 3.0 5.10 ; \
+      500 90 : '01 02 5.12 AABB '10 '01 02 '0110 / 4.1 4.2 C.10 3.D 2.33 ; \
+      45 A0 : '10 '0 '11 '10 '1 '11 '01 '00 '00 '10 1D '101 / 3.0 5.10 ; \
+      8 B0 : '01 02 5.12 AABB '10 '1 01000000 77 '00 '01 02 '0 '01 07 '00 0000000000000040 '11 '11 '01 01 00 '111111111 / 4.1F 4.21 4.22 3.0 8.0 6.0 5.10 5.16 5.17 A.3 C.3\n\
+    padded | - | \
+      45 80 : ENTITY '10101 / 3.0 5.10 ; \
+      79 90 : '10 '10 '10 '10 / 4.0 3.0 4.10\n\
+    padded with ones | - | \
+      45 80 : ENTITY '10101 / 3.0 5.10 '1111111 ; \
+      79 90 : '10 '10 '10 '10 / 4.0 3.0 4.10 '111111\n\
+    typed | '00 F401 '10 '01 01 41 '01 01 42 '01 0A 4C57504F4C594C494E45 '0 '00 F201 | \
+      19 80 : ENTITY '1 0000D1B1DAE95040 '00 0000FC40CC9C5040 '00 '1 '1 / 3.0 5.10 ; \
+      19 81 : ENTITY '1 0000D1B1DAE95040 '00 0000FC40CC9C5040 '00 '1 '1 '1 / 3.0 5.10 ; \
+      35 82 : ENTITY '101 / 3.0 5.10 ; \
+      200 83 : ENTITY '101 / 3.0 5.10 ; \
+      7 84 : ENTITY '01 '10 '10 '10 0000000000000040 '10 '10 '10 '01 '1 / 3.0 5.10 5.12 5.86 5.86 3.87 ; \
+      500 85 : ENTITY '10 '10 / 3.0 5.10\n\
+    two sections | \
+      41433130313500000000000000A40000000000000005000000005800000026000000017E0000002600000002C90000000400000009CD0000000000000004CD00 \
+      000003000000ED4E95A04E2899821AE55E41E05F9D3A4D00CF7B1F23FDDE38A95F7C68B84E6D335F000000003DC03084E0DC0221C756A0839747B192CCA08DA1 \
+      C4B8C4A9F8C5C0DCF45FE7CFB68A000000003DC0725E3B473B56073A3F230BA0183049751F256D07D43628289D57CA3F9D44102B0100000000E0DA92F82BC9D7 \
+      D762A835C062BBEFD4000201D0070809\n\
+    every part | \
+      41433130313501020304050607A900000008091E0004000000004F0000002800000001770000003200000002EE0000000D00000007FB000000030000002E0295 \
+      A04E2899821AE55E41E05F9D3A4D00CF7B1F23FDDE38A95F7C68B84E6D335F02000000AABB2FF13084E0DC0221C756A0839747B192CCA08DA1C4B8C4A9F8C5C0 \
+      DCF45FE7CFB68A0C0000003D0064050501424050C790089714725E3B473B56073A3F230BA0183049751F256D07D43628289D57CA3F9D44102B0100000000E0DA \
+      92F82BC9D7D762A835C062BBEFD40C004A9280000000416A80100C001F640C004A9280000000432A80100C001F49000705CE010710AF60000201D0414243\n\
+    every part otherwise | \
+      414331303135010203040506070000000008091E0004000000024F0000000400000007620000000300000001850000003400000000B900000026000000EB1E95 \
+      A04E2899821AE55E41E05F9D3A4D0000068C00E500C0F8000505F5004C56000201D04142430C004A9280000000432A80100C001F490C004A9280000000416A80 \
+      100C001F648DA1C4B8C4A9F8C5C0DCF45FE7CFB68A0E0000003D0064050501424050C79008FFFFCE37725E3B473B56073A3F230BA018304975CF7B1F23FDDE38 \
+      A95F7C68B84E6D335F02000000AABB2FF13084E0DC0221C756A0839747B192CCA0\n\
+    plain otherwise | \
+      414331303135000000000000009E0000000000000003000000004600000026000000016C00000032000000024F01000012000000918F95A04E2899821AE55E41 \
+      E05F9D3A4D00CF7B1F23FDDE38A95F7C68B84E6D335F000000003DC03084E0DC0221C756A0839747B192CCA08DA1C4B8C4A9F8C5C0DCF45FE7CFB68A0C000000 \
+      3D0064050501424050C7980890D4725E3B473B56073A3F230BA0183049751F256D07D43628289D57CA3F9D44102B0100000000E0DA92F82BC9D7D762A835C062 \
+      BBEFD420000B4035C0000000802000000480400010000000000003C0FC1001DA6200A4002153381A003D005F00000000641025112AABB902641014102C110310 \
+      D21330FA7B0E004B55C000000068277421DA60A220F42A34004201C04000006C1025112AABBA02000000EE20441C0000000000000040F40403FE823E82428244 \
+      6100C0A220A22CA22F42078206CF52000C8001C3011024101E1012B0F0000201D0\n\
+    typed otherwise | \
+      41433130313500000000000000A70000000000000003000000004600000026000000016C0000003B00000002B8010000170000002DE595A04E2899821AE55E41 \
+      E05F9D3A4D00CF7B1F23FDDE38A95F7C68B84E6D335F000000003DC03084E0DC0221C756A0839747B192CCA08DA1C4B8C4A9F8C5C0DCF45FE7CFB68A15000000 \
+      3D006405050142429315D413D316531253914790083150725E3B473B56073A3F230BA0183049751F256D07D43628289D57CA3F9D44102B0100000000E0DA92F8 \
+      2BC9D7D762A835C062BBEFD4300004C018C040000060257421D800068D8ED74A82060001A363B5D2A0800001F8819938A08180007E20664E2820660A221F43A3 \
+      200004C0390000000060657421D800068D8ED74A82000001F8819938A080730511007A8B0E0048D5C000000060A57421DA60A220AB460E007215C000000060E5 \
+      7421DA60A220D1B9530041FA4040000061257421D0000000000003C0FC000000000000000080000000000000040C000000000000010000000000000000002800 \
+      0000000000F03F982888298000092C000000000000004328C3190043FFB82415003D00640000000061657421D0000000000000305110235200118001CC010134 \
+      01240112011201D700989E000201D0\n\
+    begin of two large sections | \
+      41433130313500000000000000A40000000000000005000000005800000026000000017E0000002600000002C900000004000000030000000040660301040000 \
+      000040660301DB9095A04E2899821AE55E41E05F9D3A4D00CF7B1F23FDDE38A95F7C68B84E6D335F000000003DC03084E0DC0221C756A0839747B192CCA08DA1 \
+      C4B8C4A9F8C5C0DCF45FE7CFB68A000000003DC0725E3B473B56073A3F230BA0183049751F256D07D43628289D57CA3F9D44102B0100000000E0DA92F82BC9D7 \
+      D762A835C062BBEFD4000201D0\n\
+    header of a long map | \
+      41433130313500000000000000920000000000000003000000004600000026000000016C0000002600000002C4480000A8080000FE0695A04E2899821AE55E41 \
+      E05F9D3A4D00\n";
+
+/// The bytes of a file by its text.
+fn file_by(alloc: Global, text: &str) -> Option<Vec<u8>> {
+    match text.split_once(" | ") {
+        Some((classes, frames)) => canonical_file(alloc, classes, frames),
+        None => bytes_of(alloc, text),
+    }
+}
+
+/// The bytes of a file of the list.
+fn listed(alloc: Global, name: &str) -> Option<Vec<u8>> {
+    for line in FILES.lines() {
+        let (this, file) = line.split_once(" | ")?;
+        if this == name {
+            return file_by(alloc, file);
+        }
+    }
+    None
+}
+
+/// The file of one object with three bytes behind it.
+fn longer_file(alloc: Global) -> Option<Vec<u8>> {
+    let mut bytes = listed(alloc, "one object")?;
+    bytes.extend_from_slice(&[1, 2, 3]).ok()?;
+    Some(bytes)
+}
+
+/// The file of two large sections, with zeros behind its begin.
+fn large_file(alloc: Global) -> Option<Vec<u8>> {
+    let mut bytes = listed(alloc, "begin of two large sections")?;
+    for _ in 205..17_000_000u32 {
+        bytes.push(0).ok()?;
+    }
+    Some(bytes)
+}
+
+/// The frame of a dictionary of a handle.
+fn dictionary(alloc: Global, handle: u32) -> Option<Vec<u8>> {
+    let text = format!(in alloc; "42 {handle:X} : '10 '10 '10 '10 00 / 4.0 3.0").ok()?;
+    frame_of(alloc, text.as_str())
+}
+
+/// Adds the frames of dictionaries of the handles from 1 to 1,100.
+fn push_dictionaries(alloc: Global, file: &mut Vec<u8>) -> Option<()> {
+    for handle in 1..1_101u32 {
+        file.extend_from_slice(&dictionary(alloc, handle)?).ok()?;
+    }
+    Some(())
+}
+
+/// The file of dictionaries of the handles from 1 to 1,100, whose map has two pages, before its map.
+fn front_of_long_file(alloc: Global) -> Option<Vec<u8>> {
+    let mut file = listed(alloc, "header of a long map")?;
+    let smallest = listed(alloc, "smallest")?;
+    file.extend_from_slice(smallest.get(70..183)?).ok()?;
+    push_dictionaries(alloc, &mut file)?;
+    Some(file)
+}
+
+/// That file.
+fn long_file(alloc: Global) -> Option<Vec<u8>> {
+    let mut file = front_of_long_file(alloc)?;
+    file.extend_from_slice(&long_map(alloc)?).ok()?;
+    Some(file)
+}
+
+/// The bytes of a file of that name.
+fn named(alloc: Global, name: &str) -> Option<Vec<u8>> {
+    match name {
+        "one object and more" => longer_file(alloc),
+        "two large sections" => large_file(alloc),
+        "long" => long_file(alloc),
+        _ => listed(alloc, name),
+    }
+}
+
+/// Adds lead, mark, code page and header variables.
+fn tell_front(told: &mut String, parts: &Parts<'_>) -> Option<()> {
+    told::bytes(told, &parts.lead)?;
+    told::bytes(told, &parts.mark)?;
+    told::number(told, u64::from(parts.code_page))?;
+    told::bytes(told, parts.variables.as_slice())
+}
+
+/// Adds the numbers of classes.
+fn tell_classes(told: &mut String, classes: &[Class]) -> Option<()> {
+    told::word(told, "classes")?;
+    for class in classes {
+        told::number(told, u64::from(class.number))?;
+    }
+    Some(())
+}
+
+/// Adds the numbers and the bytes of unknown sections.
+fn tell_others(told: &mut String, others: &[Other<'_>]) -> Option<()> {
+    told::word(told, "others")?;
+    for other in others {
+        told::number(told, u64::from(other.number))?;
+        told::bytes(told, other.bytes.as_slice())?;
+    }
+    Some(())
+}
+
+/// Adds objects, each behind a comma.
+fn tell_objects(told: &mut String, objects: &[Object<'_>]) -> Option<()> {
+    told::word(told, "objects")?;
+    for object in objects {
+        told::word(told, ",")?;
+        told::object(told, object)?;
+    }
+    Some(())
+}
+
+/// Adds all parts of a drawing.
+fn tell_parts(told: &mut String, parts: &Parts<'_>) -> Option<()> {
+    tell_front(told, parts)?;
+    tell_classes(told, parts.classes.as_slice())?;
+    tell_others(told, parts.others.as_slice())?;
+    tell_objects(told, parts.objects.as_slice())
+}
+
+/// Sends the canonical file of a plan, and says whether the sink took it whole.
+fn send(plan: &mut Plan<'_, '_>, sink: &mut MemSink) -> bool {
+    plan.write_to(sink).is_ok()
+}
+
+/// The bytes that a plan sends, as many as it says.
+fn sent(alloc: Global, plan: &mut Plan<'_, '_>) -> Option<Vec<u8>> {
+    let size = plan.size() as usize;
+    let mut sink = sink(alloc, size)?;
+    if !send(plan, &mut sink) || sink.bytes().len() != size {
+        return None;
+    }
+    Vec::from_slice(alloc, sink.bytes()).ok()
+}
+
+/// Adds whether two runs of bytes are the same.
+fn tell_same(told: &mut String, one: &[u8], other: &[u8]) -> Option<()> {
+    told::word(told, if one == other { "same" } else { "other" })
+}
+
+/// Adds whether a plan sends the file of that name.
+fn tell_sent(alloc: Global, told: &mut String, plan: &mut Plan<'_, '_>, name: &str) -> Option<()> {
+    tell_same(told, &sent(alloc, plan)?, &named(alloc, name)?)
+}
+
+/// A sink with room for 210 bytes, which takes ten bytes a call and fails in the third.
+fn failing_sink(alloc: Global) -> Option<MemSink> {
+    let mut fails = Items::new(alloc);
+    fails.push(3).ok()?;
+    MemSink::new(alloc, 210, 10, fails).ok()
+}
+
+/// Adds what that sink holds of what a plan sends, if it isn't all.
+fn tell_front_sent(alloc: Global, told: &mut String, plan: &mut Plan<'_, '_>) -> Option<()> {
+    let mut sink = failing_sink(alloc)?;
+    if send(plan, &mut sink) {
+        return None;
+    }
+    told::bytes(told, sink.bytes())
+}
+
+/// Adds what is asked of a plan: `front`, what the failing sink holds of it, or whether it sends the file of a name.
+fn tell_plan(alloc: Global, told: &mut String, plan: &mut Plan<'_, '_>, ask: &str) -> Option<()> {
+    match ask {
+        "front" => tell_front_sent(alloc, told, plan),
+        _ => tell_sent(alloc, told, plan, ask),
+    }
+}
+
+/// Adds what is asked of the plan of a drawing, or the size of a drawing that is too large.
+fn tell_planned(alloc: Global, told: &mut String, drawing: &Drawing<'_>, ask: &str) -> Option<()> {
+    match Plan::prepare(alloc, drawing) {
+        Ok(plan) => {
+            let mut plan = plan;
+            tell_plan(alloc, told, &mut plan, ask)
+        }
+        Err(PlanFault::TooLarge { size }) => told::number(told, size),
+        Err(PlanFault::NoMemory) => None,
+    }
+}
+
+/// Adds what is asked of a drawing: `parts`, or something of its plan.
+fn tell_drawing(alloc: Global, told: &mut String, drawing: &Drawing<'_>, ask: &str) -> Option<()> {
+    match ask {
+        "parts" => tell_parts(told, drawing.parts()),
+        _ => tell_planned(alloc, told, drawing, ask),
+    }
+}
+
+/// Adds what is asked of the drawing that bytes spell.
+fn tell_bytes(alloc: Global, told: &mut String, bytes: &[u8], ask: &str) -> Option<()> {
+    if bytes.len() as u64 > LIMIT {
+        return None;
+    }
+    match read_drawing(alloc, bytes) {
+        Ok(drawing) => tell_drawing(alloc, told, &drawing, ask),
+        Err(_) => None,
+    }
+}
+
+/// What is asked of the drawing that a file spells, by its name:
+/// - `FILE | NAME => same`: whether its canonical file is that of another name; or its size, where it is too large;
+/// - `FILE | parts => LEAD MARK PAGE VARIABLES classes .. others .. objects ..`: its parts;
+/// - `FILE | front => BYTES`: what a sink holds of its canonical file whose third write of ten bytes fails.
+struct Drawings;
+
+impl Telling for Drawings {
+    fn tell(alloc: Global, told: &mut String, input: &str) -> Option<()> {
+        let (name, ask) = input.split_once(" | ")?;
+        tell_bytes(alloc, told, &named(alloc, name)?, ask)
+    }
+}
+
+#[test]
+fn a_drawing_is_read_and_written(rt: HostRuntime) -> Result<(), Fail> {
+    drawing_laws();
+    canonical_laws();
+    short_damage_laws();
+    let cases = "\
+        smallest | smallest => same\n\
+        one object | one object => same\n\
+        two sections | two sections => same\n\
+        every part | every part => same\n\
+        every part otherwise | every part => same\n\
+        plain | plain => same\n\
+        plain otherwise | plain => same\n\
+        typed | typed => same\n\
+        typed otherwise | typed => same\n\
+        padded | padded => same\n\
+        padded with ones | padded => same\n\
+        one object and more | one object => same\n\
+        long | long => same\n";
+    hold::<Drawings>(&rt, rt.alloc(), cases);
+    Ok(())
+}
+
+#[test]
+fn each_part_of_a_drawing_is_kept(rt: HostRuntime) -> Result<(), Fail> {
+    // Objects come in ascending order of handle, though the map of the second file names the greater first.
+    let cases = "\
+        one object | parts => 00000000000000 0000 0 - classes others objects , C DICTIONARY typed\n\
+        every part otherwise | parts => 01020304050607 0809 30 AABB classes 500 others 7 414243 objects , 5 DICTIONARY typed , C DICTIONARY typed\n\
+        plain otherwise | parts => 00000000000000 0000 0 - classes 500 others \
+            objects , 80 ENTITY plain 3 0 , 90 OBJECT plain 4 1 , A0 ENTITY raw 14 , B0 ENTITY plain 9 2\n\
+        typed otherwise | parts => 00000000000000 0000 0 - classes 500 others \
+            objects , 80 LINE typed 4050E9DAB1D10000 40509CCC40FC0000 0 4050E9DAB1D10000 40509CCC40FC0000 0 , 81 LINE plain 136 0 , \
+            82 ENTITY plain 3 0 , 83 UNKNOWN raw 14 , 84 INSERT typed , 85 LWPOLYLINE typed\n\
+        padded with ones | parts => 00000000000000 0000 0 - classes others objects , 80 ENTITY plain 5 0 , 90 XRECORD typed\n";
+    hold::<Drawings>(&rt, rt.alloc(), cases);
+    Ok(())
+}
+
+#[test]
+fn a_file_that_is_too_large_is_told_with_its_size(rt: HostRuntime) -> Result<(), Fail> {
+    let cases = "two large sections | smallest => 34000205\n";
+    hold::<Drawings>(&rt, rt.alloc(), cases);
+    Ok(())
+}
+
+#[test]
+fn a_failing_sink_holds_a_front(rt: HostRuntime) -> Result<(), Fail> {
+    let cases = "one object | front => 4143313031350000000000000092000000000000\n";
+    hold::<Drawings>(&rt, rt.alloc(), cases);
+    Ok(())
+}
+
+/// Of the file of 1,100 dictionaries where its map stands, the length, and the check word from 0.
+fn numbers_of_long_file(alloc: Global) -> Option<(usize, usize, u16)> {
+    let front = front_of_long_file(alloc)?;
+    let file = long_file(alloc)?;
+    Some((front.len(), file.len(), check(0, &file)))
+}
+
+#[test]
+fn a_map_of_two_pages_stands_behind_the_frames(rt: HostRuntime) -> Result<(), Fail> {
+    assert_eq!(rt;
+        numbers_of_long_file(rt.alloc()),
+        Some((18_628, 20_844, 0x4FB5))
+    );
+    Ok(())
+}
+
+/// How many classes a file of less than 100,000 bytes has.
+fn count_of_classes(alloc: Global, bytes: &[u8]) -> Option<usize> {
+    if bytes.len() >= 100_000 {
+        return None;
+    }
+    let header = match read_file_header(alloc, bytes) {
+        Ok(header) => header,
+        Err(_) => return None,
+    };
+    match classes_of_file(alloc, bytes, &header) {
+        Ok(classes) => Some(classes.as_slice().len()),
+        Err(_) => None,
+    }
+}
+
+/// How many classes the file of a name has.
+fn classes_of_named(alloc: Global, name: &str) -> Option<usize> {
+    count_of_classes(alloc, &named(alloc, name)?)
+}
+
+#[test]
+fn the_classes_of_a_file_are_read(rt: HostRuntime) -> Result<(), Fail> {
+    assert_eq!(rt;
+        classes_of_named(rt.alloc(), "every part otherwise"),
+        Some(1)
+    );
+    Ok(())
+}

@@ -1,0 +1,91 @@
+//! The forms of objects: all fields where the kind has a body, the common part where it doesn't, the bytes where that fails too.
+
+use crate::tests::objects::{Classed, Frames};
+use crate::tests::table::hold;
+use std::test::Fail;
+
+#[test]
+fn an_entity_of_a_kind_with_fields_is_read_by_them(rt: HostRuntime) -> Result<(), Fail> {
+    // A text "A" whose optional parts are absent; an attribute of that text and the tag "B"; its definition, with an empty prompt; the
+    // begin of the block "*A", and an end; an end of attributes; a block inserted at the origin, without attributes; an arc of radius 1.0
+    // from 0 to 1.0; a circle of radius 1.0; a line that ends where it starts; a point at the origin; a polyline of no points.
+    let cases = "\
+        1 80 : ENTITY FF 0000000000000000 0000000000000000 '1 '1 0000000000000000 '01 01 41 / 3.0 5.10 5.11 => 1 80 TEXT typed 47\n\
+        2 80 : ENTITY FF 0000000000000000 0000000000000000 '1 '1 0000000000000000 '01 01 41 '01 01 42 '10 00 / 3.0 5.10 5.11 => 2 80 ATTRIB typed 51\n\
+        3 80 : ENTITY FF 0000000000000000 0000000000000000 '1 '1 0000000000000000 '01 01 41 '01 01 42 '10 00 '10 / 3.0 5.10 5.11 => 3 80 ATTDEF typed 51\n\
+        4 80 : ENTITY '01 02 2A41 / 3.0 5.10 => 4 80 BLOCK typed 21\n\
+        5 80 : ENTITY / 3.0 5.10 => 5 80 ENDBLK typed 18\n\
+        6 80 : ENTITY / 3.0 5.10 => 6 80 SEQEND typed 18\n\
+        7 80 : ENTITY '10 '10 '10 '11 '10 '10 '10 '01 '0 / 3.0 5.10 5.12 => 7 80 INSERT typed 22\n\
+        17 80 : ENTITY '10 '10 '10 '01 '1 '1 '10 '01 / 3.0 5.10 => 17 80 ARC typed 20\n\
+        18 80 : ENTITY '10 '10 '10 '01 '1 '1 / 3.0 5.10 => 18 80 CIRCLE typed 19\n\
+        19 80 : ENTITY '1 0000D1B1DAE95040 '00 0000FC40CC9C5040 '00 '1 '1 / 3.0 5.10 => 19 80 LINE typed 4050E9DAB1D10000 40509CCC40FC0000 0 4050E9DAB1D10000 40509CCC40FC0000 0 35\n\
+        27 80 : ENTITY '10 '10 '10 '1 '1 '10 / 3.0 5.10 => 27 80 POINT typed 19\n\
+        77 80 : ENTITY '10 '10 / 3.0 5.10 => 77 80 LWPOLYLINE typed 18\n";
+    hold::<Frames>(&rt, rt.alloc(), cases);
+    Ok(())
+}
+
+#[test]
+fn an_object_is_read_in_the_strongest_form_that_it_has(rt: HostRuntime) -> Result<(), Fail> {
+    // The line: its type number in 18 bits and the words of its end in full; with ones behind its references; with one further bit
+    // before them; with one further reference. Entities of type 35 and 200 with three bits of their own; and one of type 500, of which
+    // no class speaks, with the four bits of a polyline.
+    let cases = "\
+        3000 04C018C040000060257421D800068D8ED74A82060001A363B5D2A0800001F8819938A08180007E20664E2820660A2200 026B => 19 80 LINE typed 4050E9DAB1D10000 40509CCC40FC0000 0 4050E9DAB1D10000 40509CCC40FC0000 0 52\n\
+        19 80 : ENTITY '1 0000D1B1DAE95040 '00 0000FC40CC9C5040 '00 '1 '1 / 3.0 5.10 '11111 => 19 80 LINE typed 4050E9DAB1D10000 40509CCC40FC0000 0 4050E9DAB1D10000 40509CCC40FC0000 0 35\n\
+        19 80 : ENTITY '1 0000D1B1DAE95040 '00 0000FC40CC9C5040 '00 '1 '1 '1 / 3.0 5.10 => 19 80 LINE plain 136 0 35\n\
+        19 80 : ENTITY '1 0000D1B1DAE95040 '00 0000FC40CC9C5040 '00 '1 '1 / 3.0 5.10 3.0 => 19 80 LINE plain 135 1 36\n\
+        35 80 : ENTITY '101 / 3.0 5.10 => 35 80 ENTITY plain 3 0 18\n\
+        200 80 : ENTITY '101 / 3.0 5.10 => 200 80 UNKNOWN raw 14 18\n\
+        500 80 : ENTITY '10 '10 / 3.0 5.10 => 500 80 UNKNOWN raw 15 19\n";
+    hold::<Frames>(&rt, rt.alloc(), cases);
+    Ok(())
+}
+
+#[test]
+fn a_class_says_what_its_objects_are(rt: HostRuntime) -> Result<(), Fail> {
+    // An entity of type 500 with the four bits of a polyline, and an object of that type with those of a record.
+    let cases = "\
+        500 LWPOLYLINE 498 | 500 80 : ENTITY '10 '10 / 3.0 5.10 => 500 80 LWPOLYLINE typed 19\n\
+        500 HATCH 498 | 500 80 : ENTITY '10 '10 / 3.0 5.10 => 500 80 ENTITY plain 4 0 19\n\
+        500 XRECORD 499 | 500 90 : '10 '10 '10 '10 / 4.0 3.0 => 500 90 XRECORD typed 16\n\
+        500 PLACEHOLDER 499 | 500 90 : '10 '10 '10 '10 / 4.0 3.0 => 500 90 OBJECT plain 4 0 16\n";
+    hold::<Classed>(&rt, rt.alloc(), cases);
+    Ok(())
+}
+
+#[test]
+fn an_object_of_a_kind_with_a_body_is_read_by_it(rt: HostRuntime) -> Result<(), Fail> {
+    // A dictionary without items; the table of no blocks; the header of the block "A", without inserts; the table of no layers; the layer
+    // "0"; the table of one style; the style "S"; the table of no linetypes but two; the linetype "L", without
+    // dashes; the table of no applications; the application
+    // "ACAD"; a record of no bytes and two targets.
+    let cases = "\
+        42 90 : '10 '10 '10 '10 00 / 4.0 3.0 => 42 90 DICTIONARY typed 16\n\
+        48 90 : '10 '10 '10 / 4.0 3.0 5.1F 5.1B => 48 90 BLOCK CONTROL typed 18\n\
+        49 90 : '10 '10 '01 01 41 '0 '10 '0 '0 '0 '0 '0 '0 '10 '10 '10 '10 00 '10 '10 / 4.0 3.0 5.0 3.20 4.0 4.0 3.21 5.0 => 49 90 BLOCK HEADER typed 28\n\
+        50 90 : '10 '10 '10 / 4.0 3.0 => 50 90 LAYER CONTROL typed 14\n\
+        51 90 : '10 '10 '01 01 30 '0 '10 '0 '10 '01 07 / 4.0 3.0 5.0 5.0 5.16 => 51 90 LAYER typed 22\n\
+        52 90 : '10 '10 '01 01 / 4.0 3.0 2.11 => 52 90 STYLE CONTROL typed 17\n\
+        53 90 : '10 '10 '01 01 53 '0 '10 '0 '0 '0 '10 '01 '10 00 '10 '01 03 747874 '10 / 4.0 3.0 5.0 => 53 90 STYLE typed 25\n\
+        56 90 : '10 '10 '10 / 4.0 3.0 5.14 5.15 => 56 90 LTYPE CONTROL typed 18\n\
+        57 90 : '10 '10 '01 01 4C '0 '10 '0 '10 '10 41 00 TEXTS / 4.0 3.0 5.0 => 57 90 LTYPE typed 276\n\
+        66 90 : '10 '10 '10 / 4.0 3.0 => 66 90 APPID CONTROL typed 14\n\
+        67 90 : '10 '10 '01 04 41434144 '0 '10 '0 00 / 4.0 3.0 5.0 => 67 90 APPID typed 22\n\
+        79 90 : '10 '10 '10 '10 / 4.0 3.0 4.10 5.0 => 79 90 XRECORD typed 18\n";
+    hold::<Frames>(&rt, rt.alloc(), cases);
+    Ok(())
+}
+
+#[test]
+fn fewer_than_eight_bits_may_follow_the_references_of_a_record(
+    rt: HostRuntime,
+) -> Result<(), Fail> {
+    // Six ones behind the target of a record; and eight bits that are no reference.
+    let cases = "\
+        79 90 : '10 '10 '10 '10 / 4.0 3.0 4.10 '111111 => 79 90 XRECORD typed 17\n\
+        79 90 : '10 '10 '10 '10 / 4.0 3.0 4.10 F0 => 79 90 XRECORD raw 14 18\n";
+    hold::<Frames>(&rt, rt.alloc(), cases);
+    Ok(())
+}

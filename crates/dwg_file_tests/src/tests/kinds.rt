@@ -1,0 +1,129 @@
+//! Kinds of type numbers, and what classes say of them.
+
+use crate::tests::inputs::{classes_of, small};
+use crate::tests::table::{Telling, hold};
+use crate::tests::told;
+use dwg_classes::{Class, Hints, hint};
+use dwg_kinds::{ClassHint, Kind, is_entity, kind_laws, kind_of, name_of};
+use std::alloc::Global;
+use std::test::Fail;
+
+/// `NUMBER => KIND NAME ENTITY`: the kind of a type number whose class, if it has one, makes entities; the name that is printed of the
+/// kind; and whether it is one of entities.
+struct Numbers;
+
+/// Adds a kind.
+fn tell_kind(told: &mut String, kind: Kind) -> Option<()> {
+    write!(told, " {kind:?}").ok()
+}
+
+impl Telling for Numbers {
+    fn tell(_alloc: Global, told: &mut String, input: &str) -> Option<()> {
+        let kind = kind_of(small(input)?, ClassHint::Entity);
+        tell_kind(told, kind)?;
+        told::word(told, name_of(kind))?;
+        told::word(told, if is_entity(kind) { "true" } else { "false" })
+    }
+}
+
+#[test]
+fn a_number_has_a_kind_and_a_name(rt: HostRuntime) -> Result<(), Fail> {
+    kind_laws();
+    let cases = "\
+        1 => Text TEXT true\n\
+        7 => Insert INSERT true\n\
+        17 => Arc ARC true\n\
+        27 => Point POINT true\n\
+        42 => Dictionary DICTIONARY false\n\
+        49 => BlockHeader BLOCK HEADER false\n\
+        67 => AppId APPID false\n\
+        77 => LwPolyline LWPOLYLINE true\n\
+        79 => XRecord XRECORD false\n\
+        8 => PlainEntity ENTITY true\n\
+        16 => PlainEntity ENTITY true\n\
+        41 => PlainEntity ENTITY true\n\
+        498 => PlainEntity ENTITY true\n\
+        60 => PlainObject OBJECT false\n\
+        72 => PlainObject OBJECT false\n\
+        0 => Unknown UNKNOWN false\n\
+        9 => Unknown UNKNOWN false\n\
+        59 => Unknown UNKNOWN false\n\
+        73 => Unknown UNKNOWN false\n\
+        499 => Unknown UNKNOWN false\n";
+    hold::<Numbers>(&rt, rt.alloc(), cases);
+    Ok(())
+}
+
+/// `NUMBER => HINT KIND HINT KIND ..`: the kinds of a number by each of the things that a class can say of it.
+struct Hinted;
+
+/// What a class can say of a number.
+const HINTS: [ClassHint; 6] = [
+    ClassHint::Absent,
+    ClassHint::Entity,
+    ClassHint::Object,
+    ClassHint::LwPolyline,
+    ClassHint::XRecord,
+    ClassHint::Other,
+];
+
+/// Adds what a class says of a number.
+fn tell_hint(told: &mut String, hint: ClassHint) -> Option<()> {
+    write!(told, " {hint:?}").ok()
+}
+
+impl Telling for Hinted {
+    fn tell(_alloc: Global, told: &mut String, input: &str) -> Option<()> {
+        let number = small(input)?;
+        for hint in HINTS {
+            tell_hint(told, hint)?;
+            tell_kind(told, kind_of(number, hint))?;
+        }
+        Some(())
+    }
+}
+
+#[test]
+fn from_500_on_a_class_says_what_a_number_is(rt: HostRuntime) -> Result<(), Fail> {
+    let cases = "\
+        500 => Absent Unknown Entity PlainEntity Object PlainObject LwPolyline LwPolyline XRecord XRecord Other Unknown\n\
+        65535 => Absent Unknown Entity PlainEntity Object PlainObject LwPolyline LwPolyline XRecord XRecord Other Unknown\n";
+    hold::<Hinted>(&rt, rt.alloc(), cases);
+    Ok(())
+}
+
+/// Classes, two of them of one number.
+const CLASSES: &str =
+    "502 LWPOLYLINE 498, 500 XRECORD 499, 501 WIPEOUT 498, 503 LWPOLYLINE 499, 504 XRECORD 500, 500 WIPEOUT 498";
+
+/// `NUMBER => HINT HINT`: what the list of these classes says of a number, and what a table of them does.
+struct Said;
+
+/// What a table of the classes says of a number.
+fn found(alloc: Global, classes: &[Class], number: u16) -> Option<ClassHint> {
+    let hints = Hints::build(alloc, classes).ok()?;
+    Some(hints.hint(number))
+}
+
+impl Telling for Said {
+    fn tell(alloc: Global, told: &mut String, input: &str) -> Option<()> {
+        let classes = classes_of(alloc, CLASSES)?;
+        let number = small(input)?;
+        tell_hint(told, hint(classes.as_slice(), number))?;
+        tell_hint(told, found(alloc, classes.as_slice(), number)?)
+    }
+}
+
+#[test]
+fn the_first_class_of_a_number_says_what_its_objects_are(rt: HostRuntime) -> Result<(), Fail> {
+    let cases = "\
+        500 => XRecord XRecord\n\
+        501 => Entity Entity\n\
+        502 => LwPolyline LwPolyline\n\
+        503 => Object Object\n\
+        504 => Other Other\n\
+        505 => Absent Absent\n\
+        0 => Absent Absent\n";
+    hold::<Said>(&rt, rt.alloc(), cases);
+    Ok(())
+}

@@ -1,0 +1,17 @@
+//! The tests, by what they are of; and how their cases are read and told.
+
+mod base;
+mod bits;
+mod check;
+mod classes;
+mod codes;
+mod handles;
+mod laws;
+mod lines;
+mod modular;
+mod pieces;
+mod sections;
+mod sinks;
+mod text;
+mod told;
+mod travels;
