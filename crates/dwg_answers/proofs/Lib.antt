@@ -8,3 +8,4 @@ pub mod MakeWords
 pub mod DrillWords
 pub mod Drills
 pub mod SectionLaws
+pub mod ShortDamage

@@ -55,15 +55,15 @@ of_input reading bytes input =
     sym (outcome_of_reading (Some (reads reading)) reading bytes refl) ∙ sym (outcome_of_few reading bytes (outcome_within reading bytes) input.within refl)
 
 -- each of these words names its command
-show_said : (bytes : List ℕ) → IsInput bytes → said (codes "show") bytes ≡ outcome_within Show bytes
+pub show_said : (bytes : List ℕ) → IsInput bytes → said (codes "show") bytes ≡ outcome_within Show bytes
 unfolding command_of reading_of
 show_said bytes input = of_input Show bytes input
 
-rewrite_said : (bytes : List ℕ) → IsInput bytes → said (codes "rewrite") bytes ≡ outcome_within Rewrite bytes
+pub rewrite_said : (bytes : List ℕ) → IsInput bytes → said (codes "rewrite") bytes ≡ outcome_within Rewrite bytes
 unfolding command_of reading_of
 rewrite_said bytes input = of_input Rewrite bytes input
 
-audit_said : (bytes : List ℕ) → IsInput bytes → said (codes "audit") bytes ≡ outcome_within Audit bytes
+pub audit_said : (bytes : List ℕ) → IsInput bytes → said (codes "audit") bytes ≡ outcome_within Audit bytes
 unfolding command_of reading_of
 audit_said bytes input = of_input Audit bytes input
 
@@ -115,13 +115,13 @@ rewrite_is_written laws drawing bytes input spelled =
     rewrite_said bytes input ∙ passed Rewrite bytes (laws.passes bytes drawing input.are spelled) ∙ ap written (read_is laws drawing bytes input.are spelled)
 
 -- a file within the limit, and one that isn't
-filed_within : (drawing : Contents) (note : List ℕ) (status : Status) → size_of drawing ≤ MOST_BYTES → filed drawing note status ≡ record { output = canonical drawing; note = note; status = status }
+pub filed_within : (drawing : Contents) (note : List ℕ) (status : Status) → size_of drawing ≤ MOST_BYTES → filed drawing note status ≡ record { output = canonical drawing; note = note; status = status }
 unfolding filed
 filed_within drawing note status small =
     let within : nat_lt MOST_BYTES (size_of drawing) ≡ false = grind (arith, nat_tests) in
     ap (λ test. if test then noted (too_large_note (size_of drawing)) (TooLarge (size_of drawing)) else record { output = canonical drawing; note = note; status = status }) within
 
-filed_large : (drawing : Contents) (note : List ℕ) (status : Status) → MOST_BYTES < size_of drawing → filed drawing note status ≡ noted (too_large_note (size_of drawing)) (TooLarge (size_of drawing))
+pub filed_large : (drawing : Contents) (note : List ℕ) (status : Status) → MOST_BYTES < size_of drawing → filed drawing note status ≡ noted (too_large_note (size_of drawing)) (TooLarge (size_of drawing))
 unfolding filed
 filed_large drawing note status large =
     let over : nat_lt MOST_BYTES (size_of drawing) ≡ true = grind (arith, nat_tests) in
@@ -198,7 +198,7 @@ audit_tells_sound laws auditable sound drawing bytes input spelled =
     verdict_tells drawing (findings drawing.objects) (said (codes "audit") bytes) refl is (sound drawing.objects (auditable drawing valid).ascending)
 
 -- `recover` tries no line
-recover_is : (bytes : List ℕ) → IsInput bytes → said (codes "recover") bytes ≡ recovered_answer (recovered bytes)
+pub recover_is : (bytes : List ℕ) → IsInput bytes → said (codes "recover") bytes ≡ recovered_answer (recovered bytes)
 unfolding answer_within
 recover_is bytes input = recover_said bytes input ∙ passed Recover bytes refl
 
@@ -209,7 +209,7 @@ recover_rewrites_drawing laws answered drawing bytes input spelled =
     recover_is bytes input ∙ ap recovered_answer (answered drawing bytes spelled input.are) ∙ sym (rewrite_is_written laws drawing bytes input spelled)
 
 -- and of what is recovered of a damaged input, the file and the note
-damaged_is : (value : RecoveredValue) (refusal : Refusal) → value.refusal ≡ Some refusal
+pub damaged_is : (value : RecoveredValue) (refusal : Refusal) → value.refusal ≡ Some refusal
     → recovered_answer value ≡ filed value.drawing (recovery_note refusal value.losses value.kept) Found
 unfolding recovered_answer
 damaged_is value refusal is = ap (λ first. filed value.drawing (recovery_notes first value.losses value.kept) (recovery_status first)) is

@@ -10,9 +10,15 @@ use Rattle.dwg_classes.specs.declared.class.Class.{Class}
 use Rattle.dwg_file.specs.Canonical.{size_of, canonical}
 use Rattle.dwg_file.specs.Contents.{Contents}
 use Rattle.dwg_file.specs.FileLines.{ALL_LINES, classes_row, classes_section_row}
-use Rattle.dwg_file.specs.Spelled.{Spelled}
+use Rattle.dwg_file.specs.ShortDamage.{IsDamagedShortly}
+use Rattle.dwg_file.specs.Spelled.{PairFrame, Spelled}
+use Rattle.dwg_file.specs.Valid.{IsValid}
 use Rattle.dwg_graph.specs.Sound.{IsSound}
+use Rattle.dwg_recover.specs.declared.loss.Loss.TheVariants.{Object}
+use Rattle.dwg_recover.specs.Intact.{canonical_frames}
+use Rattle.dwg_recover.specs.ListMembers.{IsOneOf}
 use Rattle.dwg_recover.specs.Recovering.{RecoveredValue, recovered}
+use Rattle.dwg_recover.specs.ShortDamage.{word_refusal}
 use Rattle.dwg_recover.specs.Told.{IsValidAnswer}
 use Rattle.dwg_recovery_text.specs.RecoveryNote.{recovery_note}
 use Rattle.dwg_report.specs.AuditText.{audit_text}
@@ -144,3 +150,32 @@ pub record Recovers (bytes : List ℕ) (answer : Answer) : Type 0 where
 -- `recover` does that of any other input
 abbrev pub RecoverWritesFrames : Type 0
 RecoverWritesFrames = (bytes : List ℕ) → IsInput bytes → SpellsNone bytes → Recovers bytes (said (codes "recover") bytes)
+
+-- the answer that refuses an input
+abbrev pub refuses_for : Refusal → Answer
+refuses_for refusal = record { output = []; note = refusal_note refusal; status = Refused refusal }
+
+-- `show`, `rewrite` and `audit` refuse an input for the check word of the object of a frame and print nothing; `recover` notes that refusal and the loss of that object alone, and writes the canonical file of a drawing that has every other object, where that is within the limit
+pub record TellsDamage (bytes : List ℕ) (earlier : List PairFrame) (frame : PairFrame) (later : List PairFrame) : Type 0 where
+  pub show : said (codes "show") bytes ≡ refuses_for (word_refusal earlier frame)
+  pub rewrite : said (codes "rewrite") bytes ≡ refuses_for (word_refusal earlier frame)
+  pub audit : said (codes "audit") bytes ≡ refuses_for (word_refusal earlier frame)
+  pub others : (other : PairFrame) → IsOneOf other (earlier ++ later) → IsOneOf other.object (recovered bytes).drawing.objects
+  pub writes :
+      size_of (recovered bytes).drawing ≤ MOST_BYTES
+      → said (codes "recover") bytes
+      ≡ record {
+        output = canonical (recovered bytes).drawing;
+        note = recovery_note (word_refusal earlier frame) (Object frame.pair.handle frame.pair.place ∷ []) (recovered bytes).kept;
+        status = Found;
+      }
+  pub large :
+      MOST_BYTES < size_of (recovered bytes).drawing
+      → said (codes "recover") bytes
+      ≡ record { output = []; note = too_large_note (size_of (recovered bytes).drawing); status = TooLarge (size_of (recovered bytes).drawing) }
+
+-- so they do of one that differs from the canonical file of a drawing in one byte, or in two neighbouring ones, inside the frame of one object
+abbrev pub ShortDamageIsTold : Type 0
+ShortDamageIsTold =
+    (drawing : Contents) (bytes : List ℕ) (earlier : List PairFrame) (frame : PairFrame) (later : List PairFrame) → IsValid drawing → size_of drawing ≤ MOST_BYTES → AreBytes bytes
+    → canonical_frames drawing ≡ earlier ++ frame ∷ later → IsDamagedShortly drawing frame bytes → TellsDamage bytes earlier frame later

@@ -1,11 +1,11 @@
 //! Laws of what is answered, as the contract of a function without code of its own.
 
-ghost use Rattle.dwg_answers.specs.OutcomeLaws.{AuditTellsSound, ClassesPrintsClasses, NoClassesAreRefused, NoDrawingIsRefused, NoHeaderIsRefused, RecoverRewritesDrawing, RecoverWritesFrames, RewriteTellsSize, RewriteWritesDrawing, SectionsPrintsHeader, ShowPrintsDrawing};
+ghost use Rattle.dwg_answers.specs.OutcomeLaws.{AuditTellsSound, ClassesPrintsClasses, NoClassesAreRefused, NoDrawingIsRefused, NoHeaderIsRefused, RecoverRewritesDrawing, RecoverWritesFrames, RewriteTellsSize, RewriteWritesDrawing, SectionsPrintsHeader, ShortDamageIsTold, ShowPrintsDrawing};
 
 use dwg_audit::{auditable_laws, finding_laws};
 use dwg_classes::classes_laws;
-use dwg_file::{canonical_laws, drawing_laws};
-use dwg_recover::answer_laws;
+use dwg_file::{canonical_laws, drawing_laws, short_damage_laws as frame_damage_laws};
+use dwg_recover::{answer_laws, short_damage_laws};
 use dwg_sections::{file_header_laws, framed_laws};
 
 /// What the commands that read answer to an input of at most 32 MiB. `sections` prints the file header that it begins with, and
@@ -16,6 +16,11 @@ use dwg_sections::{file_header_laws, framed_laws};
 /// and `recover` answers as `rewrite` does. Where it spells none, `show`, `rewrite` and `audit` refuse it by the first line that fails,
 /// and print nothing; and `recover` notes that line, ends with Found, and writes the canonical file of what is recovered, a valid
 /// drawing whose objects are those of frames that stand in the input, where that file has at most 32 MiB.
+///
+/// Where an input differs from the canonical file of a valid drawing in one byte, or in two neighbouring ones, in the body and the
+/// check word of one object's frame, `show`, `rewrite` and `audit` refuse it for the check word of that object and print nothing;
+/// `recover` notes that refusal and the loss of that object alone, and writes the canonical file of a drawing that has every other
+/// object, where that file has at most 32 MiB, and else tells its size.
 pub fn outcome_laws()
     ensures sections { SectionsPrintsHeader }
     ensures no_header { NoHeaderIsRefused }
@@ -28,6 +33,7 @@ pub fn outcome_laws()
     ensures audit { AuditTellsSound }
     ensures recover { RecoverRewritesDrawing }
     ensures damaged { RecoverWritesFrames }
+    ensures short { ShortDamageIsTold }
 {
     file_header_laws();
     framed_laws();
@@ -37,4 +43,6 @@ pub fn outcome_laws()
     auditable_laws();
     finding_laws();
     answer_laws();
+    frame_damage_laws();
+    short_damage_laws();
 }

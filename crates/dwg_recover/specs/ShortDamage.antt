@@ -2,6 +2,7 @@
 use Rattle.std.proofs.Common.{◌≡◌, ℕ, ◌≤◌, List, [], ◌∷◌, ◌++◌, length, Some}
 use Rattle.dwg_base.specs.Bytes.{AreBytes}
 use Rattle.dwg_base.specs.Devices.{MOST_BYTES}
+use Rattle.dwg_base.specs.declared.refusal.Refusal.{Refusal}
 use Rattle.dwg_file.specs.Canonical.{size_of}
 use Rattle.dwg_file.specs.Contents.{Contents}
 use Rattle.dwg_file.specs.ShortDamage.{IsDamagedShortly}
@@ -13,9 +14,13 @@ use Rattle.dwg_recover.specs.Intact.{canonical_frames}
 use Rattle.dwg_recover.specs.ListMembers.{IsOneOf}
 use Rattle.dwg_recover.specs.Recovering.{recovered}
 
+-- the refusal of the object of a frame behind others for its check word
+abbrev pub word_refusal : List PairFrame → PairFrame → Refusal
+word_refusal earlier frame = frame_refusal 30 (length earlier) frame.pair.place
+
 -- recovery of an input tells the refusal of the object of a frame for its check word, loses that object and nothing else, and has every other one
 pub record CostsOneObject (bytes : List ℕ) (earlier : List PairFrame) (frame : PairFrame) (later : List PairFrame) : Type 0 where
-  pub refusal : (recovered bytes).refusal ≡ Some (frame_refusal 30 (length earlier) frame.pair.place)
+  pub refusal : (recovered bytes).refusal ≡ Some (word_refusal earlier frame)
   pub losses : (recovered bytes).losses ≡ Object frame.pair.handle frame.pair.place ∷ []
   pub others : (other : PairFrame) → IsOneOf other (earlier ++ later) → IsOneOf other.object (recovered bytes).drawing.objects
 

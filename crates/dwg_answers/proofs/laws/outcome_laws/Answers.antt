@@ -1,5 +1,6 @@
 use Rattle.dwg_answers.proofs.OutcomeLaws.{DrawingLaws, FileLaws, no_drawing_is_refused, show_prints_drawing, rewrite_writes_drawing, rewrite_tells_size, audit_tells_sound, recover_rewrites_drawing, recover_writes_frames}
 use Rattle.dwg_answers.proofs.SectionLaws.{PartLaws, sections_prints_header, no_header_is_refused, classes_prints_classes, no_classes_are_refused}
+use Rattle.dwg_answers.proofs.ShortDamage.{short_damage_is_told}
 use Rattle.dwg_answers.proofs.laws.outcome_laws.Goals as goal
 
 pub returns : goal.returns
@@ -32,4 +33,7 @@ returns c =
       audit = audit_tells_sound laws c.auditable_laws.ensures.auditable c.finding_laws.ensures.sound;
       recover = recover_rewrites_drawing laws c.answer_laws.ensures.spelled;
       damaged = recover_writes_frames laws c.answer_laws.ensures.valid c.answer_laws.ensures.damaged;
+      short =
+          short_damage_is_told c.canonical_laws.ensures.counted c.short_damage_laws.ensures.refused c.short_damage_laws.ensures.elsewhere
+          c.short_damage_laws-2.ensures.short;
     }
