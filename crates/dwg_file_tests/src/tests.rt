@@ -7,5 +7,6 @@ mod inputs;
 mod kinds;
 mod objects;
 mod objmap;
+mod slots;
 mod table;
 mod told;

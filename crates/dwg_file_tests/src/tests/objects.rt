@@ -25,7 +25,7 @@ fn tell_found(told: &mut String, found: &Found<'_>) -> Option<()> {
 }
 
 /// What is read of the frame at a place, of the pair 7.
-fn frame_at<'a>(
+pub(crate) fn frame_at<'a>(
     alloc: Global,
     bytes: &'a [u8],
     place: u64,
@@ -35,7 +35,7 @@ fn frame_at<'a>(
 }
 
 /// What can be told in a few words.
-trait Words {
+pub(crate) trait Words {
     /// Adds them.
     fn tell(&self, told: &mut String) -> Option<()>;
 }
