@@ -1,6 +1,6 @@
 //! Where the references of all objects lead: each is looked up once.
 
-ghost use Rattle.std.specs.Prelude.{◌≡◌, ◌<◌, ◌≤◌, ◌+◌, ◌*◌, ◌^◌, ◌-◌, ◌++◌, ℕ, suc, List, [], ◌∷◌, None, Some, length, map, take, drop, IfOk, OnOk};
+ghost use Rattle.std.specs.Prelude.{◌≡◌, ◌<◌, ◌≤◌, ◌+◌, ◌*◌, ◌^◌, ◌-◌, ◌++◌, ℕ, suc, List, [], ◌∷◌, None, Some, length, map, take, drop, IfOk, IfSome, OnOk};
 ghost use Rattle.std.specs.List.{slice_get, slice_index_or};
 ghost use Rattle.dwg_audit.specs.Claimed.{reference_count};
 ghost use Rattle.dwg_audit.specs.Lookups.{AreGathered, AreLookups, AreStarts, IsSlotTable, TakeAtMost, all_slots, part_of, slot_places};
@@ -95,7 +95,34 @@ fn find_place<L: Ledger>(index: &Index, handle: Handle, steps: &mut Steps<L>) ->
     index.find(handle, steps)
 }
 
-/// Where the objects stand that are named, each looked up once. Want of memory is the only refusal.
+/// The place of a handle, which is looked up unless it was the last one.
+#[inline(always)]
+fn find_or_same<L: Ledger>(
+    index: &Index,
+    handle: Handle,
+    last: Option<Handle>,
+    last_place: Option<usize>,
+    steps: &mut Steps<L>,
+) -> Option<usize>
+    requires ascend { Ascend index.now }
+    requires last { IfSome last (λ known. last_place ≡ place_in index.now known) }
+    ensures place { result ≡ place_in index.now handle }
+    ensures steps { TakeAtMost (length index.now) 1 steps.old steps.new }
+{
+    match last {
+        Some(known) => {
+            if known == handle {
+                last_place
+            } else {
+                find_place(index, handle, steps)
+            }
+        }
+        None => find_place(index, handle, steps),
+    }
+}
+
+/// Where the objects stand that are named, each looked up once, and not again where the next names it too, as most entities have the
+/// owner of the one before. Want of memory is the only refusal.
 fn find_all<T: Names, L: Ledger>(
     alloc: Global,
     names: &[T],
@@ -107,8 +134,12 @@ fn find_all<T: Names, L: Ledger>(
     ensures steps { TakeAtMost (length index.now) (length names.now) steps.old steps.new }
 {
     let mut places = with_room(alloc, names.len())?;
+    let mut last = None;
+    let mut place = None;
     'along: for name in names {
-        let place = find_place(index, name.handle(), steps);
+        let handle = name.handle();
+        place = find_or_same(index, handle, last, place, steps);
+        last = Some(handle);
         push_item(&mut places, place)?;
     }
     Ok(places)

@@ -1,4 +1,5 @@
 use Rattle.std.proofs.Common.{◌≡◌, ◌++◌, drop, length, map}
+use Rattle.std.specs.Prelude.{IfSome}
 use Rattle.dwg_audit.specs.Lookups.{TakeAtMost}
 use Rattle.dwg_audit.specs.Placed.{place_in}
 use Rattle.dwg_audit.proofs.lookups.find_all.Given as goal
@@ -7,3 +8,4 @@ abbrev pub invariant-along : goal.invariant-along
 invariant-along g l =
     (l.places.items ++ map (λ name. place_in l.index (g.T.Names.named name)) (drop l.name-index l.names) ≡ map (λ name. place_in l.index (g.T.Names.named name)) l.names)
     × TakeAtMost (length l.index) l.name-index l.initial.steps l.steps
+    × IfSome l.last (λ known. l.place ≡ place_in l.index known)
