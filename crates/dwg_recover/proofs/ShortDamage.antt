@@ -9,12 +9,13 @@ use Rattle.dwg_base.specs.Bytes.{AreBytes}
 use Rattle.dwg_base.specs.Devices.{MOST_BYTES}
 use Rattle.dwg_base.specs.Refusals.{first_fault}
 use Rattle.dwg_file.specs.Canonical.{canonical, class_content, classes_place, header_of as canonical_header, map_place, objects_place, others_bytes, others_located, others_place, size_of, variables_place}
+use Rattle.dwg_file.specs.CanonicalParts.{HasPart}
 use Rattle.dwg_file.proofs.CanonicalLaws.{canonical_is_counted}
 use Rattle.dwg_file.proofs.CanonicalParts.{content_is_classes}
 use Rattle.dwg_file.specs.Contents.{Contents, OtherValue}
 use Rattle.dwg_file.specs.FileLines.{ALL_LINES, is_cut}
 use Rattle.dwg_file.proofs.ReadingLemmas.{SectionLaws}
-use Rattle.dwg_file.specs.ShortDamage.{AllElseIsSame, DamagedFrameFails, ElseIsSame, HasSame, ShortDamageIsRefused}
+use Rattle.dwg_file.specs.ShortDamage.{AllElseIsSame, DamagedFrameFails, ElseIsSame, ShortDamageIsRefused}
 use Rattle.dwg_file.specs.Spelled.{PairFrame}
 use Rattle.dwg_file.specs.Valid.{IsValid}
 use Rattle.dwg_object.proofs.FrameLaws.{held_frame}
@@ -30,7 +31,7 @@ use Rattle.dwg_recover.specs.FoundFrames.{frame_of}
 use Rattle.dwg_recover.proofs.FoundFrames.{candidate_is, candidates_hold}
 use Rattle.dwg_recover.proofs.FoundParts.{header_is_found}
 use Rattle.dwg_recover.specs.Frames.{candidate, candidates, is_kept_pair, lost_pairs, mapped_frames}
-use Rattle.dwg_recover.specs.Intact.{HasPart, IsPartlyIntact, canonical_frames, pairs_framed}
+use Rattle.dwg_recover.specs.Intact.{IsPartlyIntact, canonical_frames, pairs_framed}
 use Rattle.dwg_recover.proofs.IntactFrames.{numbered_is_kept}
 use Rattle.dwg_recover.proofs.IntactLemmas.{each_holds_or_none, intact_objects_are_kept}
 use Rattle.dwg_recover.proofs.IntactMap.{IsWholeWalk, map_is_walked}
@@ -65,11 +66,11 @@ other_frame : (drawing : Contents) (bytes : List ℕ) (earlier : List PairFrame)
     → IsOneOf one earlier ⊎ IsOneOf one later → IsOtherFrame drawing bytes one
 other_frame drawing bytes earlier frame later but one (inl is) = record {
   among = subst (IsOneOf one) (sym but.whole) (in_first one earlier (frame ∷ later) is);
-  has = one_of_all (λ (one : PairFrame). HasSame drawing bytes one.pair.place one.end) earlier one but.same.before is;
+  has = one_of_all (λ (one : PairFrame). HasPart drawing bytes one.pair.place one.end) earlier one but.same.before is;
 }
 other_frame drawing bytes earlier frame later but one (inr is) = record {
   among = subst (IsOneOf one) (sym but.whole) (in_second one earlier (frame ∷ later) (inr is));
-  has = one_of_all (λ (one : PairFrame). HasSame drawing bytes one.pair.place one.end) later one but.same.behind is;
+  has = one_of_all (λ (one : PairFrame). HasPart drawing bytes one.pair.place one.end) later one but.same.behind is;
 }
 
 -- so such an input is partly intact
