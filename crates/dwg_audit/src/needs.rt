@@ -78,6 +78,7 @@ fn kind_placed(objects: &[Object<'_>], place: Option<usize>) -> Option<Kind>
 
 /// Whether a reference of a holder of that kind meets its need, by where its target stands.
 #[tactic(auto, using(crate::proofs::PlacedObjects::object_placed))]
+#[inline(always)]
 pub(crate) fn is_met(
     objects: &[Object<'_>],
     holder: Kind,

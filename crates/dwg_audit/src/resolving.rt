@@ -79,6 +79,7 @@ fn push_chosen(
 }
 
 /// Finds each slot of an object that doesn't meet its need, of applications or of all others. The only refusal is want of memory.
+#[inline(always)]
 fn push_slots(
     objects: &[Object<'_>],
     object: &Object<'_>,
