@@ -155,7 +155,7 @@ RecoverWritesFrames = (bytes : List ℕ) → IsInput bytes → SpellsNone bytes 
 abbrev pub refuses_for : Refusal → Answer
 refuses_for refusal = record { output = []; note = refusal_note refusal; status = Refused refusal }
 
--- `show`, `rewrite` and `audit` refuse an input for the check word of the object of a frame and print nothing; `recover` notes that refusal and the loss of that object alone, and writes the canonical file of a drawing that has every other object, where that is within the limit
+-- `show`, `rewrite` and `audit` refuse an input for the check word of the object of a frame and print nothing; what `recover` recovers has every other object; where that is within the limit it writes its canonical file, and notes that refusal and the loss of that object alone, and else it tells the size
 pub record TellsDamage (bytes : List ℕ) (earlier : List PairFrame) (frame : PairFrame) (later : List PairFrame) : Type 0 where
   pub show : said (codes "show") bytes ≡ refuses_for (word_refusal earlier frame)
   pub rewrite : said (codes "rewrite") bytes ≡ refuses_for (word_refusal earlier frame)
@@ -174,7 +174,7 @@ pub record TellsDamage (bytes : List ℕ) (earlier : List PairFrame) (frame : Pa
       → said (codes "recover") bytes
       ≡ record { output = []; note = too_large_note (size_of (recovered bytes).drawing); status = TooLarge (size_of (recovered bytes).drawing) }
 
--- so they do of one that differs from the canonical file of a drawing in one byte, or in two neighbouring ones, inside the frame of one object
+-- so they do of one that differs from the canonical file of a drawing in one byte, or in two neighbouring ones, in the body and the check word of one object's frame
 abbrev pub ShortDamageIsTold : Type 0
 ShortDamageIsTold =
     (drawing : Contents) (bytes : List ℕ) (earlier : List PairFrame) (frame : PairFrame) (later : List PairFrame) → IsValid drawing → size_of drawing ≤ MOST_BYTES → AreBytes bytes

@@ -19,8 +19,8 @@ use dwg_sections::{file_header_laws, framed_laws};
 ///
 /// Where an input differs from the canonical file of a valid drawing in one byte, or in two neighbouring ones, in the body and the
 /// check word of one object's frame, `show`, `rewrite` and `audit` refuse it for the check word of that object and print nothing;
-/// `recover` notes that refusal and the loss of that object alone, and writes the canonical file of a drawing that has every other
-/// object, where that file has at most 32 MiB, and else tells its size.
+/// what is recovered has every other object, and where its canonical file has at most 32 MiB, `recover` writes that and notes that
+/// refusal and the loss of that object alone; else it tells the size.
 pub fn outcome_laws()
     ensures sections { SectionsPrintsHeader }
     ensures no_header { NoHeaderIsRefused }

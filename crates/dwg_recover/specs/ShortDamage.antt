@@ -24,7 +24,7 @@ pub record CostsOneObject (bytes : List ℕ) (earlier : List PairFrame) (frame :
   pub losses : (recovered bytes).losses ≡ Object frame.pair.handle frame.pair.place ∷ []
   pub others : (other : PairFrame) → IsOneOf other (earlier ++ later) → IsOneOf other.object (recovered bytes).drawing.objects
 
--- an input that differs from the canonical file of a drawing in one byte, or in two neighbouring ones, inside the frame of one object costs that object alone
+-- an input that differs from the canonical file of a drawing in one byte, or in two neighbouring ones, in the body and the check word of one object's frame costs that object alone
 abbrev pub ShortDamageCostsOneObject : Type 0
 ShortDamageCostsOneObject =
     (drawing : Contents) (bytes : List ℕ) (earlier : List PairFrame) (frame : PairFrame) (later : List PairFrame) → IsValid drawing → size_of drawing ≤ MOST_BYTES → AreBytes bytes

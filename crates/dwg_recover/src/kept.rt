@@ -101,6 +101,7 @@ impl KeptFrames {
     pub(crate) fn behind(&self, place: u64) -> u64
         ensures after { place ≤ result }
         ensures taken { (other : ℕ) → place ≤ other → other < result → is_free self.now other (other + 1) ≡ false }
+        ensures free { result ≡ place → is_free self.now place (place + 1) ≡ true }
     {
         self.taken.behind(place)
     }

@@ -17,11 +17,12 @@ trait Numbered {
     fn holds(alloc: Global, number: usize) -> Option<bool>;
 }
 
-/// Fails unless the case of every number from one up to another holds.
+/// Fails by the first number from one up to another whose case doesn't hold.
 fn every_number<N: Numbered>(alloc: Global, from: usize, to: usize) -> Result<(), Fail> {
     for number in from..to {
         if N::holds(alloc, number) != Some(true) {
-            return Err(Fail::new(N::WHAT));
+            let case = format!(in alloc; "{}: {}", N::WHAT, number)?;
+            return Err(Fail::new(case.as_str()));
         }
     }
     Ok(())
@@ -58,7 +59,11 @@ impl Numbered for FailingRead {
         let mut devices = in_pieces(1);
         devices.failing_read = number as u64;
         let left = ran(alloc, "dwg rewrite", &bytes, devices)?;
-        Some(left.status == Status::ReadFault && left.output.as_slice().is_empty())
+        Some(
+            left.status == Status::ReadFault
+                && left.output.as_slice().is_empty()
+                && left.notes.as_slice() == "dwg: read fault\n".as_bytes(),
+        )
     }
 }
 
@@ -147,6 +152,18 @@ dwg rewrite | smallest 44=FFFFFFFF sealed | Refused 21 0 4294967295 | - | dwg: r
 dwg rewrite | one_object 183=FFFFFFFFFFFFFFFF | Refused 28 0 183 | - | dwg: refused: objects 0 at 183: length
 dwg show | hostile_items | Done | drawing AC1015 codepage 0 lead 00000000000000 mark 0000; variables -; classes 0; objects 1; object C DICTIONARY plain 42;   owner 4.0;   xdict 3.0;   bits 44;   rest 3fffffffe000 | -
 dwg show | hostile_reactors | Done | drawing AC1015 codepage 0 lead 00000000000000 mark 0000; variables -; classes 0; objects 1; object C DICTIONARY raw 42;   bytes 4a9a800000004323fffffffe80100c00 | -",
+    )
+}
+
+#[test]
+fn two_neighbouring_bytes_cost_one_object(rt: HostRuntime) -> Result<(), Fail> {
+    every_line::<Answers>(
+        rt.alloc(),
+        "\
+dwg show | one_page ~205 ~206 | Refused 30 1 199 | - | dwg: refused: objects 1 at 199: check
+dwg audit | one_page ~213 ~214 | Refused 30 1 199 | - | dwg: refused: objects 1 at 199: check
+dwg recover | one_page ~205 ~206 | Found | file two_of_page | dwg: refused: objects 1 at 199: check; lost: object B at 199; kept 2
+dwg recover | one_page ~213 ~214 | Found | file two_of_page | dwg: refused: objects 1 at 199: check; lost: object B at 199; kept 2",
     )
 }
 
