@@ -10,7 +10,7 @@ static unsigned long growths;
 static unsigned long fail_at;
 static int counting;
 
-/* Whether this growth is the one that is refused. What is asked for before the program's own `main` isn't counted. */
+/* Whether this growth is the one that is refused. What is asked for before this library is set up isn't counted. */
 static int refused(void) {
     if (!counting) return 0;
     growths += 1;
