@@ -46,13 +46,13 @@ IfRefused (Refused refusal) Holds = Holds refusal
 -- the line of a refusal is one of the table's
 pub record IsOfTable (refusal : Refusal) : Type 0 where
   pub least : 1 ≤ refusal.line
-  pub most : refusal.line ≤ 33
+  pub most : refusal.line ≤ 37
 
 -- a refusal that a fault carries is by a line of the table
 abbrev pub IsFaultOfTable : Fault → Type 0
 IsFaultOfTable fault = IfRefused fault IsOfTable
 
--- the part of the file that a line of the table speaks of
+-- the part of the input that a line of the table speaks of: of a drawing, or the certificate before it
 unfoldable pub part_word_of : ℕ → List ℕ
 part_word_of line =
     if nat_le line 8 then codes "header"
@@ -60,9 +60,10 @@ part_word_of line =
     else (if nat_le line 20 then codes "classes"
     else (if nat_le line 26 then codes "map"
     else (if nat_le line 32 then codes "objects"
-    else codes "sections"))))
+    else (if nat_le line 33 then codes "sections"
+    else codes "certificate")))))
 
--- the reasons of the lines 1 to 33, in the order of the table
+-- the reasons of the lines 1 to 37, in the order of the table
 abbrev pub REASONS : List (List ℕ)
 REASONS =
     codes "short" ∷ codes "version" ∷ codes "count" ∷ codes "short" ∷ codes "check" ∷ codes "sentinel" ∷ codes "repeated" ∷ codes "missing"
@@ -70,7 +71,8 @@ REASONS =
     ∷ codes "short" ∷ codes "begin" ∷ codes "length" ∷ codes "check" ∷ codes "end" ∷ codes "spelling" ∷ codes "number"
     ∷ codes "short" ∷ codes "size" ∷ codes "check" ∷ codes "pair" ∷ codes "null" ∷ codes "duplicate"
     ∷ codes "place" ∷ codes "length" ∷ codes "overlap" ∷ codes "check" ∷ codes "head" ∷ codes "handle"
-    ∷ codes "short" ∷ []
+    ∷ codes "short"
+    ∷ codes "short" ∷ codes "begin" ∷ codes "length" ∷ codes "entry" ∷ []
 
 -- why a line of the table refuses
 unfoldable pub reason_word_of : ℕ → List ℕ

@@ -27,6 +27,13 @@ impl<T> Items<T> {
         }
     }
 
+    /// The list of a vector's items, as they stand and without taking memory.
+    pub fn from_vec(items: Vec<T>) -> Items<T>
+        ensures { result ≡ items.items }
+    {
+        Items { items }
+    }
+
     /// Puts an item at the end. The only refusal is want of memory, which hands the item back and changes nothing.
     pub fn push(&mut self, item: T) -> Result<(), T>
         ensures ok { OnOk result (self.new ≡ self.old ++ item ∷ []) }

@@ -6,7 +6,7 @@ ghost use Rattle.dwg_base.specs.Refusals.{part_word_of, reason_word_of};
 /// The first line of the table of refusals that fails.
 #[derive(Clone, Copy, Debug, PartialEq, Eq)]
 pub struct Refusal {
-    /// The line of the table, 1 to 33.
+    /// The line of the table, 1 to 37: the first 33 are tried of a drawing, the last four of a certificate.
     pub line: u8,
     /// Which locator, class, page or pair of that part, counted from 0.
     pub index: u64,
@@ -23,11 +23,11 @@ pub enum Fault {
     Refused(Refusal),
 }
 
-/// The part of the file that a line of the table speaks of.
+/// The part of the input that a line of the table speaks of.
 #[tactic(auto, unfolding(crate::specs::Refusals::part_word_of))]
 pub fn part_word(line: u8) -> &'static str
     requires least { 1 ≤ line }
-    requires most { line ≤ 33 }
+    requires most { line ≤ 37 }
     ensures { result.now ≡ part_word_of line }
 {
     match line {
@@ -36,7 +36,8 @@ pub fn part_word(line: u8) -> &'static str
         14..=20 => "classes",
         21..=26 => "map",
         27..=32 => "objects",
-        _ => "sections",
+        33 => "sections",
+        _ => "certificate",
     }
 }
 
@@ -44,7 +45,7 @@ pub fn part_word(line: u8) -> &'static str
 #[tactic(auto, unfolding(crate::specs::Refusals::reason_word_of))]
 pub fn reason_word(line: u8) -> &'static str
     requires least { 1 ≤ line }
-    requires most { line ≤ 33 }
+    requires most { line ≤ 37 }
     ensures { result.now ≡ reason_word_of line }
 {
     match line {
@@ -55,8 +56,8 @@ pub fn reason_word(line: u8) -> &'static str
         6 => "sentinel",
         7 => "repeated",
         8 => "missing",
-        10 | 15 => "begin",
-        11 | 16 | 28 => "length",
+        10 | 15 | 35 => "begin",
+        11 | 16 | 28 | 36 => "length",
         13 | 18 => "end",
         19 => "spelling",
         20 => "number",
@@ -68,6 +69,8 @@ pub fn reason_word(line: u8) -> &'static str
         29 => "overlap",
         31 => "head",
         32 => "handle",
+        34 => "short",
+        37 => "entry",
         _ => unreachable!(),
     }
 }

@@ -5,7 +5,7 @@ use Rattle.std.specs.Int.{bit_at}
 use Rattle.std.proofs.Math.Nat.{suc-add, pow-suc}
 use Rattle.std.proofs.lemmas.Nat.{pow-add, shr-shr, mod-pow-add}
 use Rattle.std.proofs.lemmas.Nat.Bits.{bit_at-lt, bit_at_cat_low, bit_at_cat_high, bit_at_above}
-use Rattle.std.proofs.lemmas.List.{append-nil, length-append, length-take-le, length-drop, take_at, drop_at, take_all, take-take, drop-take, take_more, get_or-drop}
+use Rattle.std.proofs.lemmas.List.{append-nil, length-append, length-take-le, length-drop, take_at, drop_at, take_all, take_more, get_or-drop}
 use Rattle.std.proofs.lemmas.List.Concat.{flat_map-append, get_or-flat_map}
 use Rattle.dwg_base.specs.Bytes.{AreBytes}
 use Rattle.dwg_bits.specs.Bits.{is_set, low_bits, bits, num}
@@ -161,24 +161,6 @@ bits_between_none bytes place = let none : place - place ≡ 0 = omega arith in 
 pub bits_between_all : (bytes : List ℕ) (to : ℕ) → to ≡ 8 * length bytes → bits_between bytes 0 to ≡ bits bytes
 unfolding bits_between
 bits_between_all bytes to last = take_all (to - 0) (bits bytes) (omega (arith, length_of_bits bytes))
-
--- the first of the bits between two places
-pub first_of_bits_between : (bytes : List ℕ) (from count to : ℕ) → from + count ≤ to → take count (bits_between bytes from to) ≡ bits_between bytes from (from + count)
-unfolding bits_between
-first_of_bits_between bytes from count to h =
-    let less : count ≤ to - from = omega arith in
-    let same : count ≡ from + count - from = omega arith in
-    take-take count (to - from) (drop from (bits bytes)) less ∙ ap (λ n. take n (drop from (bits bytes))) same
-
--- the last of the bits between two places
-pub last_of_bits_between : (bytes : List ℕ) (from count to : ℕ) → from + count ≤ to → drop count (bits_between bytes from to) ≡ bits_between bytes (from + count) to
-unfolding bits_between
-last_of_bits_between bytes from count to h =
-    let wide : to - from ≡ count + (to - (from + count)) = omega arith in
-    let all : List Bool = bits bytes in
-    ap (λ n. drop count (take n (drop from all))) wide
-    ∙ drop-take count (to - (from + count)) (drop from all)
-    ∙ ap (take (to - (from + count))) (drop-drop count from all)
 
 -- a bit of the low bits of a number, counted from the highest
 pub bit_of_low_bits : (count value i : ℕ) (d : Bool) → i < count → get_or (low_bits count value) i d ≡ is_set value (count - 1 - i)

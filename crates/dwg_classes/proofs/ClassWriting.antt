@@ -9,7 +9,7 @@ use Rattle.dwg_grammar.specs.Codes.{bs, tv, b}
 use Rattle.dwg_classes.specs.declared.class.Class.{Class}
 use Rattle.dwg_grammar.specs.ToEnd.{AreValues, short_all}
 use Rattle.dwg_classes.specs.Class.{IsClass, any_class, numbered_class, LEAST_NUMBER}
-use Rattle.dwg_classes.specs.WrittenClasses.{IsWritable, AreWritable, padded}
+use Rattle.dwg_classes.specs.WrittenClasses.{AreWritable}
 
 -- a class in the ranges of its type is a value
 is_any_class : (class : Class) → IsClass class → any_class.IsValue class
@@ -85,11 +85,6 @@ counted_at classes i class count more inside here is bits counted =
     subst (λ n. AreCounted classes (drop (i + 1) classes) (count + n)) (sym bits)
     (one_counted classes (drop (i + 1) classes) class count is (subst (λ (rest : List Class). AreCounted classes rest count) (left_at classes i class inside here) counted))
 
--- the class at a place is one that can be written
-pub writable_at : (classes : List Class) (i : ℕ) (class : Class) → i < length classes → class ≡ get_or classes i class → AreWritable (drop i classes) → IsWritable class
-writable_at classes i class inside here writable =
-    (subst AreWritable (left_at classes i class inside here) writable).0
-
 -- where none is left, all are counted
 pub all_counted : (classes : List Class) (count : ℕ) → AreCounted classes [] count → (count ≡ length (short_all numbered_class classes)) × AreValues numbered_class classes
 all_counted classes count counted = (omega (arith, counted.bits), counted.values tt)
@@ -151,19 +146,3 @@ all_so_far classes i old new past so_far =
 -- behind whole bytes the bits that fill up all are those that fill up what was written last
 padding_behind : (front back : List Bool) → length front % 8 ≡ 0 → padding (front ++ back) ≡ padding back
 padding_behind front back whole = let same : missing_bits (length (front ++ back)) ≡ missing_bits (length back) = omega (arith, length-append front back) in ap (λ n. replicate n false) same
-
--- a sink that grew by classes and was padded grew by the padded classes
-pub padded_written : (classes : List Class) (old mid new : Written) → length old.written % 8 ≡ 0 → Extends old mid (short_all numbered_class classes) → Extends mid new (padding mid.written)
-    → Extends old new (padded classes)
-padded_written classes old mid new aligned first second =
-    let all = short_all numbered_class classes in
-    let same : padding mid.written ≡ padding all = ap padding first.bits ∙ padding_behind old.written all aligned in
-    extends_by_both old mid new all (padding all) first (subst (Extends mid new) same second)
-
--- and there was room for the padding
-pub room_to_pad : (classes : List Class) (old mid : Written) → length old.written % 8 ≡ 0 → length (padded classes) ≤ old.spare → Extends old mid (short_all numbered_class classes)
-    → length (padding mid.written) ≤ mid.spare
-room_to_pad classes old mid aligned room first =
-    let all = short_all numbered_class classes in
-    let same : padding mid.written ≡ padding all = ap padding first.bits ∙ padding_behind old.written all aligned in
-    omega (arith, room, first.spare, ap length same, length-append all (padding all))

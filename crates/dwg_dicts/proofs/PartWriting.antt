@@ -34,12 +34,6 @@ pub counted_at : {T V : Type 0} (code : Grammar Bool V) (part : T → V) (values
 counted_at {T} code part values i value count more inside here same counted =
     one_counted code part values (drop (i + 1) values) value count more same (subst (λ (left : List T). AreCounted code part values left count) (left_at values i value inside here) counted)
 
--- a part at a place has a spelling
-pub part_at : {T V : Type 0} (code : Grammar Bool V) (part : T → V) (values : List T) (i : ℕ) (value : T) → i < length values → value ≡ get_or values i value
-    → AreValues code (map part (drop i values)) → code.IsValue (part value)
-part_at {T} code part values i value inside here are =
-    (subst (λ (left : List T). AreValues code (map part left)) (left_at values i value inside here) are).0
-
 -- and has no more bits than all
 pub counted_within : {T V : Type 0} (code : Grammar Bool V) (part : T → V) (values : List T) (i : ℕ) (value : T) (count more : ℕ) → i < length values → value ≡ get_or values i value
     → more ≡ length (code.short (part value)) → AreCounted code part values (drop i values) count → count + more ≤ length (short_all code (map part values))

@@ -1,6 +1,6 @@
 //! The objects of frames, in ascending order of their handles.
 
-ghost use Rattle.std.specs.Prelude.{◌≡◌, [], map, IfOk, IfErr};
+ghost use Rattle.std.specs.Prelude.{◌≡◌, [], map, IfErr};
 ghost use Rattle.std.specs.List.Sorted.{IsPermutation, IsNonDecreasingBy};
 ghost use Rattle.dwg_base.specs.Refusals.{IsFaultOfTable};
 ghost use Rattle.dwg_object.specs.Objects.{handle_of, value_of};
@@ -27,34 +27,14 @@ fn sorted<'a>(objects: Vec<Object<'a>>) -> Vec<Object<'a>>
     objects
 }
 
-/// The same items as a list. The only refusal is want of memory.
-fn listed<T: Drop>(alloc: Global, items: Vec<T>) -> Result<Items<T>, NoMemory>
-    ensures { IfOk result (λ list. list ≡ items.items) }
-{
-    let mut list = Items::new(alloc);
-    'along: for item in items {
-        match list.push(item) {
-            Ok(()) => {}
-            Err(_) => return Err(NoMemory),
-        }
-    }
-    Ok(list)
-}
-
-/// The objects in ascending order of their handles, which are distinct, in n log n steps. The only refusal is want of memory.
-pub fn in_handle_order<'a>(
-    alloc: Global,
-    objects: Vec<Object<'a>>,
-) -> Result<Items<Object<'a>>, NoMemory>
+/// The objects in ascending order of their handles, which are distinct, in n log n steps and without taking memory.
+pub fn in_handle_order<'a>(objects: Vec<Object<'a>>) -> Items<Object<'a>>
     requires { AreHandles (map handle_of (values_of objects.items)) }
-    ensures same { IfOk result (λ list. IsPermutation (values_of objects.entry.items) (values_of list)) }
-    ensures ascend { IfOk result (λ list. AreAscending (values_of list)) }
-    ensures sorted { IfOk result (λ list. values_of list ≡ sorted (values_of objects.entry.items)) }
+    ensures same { IsPermutation (values_of objects.entry.items) (values_of result) }
+    ensures ascend { AreAscending (values_of result) }
+    ensures sorted { values_of result ≡ sorted (values_of objects.entry.items) }
 {
-    match listed(alloc, sorted(objects)) {
-        Ok(list) => Ok(list),
-        Err(NoMemory) => Err(NoMemory),
-    }
+    Items::from_vec(sorted(objects))
 }
 
 /// Objects in ascending order of their handles, and their frames in map order.
@@ -84,11 +64,8 @@ pub(crate) fn read_objects<'a>(
         Ok(read) => read,
         Err(fault) => return Err(fault),
     };
-    match in_handle_order(alloc, read.objects) {
-        Ok(objects) => Ok(FramedObjects {
-            objects,
-            frames: read.frames,
-        }),
-        Err(NoMemory) => Err(Fault::NoMemory),
-    }
+    Ok(FramedObjects {
+        objects: in_handle_order(read.objects),
+        frames: read.frames,
+    })
 }

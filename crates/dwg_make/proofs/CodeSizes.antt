@@ -5,11 +5,11 @@ use Rattle.std.specs.List.{AllByRecursion}
 use Rattle.std.proofs.lemmas.List.{length-append}
 use Rattle.dwg_bits.specs.Bits.{low_bits}
 use Rattle.dwg_bits.proofs.BitLaws.{length_of_low_bits}
-use Rattle.dwg_grammar.specs.Codes.{rc, rs, rl, rd, bs, bl, bd, dd, bt, bt_by, bd3, be, be_by, tv, b}
+use Rattle.dwg_grammar.specs.Codes.{rc, rl, rd, bs, bl, bd, dd, bt, bt_by, bd3, be, be_by, tv, b}
 use Rattle.dwg_grammar.specs.Combinators.{never, choose, short_chain, chain, items}
 use Rattle.dwg_grammar.specs.Grammar.{Grammar}
 use Rattle.dwg_grammar.proofs.Bounds.{bs_at_most, bl_at_most, bd_at_most, bd3_at_most, dd_at_most}
-use Rattle.dwg_grammar.proofs.NumberLemmas.{length_of_rs, length_of_rl, length_of_rd}
+use Rattle.dwg_grammar.proofs.NumberLemmas.{length_of_rl, length_of_rd}
 use Rattle.dwg_grammar.specs.declared.points.Point3.{Point3}
 use Rattle.dwg_grammar.specs.Reference.{Reference}
 use Rattle.dwg_grammar.specs.ReferenceCodes.{byte_count, counted_number, absolute, next_handle, handle_before, ahead, back, by_reference_code, reference}
@@ -37,9 +37,6 @@ low_few count value = record { few = omega (arith, length_of_low_bits count valu
 -- RC, RS, RL, RD and B have as many bits as their names say
 pub rc_few : (value : ℕ) → Few 8 (rc.short value)
 rc_few value = low_few 8 value
-
-pub rs_few : (value : ℕ) → Few 16 (rs.short value)
-rs_few value = record { few = omega (arith, length_of_rs value) }
 
 pub rl_few : (value : ℕ) → Few 32 (rl.short value)
 rl_few value = record { few = omega (arith, length_of_rl value) }

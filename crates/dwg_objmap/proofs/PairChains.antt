@@ -3,14 +3,11 @@ use Rattle.std.proofs.Common.{◌≡◌, refl, sym, ◌∙◌, ap, ap₂, ℕ, z
 use Rattle.std.specs.Prelude.{◌==◌, Ok, Err, if◌then◌else◌}
 use Rattle.std.proofs.lemmas.Bool.Decides.{nat_tests}
 use Rattle.std.proofs.lemmas.List.{append-nil}
-use Rattle.dwg_base.specs.Bytes.{AreBytes}
 use Rattle.dwg_base.specs.Refusals.{Tried}
 use Rattle.dwg_grammar.specs.Combinators.{SpellsChain}
 use Rattle.dwg_grammar.specs.ModularCodes.{mc_within, mc}
-use Rattle.dwg_grammar.proofs.ListLemmas.{AreChained}
 use Rattle.dwg_objmap.specs.declared.pair.Pair.{Pair}
 use Rattle.dwg_objmap.specs.Pairs.{IsPair, ORIGIN, PairSpells, pair_behind}
-use Rattle.dwg_objmap.proofs.PairLemmas.{pair_is_code}
 use Rattle.dwg_objmap.specs.Pages.{PairsSpell, AreHandles, handles_of}
 use Rattle.dwg_objmap.specs.MapLines.{map_refusal, last_of, has_handle, with_pair, pairs_behind, FailsAtPair}
 
@@ -21,14 +18,6 @@ SpellBehind before pairs bytes = SpellsChain pair_behind (λ pair. pair) before 
 -- the first pair of a page is told from a pair
 pub origin_is_pair : IsPair ORIGIN
 origin_is_pair = record { handle = omega arith; place = omega arith }
-
--- a pair leads to a pair
-pub pairs_chained : AreChained AreBytes pair_behind (λ pair. pair) IsPair
-unfolding pair_behind
-pairs_chained = record {
-  state_is_code = λ before fits. pair_is_code before fits;
-  next_is_state = λ before pair fits_before fits. fits.0;
-}
 
 -- what is spelled behind a pair is a pair
 pub spelled_is_pair : (before pair : Pair) (bytes : List ℕ) → (pair_behind before).Spells pair bytes → IsPair pair

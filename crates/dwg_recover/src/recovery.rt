@@ -227,7 +227,7 @@ fn parts_recovered<'a>(
     let (lead, mark) = (front.lead, front.mark);
     let variables = variables_at(alloc, bytes, places.variables)?;
     let others = whole_others(alloc, bytes, locators_of(header))?;
-    let objects = in_handle_order(alloc, objects)?;
+    let objects = in_handle_order(objects);
     Ok(Parts {
         lead,
         mark,

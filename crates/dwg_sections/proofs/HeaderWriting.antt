@@ -1,8 +1,8 @@
 -- A file header that is written piece by piece.
-use Rattle.std.proofs.Common.{◌≡◌, ℕ, ◌+◌, ◌<◌, ◌≤◌, List, [], ◌∷◌, ◌++◌, length, take, get_or, sym, ap, ap₂, subst, ◌∙◌, w16, w32, append-nil}
+use Rattle.std.proofs.Common.{◌≡◌, ℕ, ◌+◌, ◌<◌, List, [], ◌∷◌, ◌++◌, length, take, get_or, sym, ap, ap₂, subst, ◌∙◌, w16, w32, append-nil}
 use Rattle.std.specs.List.{flat_map}
 use Rattle.std.specs.Int.{to_le_bytes}
-use Rattle.std.proofs.lemmas.List.{take_more, take_all}
+use Rattle.std.proofs.lemmas.List.{take_more}
 use Rattle.std.proofs.lemmas.List.Concat.{flat_map-append}
 use Rattle.dwg_bits.specs.Bits.{bits}
 use Rattle.dwg_bits.specs.Sink.{Written, Extends}
@@ -35,10 +35,6 @@ one_locator_written old mid new locators i locator d inside here so_far next =
     let all : flat_map locator_bytes (take (i + 1) locators) ≡ flat_map locator_bytes (take i locators) ++ locator_bytes locator =
     ap (flat_map locator_bytes) more ∙ flat_map-append locator_bytes (take i locators) (locator ∷ []) ∙ ap (λ last. flat_map locator_bytes (take i locators) ++ last) one in
     subst (Puts old new) (sym all) (puts_both old mid new (flat_map locator_bytes (take i locators)) (locator_bytes locator) so_far next)
-
--- with all locators taken, all are written
-pub all_locators_written : (old new : Written) (locators : List Locator) (i : ℕ) → length locators ≤ i → Puts old new (flat_map locator_bytes (take i locators)) → Puts old new (flat_map locator_bytes locators)
-all_locators_written old new locators i past so_far = subst (λ all. Puts old new (flat_map locator_bytes all)) (take_all i locators past) so_far
 
 -- a sink that grew by one field after the other grew by the front
 pub front_written : (s0 s1 s2 s3 s4 s5 s6 s7 : Written) (header : FileHeader) (preview code_page count : List ℕ) (locators : List Locator)

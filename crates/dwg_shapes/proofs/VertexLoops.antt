@@ -60,11 +60,6 @@ pub counted_at : (points : List Point2) (before : Option Point2) (i : ℕ) (poin
 counted_at points before i point count more inside here same counted =
     one_counted points before (drop (i + 1) points) point count more same (subst (λ (left : List Point2). AreCounted points before left count) (left_at points i point inside here) counted)
 
--- a point at a place is a value
-pub vertex_at : (points : List Point2) (before : Option Point2) (i : ℕ) (point : Point2) → i < length points → point ≡ get_or points i point → AreLeft before (drop i points)
-    → (vertex before).IsValue point
-vertex_at points before i point inside here are = (subst (AreLeft before) (left_at points i point inside here) are).0
-
 -- and has no more bits than all
 pub counted_within : (points : List Point2) (before : Option Point2) (i : ℕ) (point : Point2) (count more : ℕ) → i < length points → point ≡ get_or points i point
     → more ≡ length ((vertex before).short point) → AreCounted points before (drop i points) count → count + more ≤ length ((vertices (length points)).short points)

@@ -155,24 +155,3 @@ all_written {V} {W} code part members i old new past so_far =
 -- members are joined up to what is left: those so far and those that are joined of what is left are all
 abbrev pub AreJoinedSoFar : {P V : Type 0} → (P → Reference → V) → List P → List Reference → ℕ → List V → Type 0
 AreJoinedSoFar {P} {V} join told names i members = members ++ joined join (drop i told) (drop i names) ≡ joined join told names
-
--- at the begin none is joined
-pub none_joined : {P V : Type 0} (join : P → Reference → V) (told : List P) (names : List Reference) → AreJoinedSoFar join told names 0 []
-none_joined join told names = refl
-
--- with one more joined, those behind it are left
-pub one_joined : {P V : Type 0} (join : P → Reference → V) (told : List P) (names : List Reference) (i : ℕ) (part : P) (name : Reference) (member : V) (members more : List V)
-    → i < length told → length names ≡ length told → part ≡ get_or told i part → name ≡ get_or names i name → member ≡ join part name → more ≡ members ++ member ∷ []
-    → AreJoinedSoFar join told names i members → AreJoinedSoFar join told names (i + 1) more
-one_joined {P} {V} join told names i part name member members more inside as_many here named made pushed so_far =
-    ap (λ (front : List V). front ++ joined join (drop (i + 1) told) (drop (i + 1) names)) (pushed ∙ ap (λ (one : V). members ++ one ∷ []) made)
-    ∙ append_assoc members (join part name ∷ []) (joined join (drop (i + 1) told) (drop (i + 1) names))
-    ∙ ap (λ (left : List P). members ++ joined join left (name ∷ drop (i + 1) names)) (sym (left_at told i part inside here))
-    ∙ ap (λ (left : List Reference). members ++ joined join (drop i told) left) (sym (left_at names i name (omega (arith, inside, as_many)) named))
-    ∙ so_far
-
--- where none is left, all are joined
-pub all_joined : {P V : Type 0} (join : P → Reference → V) (told : List P) (names : List Reference) (i : ℕ) (members : List V) → length told ≤ i
-    → AreJoinedSoFar join told names i members → members ≡ joined join told names
-all_joined {P} {V} join told names i members past so_far =
-    sym (append-nil members) ∙ ap (λ (left : List P). members ++ joined join left (drop i names)) (sym (drop_all i told past)) ∙ so_far

@@ -7,12 +7,12 @@ use Rattle.dwg_recover.proofs.RecoveredLaws.{frames_are_kept}
 use Rattle.dwg_recover.proofs.RecoveryParts.{drawing_is}
 use Rattle.dwg_recover.proofs.recovery.parts_recovered.Goals as goal
 
-pub in_handle_order-requires : goal.in_handle_order-requires
-in_handle_order-requires c =
+pub in_handle_order-objects-requires : goal.in_handle_order-objects-requires
+in_handle_order-objects-requires c =
     let bytes = c.args.bytes.now in
     subst (λ (values : List ObjectValue). AreHandles (map handle_of values)) (sym c.requires.objects) (handles_kept (classes_found bytes) bytes (frames_kept bytes) (frames_are_kept bytes))
 
 pub returns : goal.returns
 returns c =
     drawing_is c.args.bytes.now c.args.header.now _ _ _ _ _ _ _ _ _ _ c.requires.header c.requires.variables c.requires.classes c.front_of-front.ensures.lead c.front_of-front.ensures.mark
-    c.front_of-front.ensures.code_page c.in_ok-variables.ensures c.locators_of.ensures c.in_ok-others.ensures c.requires.objects c.in_ok-objects.ensures.sorted
+    c.front_of-front.ensures.code_page c.in_ok-variables.ensures c.locators_of.ensures c.in_ok-others.ensures c.requires.objects c.in_handle_order-objects.ensures.sorted
