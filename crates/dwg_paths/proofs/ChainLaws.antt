@@ -19,7 +19,7 @@ end_passes test x [] ends = (x, contains_first x [], ends)
 end_passes test x (y ∷ rest) ends = let further = end_passes test y rest ends in (further.0, contains_behind x (y ∷ rest) further.0 further.1, further.2)
 
 -- distinct things, each leading to the next, of which only the last passes, are a straight way to it
-straight_of_chain : {A : Type 0} (step : A → Option A) (last : A → Bool) (x : A) (rest : List A) → AreDistinct (x ∷ rest) → Follows step (x ∷ rest) → Ends last (x ∷ rest) → PassesOnce (x ∷ rest) last → IsStraight step last x rest
+pub straight_of_chain : {A : Type 0} (step : A → Option A) (last : A → Bool) (x : A) (rest : List A) → AreDistinct (x ∷ rest) → Follows step (x ∷ rest) → Ends last (x ∷ rest) → PassesOnce (x ∷ rest) last → IsStraight step last x rest
 unfolding AreDistinct Follows Ends
 straight_of_chain step last x [] distinct follows ends once = ends
 straight_of_chain {A} step last x (y ∷ rest) distinct follows ends once =

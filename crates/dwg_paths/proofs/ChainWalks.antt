@@ -16,10 +16,6 @@ pub at_is : (at : Option ℕ) (x : ℕ) → is_at at x ≡ true → at ≡ Some 
 at_is None x here = absurd (false≢true here)
 at_is (Some y) x here = ⊎_elim (λ same. ap (λ (n : ℕ). Some n) same.1) (λ other. absurd (false≢true (sym other.0 ∙ here))) (eqb_tells y x)
 
--- a place is at itself
-pub at_here : (at : Option ℕ) (x : ℕ) → at ≡ Some x → is_at at x ≡ true
-at_here at x same = ap (λ (o : Option ℕ). is_at o x) same ∙ ⊎_elim (λ here. here.0) (λ other. absurd (other.1 refl)) (eqb_tells x x)
-
 -- one place at most is there
 pub at_one : (at : Option ℕ) (x y : ℕ) → is_at at x ≡ true → is_at at y ≡ true → x ≡ y
 at_one at x y here there = same_Some x y (sym (at_is at x here) ∙ at_is at y there)

@@ -1,6 +1,7 @@
 pub mod ChainLaws
 pub mod MemberLemmas
 pub mod PathLaws
+pub mod Numbering
 pub mod PlaceLaws
 pub mod RankLemmas
 pub mod TestLemmas

@@ -85,12 +85,12 @@ path_of_rank step goal x r here =
     (x ∷ straight.0, path_of_straight step goal x straight.0 straight.1)
 
 -- a goal has rank zero
-rank_of_goal : {A : Type 0} (step : A → Option A) (goal : A → Bool) (x : A) → goal x ≡ true → (rank : ℕ) × HasRank step goal x rank
+pub rank_of_goal : {A : Type 0} (step : A → Option A) (goal : A → Bool) (x : A) → goal x ≡ true → (rank : ℕ) × HasRank step goal x rank
 unfolding HasRank
 rank_of_goal step goal x here = (0, here)
 
 -- what leads to a thing that has a rank has one too
-rank_before : {A : Type 0} (step : A → Option A) (goal : A → Bool) (x y : A) → step x ≡ Some y → (rank : ℕ) × HasRank step goal y rank → (rank : ℕ) × HasRank step goal x rank
+pub rank_before : {A : Type 0} (step : A → Option A) (goal : A → Bool) (x y : A) → step x ≡ Some y → (rank : ℕ) × HasRank step goal y rank → (rank : ℕ) × HasRank step goal x rank
 unfolding HasRank
 rank_before step goal x y to further = ⊎_elim
     (λ here. rank_of_goal step goal x here)

@@ -4,7 +4,7 @@ use Rattle.std.proofs.Math.ListN.{set}
 use Rattle.std.proofs.lemmas.Bool.{false≢true}
 use Rattle.std.proofs.lemmas.Option.{same_Some, none-some}
 use Rattle.std.specs.Prelude.{Contains}
-use Rattle.dwg_paths.specs.Paths.{AreDistinct, Follows, Ends, first_of, IsChain, HasChain}
+use Rattle.dwg_paths.specs.Paths.{AreDistinct, Follows, Ends, first_of, IsChain}
 use Rattle.dwg_paths.specs.Tables.{marked}
 use Rattle.dwg_paths.proofs.Marking.{same_or_other, marked_same, marked_other, marked_still}
 
@@ -67,13 +67,6 @@ chain_of_rest step member first last met at begin unmet (x ∷ xs) rest = record
   follows = rest.follows;
   ends = rest.ends;
 }
-
--- before a walk begins, a chain is what is left at its first
-pub rest_begins : (step : ℕ → Option ℕ) (member first last : ℕ → Bool) (met : List Bool) (at : ℕ) → ((place : ℕ) → first place ≡ true → place ≡ at) → first at ≡ true → ((place : ℕ) → member place ≡ true → marked met place ≡ false) → HasChain step member first last ↔ HasRest step member last met at
-rest_begins step member first last met at one begin unmet = (
-  λ chain. (chain.0, rest_of_chain step member first last met at one unmet chain.0 chain.1),
-  λ rest. (rest.0, chain_of_rest step member first last met at begin unmet rest.0 rest.1),
-)
 
 -- a rest behind its first place, which isn't the last
 rest_behind : (step : ℕ → Option ℕ) (member last : ℕ → Bool) (met : List Bool) (at next : ℕ) → at < length met → last at ≡ false → step at ≡ Some next → (rest : List ℕ) → IsRest step member last met at rest → HasRest step member last (set met at true) next
@@ -191,12 +184,6 @@ rest_ends step member last met at inside lives new end one = (
   λ rest. all_met step member last met at inside one rest.0 rest.1,
   λ all. (at ∷ [], last_left step member last met at lives new end all),
 )
-
--- what is left at a place begins with a member that wasn't met
-pub rest_here : (step : ℕ → Option ℕ) (member last : ℕ → Bool) (met : List Bool) (at : ℕ) (rest : List ℕ) → IsRest step member last met at rest → (member at ≡ true) × (marked met at ≡ false)
-rest_here step member last met at [] rest = absurd (none-some at rest.begins)
-rest_here step member last met at (x ∷ xs) rest =
-    rest.fresh at (subst (λ (n : ℕ). Contains (x ∷ xs) n) (same_Some x at rest.begins) (contains_head x xs))
 
 -- nothing is left at a place that leads nowhere and isn't the last
 pub none_left : (step : ℕ → Option ℕ) (member last : ℕ → Bool) (met : List Bool) (at : ℕ) → last at ≡ false → step at ≡ None → (rest : List ℕ) → IsRest step member last met at rest → ⊥

@@ -8,6 +8,8 @@ pub mod Tables
 pub mod ChainTests
 -- Steps and tests over the places of a list that say what steps and tests over the things there say.
 pub mod ThingsAtPlaces
+-- Numbers that things are given, and what must hold of them so that they tell of paths and chains.
+pub mod Numbered
 -- Marks of places.
 pub mod Marks
 -- What is known of the ranks of places while they are sought.

@@ -8,6 +8,6 @@ mod ranking;
 mod tables;
 
 pub use chaining::chains;
-pub use laws::{chain_laws, path_laws, place_laws};
+pub use laws::{chain_laws, number_laws, path_laws, place_laws};
 pub use ranking::ranks;
 pub use tables::Ends;
