@@ -3,12 +3,12 @@ use Rattle.std.proofs.Common.{◌≡◌, sym, subst, ◌+◌, ◌≤◌, List, [
 use Rattle.std.specs.List.{AllByRecursion}
 use Rattle.std.proofs.lemmas.List.{length-map, get_or-map, get_or_default}
 use Rattle.std.proofs.lemmas.List.Sums.{sum_by-cons}
-use Rattle.dwg_audit.specs.Claimed.{reference_count}
 use Rattle.dwg_audit.specs.Auditable.{CanBeAudited}
 use Rattle.dwg_file.specs.Canonical.{frames_bytes}
 use Rattle.dwg_file.specs.Contents.{Contents}
 use Rattle.dwg_file.specs.Spelled.{AreAscending}
 use Rattle.dwg_file.specs.Valid.{IsValid}
+use Rattle.dwg_graph.specs.Claimed.{reference_count}
 use Rattle.dwg_graph.specs.Places.{Ascend, handles_of}
 use Rattle.dwg_graph.specs.SlotLaws.{SlotsAreFew}
 use Rattle.dwg_graph.specs.Slots.{slots}

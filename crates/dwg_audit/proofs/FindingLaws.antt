@@ -9,15 +9,17 @@ use Rattle.std.specs.Option.{option_map_or}
 use Rattle.dwg_audit.specs.declared.finding.Finding.{Finding}
 use Rattle.dwg_audit.specs.declared.finding.Rule.TheVariants as rules
 use Rattle.dwg_audit.specs.Failures.{IsControlFinding, IsReferenceOf, IsResolveFinding, IsClaimFinding, IsChainFinding, IsPathFinding, IsFindingOf, IsFinding}
-use Rattle.dwg_audit.specs.Findings.{unless, control_findings, is_met, unmet, is_application, owner_slot, references, resolve_findings, is_exempt, is_claimed, claim_findings, is_chained, chain_findings, path_findings, findings_of, findings}
-use Rattle.dwg_audit.proofs.FindingTests.{met_decided, exempt_decided, claimed_decided, chained_decided, owner_path_decided}
-use Rattle.dwg_audit.proofs.ListLemmas.{empty_of_none, none_of_empty, contains_one, contained_in_one, contained_in_all}
+use Rattle.dwg_audit.specs.Findings.{unless, control_findings, unmet, is_application, owner_slot, references, resolve_findings, claim_findings, is_chained, chain_findings, path_findings, findings_of, findings}
+use Rattle.dwg_audit.proofs.FindingTests.{chained_decided, owner_path_decided}
 use Rattle.dwg_graph.specs.declared.slot.Slot.{Slot}
 use Rattle.dwg_graph.specs.Graph.{is_typed, is_header, claims, owner_step, root_at, EndHandles, ends_of, HasOwnerPath, HasMemberChain}
 use Rattle.dwg_graph.specs.Owners.{block_controls, spaces, owner_of}
 use Rattle.dwg_graph.specs.Places.{Ascend, handles_of}
 use Rattle.dwg_graph.specs.Slots.{slots}
 use Rattle.dwg_graph.specs.Sound.{MeetsSome, Resolves, IsExempt, IsClaimed, IsSound}
+use Rattle.dwg_graph.specs.Tests.{is_met, is_exempt, is_claimed}
+use Rattle.dwg_graph.proofs.ListLemmas.{empty_of_none, none_of_empty, contains_one, contained_in_one, contained_in_all}
+use Rattle.dwg_graph.proofs.Tests.{met_decided, exempt_decided, claimed_decided}
 use Rattle.dwg_kinds.specs.Needs.{need_of}
 use Rattle.dwg_object.specs.Objects.{ObjectValue, TypedValue, PlainValue, RawValue, handle_of, kind_of}
 use Rattle.dwg_paths.proofs.MemberLemmas.{contains_none, contains_first, contains_behind, contains_cases}

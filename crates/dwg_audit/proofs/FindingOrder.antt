@@ -6,12 +6,10 @@ use Rattle.std.specs.Prelude.{◌≢◌, ◌<◌, if◌then◌else◌, ℕ, Bool
 use Rattle.std.specs.List.{AllByRecursion, flat_map}
 use Rattle.dwg_audit.specs.declared.finding.Finding.{Finding}
 use Rattle.dwg_audit.specs.Failures.{IsFindingOf, rule_number, StandsBefore}
-use Rattle.dwg_audit.specs.Findings.{unless, control_findings, is_met, unmet, is_application_field, is_application, owner_slot, references, resolve_findings, claim_findings, chain_findings, path_findings, findings_of, findings}
-use Rattle.dwg_audit.proofs.FindingTests.{IsBefore, objects_ordered}
+use Rattle.dwg_audit.specs.Findings.{unless, control_findings, unmet, is_application_field, is_application, owner_slot, references, resolve_findings, claim_findings, chain_findings, path_findings, findings_of, findings}
 use Rattle.dwg_audit.proofs.FindingLaws.{unless_stands, control_stands, resolve_finding, resolve_stands, claim_stands, chain_stands, path_stands, object_stands}
 use Rattle.dwg_audit.proofs.SlotFields.{slots_without_owner}
 use Rattle.dwg_audit.proofs.Judging.{one_of_all}
-use Rattle.dwg_audit.proofs.ListLemmas.{contained_in_one, pairs_none, pairs_more, pairs_joined, pairs_of_joined, pairs_kept}
 use Rattle.dwg_graph.specs.declared.owner.SpaceHandles.{SpaceHandles}
 use Rattle.dwg_graph.specs.declared.slot.Slot.{Slot}
 use Rattle.dwg_graph.specs.Graph.{is_typed}
@@ -20,6 +18,9 @@ use Rattle.dwg_graph.specs.Places.{Ascend, handles_of}
 use Rattle.dwg_graph.specs.SlotLaws as slot_laws
 use Rattle.dwg_graph.specs.SlotLaws.{SlotsAscend}
 use Rattle.dwg_graph.specs.Slots.{slots}
+use Rattle.dwg_graph.specs.Tests.{is_met}
+use Rattle.dwg_graph.proofs.ListLemmas.{contained_in_one, pairs_none, pairs_more, pairs_joined, pairs_of_joined, pairs_kept}
+use Rattle.dwg_graph.proofs.Tests.{IsBefore, objects_ordered}
 use Rattle.dwg_kinds.specs.declared.field.Field.{Field}
 use Rattle.dwg_kinds.specs.declared.field.Field.TheVariants as fields
 use Rattle.dwg_kinds.specs.Needs.{field_number}

@@ -5,8 +5,8 @@ use Rattle.std.specs.Option.{option_map}
 use Rattle.std.proofs.lemmas.List.{length-map}
 use Rattle.std.proofs.lemmas.Option.{get_or_from_slice_get, slice_get-map, slice_get_read}
 use Rattle.dwg_audit.specs.Lookups.{slot_places}
-use Rattle.dwg_audit.specs.Placed.{place_in}
 use Rattle.dwg_graph.specs.declared.slot.Slot.{Slot}
+use Rattle.dwg_graph.specs.Placed.{place_in}
 
 -- one that is given is one that is held
 pub slot_there : (held given : List Slot) (i : ℕ) (slot : Slot) → given ≡ held → i < length given → slot ≡ get_or given i slot → slice_get held i ≡ Some slot

@@ -4,10 +4,10 @@ use Rattle.std.specs.Prelude.{◌==◌, find, if◌then◌else◌, map}
 use Rattle.std.specs.Option.{option_and_then}
 use Rattle.std.proofs.lemmas.List.{append_assoc}
 use Rattle.dwg_audit.specs.Lookups.{is_of, place_of}
-use Rattle.dwg_audit.specs.Placed.{place_in}
 use Rattle.dwg_common.specs.declared.entity.Links.{Links}
 use Rattle.dwg_graph.specs.declared.slot.Slot.{Slot}
 use Rattle.dwg_graph.specs.Graph.{ends_of, known_ends}
+use Rattle.dwg_graph.specs.Placed.{place_in}
 use Rattle.dwg_graph.specs.Slots.{slots_from, listed, one, maybe, link_slots, entity_slots, object_slots, common_slots, end_slots, body_slots, slots}
 use Rattle.dwg_grammar.specs.Reference.{Reference}
 use Rattle.dwg_kinds.specs.declared.field.Field.{Field}

@@ -3,8 +3,8 @@ use Rattle.std.proofs.Common.{◌≡◌, refl, ◌∙◌, ap, ◌<◌, ℕ, List
 use Rattle.std.specs.List.{slice_get}
 use Rattle.std.specs.Option.{option_map, option_and_then}
 use Rattle.std.proofs.lemmas.Option.{slice_get-map, slice_get_read, get_or_from_slice_get}
-use Rattle.dwg_audit.specs.Placed.{owner_place, owner_table, home_at, home_place}
 use Rattle.dwg_graph.specs.declared.owner.SpaceHandles.{SpaceHandles}
+use Rattle.dwg_graph.specs.Placed.{owner_place, owner_table, home_at, home_place}
 use Rattle.dwg_object.specs.declared.object.Object as declared
 use Rattle.dwg_object.specs.Objects.{value_of}
 

@@ -9,7 +9,7 @@ use Rattle.std.proofs.lemmas.Option.{same_Some, slice_get-map, slice_get-get_or}
 use Rattle.dwg_audit.proofs.Choosing.{drop_at_place}
 use Rattle.dwg_base.specs.declared.device.NoMemory.{NoMemory}
 use Rattle.dwg_audit.specs.Findings.{control_findings, findings, resolve_findings, claim_findings, chain_findings, path_findings, findings_of}
-use Rattle.dwg_audit.specs.Held.{HoldsFields}
+use Rattle.dwg_graph.specs.SlotLaws.{HoldsFields}
 use Rattle.dwg_audit.specs.declared.finding.Finding.{Finding}
 use Rattle.dwg_graph.specs.declared.owner.SpaceHandles.{SpaceHandles}
 use Rattle.dwg_graph.specs.Graph.{is_typed}
@@ -42,15 +42,6 @@ unfolding findings_of
 found_nothing objects known x found untyped =
     sym (append-nil found)
     ∙ ap (λ t. found ++ (if t then resolve_findings objects known x ++ (claim_findings objects known x ++ (chain_findings objects known x ++ path_findings objects known x)) else [])) (sym untyped)
-
--- a Typed object that is whole holds the fields of its references
-pub holds_fields : SlotsAreHeld → OwnersAreHeld → (x : ObjectValue) → IsWhole x → IsTrue (is_typed x) → HoldsFields x
-holds_fields held owned (TypedValue number handle common body) whole typed = record {
-  slots = λ slot stands. held (TypedValue number handle common body) slot whole stands;
-  owner = owned number handle common body;
-}
-holds_fields held owned (PlainValue number handle common rest refs) whole typed = absurd (cc typed)
-holds_fields held owned (RawValue number handle bytes) whole typed = absurd (cc typed)
 
 -- one of all objects has what all have
 pub one_of_all : (P : ObjectValue → Type 0) (objects : List ObjectValue) (place : ℕ) (x : ObjectValue) → AllByRecursion P objects → slice_get objects place ≡ Some x → P x

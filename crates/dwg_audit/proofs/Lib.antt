@@ -1,12 +1,7 @@
 pub mod FindingLaws
 pub mod FindingOrder
 pub mod FindingTests
-pub mod ListLemmas
 pub mod SlotFields
-pub mod PlacedObjects
-pub mod PlacedPaths
-pub mod PlacedChains
-pub mod Placing
 pub mod Homes
 pub mod LookupSteps
 pub mod Slicing
@@ -14,10 +9,6 @@ pub mod LookingUp
 pub mod HeaderEnds
 pub mod GivenSlots
 pub mod Choosing
-pub mod Sufficing
-pub mod Counting
-pub mod SlotLoops
-pub mod HolderLoops
 pub mod Standings
 pub mod Judging
 pub mod Auditable

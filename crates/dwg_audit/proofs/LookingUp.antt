@@ -4,14 +4,14 @@ use Rattle.std.proofs.lemmas.List.{length-map}
 use Rattle.std.proofs.lemmas.Simd.{map-map}
 use Rattle.dwg_audit.proofs.LookupSteps.{all_taken}
 use Rattle.dwg_audit.proofs.Slicing.{slots_counted}
-use Rattle.dwg_audit.specs.Claimed.{reference_count}
 use Rattle.dwg_audit.specs.declared.lookups.Gathered.{Gathered}
 use Rattle.dwg_audit.specs.declared.lookups.Lookups.{Lookups}
 use Rattle.dwg_audit.specs.Lookups.{AreGathered, AreLookups, AreStarts, TakeAtMost, all_slots}
-use Rattle.dwg_audit.specs.Placed.{place_in}
 use Rattle.dwg_graph.specs.declared.owner.SpaceHandles.{SpaceHandles}
 use Rattle.dwg_graph.specs.declared.slot.Slot.{Slot}
+use Rattle.dwg_graph.specs.Claimed.{reference_count}
 use Rattle.dwg_graph.specs.Owners.{next_of, owner_of}
+use Rattle.dwg_graph.specs.Placed.{place_in}
 use Rattle.dwg_graph.specs.Places.{handles_of}
 use Rattle.dwg_object.specs.declared.object.Object as declared
 use Rattle.dwg_object.specs.Objects.{ObjectValue, handle_of, value_of}

@@ -6,14 +6,14 @@ use Rattle.std.proofs.lemmas.Bool.{cases_lt}
 use Rattle.std.proofs.lemmas.List.{append_assoc, append-nil, map-append, drop-drop, drop_at, length-append, length-map, take_all, take_at, take_more, take-append-le, get_or_append_left, get_or_push}
 use Rattle.std.proofs.lemmas.List.Concat.{length-flat_map}
 use Rattle.std.proofs.lemmas.Option.{same_Some, slice_get_within, get_or_from_slice_get}
-use Rattle.dwg_audit.proofs.Counting.{value_there}
-use Rattle.dwg_audit.specs.Claimed.{reference_count}
 use Rattle.dwg_audit.specs.declared.lookups.Gathered.{Gathered}
 use Rattle.dwg_audit.specs.Lookups.{AreGathered, AreStarts, all_slots, part_of}
 use Rattle.dwg_graph.specs.declared.owner.SpaceHandles.{SpaceHandles}
+use Rattle.dwg_graph.specs.Claimed.{reference_count}
 use Rattle.dwg_graph.specs.Owners.{next_of, owner_of}
 use Rattle.dwg_graph.specs.declared.slot.Slot.{Slot}
 use Rattle.dwg_graph.specs.Slots.{slots}
+use Rattle.dwg_graph.proofs.Counting.{value_there}
 use Rattle.dwg_object.specs.declared.object.Object as declared
 use Rattle.dwg_object.specs.Objects.{ObjectValue, value_of}
 

@@ -5,18 +5,18 @@ use Rattle.std.specs.List.{slice_get, slice_index_or}
 use Rattle.std.specs.Option.{option_map}
 use Rattle.std.proofs.lemmas.Bool.{cases_Bool}
 use Rattle.std.proofs.lemmas.Option.{same_Some, slice_get-map, slice_get_within, slice_get-get_or}
-use Rattle.dwg_audit.proofs.PlacedChains.{chain_placed}
-use Rattle.dwg_audit.proofs.PlacedPaths.{in_table, path_placed}
 use Rattle.dwg_audit.specs.declared.tables.Tables.{Tables}
-use Rattle.dwg_audit.specs.Claimed.{claims_held}
 use Rattle.dwg_audit.specs.Findings.{is_chained}
 use Rattle.dwg_audit.proofs.FindingTests.{chained_decided}
-use Rattle.dwg_audit.specs.Placed.{home_place, owner_place}
 use Rattle.dwg_audit.specs.Standing.{IsStanding}
 use Rattle.dwg_audit.specs.Tabled.{AreTables}
+use Rattle.dwg_graph.specs.Claimed.{claims_held}
 use Rattle.dwg_graph.specs.Graph.{claims, ends_of, HasMemberChain}
 use Rattle.dwg_graph.specs.Owners.{spaces, owner_of}
+use Rattle.dwg_graph.specs.Placed.{home_place, owner_place}
 use Rattle.dwg_graph.specs.Places.{Ascend, handles_of}
+use Rattle.dwg_graph.proofs.PlacedChains.{chain_placed}
+use Rattle.dwg_graph.proofs.PlacedPaths.{in_table, path_placed}
 use Rattle.dwg_object.specs.Objects.{ObjectValue, handle_of}
 use Rattle.dwg_paths.specs.Tables.{leads, marked}
 

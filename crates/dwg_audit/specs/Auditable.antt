@@ -1,9 +1,9 @@
 -- What an audit asks of objects, and that those of a valid drawing are such. A rule of this project.
 use Rattle.std.specs.Prelude.{◌+◌, ◌<◌, ◌^◌, List, length}
 use Rattle.std.specs.List.{AllByRecursion}
-use Rattle.dwg_audit.specs.Claimed.{reference_count}
 use Rattle.dwg_file.specs.Contents.{Contents}
 use Rattle.dwg_file.specs.Valid.{IsValid}
+use Rattle.dwg_graph.specs.Claimed.{reference_count}
 use Rattle.dwg_graph.specs.Places.{Ascend, handles_of}
 use Rattle.dwg_object.specs.Objects.{ObjectValue}
 use Rattle.dwg_object.specs.Written.{IsWhole}

@@ -1,23 +1,18 @@
 -- What an audit finds, by a test for each rule. A rule of this project.
-use Rattle.std.specs.Prelude.{◌==◌, ◌||◌, ℕ, Bool, true, false, List, [], ◌∷◌, ◌++◌, length, map, not, Option, Some, None, is_some, if◌then◌else◌}
+use Rattle.std.specs.Prelude.{◌==◌, ◌||◌, ℕ, Bool, true, false, List, [], ◌∷◌, ◌++◌, length, map, not, Option, Some, None, if◌then◌else◌}
 use Rattle.std.specs.List.{list_any, filter, flat_map}
-use Rattle.std.specs.Option.{option_map, option_map_or}
+use Rattle.std.specs.Option.{option_map_or}
 use Rattle.dwg_audit.specs.declared.finding.Finding.{Finding}
 use Rattle.dwg_audit.specs.declared.finding.Rule.TheVariants as rules
 use Rattle.dwg_graph.specs.declared.owner.SpaceHandles.{SpaceHandles}
 use Rattle.dwg_graph.specs.declared.slot.Slot.{Slot}
-use Rattle.dwg_graph.specs.Graph.{is_typed, is_header, object_at, is_root, is_member, Claim, claims, owner_step, next_step, root_at, member_at, EndHandles, ends_of}
+use Rattle.dwg_graph.specs.Graph.{is_typed, is_header, is_member, claims, owner_step, next_step, root_at, member_at, EndHandles, ends_of}
 use Rattle.dwg_graph.specs.Owners.{block_controls, spaces, owner_of}
 use Rattle.dwg_graph.specs.Slots.{slots}
+use Rattle.dwg_graph.specs.Tests.{is_met, is_exempt, is_claimed}
 use Rattle.dwg_kinds.specs.declared.field.Field.{Field}
 use Rattle.dwg_kinds.specs.declared.field.Field.TheVariants as fields
-use Rattle.dwg_kinds.specs.declared.field.Need.{Need}
-use Rattle.dwg_kinds.specs.declared.field.Need.TheVariants.{Null, Any, NullOrAny, Entity, NullOrEntity, Is, NullOrIs, Attributed}
-use Rattle.dwg_kinds.specs.declared.kind.Kind.{Kind}
-use Rattle.dwg_kinds.specs.declared.kind.Kind.TheVariants as kinds
-use Rattle.dwg_kinds.specs.Kinds.{is_entity_kind, same_kind}
-use Rattle.dwg_kinds.specs.Needs.{need_of}
-use Rattle.dwg_object.specs.Objects.{ObjectValue, handle_of, kind_of}
+use Rattle.dwg_object.specs.Objects.{ObjectValue, handle_of}
 use Rattle.dwg_paths.specs.Ways.{has_path, has_chain}
 
 -- a finding where a test fails, and none where it holds
@@ -29,29 +24,6 @@ unfoldable pub control_findings : List ObjectValue → List Finding
 control_findings objects =
     let count : ℕ = length (block_controls objects) in
     unless (count == 1) (record { handle = 0; rule = rules.Control; field = None; position = count; target = 0 })
-
--- a kind is one of those that can have attributes
-abbrev pub is_attributed : Kind → Bool
-is_attributed kind = same_kind kinds.Insert kind || same_kind kinds.PlainEntity kind
-
--- a target meets a need, where that is the kind of the object that has the handle
-unfoldable pub meets : Need → ℕ → Option Kind → Bool
-meets Null target found = target == 0
-meets Any target found = is_some found
-meets NullOrAny target found = (target == 0) || is_some found
-meets Entity target found = option_map_or is_entity_kind found false
-meets NullOrEntity target found = (target == 0) || option_map_or is_entity_kind found false
-meets (Is kind) target found = option_map_or (same_kind kind) found false
-meets (NullOrIs kind) target found = (target == 0) || option_map_or (same_kind kind) found false
-meets Attributed target found = option_map_or is_attributed found false
-
--- the kind of the object of a handle
-abbrev pub kind_at : List ObjectValue → ℕ → Option Kind
-kind_at objects handle = option_map kind_of (object_at objects handle)
-
--- a reference of an object meets its need
-unfoldable pub is_met : List ObjectValue → ObjectValue → Slot → Bool
-is_met objects x slot = option_map_or (λ need. meets need slot.target (kind_at objects slot.target)) (need_of slot.field (kind_of x)) false
 
 -- a reference that doesn't
 abbrev pub unmet : List ObjectValue → ObjectValue → Slot → List Finding
@@ -77,28 +49,6 @@ references known x = filter is_application (slots x) ++ owner_slot known x ∷ f
 -- the references of an object that don't meet their needs
 unfoldable pub resolve_findings : List ObjectValue → Option SpaceHandles → ObjectValue → List Finding
 resolve_findings objects known x = flat_map (unmet objects x) (references known x)
-
--- no claim is asked for
-unfoldable pub is_exempt : List ObjectValue → Option SpaceHandles → ObjectValue → Bool
-is_exempt objects known x =
-    is_root known x || (same_kind kinds.Attrib (kind_of x) || option_map_or (λ owner. is_member known owner x) (object_at objects (owner_of known x)) false)
-
--- the only claim is by that holder
-abbrev pub is_sole_claim : ℕ → List Claim → Bool
-is_sole_claim holder [] = false
-is_sole_claim holder (claim ∷ []) = claim.holder == holder
-is_sole_claim holder (claim ∷ other ∷ more) = false
-
--- there is no claim
-abbrev pub is_unclaimed : List Claim → Bool
-is_unclaimed [] = true
-is_unclaimed (claim ∷ more) = false
-
--- the owner claims it alone where it is Typed, and nothing does where it isn't
-unfoldable pub is_claimed : List ObjectValue → Option SpaceHandles → ObjectValue → Bool
-is_claimed objects known x =
-    let all : List Claim = claims objects (handle_of x) in
-    option_map_or (λ owner. if is_typed owner then is_sole_claim (owner_of known x) all else is_unclaimed all) (object_at objects (owner_of known x)) false
 
 -- an object of which a claim is asked, and that isn't claimed so
 unfoldable pub claim_findings : List ObjectValue → Option SpaceHandles → ObjectValue → List Finding

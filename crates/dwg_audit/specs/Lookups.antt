@@ -5,10 +5,10 @@ use Rattle.std.specs.Option.{option_and_then}
 use Rattle.dwg_audit.specs.declared.lookups.Gathered.{Gathered}
 use Rattle.dwg_audit.specs.declared.lookups.Lookups.{Lookups}
 use Rattle.dwg_audit.specs.declared.lookups.SlotTable.{SlotTable}
-use Rattle.dwg_audit.specs.Placed.{next_table, owner_table, place_in}
 use Rattle.dwg_graph.specs.declared.owner.SpaceHandles.{SpaceHandles}
 use Rattle.dwg_graph.specs.declared.slot.Slot.{Slot}
 use Rattle.dwg_graph.specs.Owners.{next_of, owner_of}
+use Rattle.dwg_graph.specs.Placed.{next_table, owner_table, place_in}
 use Rattle.dwg_graph.specs.Places.{handles_of}
 use Rattle.dwg_graph.specs.Slots.{slots}
 use Rattle.dwg_kinds.specs.declared.field.Field.{Field}

@@ -2,11 +2,11 @@
 use Rattle.std.specs.Prelude.{◌≡◌, List, length}
 use Rattle.std.specs.List.{filter}
 use Rattle.dwg_audit.specs.declared.standing.Standing.{Standing}
-use Rattle.dwg_audit.specs.Counts.{by_holder}
 use Rattle.dwg_audit.specs.Findings.{is_chained}
-use Rattle.dwg_audit.specs.Placed.{home_place, owner_place}
+use Rattle.dwg_graph.specs.Counts.{by_holder}
 use Rattle.dwg_graph.specs.Graph.{claims, ends_of, owner_step, root_at}
 use Rattle.dwg_graph.specs.Owners.{spaces, owner_of}
+use Rattle.dwg_graph.specs.Placed.{home_place, owner_place}
 use Rattle.dwg_graph.specs.Places.{handles_of}
 use Rattle.dwg_object.specs.Objects.{ObjectValue, handle_of}
 use Rattle.dwg_paths.specs.Ways.{has_path}

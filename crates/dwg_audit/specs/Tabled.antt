@@ -1,10 +1,10 @@
 -- What is known of all objects before the first of them is judged. A rule of this project.
 use Rattle.std.specs.Prelude.{◌≡◌, ◌<◌, ◌↔◌, ℕ, List, length, IsTrue}
-use Rattle.dwg_audit.specs.Claimed.{claim_counts, own_counts}
 use Rattle.dwg_audit.specs.declared.tables.Tables.{Tables}
 use Rattle.dwg_audit.specs.Lookups.{AreLookups}
-use Rattle.dwg_audit.specs.Placed.{owner_table, next_table, root_table, home_table, end_table}
+use Rattle.dwg_graph.specs.Claimed.{claim_counts, own_counts}
 use Rattle.dwg_graph.specs.Owners.{spaces}
+use Rattle.dwg_graph.specs.Placed.{owner_table, next_table, root_table, home_table, end_table}
 use Rattle.dwg_object.specs.Objects.{ObjectValue}
 use Rattle.dwg_paths.specs.Tables.{leads, marked, ends_at, RankIs, HasChainAt}
 

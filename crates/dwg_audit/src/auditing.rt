@@ -2,11 +2,11 @@
 
 ghost use Rattle.std.specs.Prelude.{◌≡◌, ◌↔◌, ◌<◌, ◌≤◌, ◌^◌, ◌+◌, ◌*◌, ◌++◌, ℕ, [], Some, length, map, IfOk, OnOk};
 ghost use Rattle.std.specs.List.{AllByRecursion, slice_get};
-ghost use Rattle.dwg_audit.specs.Claimed.{reference_count};
 ghost use Rattle.dwg_audit.specs.Findings.{control_findings, findings, findings_of};
 ghost use Rattle.dwg_audit.specs.Lookups.{slot_places};
 ghost use Rattle.dwg_audit.specs.Standing.{IsStanding};
 ghost use Rattle.dwg_audit.specs.Tabled.{AreTables};
+ghost use Rattle.dwg_graph.specs.Claimed.{reference_count};
 ghost use Rattle.dwg_graph.specs.Owners.{spaces};
 ghost use Rattle.dwg_graph.specs.Places.{Ascend, handles_of};
 ghost use Rattle.dwg_graph.specs.Slots.{slots};
@@ -18,11 +18,11 @@ use crate::finding::{Finding, Rule};
 use crate::laws::finding_laws;
 use crate::lookups::{places_at, slots_at};
 use crate::resolving::push_unresolved;
-use crate::rules::{is_typed, push_lost, push_unchained, push_unclaimed, push_unless};
+use crate::rules::{push_lost, push_unchained, push_unclaimed, push_unless};
 use crate::standing::{Standing, standing_at};
 use crate::tables::{Tables, tabulate};
 use dwg_base::{Handle, Items, NoMemory};
-use dwg_graph::{Slot, SpaceHandles, control_count, slot_laws};
+use dwg_graph::{Slot, SpaceHandles, control_count, is_typed, slot_laws};
 use dwg_object::Object;
 use dwg_steps::Steps;
 use std::alloc::Global;

@@ -6,7 +6,6 @@ mod claims;
 mod finding;
 mod laws;
 mod lookups;
-mod needs;
 mod places;
 mod resolving;
 mod rules;

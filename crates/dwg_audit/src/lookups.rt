@@ -2,9 +2,9 @@
 
 ghost use Rattle.std.specs.Prelude.{◌≡◌, ◌<◌, ◌≤◌, ◌+◌, ◌*◌, ◌^◌, ◌-◌, ◌++◌, ℕ, suc, List, [], ◌∷◌, None, Some, length, map, take, drop, IfOk, IfSome, OnOk};
 ghost use Rattle.std.specs.List.{slice_get, slice_index_or};
-ghost use Rattle.dwg_audit.specs.Claimed.{reference_count};
 ghost use Rattle.dwg_audit.specs.Lookups.{AreGathered, AreLookups, AreStarts, IsSlotTable, TakeAtMost, all_slots, part_of, slot_places};
-ghost use Rattle.dwg_audit.specs.Placed.{place_in};
+ghost use Rattle.dwg_graph.specs.Claimed.{reference_count};
+ghost use Rattle.dwg_graph.specs.Placed.{place_in};
 ghost use Rattle.dwg_graph.specs.Places.{Ascend, handles_of};
 ghost use Rattle.dwg_graph.specs.Slots.{slots};
 ghost use Rattle.dwg_object.specs.Objects.{ObjectValue, value_of};
@@ -86,7 +86,7 @@ impl Names for Slot {
 }
 
 /// The place of a handle among the handles of an index.
-#[tactic(auto, using(crate::proofs::Placing::place_known))]
+#[tactic(auto, using(dwg_graph::proofs::Placing::place_known))]
 fn find_place<L: Ledger>(index: &Index, handle: Handle, steps: &mut Steps<L>) -> Option<usize>
     requires ascend { Ascend index.now }
     ensures place { result ≡ place_in index.now handle }

@@ -1,68 +1,20 @@
 //! The references of objects as tables of places.
 
-ghost use Rattle.std.specs.Prelude.{◌≡◌, ◌==◌, ℕ, List, [], ◌∷◌, ◌++◌, length, map, IfOk};
-ghost use Rattle.std.specs.List.{list_any};
-ghost use Rattle.std.specs.Option.{option_and_then, option_map};
+ghost use Rattle.std.specs.Prelude.{◌≡◌, ℕ, List, [], ◌∷◌, ◌++◌, length, map, IfOk};
+ghost use Rattle.std.specs.Option.{option_map};
 ghost use Rattle.dwg_audit.specs.Lookups.{IsSlotTable, is_of, place_of, slot_places};
-ghost use Rattle.dwg_audit.specs.Placed.{place_in, owner_table, root_table, home_table, home_at, end_places, end_table};
-ghost use Rattle.dwg_graph.specs.Graph.{is_raw, is_header, is_root, is_member, is_member_kind, known_ends, ends_of, TOP_NUMBERS};
+ghost use Rattle.dwg_graph.specs.Graph.{known_ends, ends_of};
+ghost use Rattle.dwg_graph.specs.Placed.{place_in, owner_table, root_table, home_table, end_places, end_table};
 ghost use Rattle.dwg_graph.specs.Slots.{slots};
-ghost use Rattle.dwg_object.specs.Objects.{number_of, value_of};
+ghost use Rattle.dwg_object.specs.Objects.{value_of};
 
 use crate::lookups::{SlotTable, places_at, push_item, slots_at};
 use dwg_base::NoMemory;
-use dwg_graph::{Slot, SpaceHandles, owner_of};
-use dwg_kinds::{Field, Kind, is_entity, is_same, number_of};
+use dwg_graph::{Slot, SpaceHandles, home_of, is_root};
+use dwg_kinds::{Field, number_of};
 use dwg_object::{Body, Object};
 use dwg_paths::Ends;
 use std::alloc::Global;
-
-/// Whether objects of a type number stand at the top of a drawing.
-fn is_top(number: u16) -> bool
-    ensures { result ≡ list_any (λ other. other == number) TOP_NUMBERS }
-{
-    match number {
-        48 | 50 | 52 | 56 | 60 | 62 | 64 | 66 | 68 | 70 => true,
-        _ => false,
-    }
-}
-
-/// Whether an object is Raw.
-fn is_raw(object: &Object<'_>) -> bool
-    ensures { result ≡ is_raw (value_of object.now) }
-{
-    match object {
-        Object::Raw(_) => true,
-        _ => false,
-    }
-}
-
-/// Whether an object is a Typed BLOCK HEADER.
-pub(crate) fn is_header(object: &Object<'_>) -> bool
-    ensures { result ≡ is_header (value_of object.now) }
-{
-    match object {
-        Object::Typed(typed) => match &typed.body {
-            Body::BlockHeader(_) => true,
-            _ => false,
-        },
-        _ => false,
-    }
-}
-
-/// Whether an object is a root: Raw, or a DICTIONARY or an object that stands at the top of a drawing, without an owner.
-#[tactic(auto, unfolding(dwg_graph::specs::Graph::is_root))]
-pub(crate) fn is_root(object: &Object<'_>, known: &Option<SpaceHandles>) -> bool
-    ensures { result ≡ is_root known.now (value_of object.now) }
-{
-    if is_raw(object) {
-        return true;
-    }
-    if is_same(Kind::Dictionary, object.kind()) || is_top(object.number()) {
-        return owner_of(object, *known).value() == 0;
-    }
-    false
-}
 
 /// For each object whether it is a root. Want of memory is the only refusal.
 pub(crate) fn root_marks(
@@ -77,80 +29,6 @@ pub(crate) fn root_marks(
         push_item(&mut marks, is_root(object, known))?;
     }
     Ok(marks)
-}
-
-/// Whether entities of a kind are members of the block that owns them.
-#[tactic(auto, unfolding(dwg_graph::specs::Graph::is_member_kind))]
-fn can_be_member(kind: Kind) -> bool
-    ensures { result ≡ is_member_kind kind }
-{
-    if !is_entity(kind) {
-        return false;
-    }
-    if is_same(Kind::Block, kind) {
-        return false;
-    }
-    if is_same(Kind::EndBlk, kind) {
-        return false;
-    }
-    !is_same(Kind::Attrib, kind)
-}
-
-/// Whether an object is a member of the block of a header.
-#[tactic(auto, unfolding(dwg_graph::specs::Graph::is_member))]
-pub(crate) fn is_member(
-    header: &Object<'_>,
-    object: &Object<'_>,
-    known: &Option<SpaceHandles>,
-) -> bool
-    ensures { result ≡ is_member known.now (value_of header.now) (value_of object.now) }
-{
-    if !is_header(header) {
-        return false;
-    }
-    if is_raw(object) {
-        return false;
-    }
-    if !can_be_member(object.kind()) {
-        return false;
-    }
-    owner_of(object, *known) == header.handle()
-}
-
-/// Where the block stands of which an object is a member, whose owner stands there.
-fn home_at(
-    objects: &[Object<'_>],
-    known: &Option<SpaceHandles>,
-    object: &Object<'_>,
-    place: usize,
-) -> Option<usize>
-    ensures { result ≡ home_at (map value_of objects.now) known.now (value_of object.now) place }
-{
-    match objects.get(place) {
-        Some(owner) => {
-            if is_member(owner, object, known) {
-                Some(place)
-            } else {
-                None
-            }
-        }
-        None => None,
-    }
-}
-
-/// Where the block stands of which an object is a member, whose owner may stand somewhere.
-fn home_of(
-    objects: &[Object<'_>],
-    known: &Option<SpaceHandles>,
-    object: &Object<'_>,
-    owner: Option<usize>,
-) -> Option<usize>
-    ensures { result ≡ option_and_then (home_at (map value_of objects.now) known.now (value_of object.now)) owner }
-{
-    match owner {
-        Some(place) => home_at(objects, known, object, place),
-        None => None,
-    }
 }
 
 /// For each object where the block stands of which it is a member, by where the owners stand. Want of memory is the only refusal.

@@ -3,21 +3,21 @@
 ghost use Rattle.std.specs.Prelude.{◌≡◌, ◌<◌, ◌^◌, ◌++◌, List, [], ◌∷◌, Some, length, map, flat_map, OnOk, IsTrue};
 ghost use Rattle.std.specs.List.{slice_get};
 ghost use Rattle.dwg_audit.specs.Findings.{is_application_field, resolve_findings, unmet};
-ghost use Rattle.dwg_audit.specs.Held.{HoldsFields, chosen};
+ghost use Rattle.dwg_audit.specs.Held.{chosen};
 ghost use Rattle.dwg_audit.specs.Lookups.{slot_places};
-ghost use Rattle.dwg_audit.specs.Placed.{owner_place, place_in};
 ghost use Rattle.dwg_graph.specs.declared.slot.Slot as declared;
+ghost use Rattle.dwg_graph.specs.Placed.{owner_place, place_in};
 ghost use Rattle.dwg_graph.specs.Places.{handles_of};
+ghost use Rattle.dwg_graph.specs.SlotLaws.{HoldsFields};
 ghost use Rattle.dwg_graph.specs.Slots.{slots};
 ghost use Rattle.dwg_kinds.specs.Needs.{has_field};
 ghost use Rattle.dwg_object.specs.Objects.{kind_of, value_of};
 
 use crate::finding::{Finding, Rule};
 use crate::lookups::place_at;
-use crate::needs::is_met;
 use crate::rules::push;
 use dwg_base::{Items, NoMemory};
-use dwg_graph::{Slot, SpaceHandles, owner_of};
+use dwg_graph::{Slot, SpaceHandles, is_met, owner_of};
 use dwg_kinds::Field;
 use dwg_object::Object;
 
@@ -32,7 +32,7 @@ fn is_application(field: Field) -> bool
 }
 
 /// Finds a reference that doesn't meet its need. The only refusal is want of memory.
-#[tactic(auto, unfolding(crate::specs::Findings::is_met))]
+#[tactic(auto, unfolding(dwg_graph::specs::Tests::is_met))]
 #[inline(always)]
 fn push_unmet(
     objects: &[Object<'_>],

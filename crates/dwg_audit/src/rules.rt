@@ -1,32 +1,21 @@
 //! The rules on one object that look at no reference by itself: claim, chain and path.
 
 ghost use Rattle.std.specs.Prelude.{◌≡◌, ◌++◌, List, [], ◌∷◌, false, length, map, OnOk};
-ghost use Rattle.std.specs.List.{filter, slice_get};
-ghost use Rattle.std.specs.Option.{option_and_then, option_map_or};
-ghost use Rattle.dwg_audit.specs.Counts.{by_counts, by_holder};
-ghost use Rattle.dwg_audit.specs.Findings.{claim_findings, chain_findings, is_chained, is_claimed, is_exempt, path_findings, unless};
-ghost use Rattle.dwg_audit.specs.Placed.{home_place, owner_place};
-ghost use Rattle.dwg_graph.specs.Graph.{claims, EndHandles, ends_of, is_typed, owner_step, root_at};
+ghost use Rattle.std.specs.List.{filter};
+ghost use Rattle.std.specs.Option.{option_map_or};
+ghost use Rattle.dwg_audit.specs.Findings.{claim_findings, chain_findings, is_chained, path_findings, unless};
+ghost use Rattle.dwg_graph.specs.Counts.{by_holder};
+ghost use Rattle.dwg_graph.specs.Graph.{claims, EndHandles, ends_of, owner_step, root_at};
 ghost use Rattle.dwg_graph.specs.Owners.{owner_of};
+ghost use Rattle.dwg_graph.specs.Placed.{home_place, owner_place};
 ghost use Rattle.dwg_graph.specs.Places.{handles_of};
 ghost use Rattle.dwg_object.specs.Objects.{handle_of, value_of};
 ghost use Rattle.dwg_paths.specs.Ways.{has_path};
 
 use crate::finding::{Finding, Rule};
-use crate::places::{is_header, is_root};
 use dwg_base::{Handle, Items, NoMemory};
-use dwg_graph::{SpaceHandles, owner_of};
-use dwg_kinds::{Kind, is_same};
+use dwg_graph::{ClaimCounts, SpaceHandles, is_claimed, is_exempt, is_header, owner_of};
 use dwg_object::{Body, Object};
-
-/// The claims on one object.
-#[derive(Clone, Copy, Drop)]
-pub(crate) struct ClaimCounts {
-    /// How many there are.
-    pub(crate) all: u64,
-    /// How many are by its owner.
-    pub(crate) own: u64,
-}
 
 /// Puts a finding behind those that are found. The only refusal is want of memory.
 pub(crate) fn push(found: &mut Items<Finding>, finding: Finding) -> Result<(), NoMemory>
@@ -50,77 +39,6 @@ pub(crate) fn push_unless(
         return Ok(());
     }
     push(found, finding)
-}
-
-/// Whether an object is Typed.
-pub(crate) fn is_typed(object: &Object<'_>) -> bool
-    ensures { result ≡ is_typed (value_of object.now) }
-{
-    match object {
-        Object::Typed(_) => true,
-        _ => false,
-    }
-}
-
-/// Whether no claim is asked of an object: of a root, an attribute, or a member of a block, which stands at a home.
-#[tactic(auto, unfolding(crate::specs::Findings::is_exempt), using(crate::proofs::Sufficing::member_by_home))]
-fn is_exempt(
-    objects: &[Object<'_>],
-    known: &Option<SpaceHandles>,
-    object: &Object<'_>,
-    home: Option<usize>,
-) -> bool
-    requires home { home ≡ home_place (map value_of objects.now) known.now (value_of object.now) }
-    ensures { result ≡ is_exempt (map value_of objects.now) known.now (value_of object.now) }
-{
-    if home.is_some() {
-        return true;
-    }
-    if is_same(Kind::Attrib, object.kind()) {
-        return true;
-    }
-    is_root(object, known)
-}
-
-/// Whether these claims are those that are asked for, by the object's owner: one, by the owner, where that is Typed, and none where
-/// it isn't.
-fn suffices(owner: &Object<'_>, counts: &ClaimCounts) -> bool
-    ensures { result ≡ by_counts (is_typed (value_of owner.now)) counts.now.all counts.now.own }
-{
-    if is_typed(owner) {
-        counts.all == 1 && counts.own == 1
-    } else {
-        counts.all == 0
-    }
-}
-
-/// The same by the owner's place, if it has one; an owner that isn't there suffices in no case.
-fn suffices_at(objects: &[Object<'_>], owner: Option<usize>, counts: &ClaimCounts) -> bool
-    ensures { result ≡ option_map_or (λ owner. by_counts (is_typed owner) counts.now.all counts.now.own) (option_and_then (slice_get (map value_of objects.now)) owner) false }
-{
-    match owner {
-        Some(place) => match objects.get(place) {
-            Some(object) => suffices(object, counts),
-            None => false,
-        },
-        None => false,
-    }
-}
-
-/// Whether an object is claimed as it should be.
-fn is_claimed(
-    objects: &[Object<'_>],
-    known: &Option<SpaceHandles>,
-    object: &Object<'_>,
-    owner: Option<usize>,
-    counts: &ClaimCounts,
-) -> bool
-    requires owner { owner ≡ owner_place (map value_of objects.now) known.now (value_of object.now) }
-    requires all { counts.now.all ≡ length (claims (map value_of objects.now) (handle_of (value_of object.now))) }
-    requires own { counts.now.own ≡ length (filter (by_holder (owner_of known.now (value_of object.now))) (claims (map value_of objects.now) (handle_of (value_of object.now)))) }
-    ensures { result ≡ is_claimed (map value_of objects.now) known.now (value_of object.now) }
-{
-    suffices_at(objects, owner, counts)
 }
 
 /// Finds an object of which a claim is asked and that isn't claimed as it should be. The only refusal is want of memory.
@@ -157,7 +75,7 @@ pub(crate) fn push_unclaimed(
 }
 
 /// The last entity that a block names, null where it names none, or both ends are null.
-#[tactic(auto, unfolding(dwg_graph::specs::Graph::ends_of), using(crate::proofs::Sufficing::last_of_ends))]
+#[tactic(auto, unfolding(dwg_graph::specs::Graph::ends_of), using(dwg_graph::proofs::Sufficing::last_of_ends))]
 fn last_of(object: &Object<'_>) -> Handle
     ensures { result ≡ option_map_or (λ (ends : EndHandles). ends.last) (ends_of (value_of object.now)) 0 }
 {

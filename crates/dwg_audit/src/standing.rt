@@ -8,8 +8,8 @@ ghost use Rattle.dwg_graph.specs.Places.{Ascend, handles_of};
 ghost use Rattle.dwg_object.specs.Objects.{ObjectValue, value_of};
 ghost use Rattle.dwg_paths.specs.Tables.{leads, marked};
 
-use crate::rules::ClaimCounts;
 use crate::tables::Tables;
+use dwg_graph::ClaimCounts;
 use dwg_object::Object;
 
 /// What the tables say of one object.

@@ -1,20 +1,20 @@
 //! What is known of all objects before the first of them is judged.
 
 ghost use Rattle.std.specs.Prelude.{◌≡◌, ◌<◌, ◌^◌, ◌+◌, ◌*◌, ◌↔◌, ℕ, length, map, IfOk, IsTrue};
-ghost use Rattle.dwg_audit.specs.Claimed.{reference_count};
 ghost use Rattle.dwg_audit.specs.Lookups.{AreLookups, TakeAtMost};
 ghost use Rattle.dwg_audit.specs.Tabled.{AreTables};
-ghost use Rattle.dwg_audit.specs.Placed.{end_table, home_table, next_table, owner_table, root_table};
+ghost use Rattle.dwg_graph.specs.Claimed.{reference_count};
 ghost use Rattle.dwg_graph.specs.Owners.{spaces};
+ghost use Rattle.dwg_graph.specs.Placed.{end_table, home_table, next_table, owner_table, root_table};
 ghost use Rattle.dwg_graph.specs.Places.{Ascend, handles_of};
 ghost use Rattle.dwg_paths.specs.Tables.{HasChainAt, RankIs, ends_at, leads, marked};
 ghost use Rattle.dwg_object.specs.Objects.{value_of};
 
-use crate::claims::{Claimed, count_claims};
+use crate::claims::count_claims;
 use crate::lookups::{Lookups, look_up};
 use crate::places::{end_places, homes, root_marks};
 use dwg_base::NoMemory;
-use dwg_graph::{SpaceHandles, spaces};
+use dwg_graph::{Claimed, SpaceHandles, spaces};
 use dwg_object::Object;
 use dwg_paths::{chains, ranks};
 use dwg_steps::Steps;
@@ -39,7 +39,7 @@ pub(crate) struct Tables {
 }
 
 /// Which blocks have a chain of their members. Want of memory is the only refusal.
-#[tactic(auto, using(crate::proofs::PlacedPaths::homes_fit))]
+#[tactic(auto, using(dwg_graph::proofs::PlacedPaths::homes_fit))]
 fn chained(
     alloc: Global,
     objects: &[Object<'_>],
@@ -56,7 +56,7 @@ fn chained(
 }
 
 /// How many owners there are from each object to a root. Want of memory is the only refusal.
-#[tactic(auto, using(crate::proofs::PlacedPaths::owners_fit))]
+#[tactic(auto, using(dwg_graph::proofs::PlacedPaths::owners_fit))]
 fn ranked(
     alloc: Global,
     objects: &[Object<'_>],

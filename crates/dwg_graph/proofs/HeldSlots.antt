@@ -8,6 +8,8 @@ use Rattle.dwg_common.specs.declared.entity.Links.{Links}
 use Rattle.dwg_common.specs.declared.object.ObjectCommon.{ObjectCommon}
 use Rattle.dwg_entities.specs.declared.insert.Attributes.{Attributes}
 use Rattle.dwg_graph.specs.declared.slot.Slot.{Slot}
+use Rattle.dwg_graph.specs.Graph.{is_typed}
+use Rattle.dwg_graph.specs.SlotLaws.{HoldsFields, OwnersAreHeld, SlotsAreHeld}
 use Rattle.dwg_graph.specs.Slots.{slots_from, listed, one, maybe, link_slots, entity_slots, object_slots, common_slots, attribute_slots, end_slots, body_slots, slots}
 use Rattle.dwg_grammar.specs.Reference.{Reference}
 use Rattle.dwg_kinds.specs.declared.field.Field.{Field}
@@ -227,3 +229,12 @@ owners_are_held number handle common (bodies.Ltype body) = refl
 owners_are_held number handle common (bodies.AppIdControl body) = refl
 owners_are_held number handle common (bodies.AppId body) = refl
 owners_are_held number handle common (bodies.XRecord body) = refl
+
+-- a Typed object that is whole holds the fields of its references
+pub holds_fields : SlotsAreHeld → OwnersAreHeld → (x : ObjectValue) → IsWhole x → IsTrue (is_typed x) → HoldsFields x
+holds_fields held owned (TypedValue number handle common body) whole typed = record {
+  slots = λ slot stands. held (TypedValue number handle common body) slot whole stands;
+  owner = owned number handle common body;
+}
+holds_fields held owned (PlainValue number handle common rest refs) whole typed = absurd (cc typed)
+holds_fields held owned (RawValue number handle bytes) whole typed = absurd (cc typed)

@@ -6,3 +6,13 @@ pub mod SlotCounts
 pub mod SlotOrder
 pub mod Keyed
 pub mod ObjectPaths
+pub mod ListLemmas
+pub mod Tests
+pub mod PlacedObjects
+pub mod PlacedPaths
+pub mod PlacedChains
+pub mod Placing
+pub mod Counting
+pub mod HolderLoops
+pub mod Sufficing
+pub mod SlotLoops

@@ -40,14 +40,14 @@ one_of_handle (z ∷ zs) distinct x y here there same = ⊎_elim
     (contains_cases z zs x here)
 
 -- what is found by a handle stands in the drawing and has it
-stands_found : (objects : List ObjectValue) (handle : ℕ) (x : ObjectValue) → object_at objects handle ≡ Some x → Contains objects x × (handle_of x ≡ handle)
+pub stands_found : (objects : List ObjectValue) (handle : ℕ) (x : ObjectValue) → object_at objects handle ≡ Some x → Contains objects x × (handle_of x ≡ handle)
 unfolding object_at
 stands_found objects handle x found =
     let passing = passing_of_found (λ y. handle_of y == handle) objects x found in
     (passing.0, (Decides-eqb (handle_of x) handle).0 passing.1)
 
 -- what stands in the drawing is found by its handle
-found_standing : (objects : List ObjectValue) → AreDistinct (handles_of objects) → (x : ObjectValue) → Contains objects x → object_at objects (handle_of x) ≡ Some x
+pub found_standing : (objects : List ObjectValue) → AreDistinct (handles_of objects) → (x : ObjectValue) → Contains objects x → object_at objects (handle_of x) ≡ Some x
 unfolding object_at
 found_standing objects distinct x inside =
     let found = found_of_passing (λ y. handle_of y == handle_of x) objects x inside ((Decides-eqb (handle_of x) (handle_of x)).1 refl) in
@@ -55,7 +55,7 @@ found_standing objects distinct x inside =
     found.1 ∙ ap Some (one_of_handle objects distinct found.0 x other.0 inside other.1)
 
 -- a step from each object to a handle
-abbrev step_to : List ObjectValue → (ObjectValue → ℕ) → ℕ → Option ℕ
+abbrev pub step_to : List ObjectValue → (ObjectValue → ℕ) → ℕ → Option ℕ
 step_to objects target handle = option_and_then (λ x. there objects (target x)) (object_at objects handle)
 
 -- what is something, is it
@@ -64,7 +64,7 @@ some_of None is = absurd (cc is)
 some_of (Some x) is = (x, refl)
 
 -- a handle that is there is that of an object, and is that one
-found_there : (objects : List ObjectValue) (handle other : ℕ) → there objects handle ≡ Some other → (y : ObjectValue) × (object_at objects handle ≡ Some y) × (handle ≡ other)
+pub found_there : (objects : List ObjectValue) (handle other : ℕ) → there objects handle ≡ Some other → (y : ObjectValue) × (object_at objects handle ≡ Some y) × (handle ≡ other)
 unfolding there
 found_there objects handle other is =
     let parts = cond_some (is_some (object_at objects handle)) handle other is in

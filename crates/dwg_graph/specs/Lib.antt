@@ -14,3 +14,11 @@ pub mod SlotWalks
 pub mod SlotLaws
 -- Owner paths and chains of members as lists of the objects themselves, and that they are those over handles.
 pub mod ObjectPaths
+-- Tests of the references of objects, which tell whether what they stand for holds where handles ascend.
+pub mod Tests
+-- The references of objects as tables of places.
+pub mod Placed
+-- How many claims on an object, and how many of them by its owner, are those that are asked for.
+pub mod Counts
+-- How often objects are claimed, counted slot by slot.
+pub mod Claimed

@@ -18,6 +18,11 @@ use Rattle.dwg_object.specs.Frames.{frame_bytes}
 use Rattle.dwg_object.specs.Objects.{ObjectValue, TypedValue, kind_of}
 use Rattle.dwg_object.specs.Written.{IsWhole, IsValidObject}
 
+-- the kind of an object has the fields of its slots, and an owner
+pub record HoldsFields (x : ObjectValue) : Type 0 where
+  pub slots : (slot : Slot) → Contains (slots x) slot → IsTrue (has_field slot.field (kind_of x))
+  pub owner : IsTrue (has_field fields.Owner (kind_of x))
+
 -- every slot of an object is of a field that its kind has
 abbrev pub SlotsAreHeld : Type 0
 SlotsAreHeld = (x : ObjectValue) (slot : Slot) → IsWhole x → Contains (slots x) slot → IsTrue (has_field slot.field (kind_of x))

@@ -1,6 +1,7 @@
 use Rattle.std.proofs.Common.{rules, map}
 use Rattle.std.proofs.lemmas.Result.{on_ok_weaker}
-use Rattle.dwg_audit.proofs.Judging.{found_by_rules, found_nothing, holds_fields}
+use Rattle.dwg_audit.proofs.Judging.{found_by_rules, found_nothing}
+use Rattle.dwg_graph.proofs.HeldSlots.{holds_fields}
 use Rattle.dwg_graph.specs.Owners.{spaces}
 use Rattle.dwg_object.specs.Objects.{value_of}
 use Rattle.dwg_audit.proofs.auditing.judge.Goals as goal

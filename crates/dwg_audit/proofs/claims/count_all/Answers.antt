@@ -1,8 +1,8 @@
 use Rattle.std.proofs.Common.{◌≤◌, map, length, arith}
 use Rattle.std.proofs.lemmas.List.{length-map}
+use Rattle.dwg_graph.proofs.Counting.{value_there}
+use Rattle.dwg_graph.proofs.HolderLoops.{counts_more_all, counts_more_own, room_all, room_own, counts_all, counts_own}
 use Rattle.dwg_object.specs.Objects.{value_of}
-use Rattle.dwg_audit.proofs.Counting.{value_there}
-use Rattle.dwg_audit.proofs.HolderLoops.{counts_more_all, counts_more_own, room_all, room_own, counts_all, counts_own}
 use Rattle.dwg_audit.proofs.claims.count_all.Goals as goal
 
 pub count_holder-requires-clause-held_slots : goal.count_holder-requires-clause-held_slots

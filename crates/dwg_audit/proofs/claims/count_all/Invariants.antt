@@ -1,5 +1,5 @@
 use Rattle.std.proofs.Common.{map, take}
-use Rattle.dwg_audit.proofs.HolderLoops.{AreCounts, all_of, own_of}
+use Rattle.dwg_graph.proofs.HolderLoops.{AreCounts, all_of, own_of}
 use Rattle.dwg_object.specs.Objects.{value_of}
 use Rattle.dwg_audit.proofs.claims.count_all.Given as goal
 

@@ -1,7 +1,7 @@
 use Rattle.std.proofs.Common.{ap, length, map, arith}
 use Rattle.dwg_audit.proofs.GivenSlots.{slot_there, places_long, place_there}
-use Rattle.dwg_audit.proofs.SlotLoops.{none_counted, one_counted, still_open}
-use Rattle.dwg_audit.specs.Claimed.{leads_to, leads_down}
+use Rattle.dwg_graph.proofs.SlotLoops.{none_counted, one_counted, still_open}
+use Rattle.dwg_graph.specs.Claimed.{leads_to, leads_down}
 use Rattle.dwg_graph.specs.Places.{handles_of}
 use Rattle.dwg_graph.specs.Slots.{slots}
 use Rattle.dwg_object.specs.Objects.{handle_of, kind_of, value_of}

@@ -1,6 +1,6 @@
 use Rattle.std.proofs.Common.{map}
-use Rattle.dwg_audit.specs.Claimed.{leads_to, leads_down}
-use Rattle.dwg_audit.proofs.SlotLoops.{IsCounted}
+use Rattle.dwg_graph.proofs.SlotLoops.{IsCounted}
+use Rattle.dwg_graph.specs.Claimed.{leads_to, leads_down}
 use Rattle.dwg_graph.specs.Slots.{slots}
 use Rattle.dwg_object.specs.Objects.{handle_of, kind_of, value_of}
 use Rattle.dwg_audit.proofs.claims.count_holder.Given as goal

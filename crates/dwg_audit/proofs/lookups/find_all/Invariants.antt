@@ -1,7 +1,7 @@
 use Rattle.std.proofs.Common.{◌≡◌, ◌++◌, drop, length, map}
 use Rattle.std.specs.Prelude.{IfSome}
 use Rattle.dwg_audit.specs.Lookups.{TakeAtMost}
-use Rattle.dwg_audit.specs.Placed.{place_in}
+use Rattle.dwg_graph.specs.Placed.{place_in}
 use Rattle.dwg_audit.proofs.lookups.find_all.Given as goal
 
 abbrev pub invariant-along : goal.invariant-along

@@ -2,8 +2,8 @@ use Rattle.std.proofs.Common.{ap, ◌∙◌, length, map}
 use Rattle.std.proofs.lemmas.List.{length-map}
 use Rattle.dwg_audit.proofs.Slicing.{part_is_seen}
 use Rattle.dwg_audit.specs.Lookups.{all_slots, part_of}
-use Rattle.dwg_audit.specs.Placed.{place_in}
 use Rattle.dwg_graph.specs.declared.slot.Slot.{Slot}
+use Rattle.dwg_graph.specs.Placed.{place_in}
 use Rattle.dwg_graph.specs.Places.{handles_of}
 use Rattle.dwg_object.specs.Objects.{value_of}
 use Rattle.dwg_audit.proofs.lookups.places_at.Goals as goal

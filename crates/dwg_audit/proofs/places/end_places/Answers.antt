@@ -1,10 +1,10 @@
 use Rattle.std.proofs.Common.{sym, ap, ◌∙◌, map, arith}
 use Rattle.std.proofs.lemmas.Grind.{common_steps}
-use Rattle.dwg_audit.proofs.Counting.{value_there}
 use Rattle.dwg_audit.proofs.GivenSlots.{places_long}
 use Rattle.dwg_audit.specs.Lookups.{slot_places}
 use Rattle.dwg_graph.specs.Places.{handles_of}
 use Rattle.dwg_graph.specs.Slots.{slots}
+use Rattle.dwg_graph.proofs.Counting.{value_there}
 use Rattle.dwg_object.specs.Objects.{value_of}
 use Rattle.dwg_audit.proofs.places.end_places.Goals as goal
 

@@ -1,7 +1,7 @@
 use Rattle.std.proofs.Common.{◌≡◌, ◌++◌, drop, map}
 use Rattle.std.specs.Option.{option_map}
 use Rattle.dwg_graph.specs.Graph.{ends_of}
-use Rattle.dwg_audit.specs.Placed.{end_places, end_table}
+use Rattle.dwg_graph.specs.Placed.{end_places, end_table}
 use Rattle.dwg_graph.specs.Places.{handles_of}
 use Rattle.dwg_object.specs.Objects.{ObjectValue, value_of}
 use Rattle.dwg_audit.proofs.places.end_places.Given as goal

@@ -2,8 +2,8 @@ use Rattle.std.proofs.Common.{◌≡◌, sym, ap, ◌∙◌}
 use Rattle.std.specs.Option.{option_map}
 use Rattle.dwg_audit.proofs.HeaderEnds.{ends_known, first_end, last_end}
 use Rattle.dwg_audit.specs.Lookups.{place_of}
-use Rattle.dwg_audit.specs.Placed.{end_places}
 use Rattle.dwg_graph.specs.Graph.{ends_of}
+use Rattle.dwg_graph.specs.Placed.{end_places}
 use Rattle.dwg_graph.specs.Slots.{slots}
 use Rattle.dwg_kinds.specs.declared.field.Field.TheVariants as fields
 use Rattle.dwg_object.specs.declared.body.Body.{Body}

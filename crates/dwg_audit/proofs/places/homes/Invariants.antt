@@ -1,5 +1,5 @@
 use Rattle.std.proofs.Common.{◌≡◌, ◌++◌, drop, map}
-use Rattle.dwg_audit.specs.Placed.{home_place, home_table}
+use Rattle.dwg_graph.specs.Placed.{home_place, home_table}
 use Rattle.dwg_object.specs.Objects.{value_of}
 use Rattle.dwg_audit.proofs.places.homes.Given as goal
 

@@ -1,6 +1,6 @@
 use Rattle.std.proofs.Common.{◌≡◌, ◌++◌, drop, map}
-use Rattle.dwg_audit.specs.Placed.{root_table}
 use Rattle.dwg_graph.specs.Graph.{is_root}
+use Rattle.dwg_graph.specs.Placed.{root_table}
 use Rattle.dwg_object.specs.Objects.{value_of}
 use Rattle.dwg_audit.proofs.places.root_marks.Given as goal
 

@@ -1,9 +1,9 @@
 -- How often objects are claimed, counted slot by slot. A rule of this project.
 use Rattle.std.specs.Prelude.{◌≡◌, ◌<◌, ◌==◌, ◌&&◌, ◌+◌, ◌^◌, ℕ, Bool, List, length, map, Option, Some}
 use Rattle.std.specs.List.{filter, sum_by, count_by, slice_get, slice_set, slice_index_or}
-use Rattle.dwg_audit.specs.Counts.{by_holder}
 use Rattle.dwg_graph.specs.declared.owner.SpaceHandles.{SpaceHandles}
 use Rattle.dwg_graph.specs.declared.slot.Slot.{Slot}
+use Rattle.dwg_graph.specs.Counts.{by_holder}
 use Rattle.dwg_graph.specs.Graph.{Claim, claims, claims_by}
 use Rattle.dwg_graph.specs.Owners.{owner_of}
 use Rattle.dwg_graph.specs.Slots.{slots}

@@ -7,14 +7,14 @@ use Rattle.std.proofs.lemmas.List.Concat.{length-flat_map}
 use Rattle.std.proofs.lemmas.List.Elements.{filter-append}
 use Rattle.std.proofs.lemmas.List.Sums.{sum_by-cons, sum_by_push, count_by-le-length, length-filter, sum_by_more_le_part}
 use Rattle.std.proofs.lemmas.Option.{slice_get_within, get_or_from_slice_get}
-use Rattle.dwg_audit.specs.Claimed.{Adds, IsOpen, claiming, leads_to, leads_down, claims_held, claim_counts, own_counts, reference_count}
-use Rattle.dwg_audit.specs.Counts.{by_holder}
-use Rattle.dwg_audit.proofs.Counting.{stands_there}
 use Rattle.dwg_graph.specs.declared.owner.SpaceHandles.{SpaceHandles}
 use Rattle.dwg_graph.specs.declared.slot.Slot.{Slot}
+use Rattle.dwg_graph.specs.Claimed.{Adds, IsOpen, claiming, leads_to, leads_down, claims_held, claim_counts, own_counts, reference_count}
+use Rattle.dwg_graph.specs.Counts.{by_holder}
 use Rattle.dwg_graph.specs.Graph.{Claim, claims, claims_of, claims_by, is_claim}
 use Rattle.dwg_graph.specs.Owners.{owner_of}
 use Rattle.dwg_graph.specs.Slots.{slots}
+use Rattle.dwg_graph.proofs.Counting.{stands_there}
 use Rattle.dwg_object.specs.Objects.{ObjectValue, handle_of, kind_of}
 
 -- how many claims a holder has on an object
@@ -197,7 +197,7 @@ pub room_own : (objects : List ObjectValue) (known : Option SpaceHandles) (i : �
 room_own objects known i holder counts at few are = counts_room objects (own_of known) i holder counts (own_few known) at few are
 
 -- a list of numbers, of which each is what is said of a thing
-tabled : {A : Type 0} (f : A → ℕ) (things : List A) (counts : List ℕ) → length counts ≡ length things
+pub tabled : {A : Type 0} (f : A → ℕ) (things : List A) (counts : List ℕ) → length counts ≡ length things
     → ((place : ℕ) (x : A) → slice_get things place ≡ Some x → get_or counts place 0 ≡ f x) → counts ≡ map f things
 tabled {A} f [] [] long each = refl
 tabled {A} f [] (count ∷ counts) long each = absurd (omega (arith, long))

@@ -1,7 +1,7 @@
 use Rattle.std.proofs.Common.{◌∙◌, map}
-use Rattle.dwg_audit.proofs.Sufficing.{claimed_by_counts}
+use Rattle.dwg_graph.proofs.Sufficing.{claimed_by_counts}
 use Rattle.dwg_object.specs.Objects.{value_of}
-use Rattle.dwg_audit.proofs.rules.is_claimed.Goals as goal
+use Rattle.dwg_graph.proofs.claims.is_claimed.Goals as goal
 
 pub returns : goal.returns
 returns c =

@@ -8,14 +8,14 @@ use Rattle.std.proofs.lemmas.Bool.Decides.{nat_tests}
 use Rattle.std.proofs.lemmas.List.{length-map, length-set, get_or-set_same, get_or-set_other}
 use Rattle.std.proofs.lemmas.List.Sums.{sum_by-cons}
 use Rattle.std.proofs.lemmas.Option.{same_Some, slice_get-map, slice_get_read, slice_get_within}
-use Rattle.dwg_audit.specs.Claimed.{Adds, leads_to, leads_down, claiming, raised}
-use Rattle.dwg_audit.specs.Placed.{place_in}
-use Rattle.dwg_audit.proofs.PlacedObjects.{at_place, found_there}
 use Rattle.dwg_graph.specs.declared.owner.SpaceHandles.{SpaceHandles}
 use Rattle.dwg_graph.specs.declared.slot.Slot.{Slot}
+use Rattle.dwg_graph.specs.Claimed.{Adds, leads_to, leads_down, claiming, raised}
 use Rattle.dwg_graph.specs.Graph.{claims_by}
 use Rattle.dwg_graph.specs.Owners.{owner_of}
+use Rattle.dwg_graph.specs.Placed.{place_in}
 use Rattle.dwg_graph.specs.Places.{Ascend, handles_of}
+use Rattle.dwg_graph.proofs.PlacedObjects.{at_place, found_there}
 use Rattle.dwg_kinds.specs.declared.kind.Kind.{Kind}
 use Rattle.dwg_object.specs.Objects.{ObjectValue, handle_of, value_of}
 use Rattle.dwg_object.specs.declared.object.Object as declared

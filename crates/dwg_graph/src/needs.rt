@@ -3,15 +3,15 @@
 ghost use Rattle.std.specs.Prelude.{◌≡◌, IsTrue, map, false};
 ghost use Rattle.std.specs.List.{slice_get};
 ghost use Rattle.std.specs.Option.{option_and_then, option_map, option_map_or};
-ghost use Rattle.dwg_audit.specs.Findings.{is_attributed, kind_at, meets};
-ghost use Rattle.dwg_audit.specs.Placed.{place_in};
+ghost use Rattle.dwg_graph.specs.Placed.{place_in};
 ghost use Rattle.dwg_graph.specs.Places.{handles_of};
+ghost use Rattle.dwg_graph.specs.Tests.{is_attributed, kind_at, meets};
 ghost use Rattle.dwg_kinds.specs.Kinds.{is_entity_kind, same_kind};
 ghost use Rattle.dwg_kinds.specs.Needs.{has_field, need_of};
 ghost use Rattle.dwg_object.specs.Objects.{kind_of, value_of};
 
+use crate::slot::Slot;
 use dwg_base::Handle;
-use dwg_graph::Slot;
 use dwg_kinds::{Kind, Need, is_entity, is_same, required};
 use dwg_object::Object;
 
@@ -46,8 +46,8 @@ fn is_attributed_there(found: Option<Kind>) -> bool
 }
 
 /// Whether a target meets a need, where that is the kind of the object that has its handle.
-#[tactic(auto, unfolding(crate::specs::Findings::meets))]
-fn meets(need: Need, target: Handle, found: Option<Kind>) -> bool
+#[tactic(auto, unfolding(crate::specs::Tests::meets))]
+pub fn meets(need: Need, target: Handle, found: Option<Kind>) -> bool
     ensures { result ≡ meets need target found }
 {
     let null = target.value() == 0;
@@ -79,12 +79,7 @@ fn kind_placed(objects: &[Object<'_>], place: Option<usize>) -> Option<Kind>
 /// Whether a reference of a holder of that kind meets its need, by where its target stands.
 #[tactic(auto, using(crate::proofs::PlacedObjects::object_placed))]
 #[inline(always)]
-pub(crate) fn is_met(
-    objects: &[Object<'_>],
-    holder: Kind,
-    slot: &Slot,
-    place: Option<usize>,
-) -> bool
+pub fn is_met(objects: &[Object<'_>], holder: Kind, slot: &Slot, place: Option<usize>) -> bool
     requires place { place ≡ place_in (handles_of (map value_of objects.now)) slot.now.target }
     requires held { IsTrue (has_field slot.now.field holder) }
     ensures { result ≡ option_map_or (λ need. meets need slot.now.target (kind_at (map value_of objects.now) slot.now.target)) (need_of slot.now.field holder) false }

@@ -6,12 +6,14 @@ use Rattle.std.specs.Option.{option_map, option_map_or, option_and_then}
 use Rattle.std.proofs.lemmas.Bool.{cases_Bool}
 use Rattle.std.proofs.lemmas.List.{length-map}
 use Rattle.std.proofs.lemmas.Option.{same_Some, slice_get-map, slice_get_within}
-use Rattle.dwg_audit.proofs.PlacedObjects.{object_placed, at_place, object_there}
-use Rattle.dwg_audit.specs.Placed.{place_in, owner_table, root_table, home_table, home_place, owner_place, home_at}
 use Rattle.dwg_graph.specs.declared.owner.SpaceHandles.{SpaceHandles}
 use Rattle.dwg_graph.specs.Graph.{object_at, there, is_root, is_member, owner_step, root_at}
 use Rattle.dwg_graph.specs.Owners.{owner_of}
+use Rattle.dwg_graph.specs.Placed.{place_in, owner_table, root_table, home_table, home_place, owner_place, home_at}
 use Rattle.dwg_graph.specs.Places.{Ascend, handles_of}
+use Rattle.dwg_graph.proofs.ObjectPaths.{step_to}
+use Rattle.dwg_graph.proofs.PlacedObjects.{object_placed, at_place, object_there}
+use Rattle.dwg_graph.proofs.Tests.{there_inside}
 use Rattle.dwg_object.specs.Objects.{ObjectValue, handle_of}
 use Rattle.dwg_paths.specs.Ways.{IsClosed}
 use Rattle.dwg_paths.proofs.PathLaws.{path_decided}
@@ -49,10 +51,6 @@ not_there objects handle missing =
     let none : object_at objects handle ≡ None = sym (object_placed objects handle) ∙ ap (option_and_then (slice_get objects)) missing in
     ap (λ o. if is_some o then Some handle else None) none
 
--- a step from each object to a handle
-abbrev pub step_to : List ObjectValue → (ObjectValue → ℕ) → ℕ → Option ℕ
-step_to objects target handle = option_and_then (λ x. there objects (target x)) (object_at objects handle)
-
 -- the table of the places where the objects of these handles stand
 abbrev pub table_to : List ObjectValue → (ObjectValue → ℕ) → List (Option ℕ)
 table_to objects target = map (λ x. place_in (handles_of objects) (target x)) objects
@@ -76,16 +74,6 @@ steps_seen objects target ascend = record { goes_on = goes_on; stops = stops }
         let place : place_in (handles_of objects) (target x) ≡ None = sym (in_table objects (λ y. place_in (handles_of objects) (target y)) i x stands.1) ∙ leads_off in
         let object : object_at objects h ≡ Some x = subst (λ (n : ℕ). object_at objects n ≡ Some x) stands.2 (object_there objects x i ascend stands.1) in
         ap (option_and_then (λ y. there objects (target y))) object ∙ not_there objects (target x) place
-
--- what is there is the handle of an object
-there_inside : (objects : List ObjectValue) (handle found : ℕ) → there objects handle ≡ Some found → Contains (handles_of objects) found
-there_inside objects handle found is = go (place_in (handles_of objects) handle) refl
-  where
-    go : (place : Option ℕ) → place_in (handles_of objects) handle ≡ place → Contains (handles_of objects) found
-    go None missing = absurd (cc (sym is ∙ not_there objects handle missing))
-    go (Some j) stands =
-        let same : handle ≡ found = same_Some handle found (sym (there_at objects handle j stands) ∙ is) in
-        subst (λ (n : ℕ). Contains (handles_of objects) n) same (contains_of_place (handles_of objects) j handle (at_place (handles_of objects) handle j stands))
 
 -- steps lead to handles of objects alone
 pub steps_closed : (objects : List ObjectValue) (target : ObjectValue → ℕ) → IsClosed (handles_of objects) (step_to objects target)

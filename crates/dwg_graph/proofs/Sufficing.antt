@@ -4,13 +4,13 @@ use Rattle.std.specs.Prelude.{◌==◌, ◌&&◌, is_some, if◌then◌else◌}
 use Rattle.std.specs.List.{filter, slice_get}
 use Rattle.std.specs.Option.{option_and_then, option_map_or}
 use Rattle.std.proofs.lemmas.Bool.Decides.{nat_tests}
-use Rattle.dwg_audit.proofs.PlacedObjects.{object_placed}
-use Rattle.dwg_audit.specs.Counts.{by_counts, by_holder}
-use Rattle.dwg_audit.specs.Findings.{is_sole_claim, is_unclaimed, is_claimed}
-use Rattle.dwg_audit.specs.Placed.{home_place, home_at, owner_place}
 use Rattle.dwg_graph.specs.declared.owner.SpaceHandles.{SpaceHandles}
+use Rattle.dwg_graph.specs.Counts.{by_counts, by_holder}
 use Rattle.dwg_graph.specs.Graph.{Claim, claims, object_at, is_member, is_typed, EndHandles, known_ends}
 use Rattle.dwg_graph.specs.Owners.{owner_of}
+use Rattle.dwg_graph.specs.Placed.{home_place, home_at, owner_place}
+use Rattle.dwg_graph.specs.Tests.{is_sole_claim, is_unclaimed, is_claimed}
+use Rattle.dwg_graph.proofs.PlacedObjects.{object_placed}
 use Rattle.dwg_object.specs.Objects.{ObjectValue, handle_of}
 use Rattle.dwg_tables.specs.declared.block_header.Ends as declared
 

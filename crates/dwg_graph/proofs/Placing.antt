@@ -5,8 +5,8 @@ use Rattle.std.specs.List.{slice_index_or}
 use Rattle.std.proofs.lemmas.Bool.Decides.{nat_tests}
 use Rattle.std.proofs.lemmas.List.{get_or_default}
 use Rattle.std.proofs.lemmas.Option.{slice_get_within, get_or_from_slice_get}
+use Rattle.dwg_graph.specs.Placed.{place_in}
 use Rattle.dwg_graph.specs.Places.{Ascend, IsPlaceOf}
-use Rattle.dwg_audit.specs.Placed.{place_in}
 
 -- a handle that doesn't stand before a place, and stands there
 first_known : (handles : List ℕ) (handle place : ℕ) → place < length handles → ((k : ℕ) → k < place → (slice_index_or handles k 0 == handle) ≡ false)

@@ -6,10 +6,10 @@ use Rattle.std.proofs.lemmas.List.{take_more, take_all, length-take-le}
 use Rattle.std.proofs.lemmas.List.Elements.{filter-append}
 use Rattle.std.proofs.lemmas.List.Sums.{sum_by-append, count_by-le-length, length-filter}
 use Rattle.std.proofs.lemmas.Option.{slice_get_within, get_or_from_slice_get}
-use Rattle.dwg_audit.specs.Claimed.{Adds, IsOpen, claiming}
-use Rattle.dwg_audit.proofs.Counting.{stands_there}
 use Rattle.dwg_graph.specs.declared.slot.Slot.{Slot}
+use Rattle.dwg_graph.specs.Claimed.{Adds, IsOpen, claiming}
 use Rattle.dwg_graph.specs.Graph.{claims_by}
+use Rattle.dwg_graph.proofs.Counting.{stands_there}
 use Rattle.dwg_kinds.specs.declared.kind.Kind.{Kind}
 use Rattle.dwg_object.specs.Objects.{ObjectValue}
 

@@ -1,23 +1,23 @@
 -- Chains over tables of places say what those over objects say.
-use Rattle.std.proofs.Common.{◌≡◌, refl, sym, ap, ◌∙◌, subst, ℕ, suc, Bool, true, false, List, [], ◌∷◌, length, Option, Some, None, inl, inr, arith}
-use Rattle.std.specs.Prelude.{◌==◌, ◌<◌, ◌⊎◌, ◌↔◌, ◌&&◌, not, IsTrue, Contains, if◌then◌else◌}
+use Rattle.std.proofs.Common.{◌≡◌, refl, sym, ap, ◌∙◌, subst, ℕ, Bool, true, false, List, length, Option, Some, None, inl, inr, arith}
+use Rattle.std.specs.Prelude.{◌==◌, ◌<◌, ◌⊎◌, ◌↔◌, ◌&&◌, not, IsTrue, if◌then◌else◌}
 use Rattle.std.specs.List.{slice_get, slice_index_or}
 use Rattle.std.specs.Option.{option_map, option_map_or, option_and_then}
 use Rattle.std.proofs.lemmas.Bool.{cases_Bool, cases_eq}
 use Rattle.std.proofs.lemmas.Bool.Decides.{nat_tests}
 use Rattle.std.proofs.lemmas.Option.{same_Some, slice_get-map, slice_get_within, slice_get-get_or}
-use Rattle.dwg_audit.proofs.PlacedObjects.{object_placed, at_place, is_found, found_there, one_place, object_there}
-use Rattle.dwg_audit.proofs.PlacedPaths.{object_of_place, in_table, steps_seen}
-use Rattle.dwg_audit.specs.Placed.{place_in, next_table, home_table, end_table, home_place, owner_place, home_at, end_places}
 use Rattle.dwg_graph.specs.declared.owner.SpaceHandles.{SpaceHandles}
-use Rattle.dwg_graph.specs.Graph.{object_at, is_header, is_raw, is_member, is_member_kind, next_step, member_at, EndHandles, ends_of, HasMemberChain, HasChainBetween}
+use Rattle.dwg_graph.specs.Graph.{is_header, is_raw, is_member, is_member_kind, next_step, member_at, EndHandles, ends_of, HasMemberChain, HasChainBetween}
 use Rattle.dwg_graph.specs.Owners.{spaces, owner_of, next_of}
+use Rattle.dwg_graph.specs.Placed.{place_in, next_table, home_table, end_table, home_place, owner_place, home_at, end_places}
 use Rattle.dwg_graph.specs.Places.{Ascend, handles_of}
+use Rattle.dwg_graph.proofs.ObjectPaths.{ascending_are_distinct}
+use Rattle.dwg_graph.proofs.PlacedObjects.{at_place, is_found, found_there, one_place, object_there}
+use Rattle.dwg_graph.proofs.PlacedPaths.{object_of_place, in_table, steps_seen}
+use Rattle.dwg_graph.proofs.Tests.{members_among}
 use Rattle.dwg_object.specs.Objects.{ObjectValue, handle_of, kind_of}
-use Rattle.dwg_paths.specs.ChainTests.{IsAmong}
-use Rattle.dwg_paths.specs.Paths.{AreDistinct}
 use Rattle.dwg_paths.specs.ThingsAtPlaces.{TestsAgree}
-use Rattle.dwg_paths.proofs.PlaceLaws.{chain_seen, contains_of_place, place_of_contained}
+use Rattle.dwg_paths.proofs.PlaceLaws.{chain_seen, place_of_contained}
 use Rattle.dwg_paths.specs.Tables.{leads, lives_at, is_at, ends_at, HasChainAt}
 use Rattle.dwg_paths.specs.declared.tables.Ends.{Ends}
 
@@ -111,26 +111,6 @@ end_where_handle objects end ascend p h at = go (place_in (handles_of objects) e
         (λ here. same_Some h end (sym at ∙ subst (λ (n : ℕ). slice_get (handles_of objects) n ≡ Some end) here (at_place (handles_of objects) end q found)))
         (λ one. one_place (handles_of objects) end q p ascend (at_place (handles_of objects) end q found) (at ∙ ap Some one))
 
--- handles that ascend are distinct
-handles_distinct : (handles : List ℕ) → Ascend handles → AreDistinct handles
-unfolding AreDistinct
-handles_distinct [] ascend = tt
-handles_distinct (first ∷ more) ascend = (
-  λ (k, within, same). absurd (omega (arith, ascend 0 (suc k) first (omega arith) (omega (arith, within)), same)),
-  handles_distinct more (λ i j d before within. ascend (suc i) (suc j) d (omega (arith, before)) (omega (arith, within))),
-)
-
--- members are among the handles of objects
-members_among : (objects : List ObjectValue) (known : Option SpaceHandles) (header : ObjectValue) → IsAmong (handles_of objects) (member_at objects known header)
-unfolding member_at
-members_among objects known header h is = go (place_in (handles_of objects) h) refl
-  where
-    go : (place : Option ℕ) → place_in (handles_of objects) h ≡ place → Contains (handles_of objects) h
-    go None missing =
-        let none : object_at objects h ≡ None = sym (object_placed objects h) ∙ ap (option_and_then (slice_get objects)) missing in
-        absurd (cc (sym is ∙ ap (λ o. option_map_or (is_member known header) o false) none))
-    go (Some q) found = contains_of_place (handles_of objects) q h (at_place (handles_of objects) h q found)
-
 -- the member test of a handle is that of its object
 member_of_object : (objects : List ObjectValue) (known : Option SpaceHandles) (header y : ObjectValue) (p : ℕ) → Ascend (handles_of objects) → slice_get objects p ≡ Some y
     → member_at objects known header (handle_of y) ≡ is_member known header y
@@ -169,7 +149,7 @@ seen_chain objects i x ends ascend at =
     (is_at (place_in (handles_of objects) ends.first)) (is_at (place_in (handles_of objects) ends.last))
     (member_at objects (spaces objects) x) (λ handle. handle == ends.first) (λ handle. handle == ends.last)
     (record {
-      distinct = handles_distinct (handles_of objects) ascend;
+      distinct = ascending_are_distinct (handles_of objects) ascend;
       within = lives_within objects (spaces objects) i;
       among = members_among objects (spaces objects) x;
       steps = steps_seen objects next_of ascend;

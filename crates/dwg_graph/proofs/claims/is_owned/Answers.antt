@@ -2,9 +2,9 @@ use Rattle.std.proofs.Common.{◌≡◌, sym, ap, ◌∙◌, ℕ}
 use Rattle.std.specs.Prelude.{◌==◌}
 use Rattle.std.proofs.lemmas.Option.{same_Some}
 use Rattle.dwg_graph.specs.Owners.{owner_of}
+use Rattle.dwg_graph.proofs.Counting.{value_there}
 use Rattle.dwg_object.specs.Objects.{value_of}
-use Rattle.dwg_audit.proofs.Counting.{value_there}
-use Rattle.dwg_audit.proofs.claims.is_owned.Goals as goal
+use Rattle.dwg_graph.proofs.claims.is_owned.Goals as goal
 
 pub returns : goal.returns
 returns c x stands =

@@ -1,13 +1,13 @@
 -- The object of a handle, found by its place.
 use Rattle.std.proofs.Common.{◌≡◌, refl, sym, ap, ◌∙◌, subst, ℕ, zero, suc, Bool, true, false, List, [], ◌∷◌, Option, Some, None, inl, inr, arith}
-use Rattle.std.specs.Prelude.{◌==◌, ◌<◌, ◌⊎◌, find, if◌then◌else◌}
+use Rattle.std.specs.Prelude.{◌==◌, ◌<◌, ◌⊎◌, find, map, if◌then◌else◌}
 use Rattle.std.specs.List.{slice_get, slice_index_or}
 use Rattle.std.specs.Option.{option_map, option_and_then}
 use Rattle.std.proofs.lemmas.Bool.{cases_order}
 use Rattle.std.proofs.lemmas.Bool.Decides.{nat_tests}
 use Rattle.std.proofs.lemmas.Option.{same_Some, slice_get-map, slice_get_within, slice_get-get_or}
-use Rattle.dwg_audit.specs.Placed.{place_in}
 use Rattle.dwg_graph.specs.Graph.{object_at}
+use Rattle.dwg_graph.specs.Placed.{place_in}
 use Rattle.dwg_graph.specs.Places.{Ascend, handles_of}
 use Rattle.dwg_object.specs.Objects.{ObjectValue, handle_of}
 
@@ -16,16 +16,21 @@ behind : {A : Type 0} (x : A) (more : List A) (place : Option ℕ) → option_an
 behind {A} x more None = refl
 behind {A} x more (Some n) = refl
 
+-- what has a key stands at the place of that key
+pub placed_by_key : {A : Type 0} (key : A → ℕ) (things : List A) (handle : ℕ) → option_and_then (slice_get things) (place_in (map key things) handle) ≡ find (λ y. key y == handle) things
+unfolding place_in
+placed_by_key {A} key [] handle = refl
+placed_by_key {A} key (x ∷ more) handle = go (placed_by_key key more handle) (key x == handle) refl
+  where
+    go : option_and_then (slice_get more) (place_in (map key more) handle) ≡ find (λ y. key y == handle) more → (test : Bool) → (key x == handle) ≡ test
+        → option_and_then (slice_get (x ∷ more)) (place_in (map key (x ∷ more)) handle) ≡ find (λ y. key y == handle) (x ∷ more)
+    go same true is = rw is refl
+    go same false is = rw is (behind x more (place_in (map key more) handle) ∙ same)
+
 -- the object of a handle stands at the place of that handle
 pub object_placed : (objects : List ObjectValue) (handle : ℕ) → option_and_then (slice_get objects) (place_in (handles_of objects) handle) ≡ object_at objects handle
-unfolding object_at place_in
-object_placed [] handle = refl
-object_placed (x ∷ more) handle = go (object_placed more handle) (handle_of x == handle) refl
-  where
-    go : option_and_then (slice_get more) (place_in (handles_of more) handle) ≡ object_at more handle → (test : Bool) → (handle_of x == handle) ≡ test
-        → option_and_then (slice_get (x ∷ more)) (place_in (handles_of (x ∷ more)) handle) ≡ find (λ y. handle_of y == handle) (x ∷ more)
-    go same true is = rw is refl
-    go same false is = rw is (behind x more (place_in (handles_of more) handle) ∙ same)
+unfolding object_at
+object_placed objects handle = placed_by_key handle_of objects handle
 
 -- a place that was found has the handle
 pub at_place : (handles : List ℕ) (handle place : ℕ) → place_in handles handle ≡ Some place → slice_get handles place ≡ Some handle

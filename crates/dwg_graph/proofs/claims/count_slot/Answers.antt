@@ -1,38 +1,38 @@
 use Rattle.std.proofs.Common.{◌≡◌, ◌<◌, refl, sym, ap, ◌∙◌, Bool, true, false, length, map, arith}
 use Rattle.std.proofs.lemmas.List.{length-map}
+use Rattle.dwg_graph.specs.Claimed.{leads_to, leads_down}
 use Rattle.dwg_graph.specs.Graph.{claims_by}
 use Rattle.dwg_graph.specs.Places.{handles_of}
+use Rattle.dwg_graph.proofs.Counting.{no_claim, no_target_all, no_target_own, one_all, one_own, target_within, stands_there}
 use Rattle.dwg_kinds.specs.declared.kind.Kind.{Kind}
 use Rattle.dwg_kinds.specs.declared.field.Field.{Field}
 use Rattle.dwg_object.specs.Objects.{handle_of, kind_of, value_of}
-use Rattle.dwg_audit.proofs.Counting.{no_claim, no_target_all, no_target_own, one_all, one_own, target_within, stands_there}
-use Rattle.dwg_audit.specs.Claimed.{leads_to, leads_down}
-use Rattle.dwg_audit.proofs.claims.count_slot.Goals as goal
+use Rattle.dwg_graph.proofs.claims.count_slot.Goals as goal
 
 -- what a test of a kind says, of the same kind
 said : (kind other : Kind) (field : Field) (test : Bool) → test ≡ claims_by kind field → kind ≡ other → claims_by other field ≡ test
 said kind other field test is same = sym (is ∙ ap (λ (k : Kind). claims_by k field) same)
 
-pub returns-then-not-claims-clause-all : goal.returns-then-not-claims-clause-all
-returns-then-not-claims-clause-all c =
+pub returns-then-not-can_claim-clause-all : goal.returns-then-not-can_claim-clause-all
+returns-then-not-can_claim-clause-all c =
     no_claim (map value_of c.args.objects.now) leads_to (kind_of (value_of c.args.holder.now)) c.args.slot.now c.args.claimed.now.all.items
-    (said c.kind.result (kind_of (value_of c.args.holder.now)) c.args.slot.now.field false c.if-not-claims.ensures c.kind.ensures)
+    (said c.kind.result (kind_of (value_of c.args.holder.now)) c.args.slot.now.field false c.if-not-can_claim.ensures c.kind.ensures)
 
-pub returns-then-not-claims-clause-own : goal.returns-then-not-claims-clause-own
-returns-then-not-claims-clause-own c =
+pub returns-then-not-can_claim-clause-own : goal.returns-then-not-can_claim-clause-own
+returns-then-not-can_claim-clause-own c =
     no_claim (map value_of c.args.objects.now) (leads_down c.args.known.now (handle_of (value_of c.args.holder.now))) (kind_of (value_of c.args.holder.now)) c.args.slot.now
-    c.args.claimed.now.own.items (said c.kind.result (kind_of (value_of c.args.holder.now)) c.args.slot.now.field false c.if-not-claims.ensures c.kind.ensures)
+    c.args.claimed.now.own.items (said c.kind.result (kind_of (value_of c.args.holder.now)) c.args.slot.now.field false c.if-not-can_claim.ensures c.kind.ensures)
 
 pub returns-in_default-clause-all : goal.returns-in_default-clause-all
 returns-in_default-clause-all c =
     no_target_all (map value_of c.args.objects.now) (handles_of (map value_of c.args.objects.now)) (kind_of (value_of c.args.holder.now)) c.args.slot.now c.args.claimed.now.all.items refl c.requires.ascend
-    (said c.kind.result (kind_of (value_of c.args.holder.now)) c.args.slot.now.field true c.if-not-claims.ensures c.kind.ensures) (sym c.in_default.is ∙ c.requires.place)
+    (said c.kind.result (kind_of (value_of c.args.holder.now)) c.args.slot.now.field true c.if-not-can_claim.ensures c.kind.ensures) (sym c.in_default.is ∙ c.requires.place)
 
 pub returns-in_default-clause-own : goal.returns-in_default-clause-own
 returns-in_default-clause-own c =
     no_target_own (map value_of c.args.objects.now) (handles_of (map value_of c.args.objects.now)) c.args.known.now (handle_of (value_of c.args.holder.now)) (kind_of (value_of c.args.holder.now)) c.args.slot.now
     c.args.claimed.now.own.items refl c.requires.ascend
-    (said c.kind.result (kind_of (value_of c.args.holder.now)) c.args.slot.now.field true c.if-not-claims.ensures c.kind.ensures) (sym c.in_default.is ∙ c.requires.place)
+    (said c.kind.result (kind_of (value_of c.args.holder.now)) c.args.slot.now.field true c.if-not-can_claim.ensures c.kind.ensures) (sym c.in_default.is ∙ c.requires.place)
 
 pub is_owned-owned-requires : goal.is_owned-owned-requires
 is_owned-owned-requires c = record { within = target_within c.args.objects.now (handles_of (map value_of c.args.objects.now)) c.args.slot.now.target c.in-Some.place refl (sym c.in-Some.is ∙ c.requires.place) }
@@ -51,7 +51,7 @@ tally-requires c =
 pub returns-clause-all : goal.returns-clause-all
 returns-clause-all c =
     one_all (map value_of c.args.objects.now) (handles_of (map value_of c.args.objects.now)) (kind_of (value_of c.args.holder.now)) c.args.slot.now c.in-Some.place c.args.claimed.now.all.items c.tally.new.claimed.all.items
-    refl c.requires.ascend c.requires.all.long (said c.kind.result (kind_of (value_of c.args.holder.now)) c.args.slot.now.field true c.if-not-claims.ensures c.kind.ensures)
+    refl c.requires.ascend c.requires.all.long (said c.kind.result (kind_of (value_of c.args.holder.now)) c.args.slot.now.field true c.if-not-can_claim.ensures c.kind.ensures)
     (sym c.in-Some.is ∙ c.requires.place) c.tally.ensures.all
 
 pub returns-clause-own : goal.returns-clause-own
@@ -60,5 +60,5 @@ returns-clause-own c =
     let there = stands_there (map value_of c.args.objects.now) c.in-Some.place (omega (arith, within, length-map c.args.objects.now value_of)) in
     one_own (map value_of c.args.objects.now) (handles_of (map value_of c.args.objects.now)) c.args.known.now (handle_of (value_of c.args.holder.now)) (kind_of (value_of c.args.holder.now)) c.args.slot.now c.in-Some.place
     there.0 c.args.claimed.now.own.items c.tally.new.claimed.own.items refl c.requires.ascend c.requires.own.long
-    (said c.kind.result (kind_of (value_of c.args.holder.now)) c.args.slot.now.field true c.if-not-claims.ensures c.kind.ensures) (sym c.in-Some.is ∙ c.requires.place) there.1 c.is_owned-owned.result
+    (said c.kind.result (kind_of (value_of c.args.holder.now)) c.args.slot.now.field true c.if-not-can_claim.ensures c.kind.ensures) (sym c.in-Some.is ∙ c.requires.place) there.1 c.is_owned-owned.result
     (c.is_owned-owned.ensures there.0 there.1) c.tally.ensures.own
