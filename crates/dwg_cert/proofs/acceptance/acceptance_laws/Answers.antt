@@ -1,0 +1,21 @@
+use Rattle.dwg_cert.proofs.AcceptedOfSound.{sound_is_accepted}
+use Rattle.dwg_cert.proofs.ChainPlaces.{places_are_in_chains}
+use Rattle.dwg_cert.proofs.Ranks.{ranks_are_steps}
+use Rattle.dwg_cert.proofs.SoundOfAccepted.{accepted_is_sound}
+use Rattle.dwg_cert.proofs.Told.{acceptance_is_told}
+use Rattle.dwg_cert.proofs.acceptance.acceptance_laws.Goals as goal
+
+pub returns-clause-sound : goal.returns-clause-sound
+returns-clause-sound c = accepted_is_sound
+
+pub returns-clause-accepted : goal.returns-clause-accepted
+returns-clause-accepted c = sound_is_accepted
+
+pub returns-clause-ranks : goal.returns-clause-ranks
+returns-clause-ranks c = ranks_are_steps
+
+pub returns-clause-places : goal.returns-clause-places
+returns-clause-places c = places_are_in_chains
+
+pub returns-clause-told : goal.returns-clause-told
+returns-clause-told c = acceptance_is_told

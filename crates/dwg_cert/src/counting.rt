@@ -1,0 +1,124 @@
+//! What the checker counts before it looks at single objects: the members of blocks, and the claims.
+
+ghost use Rattle.std.specs.Prelude.{◌≡◌, ◌<◌, ◌+◌, ◌^◌, length, map, replicate, IfOk};
+ghost use Rattle.dwg_cert.specs.Checked.{CanBeChecked, CountsMembers, member_counts};
+ghost use Rattle.dwg_graph.specs.Claimed.{Adds, IsOpen, claim_counts, claiming, leads_down, leads_to, own_counts};
+ghost use Rattle.dwg_graph.specs.Owners.{spaces};
+ghost use Rattle.dwg_graph.specs.Places.{Ascend, handles_of};
+ghost use Rattle.dwg_graph.specs.Slots.{slots};
+ghost use Rattle.dwg_object.specs.Objects.{handle_of, kind_of, value_of};
+
+use crate::lookup::place_of;
+use dwg_base::NoMemory;
+use dwg_graph::{
+    Claimed, Index, SpaceHandles, count_slot, home_of, owner_of, raise, slot_at, slot_count, zeros,
+};
+use dwg_object::Object;
+use std::alloc::Global;
+
+/// Counts an object where it is a member of a block, by the block's place.
+fn count_member(
+    objects: &[Object<'_>],
+    known: &Option<SpaceHandles>,
+    index: &Index,
+    place: usize,
+    counts: &mut Vec<u64>,
+)
+    requires ascend { Ascend (handles_of (map value_of objects.now)) }
+    requires few { length objects.now < 2 ^ 58 }
+    requires index { index.now ≡ handles_of (map value_of objects.now) }
+    requires place { place < length objects.now }
+    requires counted { CountsMembers (map value_of objects.now) known.now place counts.old.items }
+    ensures { CountsMembers (map value_of objects.now) known.now (place + 1) counts.new.items }
+{
+    let object = &objects[place];
+    match home_of(
+        objects,
+        known,
+        object,
+        place_of(index, owner_of(object, *known)),
+    ) {
+        Some(home) => raise(counts, home, 1),
+        None => {}
+    }
+}
+
+/// How many members each block has, by place. The only refusal is want of memory.
+pub(crate) fn count_members(
+    alloc: Global,
+    objects: &[Object<'_>],
+    known: &Option<SpaceHandles>,
+    index: &Index,
+) -> Result<Vec<u64>, NoMemory>
+    requires can { CanBeChecked (map value_of objects.now) }
+    requires index { index.now ≡ handles_of (map value_of objects.now) }
+    requires known { known.now ≡ spaces (map value_of objects.now) }
+    ensures { IfOk result (λ counts. counts.items ≡ member_counts (map value_of objects.now)) }
+{
+    let mut counts = zeros(alloc, objects.len())?;
+    'along: for place in 0..objects.len() {
+        count_member(objects, known, index, place, &mut counts);
+    }
+    Ok(counts)
+}
+
+/// Counts what a holder claims.
+#[tactic(auto, using(dwg_graph::proofs::SlotLoops::all_counted))]
+fn count_holder(
+    objects: &[Object<'_>],
+    known: &Option<SpaceHandles>,
+    index: &Index,
+    holder: &Object<'_>,
+    claimed: &mut Claimed,
+)
+    requires ascend { Ascend (handles_of (map value_of objects.now)) }
+    requires index { index.now ≡ handles_of (map value_of objects.now) }
+    requires few { length (slots (value_of holder.now)) < 2 ^ 58 }
+    requires all { IsOpen (map value_of objects.now) (length (slots (value_of holder.now))) claimed.old.all.items }
+    requires own { IsOpen (map value_of objects.now) (length (slots (value_of holder.now))) claimed.old.own.items }
+    ensures all { Adds (map value_of objects.now) leads_to (claiming (kind_of (value_of holder.now)) (slots (value_of holder.now))) claimed.old.all.items claimed.new.all.items }
+    ensures own { Adds (map value_of objects.now) (leads_down known.now (handle_of (value_of holder.now))) (claiming (kind_of (value_of holder.now)) (slots (value_of holder.now))) claimed.old.own.items claimed.new.own.items }
+{
+    'along: for i in 0..slot_count(holder) {
+        let slot = slot_at(holder, i);
+        let target = place_of(index, slot.target);
+        count_slot(objects, known, holder, &slot, target, claimed);
+    }
+}
+
+/// Counts the claims of all objects, from nothing.
+#[tactic(auto, using(dwg_graph::proofs::HolderLoops::counts_begin))]
+fn count_all(
+    objects: &[Object<'_>],
+    known: &Option<SpaceHandles>,
+    index: &Index,
+    claimed: &mut Claimed,
+)
+    requires can { CanBeChecked (map value_of objects.now) }
+    requires index { index.now ≡ handles_of (map value_of objects.now) }
+    requires no_all { claimed.old.all.items ≡ replicate (length objects.now) 0 }
+    requires no_own { claimed.old.own.items ≡ replicate (length objects.now) 0 }
+    ensures all { claimed.new.all.items ≡ claim_counts (map value_of objects.now) }
+    ensures own { claimed.new.own.items ≡ own_counts (map value_of objects.now) known.now }
+{
+    'along: for place in 0..objects.len() {
+        count_holder(objects, known, index, &objects[place], claimed);
+    }
+}
+
+/// How often each object is claimed, and how often by its owner. The only refusal is want of memory.
+pub(crate) fn count_claims(
+    alloc: Global,
+    objects: &[Object<'_>],
+    known: &Option<SpaceHandles>,
+    index: &Index,
+) -> Result<Claimed, NoMemory>
+    requires can { CanBeChecked (map value_of objects.now) }
+    requires index { index.now ≡ handles_of (map value_of objects.now) }
+    ensures all { IfOk result (λ claimed. claimed.all.items ≡ claim_counts (map value_of objects.now)) }
+    ensures own { IfOk result (λ claimed. claimed.own.items ≡ own_counts (map value_of objects.now) known.now) }
+{
+    let mut claimed = Claimed::none(alloc, objects.len())?;
+    count_all(objects, known, index, &mut claimed);
+    Ok(claimed)
+}
