@@ -6,7 +6,7 @@ use Rattle.std.proofs.lemmas.Slice.Eq.{bytes_eq-Decides}
 use Rattle.dwg_answers.specs.declared.words.Command.{Command}
 use Rattle.dwg_answers.specs.declared.words.Command.TheVariants.{Drill}
 use Rattle.dwg_answers.specs.declared.words.Reading.{Reading}
-use Rattle.dwg_answers.specs.declared.words.Reading.TheVariants.{Sections, Classes, Show, Rewrite, Audit, Recover}
+use Rattle.dwg_answers.specs.declared.words.Reading.TheVariants.{Sections, Classes, Show, Rewrite, Audit, Recover, Certify, Accept}
 use Rattle.dwg_answers.specs.Words.{number_of, make_of, drill_of, reading_of, reads, command_of}
 use Rattle.dwg_answers.proofs.MakeWords.{text_of}
 use Rattle.dwg_answers.proofs.Numerals.{number_of_decimal}
@@ -29,6 +29,8 @@ of_word (Some Show) n is = absurd cc
 of_word (Some Rewrite) n is = absurd cc
 of_word (Some Audit) n is = absurd cc
 of_word (Some Recover) n is = absurd cc
+of_word (Some Certify) n is = absurd cc
+of_word (Some Accept) n is = absurd cc
 of_word None n is = absurd cc
 
 -- nor do three

@@ -9,3 +9,6 @@ pub mod DrillWords
 pub mod Drills
 pub mod SectionLaws
 pub mod ShortDamage
+pub mod OwnCertificate
+pub mod CertificateReplies
+pub mod CertificateAnswers

@@ -82,7 +82,7 @@ unfolding outcome_within
 refused reading bytes refusal fails = ap (λ (first : Option Refusal). refused_or first (answer_within reading bytes)) fails
 
 -- an input that spells no drawing fails a line
-first_failing : DrawingLaws → (bytes : List ℕ) → IsInput bytes → SpellsNone bytes → (refusal : Refusal) × (first_fault ALL_LINES bytes ≡ Some refusal)
+pub first_failing : DrawingLaws → (bytes : List ℕ) → IsInput bytes → SpellsNone bytes → (refusal : Refusal) × (first_fault ALL_LINES bytes ≡ Some refusal)
 first_failing laws bytes input none = of_first (first_fault ALL_LINES bytes) refl
   where
     of_first : (first : Option Refusal) → first_fault ALL_LINES bytes ≡ first → (refusal : Refusal) × (first_fault ALL_LINES bytes ≡ Some refusal)
@@ -99,7 +99,7 @@ no_drawing_is_refused laws bytes input none =
     )
 
 -- the drawing that an input spells is the one by its places
-read_is : DrawingLaws → (drawing : Contents) (bytes : List ℕ) → AreBytes bytes → Spelled drawing bytes → drawing_at bytes ≡ drawing
+pub read_is : DrawingLaws → (drawing : Contents) (bytes : List ℕ) → AreBytes bytes → Spelled drawing bytes → drawing_at bytes ≡ drawing
 read_is laws drawing bytes are spelled = laws.one bytes (drawing_at bytes) drawing are (laws.spelled bytes are (laws.passes bytes drawing are spelled)) spelled
 
 -- `show` prints its text

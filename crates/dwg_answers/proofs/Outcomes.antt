@@ -8,20 +8,25 @@ use Rattle.dwg_audit.specs.Findings.{findings}
 use Rattle.dwg_base.specs.Devices.{Came, MOST_BYTES}
 use Rattle.dwg_base.specs.declared.refusal.Refusal.{Refusal}
 use Rattle.dwg_base.specs.Refusals.{first_fault}
-use Rattle.dwg_text.specs.Notes.{usage_note, too_long_note, too_large_note}
+use Rattle.dwg_cert.specs.AcceptTests.{is_accepted}
+use Rattle.dwg_cert.specs.Certified.{certificate_of}
+use Rattle.dwg_cert.specs.WrittenForm.{certificate_bytes}
+use Rattle.dwg_cert.specs.declared.entry.Entry.{Entry}
+use Rattle.dwg_text.specs.Notes.{usage_note, unsound_note, too_long_note, too_large_note}
 use Rattle.dwg_answers.specs.declared.words.Command.{Command}
 use Rattle.dwg_answers.specs.declared.words.Command.TheVariants.{Make, Drill}
 use Rattle.dwg_answers.specs.declared.words.Reading.{Reading}
-use Rattle.dwg_answers.specs.declared.words.Reading.TheVariants.{Sections, Classes, Show, Rewrite, Audit, Recover}
+use Rattle.dwg_answers.specs.declared.words.Reading.TheVariants.{Sections, Classes, Show, Rewrite, Audit, Recover, Certify, Accept}
 use Rattle.dwg_answers.specs.declared.status.Status.{Status}
-use Rattle.dwg_answers.specs.declared.status.Status.TheVariants.{Done, Usage, TooLong, TooLarge}
+use Rattle.dwg_answers.specs.declared.status.Status.TheVariants.{Done, Found, Usage, TooLong, TooLarge}
 use Rattle.dwg_answers.specs.declared.answer.Answer.{Answer}
 use Rattle.dwg_answers.specs.declared.request.Request.{Request}
 use Rattle.dwg_file.specs.Contents.{Contents}
 use Rattle.dwg_file.specs.DrawingAt.{drawing_at}
 use Rattle.dwg_file.specs.Canonical.{size_of, canonical}
+use Rattle.dwg_answers.specs.CertifiedInput.{cert_in, drawing_bytes}
 use Rattle.dwg_answers.specs.Lines.{lines_of}
-use Rattle.dwg_answers.specs.Outcome.{noted, refused_or, filed, made_answer, drill_answer, audited, verdict_status, recovery_notes, recovery_status, recovered_answer, answer_within, outcome_within, outcome_of_input, outcome_of}
+use Rattle.dwg_answers.specs.Outcome.{noted, printed, refused_or, filed, certified, acceptance, accepted, made_answer, drill_answer, audited, verdict_status, recovery_notes, recovery_status, recovered_answer, answer_within, outcome_within, outcome_of_input, outcome_of}
 use Rattle.dwg_recover.specs.Recovering.{RecoveredValue, recovered}
 use Rattle.dwg_answers.specs.Words.{IsReading, reads}
 use Rattle.dwg_answers.specs.Requests.{asked}
@@ -60,6 +65,24 @@ audited_is_drained drawing = of_findings (findings drawing.objects)
     of_findings [] = tt
     of_findings (finding ∷ more) = tt
 
+-- and what is said of a drawing's certificate
+certified_is_drained : (drawing : Contents) → IsDrained (certified drawing).status
+unfolding certified
+certified_is_drained drawing = of_test (is_accepted drawing.objects (certificate_of drawing.objects))
+  where
+    of_test : (test : Bool) → IsDrained (if test then printed (certificate_bytes (certificate_of drawing.objects)) else noted unsound_note Found).status
+    of_test true = tt
+    of_test false = tt
+
+-- and of one before a drawing
+accepted_is_drained : (drawing : Contents) (cert : List Entry) → IsDrained (accepted drawing cert).status
+unfolding accepted
+accepted_is_drained drawing cert = of_test (is_accepted drawing.objects cert)
+  where
+    of_test : (test : Bool) → IsDrained (acceptance test).status
+    of_test true = tt
+    of_test false = tt
+
 -- and so does what a command that reads answers to an input within the limit
 answer_is_drained : (reading : Reading) (bytes : List ℕ) → IsDrained (answer_within reading bytes).status
 unfolding answer_within
@@ -69,6 +92,8 @@ answer_is_drained Show bytes = tt
 answer_is_drained Rewrite bytes = filed_is_drained (drawing_at bytes) [] Done tt
 answer_is_drained Audit bytes = audited_is_drained (drawing_at bytes)
 answer_is_drained Recover bytes = recovered_is_drained (recovered bytes)
+answer_is_drained Certify bytes = certified_is_drained (drawing_at bytes)
+answer_is_drained Accept bytes = accepted_is_drained (drawing_at (drawing_bytes bytes)) (cert_in bytes)
 
 pub outcome_is_drained : (reading : Reading) (bytes : List ℕ) → IsDrained (outcome_within reading bytes).status
 unfolding outcome_within
@@ -132,6 +157,8 @@ outcome_of_reading named reading bytes names = rw names (of_command reading)
     of_command Rewrite = refl
     of_command Audit = refl
     of_command Recover = refl
+    of_command Certify = refl
+    of_command Accept = refl
 
 -- such words name a command that reads
 names_reading : (reading : Reading) → IsReading (Some (reads reading))
@@ -141,6 +168,8 @@ names_reading Show = tt
 names_reading Rewrite = tt
 names_reading Audit = tt
 names_reading Recover = tt
+names_reading Certify = tt
+names_reading Accept = tt
 
 -- and those of the command that makes a drawing, whatever the input
 pub outcome_of_making : (named : Option Command) (n seed : ℕ) (bytes : List ℕ) → named ≡ Some (Make n seed) → made_answer n seed ≡ outcome_of named bytes

@@ -2,6 +2,8 @@
 pub mod Status
 -- The words of the command line, and which commands read the input.
 pub mod Words
+-- What an input is that a certificate and a drawing are.
+pub mod CertifiedInput
 -- The lines of the table of refusals that each command tries.
 pub mod Lines
 -- What the program answers to its words and its input.

@@ -1,11 +1,15 @@
 -- What the program answers to its words and its input. A rule of this project.
-use Rattle.std.specs.Prelude.{ℕ, ◌==◌, ◌||◌, List, [], ◌∷◌, Option, Some, None, length, nat_lt, if◌then◌else◌}
+use Rattle.std.specs.Prelude.{ℕ, ◌==◌, ◌||◌, Bool, List, [], ◌∷◌, Option, Some, None, length, nat_lt, if◌then◌else◌}
 use Rattle.dwg_base.specs.Devices.{MOST_BYTES}
 use Rattle.dwg_base.specs.Refusals.{first_fault}
 use Rattle.dwg_base.specs.declared.refusal.Refusal.{Refusal}
 use Rattle.dwg_sections.specs.HeaderLines.{header_at}
 use Rattle.dwg_audit.specs.declared.finding.Finding.{Finding}
 use Rattle.dwg_audit.specs.Findings.{findings}
+use Rattle.dwg_cert.specs.AcceptTests.{is_accepted}
+use Rattle.dwg_cert.specs.Certified.{certificate_of}
+use Rattle.dwg_cert.specs.WrittenForm.{certificate_bytes}
+use Rattle.dwg_cert.specs.declared.entry.Entry.{Entry}
 use Rattle.dwg_drill.specs.Drilled.{DRILL_SEED, drilled}
 use Rattle.dwg_make.specs.Made.{MOST_ENTITIES, made}
 use Rattle.dwg_recover.specs.declared.loss.Kept.{Kept}
@@ -15,13 +19,14 @@ use Rattle.dwg_recovery_text.specs.RecoveryNote.{recovery_note}
 use Rattle.dwg_report.specs.AuditText.{audit_text}
 use Rattle.dwg_drill.specs.DrillText.{drill_text}
 use Rattle.dwg_show.specs.DrawingText.{show_text}
-use Rattle.dwg_text.specs.Notes.{usage_note, size_note, refusal_note, too_long_note, too_large_note}
+use Rattle.dwg_text.specs.Acceptance.{accept_yes, accept_no}
+use Rattle.dwg_text.specs.Notes.{usage_note, unsound_note, size_note, refusal_note, too_long_note, too_large_note}
 use Rattle.dwg_text.specs.Sections.{sections_text}
 use Rattle.dwg_text.specs.Classes.{classes_text}
 use Rattle.dwg_answers.specs.declared.words.Command.{Command}
 use Rattle.dwg_answers.specs.declared.words.Command.TheVariants as commands
 use Rattle.dwg_answers.specs.declared.words.Reading.{Reading}
-use Rattle.dwg_answers.specs.declared.words.Reading.TheVariants.{Sections, Classes, Show, Rewrite, Audit, Recover}
+use Rattle.dwg_answers.specs.declared.words.Reading.TheVariants.{Sections, Classes, Show, Rewrite, Audit, Recover, Certify, Accept}
 use Rattle.dwg_answers.specs.declared.status.Status.{Status}
 use Rattle.dwg_answers.specs.declared.status.Status.TheVariants.{Done, Found, Usage, Refused, TooLong, TooLarge}
 use Rattle.dwg_answers.specs.declared.answer.Answer.{Answer}
@@ -29,6 +34,7 @@ use Rattle.dwg_answers.specs.Words.{command_of}
 use Rattle.dwg_file.specs.Contents.{Contents}
 use Rattle.dwg_file.specs.DrawingAt.{classes_at, drawing_at}
 use Rattle.dwg_file.specs.Canonical.{size_of, canonical}
+use Rattle.dwg_answers.specs.CertifiedInput.{cert_in, drawing_bytes}
 use Rattle.dwg_answers.specs.Lines.{lines_of}
 
 -- nothing on the output, one note, and a status
@@ -94,6 +100,26 @@ recovery_status (Some refusal) = Found
 unfoldable pub recovered_answer : RecoveredValue → Answer
 recovered_answer value = filed value.drawing (recovery_notes value.refusal value.losses value.kept) (recovery_status value.refusal)
 
+-- the certificate of a drawing's objects, where it is accepted: exactly where the drawing is sound
+unfoldable pub certified : Contents → Answer
+certified drawing =
+    if is_accepted drawing.objects (certificate_of drawing.objects) then printed (certificate_bytes (certificate_of drawing.objects))
+    else noted unsound_note Found
+
+-- whether a certificate is accepted: the line that says it, and how that ends
+abbrev pub acceptance_line : Bool → List ℕ
+acceptance_line is = if is then accept_yes else accept_no
+
+abbrev pub acceptance_status : Bool → Status
+acceptance_status is = if is then Done else Found
+
+abbrev pub acceptance : Bool → Answer
+acceptance is = record { output = acceptance_line is; note = []; status = acceptance_status is }
+
+-- whether a certificate is one of a drawing's objects
+unfoldable pub accepted : Contents → List Entry → Answer
+accepted drawing cert = acceptance (is_accepted drawing.objects cert)
+
 -- what a command that reads answers to an input within the limit in which none of its lines fails
 unfoldable pub answer_within : Reading → List ℕ → Answer
 answer_within Sections bytes = printed (sections_text (header_at bytes))
@@ -102,6 +128,8 @@ answer_within Show bytes = printed (show_text (drawing_at bytes))
 answer_within Rewrite bytes = written (drawing_at bytes)
 answer_within Audit bytes = audited (drawing_at bytes)
 answer_within Recover bytes = recovered_answer (recovered bytes)
+answer_within Certify bytes = certified (drawing_at bytes)
+answer_within Accept bytes = accepted (drawing_at (drawing_bytes bytes)) (cert_in bytes)
 
 -- what it answers to any input within the limit
 unfoldable pub outcome_within : Reading → List ℕ → Answer
@@ -120,6 +148,8 @@ outcome_of (Some commands.Show) bytes = outcome_of_input Show bytes
 outcome_of (Some commands.Rewrite) bytes = outcome_of_input Rewrite bytes
 outcome_of (Some commands.Audit) bytes = outcome_of_input Audit bytes
 outcome_of (Some commands.Recover) bytes = outcome_of_input Recover bytes
+outcome_of (Some commands.Certify) bytes = outcome_of_input Certify bytes
+outcome_of (Some commands.Accept) bytes = outcome_of_input Accept bytes
 outcome_of (Some (commands.Make n seed)) bytes = made_answer n seed
 outcome_of (Some (commands.Drill n)) bytes = drill_answer n
 

@@ -5,6 +5,11 @@ use Rattle.dwg_base.specs.Bytes.{AreBytes}
 use Rattle.dwg_base.specs.Devices.{MOST_BYTES}
 use Rattle.dwg_base.specs.Refusals.{RefusalRow, first_fault}
 use Rattle.dwg_base.specs.declared.refusal.Refusal.{Refusal}
+use Rattle.dwg_cert.specs.Accepts.{Accepts}
+use Rattle.dwg_cert.specs.CertificateLines.{CERTIFICATE_LINES}
+use Rattle.dwg_cert.specs.Certified.{certificate_of}
+use Rattle.dwg_cert.specs.WrittenForm.{BeginsWithCertificate, certificate_bytes}
+use Rattle.dwg_cert.specs.declared.entry.Entry.{Entry}
 use Rattle.dwg_classes.specs.Class.{AreClasses}
 use Rattle.dwg_classes.specs.declared.class.Class.{Class}
 use Rattle.dwg_file.specs.Canonical.{size_of, canonical}
@@ -30,7 +35,7 @@ use Rattle.dwg_sections.specs.HeaderLines.{HEADER_LINES, place_of}
 use Rattle.dwg_show.specs.DrawingText.{show_text}
 use Rattle.dwg_text.specs.Classes.{classes_text}
 use Rattle.dwg_text.specs.Lines.{line}
-use Rattle.dwg_text.specs.Notes.{refusal_note, too_large_note}
+use Rattle.dwg_text.specs.Notes.{refusal_note, too_large_note, unsound_note}
 use Rattle.dwg_text.specs.Sections.{sections_text}
 use Rattle.dwg_answers.specs.declared.answer.Answer.{Answer}
 use Rattle.dwg_answers.specs.declared.status.Status.TheVariants.{Done, Found, Refused, TooLarge}
@@ -179,3 +184,48 @@ abbrev pub ShortDamageIsTold : Type 0
 ShortDamageIsTold =
     (drawing : Contents) (bytes : List ℕ) (earlier : List PairFrame) (frame : PairFrame) (later : List PairFrame) → IsValid drawing → size_of drawing ≤ MOST_BYTES → AreBytes bytes
     → canonical_frames drawing ≡ earlier ++ frame ∷ later → IsDamagedShortly drawing frame bytes → TellsDamage bytes earlier frame later
+
+-- `certify` refuses an input that spells no drawing by the first line that fails
+abbrev pub NoneIsCertified : Type 0
+NoneIsCertified = (bytes : List ℕ) → IsInput bytes → SpellsNone bytes → Refuses bytes (said (codes "certify") bytes)
+
+-- `certify` writes the certificate of the drawing that an input spells, where its references hold together
+abbrev pub SoundIsCertified : Type 0
+SoundIsCertified =
+    (drawing : Contents) (bytes : List ℕ) → IsInput bytes → Spelled drawing bytes → IsSound drawing.objects
+    → said (codes "certify") bytes ≡ record { output = certificate_bytes (certificate_of drawing.objects); note = []; status = Done }
+
+-- and else prints nothing and notes that they don't
+abbrev pub UnsoundIsNoted : Type 0
+UnsoundIsNoted =
+    (drawing : Contents) (bytes : List ℕ) → IsInput bytes → Spelled drawing bytes → (IsSound drawing.objects → ⊥)
+    → said (codes "certify") bytes ≡ record { output = []; note = unsound_note; status = Found }
+
+-- `accept` refuses an input that begins with no certificate by the first line on it that fails
+abbrev pub NoCertificateIsRefused : Type 0
+NoCertificateIsRefused =
+    (bytes : List ℕ) → IsInput bytes → ((cert : List Entry) (rest : List ℕ) → BeginsWithCertificate bytes cert rest → ⊥) → RefusesBy CERTIFICATE_LINES bytes (said (codes "accept") bytes)
+
+-- where what stands behind the certificate spells no drawing, `accept` refuses it by the first line that fails there, its places counted from there
+abbrev pub NoDrawingBehindIsRefused : Type 0
+NoDrawingBehindIsRefused =
+    (bytes : List ℕ) (cert : List Entry) (rest : List ℕ) → IsInput bytes → BeginsWithCertificate bytes cert rest → SpellsNone rest → Refuses rest (said (codes "accept") bytes)
+
+-- an answer tells whether a certificate is one of a drawing's objects: its status does, it prints the line that says so, and it notes nothing; and where it is one, the references of the drawing hold together
+pub record TellsAccepted (drawing : Contents) (cert : List Entry) (answer : Answer) : Type 0 where
+  pub accepted : (answer.status ≡ Done) ↔ Accepts drawing.objects cert
+  pub yes : Accepts drawing.objects cert → answer ≡ record { output = line (codes "accept yes"); note = []; status = Done }
+  pub no : (Accepts drawing.objects cert → ⊥) → answer ≡ record { output = line (codes "accept no"); note = []; status = Found }
+  pub sound : answer.status ≡ Done → IsSound drawing.objects
+
+-- `accept` tells it of the certificate that an input begins with and the drawing that is spelled behind it
+abbrev pub AcceptTellsAccepted : Type 0
+AcceptTellsAccepted =
+    (bytes : List ℕ) (cert : List Entry) (drawing : Contents) (rest : List ℕ) → IsInput bytes → BeginsWithCertificate bytes cert rest → Spelled drawing rest
+    → TellsAccepted drawing cert (said (codes "accept") bytes)
+
+-- what `certify` writes of an input that spells a sound drawing is accepted before that input, where both together are within the limit
+abbrev pub CertifiedIsAccepted : Type 0
+CertifiedIsAccepted =
+    (drawing : Contents) (bytes : List ℕ) → IsInput bytes → Spelled drawing bytes → IsSound drawing.objects → length ((said (codes "certify") bytes).output ++ bytes) ≤ MOST_BYTES
+    → said (codes "accept") ((said (codes "certify") bytes).output ++ bytes) ≡ record { output = line (codes "accept yes"); note = []; status = Done }

@@ -7,7 +7,7 @@ use Rattle.std.specs.Str.Parse.{digits_value}
 use Rattle.dwg_answers.specs.declared.words.Command.{Command}
 use Rattle.dwg_answers.specs.declared.words.Command.TheVariants as commands
 use Rattle.dwg_answers.specs.declared.words.Reading.{Reading}
-use Rattle.dwg_answers.specs.declared.words.Reading.TheVariants.{Sections, Classes, Show, Rewrite, Audit, Recover}
+use Rattle.dwg_answers.specs.declared.words.Reading.TheVariants.{Sections, Classes, Show, Rewrite, Audit, Recover, Certify, Accept}
 use Rattle.dwg_make.specs.Made.{MOST_ENTITIES}
 
 -- the words as lists of bytes
@@ -41,7 +41,9 @@ reading_of word =
     else (if bytes_eq word (codes "show") then Some Show
     else (if bytes_eq word (codes "rewrite") then Some Rewrite
     else (if bytes_eq word (codes "audit") then Some Audit
-    else (if bytes_eq word (codes "recover") then Some Recover else None)))))
+    else (if bytes_eq word (codes "recover") then Some Recover
+    else (if bytes_eq word (codes "certify") then Some Certify
+    else (if bytes_eq word (codes "accept") then Some Accept else None)))))))
 
 -- the command that is each of those
 abbrev pub reads : Reading → Command
@@ -51,6 +53,8 @@ reads Show = commands.Show
 reads Rewrite = commands.Rewrite
 reads Audit = commands.Audit
 reads Recover = commands.Recover
+reads Certify = commands.Certify
+reads Accept = commands.Accept
 
 -- the command that the words name, if they stand in a line of the command table
 unfoldable pub command_of : List (List ℕ) → Option Command
@@ -69,6 +73,8 @@ IsReading (Some commands.Show) = ⊤
 IsReading (Some commands.Rewrite) = ⊤
 IsReading (Some commands.Audit) = ⊤
 IsReading (Some commands.Recover) = ⊤
+IsReading (Some commands.Certify) = ⊤
+IsReading (Some commands.Accept) = ⊤
 IsReading (Some (commands.Make n seed)) = ⊥
 IsReading (Some (commands.Drill n)) = ⊥
 
@@ -81,5 +87,7 @@ IsUsage (Some commands.Show) = ⊥
 IsUsage (Some commands.Rewrite) = ⊥
 IsUsage (Some commands.Audit) = ⊥
 IsUsage (Some commands.Recover) = ⊥
+IsUsage (Some commands.Certify) = ⊥
+IsUsage (Some commands.Accept) = ⊥
 IsUsage (Some (commands.Make n seed)) = (n ≡ 0) ⊎ (MOST_ENTITIES < n)
 IsUsage (Some (commands.Drill n)) = (n ≡ 0) ⊎ (MOST_ENTITIES < n)

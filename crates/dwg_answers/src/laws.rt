@@ -1,8 +1,9 @@
 //! Laws of what is answered, as the contract of a function without code of its own.
 
-ghost use Rattle.dwg_answers.specs.OutcomeLaws.{AuditTellsSound, ClassesPrintsClasses, NoClassesAreRefused, NoDrawingIsRefused, NoHeaderIsRefused, RecoverRewritesDrawing, RecoverWritesFrames, RewriteTellsSize, RewriteWritesDrawing, SectionsPrintsHeader, ShortDamageIsTold, ShowPrintsDrawing};
+ghost use Rattle.dwg_answers.specs.OutcomeLaws.{AcceptTellsAccepted, AuditTellsSound, CertifiedIsAccepted, ClassesPrintsClasses, NoCertificateIsRefused, NoClassesAreRefused, NoDrawingBehindIsRefused, NoDrawingIsRefused, NoHeaderIsRefused, NoneIsCertified, RecoverRewritesDrawing, RecoverWritesFrames, RewriteTellsSize, RewriteWritesDrawing, SectionsPrintsHeader, ShortDamageIsTold, ShowPrintsDrawing, SoundIsCertified, UnsoundIsNoted};
 
 use dwg_audit::{auditable_laws, finding_laws};
+use dwg_cert::{acceptance_laws, certificate_laws};
 use dwg_classes::classes_laws;
 use dwg_file::{canonical_laws, drawing_laws, short_damage_laws as frame_damage_laws};
 use dwg_recover::{answer_laws, short_damage_laws};
@@ -21,6 +22,13 @@ use dwg_sections::{file_header_laws, framed_laws};
 /// check word of one object's frame, `show`, `rewrite` and `audit` refuse it for the check word of that object and print nothing;
 /// what is recovered has every other object, and where its canonical file has at most 32 MiB, `recover` writes that and notes that
 /// refusal and the loss of that object alone; else it tells the size.
+///
+/// `certify` refuses an input that spells no drawing by the first line that fails. Where it spells one, `certify` writes the certificate of
+/// its objects and ends with Done where their references hold together, and else notes that they don't and ends with Found. `accept`
+/// refuses an input that begins with no certificate by the first line on it that fails, and one whose rest spells no drawing by the first
+/// line that fails there. Where the rest spells a drawing, `accept` ends with Done exactly where the certificate is one of its objects, and
+/// prints `accept yes`, and else ends with Found and prints `accept no`; with Done the references of the drawing hold together. What
+/// `certify` writes is accepted before what it was written of, where both together have at most 32 MiB.
 pub fn outcome_laws()
     ensures sections { SectionsPrintsHeader }
     ensures no_header { NoHeaderIsRefused }
@@ -34,6 +42,13 @@ pub fn outcome_laws()
     ensures recover { RecoverRewritesDrawing }
     ensures damaged { RecoverWritesFrames }
     ensures short { ShortDamageIsTold }
+    ensures no_certified { NoneIsCertified }
+    ensures certify { SoundIsCertified }
+    ensures unsound { UnsoundIsNoted }
+    ensures no_certificate { NoCertificateIsRefused }
+    ensures no_drawing_behind { NoDrawingBehindIsRefused }
+    ensures accept { AcceptTellsAccepted }
+    ensures certified { CertifiedIsAccepted }
 {
     file_header_laws();
     framed_laws();
@@ -45,4 +60,6 @@ pub fn outcome_laws()
     answer_laws();
     frame_damage_laws();
     short_damage_laws();
+    certificate_laws();
+    acceptance_laws();
 }

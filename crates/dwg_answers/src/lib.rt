@@ -4,6 +4,7 @@
 
 mod answer;
 mod answering;
+mod certifying;
 mod laws;
 mod making;
 mod reading;

@@ -10,6 +10,7 @@ ghost use Rattle.dwg_answers.specs.Outcome.{audited, outcome_within, recovered_a
 ghost use Rattle.dwg_answers.specs.Replies.{answer_of, IsRefused};
 
 use crate::answer::{Answer, no_bytes, printed_answer, refused_answer};
+use crate::certifying::{accept_reply, certify_reply};
 use crate::reply::Reply;
 use crate::status::Status;
 use crate::words::Reading;
@@ -51,11 +52,12 @@ fn classes_reply<'a>(alloc: Global, bytes: &'a [u8]) -> Result<Reply<'a>, Fault>
     }
 }
 
-/// The drawing of an input in which no line fails.
-fn drawing_of<'a>(alloc: Global, bytes: &'a [u8]) -> Result<Drawing<'a>, Fault>
+/// The drawing of an input in which no line fails. It has no more objects than an input may have bytes.
+pub(crate) fn drawing_of<'a>(alloc: Global, bytes: &'a [u8]) -> Result<Drawing<'a>, Fault>
     requires { length bytes.now ≤ MOST_BYTES }
     ensures drawing { IfOk result (λ drawing. drawing ≡ drawing_at bytes.now) }
     ensures holds { OnOk result (first_fault ALL_LINES bytes.now ≡ None) }
+    ensures few { IfOk result (λ drawing. length drawing.objects ≤ MOST_BYTES) }
     ensures refused { IfErr result (λ fault. IsRefused Reading.Rewrite bytes.now fault) }
 {
     drawing_laws();
@@ -197,6 +199,8 @@ fn reply_or_fault<'a>(alloc: Global, reading: Reading, bytes: &'a [u8]) -> Resul
             Ok(reply) => Ok(reply),
             Err(NoMemory) => Err(Fault::NoMemory),
         },
+        Reading::Certify => certify_reply(alloc, bytes),
+        Reading::Accept => accept_reply(alloc, bytes),
     }
 }
 

@@ -103,5 +103,7 @@ pub fn request_for<R: Source>(
         Some(Command::Rewrite) => request_from(alloc, Reading::Rewrite, input),
         Some(Command::Audit) => request_from(alloc, Reading::Audit, input),
         Some(Command::Recover) => request_from(alloc, Reading::Recover, input),
+        Some(Command::Certify) => request_from(alloc, Reading::Certify, input),
+        Some(Command::Accept) => request_from(alloc, Reading::Accept, input),
     }
 }

@@ -9,7 +9,8 @@ use dwg_base::Refusal;
 pub enum Status {
     /// All went well.
     Done,
-    /// All went well, and the audit has findings, or the input of a recovery spells no drawing.
+    /// All went well, and the audit has findings, the input of a recovery spells no drawing, a drawing that isn't sound has no
+    /// certificate, or a certificate isn't accepted.
     Found,
     /// The words stand in no line of the command table, or ask for a made drawing of no size that it has.
     Usage,

@@ -21,6 +21,10 @@ pub enum Reading {
     Audit,
     /// `recover`.
     Recover,
+    /// `certify`.
+    Certify,
+    /// `accept`.
+    Accept,
 }
 
 /// What the program is asked for.
@@ -38,6 +42,10 @@ pub enum Command {
     Audit,
     /// The canonical file of the drawing, or of all that is left of it.
     Recover,
+    /// The certificate of the drawing, where it is sound.
+    Certify,
+    /// Whether the certificate that the input begins with is one of the drawing behind it.
+    Accept,
     /// The canonical file of a made drawing.
     Make {
         /// How many entities follow its fixed objects.
@@ -121,6 +129,8 @@ fn reading_named(word: &str) -> Option<Reading>
         "rewrite" => Some(Reading::Rewrite),
         "audit" => Some(Reading::Audit),
         "recover" => Some(Reading::Recover),
+        "certify" => Some(Reading::Certify),
+        "accept" => Some(Reading::Accept),
         _ => None,
     }
 }
@@ -136,6 +146,8 @@ fn command_by(reading: Reading) -> Command
         Reading::Rewrite => Command::Rewrite,
         Reading::Audit => Command::Audit,
         Reading::Recover => Command::Recover,
+        Reading::Certify => Command::Certify,
+        Reading::Accept => Command::Accept,
     }
 }
 

@@ -1,6 +1,7 @@
 //! Tests of the program over devices in memory, by command; and the inputs and runs that they share.
 
 mod audit;
+mod certificates;
 mod commands;
 mod drill;
 mod hostile;

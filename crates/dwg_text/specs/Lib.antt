@@ -6,3 +6,5 @@ pub mod Notes
 pub mod Sections
 -- The text of a file's classes.
 pub mod Classes
+-- What is printed of a certificate before a drawing.
+pub mod Acceptance

@@ -6,7 +6,11 @@ use Rattle.dwg_text.specs.Lines.{line}
 
 -- which words the program takes
 unfoldable pub usage_note : List ℕ
-usage_note = line (codes "dwg: usage: sections | classes | show | rewrite | audit | recover | make N SEED | drill N")
+usage_note = line (codes "dwg: usage: sections | classes | show | rewrite | audit | recover | make N SEED | drill N | certify | accept")
+
+-- a drawing has no certificate
+unfoldable pub unsound_note : List ℕ
+unsound_note = line (codes "dwg: not sound")
 
 -- how many entities a made drawing may be asked for
 unfoldable pub size_note : List ℕ

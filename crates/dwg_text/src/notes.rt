@@ -12,7 +12,15 @@ use std::alloc::{AllocError, Global};
 pub fn usage_note() -> &'static [u8]
     ensures { result.now ≡ texts.usage_note }
 {
-    b"dwg: usage: sections | classes | show | rewrite | audit | recover | make N SEED | drill N\n"
+    b"dwg: usage: sections | classes | show | rewrite | audit | recover | make N SEED | drill N | certify | accept\n"
+}
+
+/// The references of a drawing don't hold together, so it has no certificate.
+#[tactic(auto, unfolding(crate::specs::Notes::unsound_note))]
+pub fn unsound_note() -> &'static [u8]
+    ensures { result.now ≡ texts.unsound_note }
+{
+    b"dwg: not sound\n"
 }
 
 /// How many entities a made drawing may be asked for.

@@ -158,7 +158,7 @@ D43628289D57CA3F9D44102B0100000000E0DA92F82BC9D7D762A835C062BBEFD40C004A92800000
 
 /// What a run leaves that tells how the program is used.
 const USAGE: &str =
-    "Usage | - | dwg: usage: sections | classes | show | rewrite | audit | recover | make N SEED | drill N";
+    "Usage | - | dwg: usage: sections | classes | show | rewrite | audit | recover | make N SEED | drill N | certify | accept";
 
 /// What drawings are shown as.
 const SHOWN: &str = "\
@@ -368,6 +368,8 @@ dwg audit extra
 dwg sections extra
 dwg classes classes
 dwg show show show
+dwg certify extra
+dwg accept made.cert
 dwg make 1
 dwg make 01 1
 dwg make 1 -1

@@ -185,6 +185,13 @@ fn repeated(alloc: Global, byte: &str, count: &str) -> Option<Vec<u8>> {
     vec![in alloc; byte; count].ok()
 }
 
+/// The certificate of a file.
+fn certificate_of(alloc: Global, name: &str) -> Option<Vec<u8>> {
+    let drawing = sample_of(alloc, name)?;
+    let certificate = written(alloc, "dwg certify", &drawing, PLENTY)?;
+    Vec::from_slice(alloc, certificate.as_slice()).ok()
+}
+
 /// A canonical file by its name, the drawing that is made of two numbers, a byte so many times (`7F*1000`), or `nothing`.
 fn base_of(alloc: Global, name: &str) -> Option<Vec<u8>> {
     if name == "nothing" {
@@ -297,6 +304,14 @@ fn changed_file(alloc: Global, text: &str) -> Option<Vec<u8>> {
     with_frames(alloc, bytes, frames)
 }
 
+/// An input by the name of a file, or a certificate, `certificate/NAME`.
+fn named(alloc: Global, name: &str) -> Option<Vec<u8>> {
+    match name.strip_prefix("certificate/") {
+        Some(drawing) => certificate_of(alloc, drawing),
+        None => sample_of(alloc, name),
+    }
+}
+
 /// A file by its name.
 fn sample_of(alloc: Global, name: &str) -> Option<Vec<u8>> {
     match paragraph(CHANGED_FILES, name) {
@@ -305,8 +320,8 @@ fn sample_of(alloc: Global, name: &str) -> Option<Vec<u8>> {
     }
 }
 
-/// An input by its text: the name of a file, and changes behind it.
+/// An input by its text: the name of a file, or `certificate/` and one, which is its certificate, and changes behind it.
 pub(crate) fn input_of(alloc: Global, text: &str) -> Option<Vec<u8>> {
     let (name, changes) = first_word(text);
-    changed_by_all(alloc, sample_of(alloc, name)?, changes)
+    changed_by_all(alloc, named(alloc, name)?, changes)
 }

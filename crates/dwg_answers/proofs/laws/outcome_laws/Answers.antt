@@ -1,3 +1,5 @@
+use Rattle.dwg_answers.proofs.CertificateAnswers.{FormLaws, none_is_certified, sound_is_certified, unsound_is_noted, no_certificate_is_refused, no_drawing_behind_is_refused, accept_tells_accepted, certified_is_accepted}
+use Rattle.dwg_answers.proofs.CertificateReplies.{AcceptanceLaws}
 use Rattle.dwg_answers.proofs.OutcomeLaws.{DrawingLaws, FileLaws, no_drawing_is_refused, show_prints_drawing, rewrite_writes_drawing, rewrite_tells_size, audit_tells_sound, recover_rewrites_drawing, recover_writes_frames}
 use Rattle.dwg_answers.proofs.SectionLaws.{PartLaws, sections_prints_header, no_header_is_refused, classes_prints_classes, no_classes_are_refused}
 use Rattle.dwg_answers.proofs.ShortDamage.{short_damage_is_told}
@@ -21,6 +23,9 @@ returns c =
       classes = λ place content classes are. (c.classes_laws.ensures.read place content classes).1 are;
       cut = λ place content classes tried. (c.classes_laws.ensures.read place content classes).0 tried;
     } in
+    let forms : FormLaws = record { exact = c.certificate_laws.ensures.exact; read = c.certificate_laws.ensures.complete; bytes = c.certificate_laws.ensures.bytes } in
+    let acceptance : AcceptanceLaws = record { sound = c.acceptance_laws.ensures.sound; accepted = c.acceptance_laws.ensures.accepted; told = c.acceptance_laws.ensures.told } in
+    let auditable = c.auditable_laws.ensures.auditable in
     record {
       sections = sections_prints_header parts;
       no_header = no_header_is_refused parts;
@@ -36,4 +41,11 @@ returns c =
       short =
           short_damage_is_told c.canonical_laws.ensures.counted c.short_damage_laws.ensures.refused c.short_damage_laws.ensures.elsewhere
           c.short_damage_laws-2.ensures.short;
+      no_certified = none_is_certified laws;
+      certify = sound_is_certified laws auditable acceptance;
+      unsound = unsound_is_noted laws auditable acceptance;
+      no_certificate = no_certificate_is_refused forms;
+      no_drawing_behind = no_drawing_behind_is_refused laws forms;
+      accept = accept_tells_accepted laws auditable forms acceptance;
+      certified = certified_is_accepted laws auditable forms acceptance;
     }

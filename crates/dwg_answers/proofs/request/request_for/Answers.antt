@@ -79,3 +79,15 @@ returns-in-Some-Recover-clause-answered g c = answered_by _ _ c.request_from-in-
 
 pub returns-in-Some-Recover-clause-came : goal.returns-in-Some-Recover-clause-came
 returns-in-Some-Recover-clause-came g c = came_by _ _ c.request_from-in-Some-Recover.result _ _ (sym c.in-Some-Recover.ensures.named ∙ ap Some c.in-Some-Recover.field-0-is) c.request_from-in-Some-Recover.ensures.came
+
+pub returns-in-Some-Certify-clause-answered : goal.returns-in-Some-Certify-clause-answered
+returns-in-Some-Certify-clause-answered g c = answered_by _ _ c.request_from-in-Some-Certify.result _ (sym c.in-Some-Certify.ensures.named ∙ ap Some c.in-Some-Certify.field-0-is) c.request_from-in-Some-Certify.ensures.answered
+
+pub returns-in-Some-Certify-clause-came : goal.returns-in-Some-Certify-clause-came
+returns-in-Some-Certify-clause-came g c = came_by _ _ c.request_from-in-Some-Certify.result _ _ (sym c.in-Some-Certify.ensures.named ∙ ap Some c.in-Some-Certify.field-0-is) c.request_from-in-Some-Certify.ensures.came
+
+pub returns-in-Some-Accept-clause-answered : goal.returns-in-Some-Accept-clause-answered
+returns-in-Some-Accept-clause-answered g c = answered_by _ _ c.request_from-in-Some-Accept.result _ (sym c.in-Some-Accept.ensures.named ∙ ap Some c.in-Some-Accept.field-0-is) c.request_from-in-Some-Accept.ensures.answered
+
+pub returns-in-Some-Accept-clause-came : goal.returns-in-Some-Accept-clause-came
+returns-in-Some-Accept-clause-came g c = came_by _ _ c.request_from-in-Some-Accept.result _ _ (sym c.in-Some-Accept.ensures.named ∙ ap Some c.in-Some-Accept.field-0-is) c.request_from-in-Some-Accept.ensures.came
