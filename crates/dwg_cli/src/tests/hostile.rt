@@ -9,7 +9,7 @@ use std::alloc::Global;
 use std::test::Fail;
 
 /// A case for each number from one up to another.
-pub(crate) trait Numbered {
+trait Numbered {
     /// What is said of a number that fails.
     const WHAT: &'static str;
 
@@ -18,7 +18,7 @@ pub(crate) trait Numbered {
 }
 
 /// Fails by the first number from one up to another whose case doesn't hold.
-pub(crate) fn every_number<N: Numbered>(alloc: Global, from: usize, to: usize) -> Result<(), Fail> {
+fn every_number<N: Numbered>(alloc: Global, from: usize, to: usize) -> Result<(), Fail> {
     for number in from..to {
         if N::holds(alloc, number) != Some(true) {
             let case = format!(in alloc; "{}: {}", N::WHAT, number)?;
