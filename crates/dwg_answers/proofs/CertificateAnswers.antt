@@ -1,7 +1,6 @@
 -- What `certify` and `accept` answer, said of the drawing that the input spells and the certificate that it begins with.
-use Rattle.std.proofs.Common.{◌≡◌, refl, sym, ap, ◌∙◌, subst, ℕ, ◌^◌, ◌<◌, ◌≤◌, List, [], ◌∷◌, ◌++◌, length, length-append, codes, Option, Some, None, true, false, arith}
-use Rattle.std.proofs.lemmas.Bool.{false_from_ne_true}
-use Rattle.std.specs.Prelude.{Bool, ◌↔◌, Ok, IsTrue}
+use Rattle.std.proofs.Common.{◌≡◌, refl, sym, ap, ◌∙◌, subst, ℕ, ◌≤◌, List, [], ◌∷◌, ◌++◌, length, length-append, codes, Option, Some, None, true, false, arith}
+use Rattle.std.specs.Prelude.{Bool, ◌↔◌, IsTrue}
 use Rattle.dwg_audit.specs.Auditable.{ValidIsAuditable}
 use Rattle.dwg_base.specs.Bytes.{AreBytes}
 use Rattle.dwg_base.specs.Devices.{MOST_BYTES}
@@ -11,7 +10,7 @@ use Rattle.dwg_base.proofs.ByteLists.{joined_are_bytes}
 use Rattle.dwg_cert.specs.AcceptTests.{is_accepted}
 use Rattle.dwg_cert.specs.Accepts.{Accepts}
 use Rattle.dwg_cert.specs.CertificateLaws.{LinesAreExact, CertificateIsRead, FormIsBytes}
-use Rattle.dwg_cert.specs.CertificateLines.{CERTIFICATE_LINES, behind_certificate, tried_certificate}
+use Rattle.dwg_cert.specs.CertificateLines.{CERTIFICATE_LINES, behind_certificate}
 use Rattle.dwg_cert.specs.Certified.{certificate_of}
 use Rattle.dwg_cert.specs.WrittenForm.{BeginsWithCertificate, certificate_bytes}
 use Rattle.dwg_cert.specs.declared.entry.Entry.{Entry}
@@ -28,9 +27,9 @@ use Rattle.dwg_answers.specs.declared.words.Reading.TheVariants.{Certify, Accept
 use Rattle.dwg_answers.specs.CertifiedInput.{cert_in, drawing_bytes, drawing_row}
 use Rattle.dwg_answers.specs.Lines.{lines_of}
 use Rattle.dwg_answers.specs.Outcome.{acceptance, accepted, certified, answer_within, outcome_within}
-use Rattle.dwg_answers.specs.OutcomeLaws.{IsInput, SpellsNone, said, RefusesBy, TellsAccepted, NoneIsCertified, SoundIsCertified, UnsoundIsNoted, NoCertificateIsRefused, NoDrawingBehindIsRefused, AcceptTellsAccepted, CertifiedIsAccepted}
+use Rattle.dwg_answers.specs.OutcomeLaws.{IsInput, said, RefusesBy, TellsAccepted, NoneIsCertified, SoundIsCertified, UnsoundIsNoted, NoCertificateIsRefused, NoDrawingBehindIsRefused, AcceptTellsAccepted, CertifiedIsAccepted}
 use Rattle.dwg_answers.specs.Words.{command_of, reading_of}
-use Rattle.dwg_answers.proofs.CertificateReplies.{AcceptanceLaws, accepted_where_sound, refused_where_unsound, certified_some, certified_none, read_is_in, read_is_before}
+use Rattle.dwg_answers.proofs.CertificateReplies.{AcceptanceLaws, accepted_where_sound, refused_where_unsound, certified_some, certified_none, read_is_in}
 use Rattle.dwg_answers.proofs.Faults.{first_of_more, tried_of_drawing}
 use Rattle.dwg_answers.proofs.OutcomeLaws.{DrawingLaws, of_input, passed, refused, first_failing, read_is}
 use Rattle.dwg_answers.proofs.OwnCertificate.{own_is_certificate, own_has_handles}

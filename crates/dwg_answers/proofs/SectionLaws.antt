@@ -1,21 +1,18 @@
 -- What `sections` and `classes` answer, said of the header that the input begins with and the classes that it has.
-use Rattle.std.proofs.Common.{◌≡◌, refl, sym, ap, ◌∙◌, ℕ, ◌+◌, List, [], ◌∷◌, ◌++◌, codes, Option, Some, None, arith}
+use Rattle.std.proofs.Common.{◌≡◌, refl, sym, ap, ◌∙◌, ℕ, ◌+◌, List, [], ◌∷◌, codes, Option, Some, None, arith}
 use Rattle.std.specs.Option.{option_or}
 use Rattle.std.specs.Prelude.{Ok, unwrap_or}
 use Rattle.std.specs.Result.{result_unwrap_or}
-use Rattle.dwg_base.specs.Bytes.{AreBytes}
 use Rattle.dwg_base.specs.Refusals.{RefusalRow, Tried, fault_of, first_fault}
 use Rattle.dwg_base.specs.declared.refusal.Refusal.{Refusal}
 use Rattle.dwg_classes.specs.Class.{AreClasses}
 use Rattle.dwg_classes.specs.ClassLines.{tried_classes}
 use Rattle.dwg_classes.specs.declared.class.Class.{Class}
 use Rattle.dwg_file.proofs.PassingLines.{both_rows, rows_both, ok_of_fault}
-use Rattle.dwg_file.specs.DrawingAt.{classes_at}
 use Rattle.dwg_file.specs.FileLines.{classes_row, classes_section_row, classes_tried, section_place}
 use Rattle.dwg_sections.specs.declared.framed.Framed.TheVariants as framed
 use Rattle.dwg_sections.specs.declared.header.FileHeader.{FileHeader}
 use Rattle.dwg_sections.specs.FileHeader.{BeginsWithHeader}
-use Rattle.dwg_sections.specs.Framed.{FramedAt}
 use Rattle.dwg_sections.specs.FramedLaws.{PassingBytesHaveSection, SectionIsRead}
 use Rattle.dwg_sections.specs.FramedLines.{BEFORE_CONTENT, content_at, framed_lines}
 use Rattle.dwg_sections.specs.HeaderLaws.{HeaderIsRead, PassingBytesBeginWithHeader, SectionsAreLocated}

@@ -1,4 +1,4 @@
-use Rattle.std.proofs.Common.{◌≡◌, subst, ℕ, List, Option}
+use Rattle.std.proofs.Common.{◌≡◌, subst, List, Option}
 use Rattle.std.specs.Prelude.{IfSome}
 use Rattle.dwg_base.specs.Devices.{MOST_BYTES}
 use Rattle.dwg_cert.specs.Certified.{certificate_of}
