@@ -8,9 +8,9 @@ ghost use Rattle.dwg_base.specs.Refusals.{part_word_of, reason_word_of};
 pub struct Refusal {
     /// The line of the table, 1 to 37: the first 33 are tried of a drawing, the last four of a certificate.
     pub line: u8,
-    /// Which locator, class, page or pair of that part, counted from 0.
+    /// Which locator, class, page or pair of that part, or which entry of a certificate, counted from 0.
     pub index: u64,
-    /// The place in the input, in bytes from its begin.
+    /// The place in the input, in bytes from its begin; of a drawing behind a certificate, from the drawing's begin.
     pub place: u64,
 }
 

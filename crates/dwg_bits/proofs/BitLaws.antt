@@ -141,6 +141,10 @@ unfolding bits_between
 length_of_bits_between bytes from to within =
     length-take-le (to - from) (drop from (bits bytes)) (omega (arith, length-drop from (bits bytes), length_of_bits bytes))
 
+-- so many bits from a place on are as many
+pub run_counted : (bytes : List ℕ) (from count : ℕ) → from + count ≤ 8 * length bytes → length (bits_between bytes from (from + count)) ≡ count
+run_counted bytes from count within = length_of_bits_between bytes from (from + count) within ∙ omega arith
+
 -- the bits up to a place, and those from there on
 pub bits_between_joined : (bytes : List ℕ) (from mid to : ℕ) → from ≤ mid → mid ≤ to → bits_between bytes from mid ++ bits_between bytes mid to ≡ bits_between bytes from to
 unfolding bits_between

@@ -2,7 +2,6 @@ pub mod BitLaws
 pub mod PaddingLaw
 pub mod SinkLemmas
 pub mod WholeBytes
-pub mod BitPlaces
 pub mod Filling
 pub mod Pushing
-pub mod Taking
+pub mod WordParts

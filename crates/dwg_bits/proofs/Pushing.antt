@@ -1,67 +1,60 @@
--- Bits pushed one by one: the low bits of a number from the highest down, a part, and bytes.
-use Rattle.std.proofs.Common.{◌≡◌, sym, ◌∙◌, ap, ap₂, subst, ℕ, zero, suc, ◌+◌, ◌-◌, ◌*◌, ◌/◌, ◌^◌, ◌<◌, ◌≤◌, Bool, List, [], ◌∷◌, ◌++◌, length, take, get_or, false, eqb, arith}
-use Rattle.std.specs.Prelude.{bit_and}
-use Rattle.std.proofs.lemmas.Nat.Bits.{shr_and_one}
-use Rattle.std.proofs.lemmas.List.{append_assoc, append-nil, take_more, take_all}
-use Rattle.dwg_bits.specs.Bits.{is_set, low_bits, bits}
-use Rattle.dwg_bits.proofs.BitLaws.{bits_more, bits_between_none, bits_between_more}
+-- Bits pushed by words, and whole bytes as bytes: what is written grows by just these.
+use Rattle.std.proofs.Common.{◌≡◌, sym, ◌∙◌, ap, ap₂, ℕ, ◌+◌, ◌-◌, ◌*◌, ◌/◌, ◌%◌, ◌≤◌, Bool, List, ◌++◌, length, take, drop, arith}
+use Rattle.std.proofs.lemmas.List.{append_assoc, append-nil, length-append, length-take-le, length-drop}
+use Rattle.dwg_bits.specs.Bits.{low_bits, bits, num}
 use Rattle.dwg_bits.specs.Cursor.{bits_between}
-use Rattle.dwg_bits.specs.Sink.{Written, Extends}
-use Rattle.dwg_bits.proofs.SinkLemmas.{extends_by_none, extends_by_both}
+use Rattle.dwg_bits.specs.Filled.{AreFilled}
+use Rattle.dwg_bits.proofs.BitLaws.{length_of_bits, bits_joined, bits_between_none, bits_between_joined, bits_between_all, length_of_bits_between, low_bits_of_num}
+use Rattle.dwg_bits.proofs.Filling.{all_filled, length_held}
+use Rattle.dwg_bits.proofs.WordParts.{bits_of_run}
 
--- the low bits are their highest and those below it
-highest_first : (count value : ℕ) → 0 < count → is_set value (count - 1) ∷ low_bits (count - 1) value ≡ low_bits count value
-unfolding low_bits
-highest_first zero value h = absurd (omega arith)
-highest_first (suc count) value h = let last : suc count - 1 ≡ count = omega arith in ap (λ n. is_set value n ∷ low_bits n value) last
-
--- a bit pushed is the highest of those that were left
-pub bit_pushed : (before after whole : List Bool) (left value : ℕ) → 0 < left → after ≡ before ++ eqb (bit_and (value / 2 ^ (left - 1)) 1) 1 ∷ [] → before ++ low_bits left value ≡ whole
-    → after ++ low_bits (left - 1) value ≡ whole
-bit_pushed before after whole left value some pushed so_far =
-    let bit : Bool = is_set value (left - 1) in
-    let next : after ≡ before ++ bit ∷ [] = pushed ∙ ap (λ b. before ++ eqb b 1 ∷ []) (shr_and_one value (left - 1)) in
-    ap (λ front. front ++ low_bits (left - 1) value) next
-    ∙ append_assoc before (bit ∷ []) (low_bits (left - 1) value)
-    ∙ ap (λ rest. before ++ rest) (highest_first left value some)
-    ∙ so_far
-
--- with no bit left the whole is written
-pub all_pushed : (before whole : List Bool) (left value : ℕ) → left ≡ 0 → before ++ low_bits left value ≡ whole → before ≡ whole
-unfolding low_bits
-all_pushed before whole left value none so_far = sym (append-nil before) ∙ ap (λ n. before ++ low_bits n value) (sym none) ∙ so_far
-
--- before the first bit of a part nothing of it is pushed
+-- before the first bit nothing is pushed
 pub none_placed : (old : List Bool) (bytes : List ℕ) (from : ℕ) → old ≡ old ++ bits_between bytes from from
 none_placed old bytes from = sym (append-nil old) ∙ ap (λ none. old ++ none) (sym (bits_between_none bytes from))
 
--- the bit at a place is pushed behind those before it
-pub bit_placed : (old before after : List Bool) (bytes : List ℕ) (from place : ℕ) (bit : Bool) → from ≤ place → place < 8 * length bytes → bit ≡ get_or (bits bytes) place false → after ≡ before ++ bit ∷ []
-    → before ≡ old ++ bits_between bytes from place → after ≡ old ++ bits_between bytes from (place + 1)
-bit_placed old before after bytes from place bit ordered within here pushed so_far =
+-- a number that bits spell is pushed behind those before them
+pub word_placed : (old before after : List Bool) (bytes : List ℕ) (from place count value : ℕ) → from ≤ place → place + count ≤ 8 * length bytes → value ≡ num (bits_between bytes place (place + count))
+    → after ≡ before ++ low_bits count value → before ≡ old ++ bits_between bytes from place → after ≡ old ++ bits_between bytes from (place + count)
+word_placed old before after bytes from place count value ordered within spelled pushed so_far =
     let front : List Bool = bits_between bytes from place in
+    let next : List Bool = bits_between bytes place (place + count) in
+    let long : length next ≡ count = length_of_bits_between bytes place (place + count) within ∙ omega arith in
+    let same : low_bits count value ≡ next = ap₂ low_bits (sym long) spelled ∙ low_bits_of_num next in
     pushed
-    ∙ ap₂ (λ written b. written ++ b ∷ []) so_far here
-    ∙ append_assoc old front (get_or (bits bytes) place false ∷ [])
-    ∙ ap (λ more. old ++ more) (sym (bits_between_more bytes from place false ordered within))
+    ∙ ap₂ (λ written more. written ++ more) so_far same
+    ∙ append_assoc old front next
+    ∙ ap (λ more. old ++ more) (bits_between_joined bytes from place (place + count) ordered (omega arith))
 
--- at the last place the part is pushed
-pub all_placed : (old before more : List Bool) (bytes : List ℕ) (from place to : ℕ) → place ≡ to → bits_between bytes from to ≡ more → before ≡ old ++ bits_between bytes from place → before ≡ old ++ more
-all_placed old before more bytes from place to last whole so_far =
-    so_far ∙ ap (λ n. old ++ bits_between bytes from n) last ∙ ap (λ front. old ++ front) whole
+-- whole bytes behind whole bytes
+pub bytes_held : (old new more : List ℕ) (count grown : ℕ) → AreFilled old count → length (bits_between old 0 count) % 8 ≡ 0 → new ≡ old ++ more → grown ≡ count + 8 * length more
+    → bits_between new 0 grown ≡ bits_between old 0 count ++ bits more
+bytes_held old new more count grown filled even is by =
+    let all : count ≡ 8 * length old = omega (arith, filled.whole, length_held old count filled) in
+    bits_between_all new grown (omega (arith, by, all, ap length is, length-append old more))
+    ∙ ap bits is ∙ bits_joined old more ∙ ap (λ front. front ++ bits more) (sym (bits_between_all old count all))
 
--- nothing is written before the first byte
-pub none_written : (sink : Written) (bytes : List ℕ) → Extends sink sink (bits (take 0 bytes))
-unfolding bits
-none_written sink bytes = extends_by_none sink
+-- and they are filled
+pub bytes_filled : (old new more : List ℕ) (count grown : ℕ) → AreFilled old count → length (bits_between old 0 count) % 8 ≡ 0 → new ≡ old ++ more → grown ≡ count + 8 * length more → AreFilled new grown
+bytes_filled old new more count grown filled even is by =
+    all_filled new grown (omega (arith, by, filled.whole, length_held old count filled, ap length is, length-append old more))
 
--- a byte more is written
-pub one_written : (old mid new : Written) (bytes : List ℕ) (i byte : ℕ) → i < length bytes → byte ≡ get_or bytes i 0 → Extends old mid (bits (take i bytes))
-    → Extends mid new (low_bits 8 byte) → Extends old new (bits (take (i + 1) bytes))
-one_written old mid new bytes i byte within here so_far next =
-    let more : take (i + 1) bytes ≡ take i bytes ++ byte ∷ [] = take_more bytes i 0 within ∙ ap (λ b. take i bytes ++ b ∷ []) (sym here) in
-    subst (Extends old new) (sym (ap bits more ∙ bits_more (take i bytes) byte)) (extends_by_both old mid new (bits (take i bytes)) (low_bits 8 byte) so_far next)
+-- a part is as long as its places are apart
+pub part_long : (bytes : List ℕ) (from to : ℕ) (part : List Bool) → to ≤ 8 * length bytes → bits_between bytes from to ≡ part → to - from ≡ length part
+part_long bytes from to part within is = sym (length_of_bits_between bytes from to within) ∙ ap length is
 
--- at the end all are written
-pub all_written : (old new : Written) (bytes : List ℕ) (i : ℕ) → length bytes ≤ i → Extends old new (bits (take i bytes)) → Extends old new (bits bytes)
-all_written old new bytes i past so_far = subst (λ all. Extends old new (bits all)) (take_all i bytes past) so_far
+-- whole bytes, and the bits behind them
+pub run_and_rest : (bytes run : List ℕ) (from to : ℕ) → from ≤ to → to ≤ 8 * length bytes → from % 8 ≡ 0 → run ≡ take (to / 8 - from / 8) (drop (from / 8) bytes)
+    → bits run ++ bits_between bytes (to - to % 8) to ≡ bits_between bytes from to
+run_and_rest bytes run from to ordered within even is =
+    let count : ℕ = to / 8 - from / 8 in
+    let first : 8 * (from / 8) ≡ from = omega arith in
+    let last : 8 * (from / 8) + 8 * count ≡ to - to % 8 = omega arith in
+    ap (λ front. front ++ bits_between bytes (to - to % 8) to)
+    (ap bits is ∙ sym (bits_of_run bytes (from / 8) count (omega arith)) ∙ ap₂ (bits_between bytes) first last)
+    ∙ bits_between_joined bytes from (to - to % 8) to (omega arith) (omega arith)
+
+-- whole bytes have all bits but those behind them
+pub run_long : (bytes run : List ℕ) (from to : ℕ) → from ≤ to → to ≤ 8 * length bytes → from % 8 ≡ 0 → run ≡ take (to / 8 - from / 8) (drop (from / 8) bytes)
+    → length (bits run) ≡ to - to % 8 - from
+run_long bytes run from to ordered within even is =
+    length_of_bits run ∙ ap (λ n. 8 * n) (ap length is ∙ length-take-le (to / 8 - from / 8) (drop (from / 8) bytes) (omega (arith, length-drop (from / 8) bytes))) ∙ omega arith

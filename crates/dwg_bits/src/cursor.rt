@@ -3,7 +3,7 @@
 ghost use Rattle.std.specs.Prelude.{◌≡◌, ◌+◌, ◌-◌, ◌*◌, ◌^◌, ◌<◌, ◌≤◌, ◌↔◌, ◌++◌, length, IsSome, IfSome, is_some, if◌then◌else◌};
 
 use crate::part::BitSpan;
-use crate::places::bit_at;
+use crate::words::number_at;
 
 /// A place among the bits of a slice of bytes, and the place where they end.
 ///
@@ -56,7 +56,7 @@ impl<'a> BitCursor<'a> {
 
     /// Takes the next `count` bits as a number, the first of them highest. None, with nothing moved, exactly where fewer
     /// are left.
-    #[tactic(auto, using(crate::proofs::Taking::none_taken, crate::proofs::Taking::one_taken, crate::proofs::Taking::bound_taken))]
+    #[tactic(auto, using(crate::proofs::BitLaws::taken_front, crate::proofs::WordParts::count_fits))]
     pub fn take(&mut self, count: u32) -> Option<u64>
         requires { count ≤ 64 }
         ensures there { IsSome result ↔ (count ≤ self.old.end - self.old.place) }
@@ -70,19 +70,17 @@ impl<'a> BitCursor<'a> {
         if self.left() < u64::from(count) {
             return None;
         }
-        let mut value = 0;
-        'along: for _ in 0..count {
-            value = 2 * value + u64::from(bit_at(self.bytes, self.place));
-            self.place += 1;
-        }
+        let value = number_at(self.bytes, self.place, count);
+        self.place += u64::from(count);
         Some(value)
     }
 
     /// Takes the next `count` bits as a span of the same bytes. None, with nothing moved, exactly where fewer are left.
-    #[tactic(auto, using(crate::proofs::BitLaws::bits_between_joined))]
+    #[tactic(auto, using(crate::proofs::BitLaws::bits_between_joined, crate::proofs::BitLaws::run_counted))]
     pub fn run(&mut self, count: u64) -> Option<BitSpan<'a>>
         ensures there { IsSome result ↔ (count ≤ self.old.end - self.old.place) }
         ensures span { IfSome result (λ span. span ≡ bits_between self.old.bytes.now self.old.place (self.old.place + count)) }
+        ensures counted { IfSome result (λ span. length span ≡ count) }
         ensures front { IfSome result (λ span. rest self.old ≡ span ++ rest self.new) }
         ensures moved { self.new.place ≡ (if is_some result then self.old.place + count else self.old.place) }
         ensures same_bytes { self.new.bytes.now ≡ self.old.bytes.now }

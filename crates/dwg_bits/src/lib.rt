@@ -2,10 +2,11 @@
 #![tactic(auto)]
 
 mod cursor;
+mod fill;
 mod laws;
 mod part;
-mod places;
 mod sink;
+mod words;
 
 pub use cursor::BitCursor;
 pub use laws::bit_laws;

@@ -1,10 +1,13 @@
 //! Lists of bits in hand: owned, or lent from a slice of bytes.
 
-ghost use Rattle.std.specs.Prelude.{◌≡◌, ◌*◌, ◌≤◌, length, IfSome};
+ghost use Rattle.std.specs.Prelude.{◌≡◌, ◌*◌, ◌%◌, ◌≤◌, length, IfSome};
+ghost use Rattle.dwg_base.specs.Bytes.{AreBytes};
+ghost use Rattle.dwg_bits.specs.Bits.{bits};
 ghost use Rattle.dwg_bits.specs.Cursor.{bits_between};
 ghost use Rattle.dwg_bits.specs.Parts.{part_bits};
 
 use crate::sink::BitSink;
+use dwg_base::bounded_bytes;
 use std::alloc::Global;
 use std::marker::Model;
 
@@ -74,6 +77,20 @@ impl<'a> BitSpan<'a> {
         ensures { result ≡ bits_between bytes.now from to }
     {
         BitSpan { bytes, from, to }
+    }
+
+    /// A copy of the bits as bytes, where they are whole ones. None is want of memory alone.
+    #[tactic(auto, using(crate::proofs::BitLaws::length_of_bits_between))]
+    pub fn to_bytes(&self, alloc: Global) -> Option<Vec<u8>>
+        requires { length self.now % 8 ≡ 0 }
+        ensures bits { IfSome result (λ bytes. bits bytes.items ≡ self.now) }
+        ensures small { IfSome result (λ bytes. AreBytes bytes.items) }
+    {
+        let mut sink = BitSink::with_room(alloc, self.to - self.from)?;
+        sink.push_between(self.bytes, self.from, self.to);
+        let bytes = sink.into_bytes();
+        let _bounded = bounded_bytes(bytes.as_slice());
+        Some(bytes)
     }
 }
 

@@ -1,13 +1,15 @@
 //! A sink of bits: bytes that are filled from their highest bit down.
 
-ghost use Rattle.std.specs.Prelude.{◌≡◌, ◌+◌, ◌*◌, ◌%◌, ◌^◌, ◌<◌, ◌≤◌, [], ◌∷◌, length, IsTrue, IfSome};
+ghost use Rattle.std.specs.Prelude.{◌≡◌, ◌+◌, ◌-◌, ◌*◌, ◌%◌, ◌^◌, ◌<◌, ◌≤◌, [], length, IsTrue, IfSome};
 ghost use Rattle.std.specs.Bool.{OnTrue};
 ghost use Rattle.dwg_bits.specs.Bits.{bits, low_bits};
+ghost use Rattle.dwg_bits.specs.Cursor.{bits_between};
 ghost use Rattle.dwg_bits.specs.Parts.{part_bits};
 ghost use Rattle.dwg_bits.specs.Sink.{Extends, padding};
 
+use crate::fill::put;
 use crate::part::{BitPart, BitRun};
-use crate::places::{bit_at, put_bit};
+use crate::words::{number_at, piece};
 use std::alloc::Global;
 use std::marker::Model;
 
@@ -81,47 +83,83 @@ impl BitSink {
         }
     }
 
-    /// Appends one bit.
-    fn push_bit(&mut self, bit: bool)
-        requires { 1 ≤ self.old.spare }
-        ensures { Extends self.old self.new (bit ∷ []) }
-    {
-        put_bit(&mut self.bytes, self.count, bit);
-        self.count += 1;
-    }
-
     /// Appends the low `count` bits of `value`, the highest of them first.
+    #[tactic(auto, using(crate::proofs::Filling::length_held, crate::proofs::BitLaws::length_of_low_bits))]
     pub fn push(&mut self, value: u64, count: u32)
         requires count { count ≤ 64 }
         requires room { count ≤ self.old.spare }
         requires value { value < 2 ^ count }
         ensures { Extends self.old self.new (low_bits count value) }
     {
-        'along: for exponent in (0..count).rev() {
-            self.push_bit((value >> exponent) & 1 == 1);
+        put(&mut self.bytes, self.count, value, count);
+        self.count += u64::from(count);
+    }
+
+    /// Appends whole bytes as they are, where the sink ends with a whole byte.
+    #[tactic(auto, using(crate::proofs::Filling::length_held, crate::proofs::Pushing::bytes_held, crate::proofs::Pushing::bytes_filled, crate::proofs::BitLaws::length_of_bits))]
+    fn push_whole(&mut self, bytes: &[u8])
+        requires even { length self.old.written % 8 ≡ 0 }
+        requires room { 8 * length bytes.now ≤ self.old.spare }
+        ensures { Extends self.old self.new (bits bytes.now) }
+    {
+        match self.bytes.extend_from_slice(bytes) {
+            Ok(()) => {}
+            Err(_) => unreachable!(),
+        }
+        self.count += 8 * bytes.len() as u64;
+    }
+
+    /// Appends the bits between two places of bytes, 56 at a time: so many lie in eight bytes wherever they begin.
+    fn push_words(&mut self, bytes: &[u8], from: u64, to: u64)
+        requires ordered { from ≤ to }
+        requires within { to ≤ 8 * length bytes.now }
+        requires room { to - from ≤ self.old.spare }
+        ensures { Extends self.old self.new (bits_between bytes.now from to) }
+    {
+        let mut place = from;
+        'along: while place < to {
+            let count = piece(to - place);
+            self.push(number_at(bytes, place, count), count);
+            place += u64::from(count);
         }
     }
 
+    /// Appends the bits between two places of bytes; whole bytes as bytes, where both begin with one.
+    pub(crate) fn push_between(&mut self, bytes: &[u8], from: u64, to: u64)
+        requires ordered { from ≤ to }
+        requires within { to ≤ 8 * length bytes.now }
+        requires room { to - from ≤ self.old.spare }
+        ensures { Extends self.old self.new (bits_between bytes.now from to) }
+    {
+        if self.count % 8 != 0 || from % 8 != 0 {
+            self.push_words(bytes, from, to);
+            return;
+        }
+        self.push_whole(&bytes[(from / 8) as usize..(to / 8) as usize]);
+        self.push_words(bytes, to - to % 8, to);
+    }
+
     /// Appends the bits of bytes.
-    #[tactic(auto, using(crate::proofs::Pushing::none_written, crate::proofs::Pushing::one_written, crate::proofs::Pushing::all_written))]
+    #[tactic(auto, using(crate::proofs::BitLaws::bits_between_all))]
     pub fn push_bytes(&mut self, bytes: &[u8])
         requires { 8 * length bytes.now ≤ self.old.spare }
         ensures { Extends self.old self.new (bits bytes.now) }
     {
-        'along: for byte in bytes {
-            self.push(u64::from(*byte), 8);
+        if self.count % 8 == 0 {
+            self.push_whole(bytes);
+            return;
         }
+        self.push_words(bytes, 0, 8 * bytes.len() as u64);
     }
 
     /// Appends the bits of a list in hand.
+    #[tactic(auto, using(crate::proofs::Pushing::part_long))]
     pub fn push_part(&mut self, part: &BitPart<'_>)
         requires { length (part_bits part.now) ≤ self.old.spare }
         ensures { Extends self.old self.new (part_bits part.now) }
     {
         let (bytes, from, to) = part.places();
-        'along: for place in from..to {
-            self.push_bit(bit_at(bytes, place));
-        }
+        self.push_between(bytes, from, to);
     }
 
     /// Appends zero bits up to the next whole byte.
@@ -158,5 +196,14 @@ impl BitSink {
         ensures { bits result.now ≡ self.now.written }
     {
         self.bytes.as_slice()
+    }
+
+    /// The bits as bytes of their own, without taking memory.
+    #[tactic(auto, using(crate::proofs::Filling::all_held))]
+    pub(crate) fn into_bytes(self) -> Vec<u8>
+        requires { length self.written % 8 ≡ 0 }
+        ensures { bits result.items ≡ self.written }
+    {
+        self.bytes
     }
 }

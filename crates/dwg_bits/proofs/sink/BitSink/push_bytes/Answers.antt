@@ -1,18 +1,8 @@
-use Rattle.std.proofs.Common.{arith}
-use Rattle.dwg_bits.proofs.BitLaws.{length_of_low_bits}
-use Rattle.dwg_bits.proofs.Pushing.{none_written, one_written}
+use Rattle.std.proofs.Common.{◌≡◌, ◌∙◌, ap, sym, arith, length}
+use Rattle.dwg_bits.proofs.Filling.{length_held}
 use Rattle.dwg_bits.proofs.sink.BitSink.push_bytes.Goals as goal
 
-pub along-init : goal.along-init
-along-init c =
-    record {
-      bits = none_written _ c.args.bytes.now;
-      spare = omega arith;
-    }
-
-pub along-preserved : goal.along-preserved
-along-preserved c =
-    record {
-      bits = one_written _ _ _ c.args.bytes.now c.along.byte-index _ c.along-test.true c.from.ensures c.along.invariant.bits c.push.ensures;
-      spare = omega (arith, c.along.invariant.spare, c.push.ensures.spare, length_of_low_bits 8 c.from.result);
-    }
+pub push_whole-requires-clause-even : goal.push_whole-requires-clause-even
+push_whole-requires-clause-even c =
+    let held : length c.args.self.now.written ≡ c.self.inside.count = sym (ap (λ s. length s.written) c.self.view_is) ∙ length_held _ _ c.self.invariant.0 in
+    omega (arith, held, c.if-self-eq0.true)
