@@ -1,16 +1,16 @@
 -- A byte turns the word as one look-up in the table does.
-use Rattle.std.proofs.Common.{◌≡◌, refl, sym, ◌∙◌, ap, ap₂, ℕ, zero, suc, ◌+◌, ◌*◌, ◌/◌, ◌%◌, ◌^◌, ◌<◌, ◌≤◌, List, [], ◌∷◌, map, arith, length, get_or, drop, drop-cons, add-one, add-zero, pow-suc}
+use Rattle.std.proofs.Common.{◌≡◌, refl, sym, ◌∙◌, ap, ap₂, ℕ, zero, suc, ◌+◌, ◌*◌, ◌/◌, ◌%◌, ◌^◌, ◌<◌, ◌≤◌, List, [], ◌∷◌, map, arith, mod-eq_of_lt, length, get_or, drop, drop-cons, add-one, add-zero, pow-suc}
 use Rattle.std.proofs.Math.Nat.{div-eq_of_lt}
 use Rattle.std.proofs.lemmas.List.{drop_all}
-use Rattle.std.specs.Prelude.{bit_xor, bit_and, fold, slice_index}
+use Rattle.std.specs.Prelude.{bit_xor, fold, replicate}
 use Rattle.std.specs.Int.{bit_at}
 use Rattle.std.specs.List.{range_with_len}
-use Rattle.std.proofs.lemmas.Nat.{xor_shr, shr-shr, shr_split, and_mask, mod_below}
+use Rattle.std.proofs.lemmas.Nat.{xor_shr, xor_mod, xor_comm, xor_lt, shr-shr, shr_split, mod_below}
 use Rattle.std.proofs.lemmas.List.FromFn.{get_or-map-range_with_len}
 use lib.Bits.{xor_zero_r, xor_shifted}
 use Rattle.dwg_check.specs.CheckWord.{turn, low_bits_first, check_word}
-use Rattle.dwg_check.proofs.CheckWordLaws.{shift, shifts, shift_turn, shifts_xor, check_word_cons, check_word_none}
-use Rattle.dwg_check.specs.declared.table.TheConstants.{TABLE}
+use Rattle.dwg_check.proofs.CheckWordLaws.{shift, shifts, shift_turn, shifts_xor, check_word_cons, check_word_none, check_word_zeros, check_word_xor}
+use Rattle.dwg_check.specs.declared.table.TheConstants.{TABLES}
 
 -- to shift n times a word that a number is xored into is to turn it by the number's n lowest bits, with the rest of the number left to xor
 shifts_bits : (at n word number : ℕ)
@@ -60,25 +60,55 @@ shifts_by_bytes word =
     ∙ shifts_xor 8 (word / 2 ^ 8 * 2 ^ 8) (word % 2 ^ 8)
     ∙ ap (λ w. bit_xor w (shifts 8 (word % 2 ^ 8))) (shifts_up 8 (word / 2 ^ 8))
 
--- the table has at each index what eight shifts make of it
-table_is : TABLE ≡ map (shifts 8) (range_with_len 0 256)
+-- each row of the tables has at each index what eight shifts for each row up to it make of the index
+tables_are : TABLES ≡ map (λ row. map (shifts (8 * suc row)) (range_with_len 0 256)) (range_with_len 0 8)
 unfolding shifts shift turn
-table_is = refl
+tables_are = refl
 
--- so its entry at a low byte is what eight shifts make of that byte
-table_entry : (low : ℕ) → low < 256 → slice_index TABLE low ≡ shifts 8 low
-table_entry low h = ap (λ t. slice_index t low) table_is ∙ get_or-map-range_with_len (shifts 8) 0 256 low low 0 h (omega arith)
+-- a byte and bytes 0 behind it are as many bytes 0, begun as the byte
+byte_of_start : (byte behind : ℕ) → byte < 2 ^ 8 → check_word 0 (byte ∷ replicate behind 0) ≡ shifts (8 * suc behind) byte
+unfolding check_word shifts shift
+byte_of_start byte behind h =
+    check_word_cons 0 byte (replicate behind 0)
+    ∙ ap (λ w. check_word w (replicate behind 0)) (byte_shifts 0 byte h ∙ ap (shifts 8) (xor_comm 0 byte ∙ xor_zero_r byte))
+    ∙ check_word_zeros (suc behind) byte
 
--- the word after a byte is its high byte, xored with the table's entry at its low byte xored with the byte
-pub check_word_of_byte : (word byte : ℕ) → byte < 2 ^ 8
-    → check_word word (byte ∷ []) ≡ bit_xor (word / 2 ^ 8) (slice_index TABLE (bit_and (bit_xor word byte) 255))
-unfolding check_word
-check_word_of_byte word byte h =
+-- so the entry of a row at a byte is what the byte and as many bytes 0 behind it make of a word of 0
+pub entry_is : (behind byte : ℕ) → behind < 8 → byte < 2 ^ 8 → get_or (get_or TABLES behind []) byte 0 ≡ check_word 0 (byte ∷ replicate behind 0)
+entry_is behind byte some low =
+    ap (λ t. get_or (get_or t behind []) byte 0) tables_are
+    ∙ ap (λ row. get_or row byte 0) (get_or-map-range_with_len (λ row. map (shifts (8 * suc row)) (range_with_len 0 256)) 0 8 behind behind [] some (omega arith))
+    ∙ get_or-map-range_with_len (shifts (8 * suc behind)) 0 256 byte byte 0 low (omega arith)
+    ∙ sym (byte_of_start byte behind low)
+
+-- the check word of a byte and those behind it is that of those, begun as the word's high byte, xored with what the word's low byte
+-- xored with the byte, and as many bytes 0 behind it, make of a word of 0
+pub byte_apart : (word byte : ℕ) (bytes : List ℕ) → byte < 2 ^ 8
+    → check_word word (byte ∷ bytes)
+    ≡ bit_xor (check_word 0 (bit_xor (word % 2 ^ 8) byte ∷ replicate (length bytes) 0)) (check_word (word / 2 ^ 8) bytes)
+unfolding check_word turn shifts shift
+byte_apart word byte bytes h =
     let mixed : ℕ = bit_xor word byte in
-    let low_fits : mixed % 2 ^ 8 < 256 = mod_below mixed (2 ^ 8) (omega arith) in
+    let first : ℕ = bit_xor (word % 2 ^ 8) byte in
     let high : mixed / 2 ^ 8 ≡ word / 2 ^ 8 = xor_shr word byte 8 ∙ ap (bit_xor (word / 2 ^ 8)) (div-eq_of_lt h) ∙ xor_zero_r (word / 2 ^ 8) in
-    let low : slice_index TABLE (bit_and mixed 255) ≡ shifts 8 (mixed % 2 ^ 8) = ap (slice_index TABLE) (and_mask mixed 8) ∙ table_entry (mixed % 2 ^ 8) low_fits in
-    byte_shifts word byte h ∙ shifts_by_bytes mixed ∙ ap₂ bit_xor high (sym low)
+    let low : mixed % 2 ^ 8 ≡ first = xor_mod word byte 8 ∙ ap (bit_xor (word % 2 ^ 8)) (mod-eq_of_lt h) in
+    let low_fits : first < 2 ^ 8 = xor_lt 8 (word % 2 ^ 8) byte (mod_below word (2 ^ 8) (omega arith)) h in
+    let turned : fold turn word (low_bits_first byte) ≡ bit_xor (word / 2 ^ 8) (shifts 8 first) =
+    byte_shifts word byte h ∙ shifts_by_bytes mixed ∙ ap₂ (λ p q. bit_xor p (shifts 8 q)) high low in
+    let behind : check_word (shifts 8 first) (replicate (length bytes) 0) ≡ check_word 0 (first ∷ replicate (length bytes) 0) =
+    check_word_zeros (suc (length bytes)) first ∙ sym (byte_of_start first (length bytes) low_fits) in
+    ap (λ w. check_word w bytes) turned
+    ∙ check_word_xor (word / 2 ^ 8) (shifts 8 first) bytes
+    ∙ xor_comm (check_word (word / 2 ^ 8) bytes) (check_word (shifts 8 first) (replicate (length bytes) 0))
+    ∙ ap (λ w. bit_xor w (check_word (word / 2 ^ 8) bytes)) behind
+
+-- the word after a byte is its high byte, xored with what its low byte xored with the byte makes of a word of 0
+pub check_word_of_byte : (word byte : ℕ) → byte < 2 ^ 8
+    → check_word word (byte ∷ []) ≡ bit_xor (word / 2 ^ 8) (check_word 0 (bit_xor (word % 2 ^ 8) byte ∷ replicate 0 0))
+check_word_of_byte word byte h =
+    byte_apart word byte [] h
+    ∙ xor_comm (check_word 0 (bit_xor (word % 2 ^ 8) byte ∷ [])) (check_word (word / 2 ^ 8) [])
+    ∙ ap (λ w. bit_xor w (check_word 0 (bit_xor (word % 2 ^ 8) byte ∷ []))) (check_word_none (word / 2 ^ 8))
 
 -- the word after the byte at an index gives with the bytes behind it what the word before gave with the byte
 pub one_byte_less : (word : ℕ) (bytes : List ℕ) (i : ℕ) → i < length bytes

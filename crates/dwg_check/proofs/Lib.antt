@@ -2,6 +2,7 @@ pub mod CheckWordLaws
 pub mod PrefixWords
 pub mod AppliedRows
 pub mod ByteStep
+pub mod EightBytes
 pub mod Linear
 pub mod Powers
 pub mod Periods

@@ -13,7 +13,7 @@ mod zeros;
 pub use damage::short_damage_laws;
 pub use laws::check_word_laws;
 pub use spans::SpanChecks;
-use table::after_byte;
+use table::{after_eight, after_rest};
 pub use zeros::shift;
 
 /// What the check words of framed sections, map pages and object frames begin as (Open Design Specification, "CRC").
@@ -22,15 +22,16 @@ pub const FRAME_START: u16 = 0xC0C1;
 /// The check word of `bytes`, begun as `start` (Open Design Specification, "CRC").
 ///
 /// Of no bytes it is `start`; of a run in pieces, each piece is begun as the check word of those before it.
-#[tactic(auto, using(crate::proofs::ByteStep::one_byte_less, crate::proofs::ByteStep::no_byte_left))]
 pub fn check(start: u16, bytes: &[u8]) -> u16
     ensures { result ≡ check_word start bytes.now }
 {
     let mut word = start;
-    'along: for byte in bytes {
-        word = after_byte(word, *byte);
+    let mut at = 0;
+    'along: while 8 <= bytes.len() - at {
+        word = after_eight(word, bytes, at);
+        at += 8;
     }
-    word
+    after_rest(word, bytes, at)
 }
 
 /// The check word that a file header of `count` locators carries: that of all bytes before it from 0, xored with the count's constant (Open Design Specification, "R13 to R2000 file layout, file header").
