@@ -1,9 +1,9 @@
 -- So many bytes, read and written.
-use Rattle.std.proofs.Common.{◌≡◌, refl, sym, ◌∙◌, ap, subst, ℕ, ◌*◌, ◌^◌, ◌<◌, Bool, List, [], ◌∷◌, ◌++◌, length, Some, None, arith}
-use Rattle.std.proofs.lemmas.List.{append_assoc, length-append}
+use Rattle.std.proofs.Common.{◌≡◌, refl, sym, ◌∙◌, ap, subst, ℕ, ◌*◌, ◌<◌, Bool, List, ◌++◌, length, Some, None, arith}
+use Rattle.std.proofs.lemmas.List.{length-append}
 use Rattle.dwg_base.specs.Bytes.{AreBytes}
-use Rattle.dwg_bits.specs.Bits.{low_bits, bits}
-use Rattle.dwg_bits.proofs.BitLaws.{bits_more, length_of_bits}
+use Rattle.dwg_bits.specs.Bits.{bits}
+use Rattle.dwg_bits.proofs.BitLaws.{length_of_bits}
 use Rattle.dwg_bits.specs.Sink.{Written, Extends}
 use Rattle.dwg_grammar.specs.Grammar.{BeginsWith, Reads}
 use Rattle.dwg_grammar.specs.Combinators.{items, chain}
@@ -12,20 +12,9 @@ use Rattle.dwg_grammar.specs.ToEnd.{short_all}
 use Rattle.dwg_grammar.proofs.ByteRunLemmas.{short_of_bytes, values_of_bytes}
 use Rattle.dwg_codes.proofs.WordReading.{bytes_spelled, spelling_counted}
 
--- a byte behind bytes
-pub bytes_more : (bytes : List ℕ) (byte : ℕ) → AreBytes bytes → byte < 2 ^ 8 → AreBytes (bytes ++ byte ∷ [])
-bytes_more [] byte are small = (small, tt)
-bytes_more (first ∷ bytes) byte are small = (are.0, bytes_more bytes byte are.1 small)
-
--- nothing is read before the first byte
-pub none_read_yet : (old : List Bool) → old ≡ bits [] ++ old
-unfolding bits
-none_read_yet old = refl
-
--- a byte more is read
-pub one_read_more : (old mid new : List Bool) (bytes : List ℕ) (byte : ℕ) → old ≡ bits bytes ++ mid → mid ≡ low_bits 8 byte ++ new → old ≡ bits (bytes ++ byte ∷ []) ++ new
-one_read_more old mid new bytes byte so_far next =
-    so_far ∙ ap (λ rest. bits bytes ++ rest) next ∙ sym (append_assoc (bits bytes) (low_bits 8 byte) new) ∙ ap (λ front. front ++ new) (sym (bits_more bytes byte))
+-- bytes whose bits are those of a span are as many as its bits allow
+pub bytes_counted : (bytes : List ℕ) (span : List Bool) (count : ℕ) → bits bytes ≡ span → length span ≡ 8 * count → length bytes ≡ count
+bytes_counted bytes span count is long = omega (arith, ap length is, long, length_of_bits bytes)
 
 -- so many bytes that were read
 pub run_read : (count : ℕ) (bytes run : List ℕ) (old new : List Bool) → run ≡ bytes → length bytes ≡ count → AreBytes bytes → old ≡ bits bytes ++ new → Reads (items rc count) (Some run) old new

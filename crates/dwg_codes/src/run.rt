@@ -15,7 +15,6 @@ use dwg_bits::{BitCursor, BitSink};
 use std::alloc::Global;
 
 /// Takes so many bytes. The only refusal is want of memory.
-#[tactic(auto, using(crate::proofs::RunReading::none_read_yet, crate::proofs::RunReading::one_read_more))]
 fn take_bytes(alloc: Global, count: u32, cursor: &mut BitCursor<'_>) -> Result<Vec<u8>, NoMemory>
     requires { 8 * count ≤ cursor.old.end - cursor.old.place }
     ensures front { IfOk result (λ bytes. rest cursor.old ≡ bits bytes.items ++ rest cursor.new) }
@@ -24,20 +23,13 @@ fn take_bytes(alloc: Global, count: u32, cursor: &mut BitCursor<'_>) -> Result<V
     ensures same_bytes { cursor.new.bytes.now ≡ cursor.old.bytes.now }
     ensures same_end { cursor.new.end ≡ cursor.old.end }
 {
-    let mut bytes = match Vec::with_capacity(alloc, count as usize) {
-        Ok(bytes) => bytes,
-        Err(_) => return Err(NoMemory),
+    let Some(span) = cursor.run(8 * u64::from(count)) else {
+        unreachable!()
     };
-    'along: for _ in 0..count {
-        let Some(byte) = cursor.take(8) else {
-            unreachable!()
-        };
-        match bytes.push(byte as u8) {
-            Ok(()) => {}
-            Err(_) => return Err(NoMemory),
-        }
+    match span.to_bytes(alloc) {
+        Some(bytes) => Ok(bytes),
+        None => Err(NoMemory),
     }
-    Ok(bytes)
 }
 
 /// Reads so many bytes. None, with nothing moved, exactly where fewer are left; the only refusal is want of memory, which
