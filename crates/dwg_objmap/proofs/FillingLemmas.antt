@@ -5,7 +5,7 @@ use Rattle.std.specs.List.{AllByRecursion}
 use Rattle.std.proofs.lemmas.Bool.Decides.{nat_tests}
 use Rattle.std.proofs.lemmas.List.{append-nil}
 use Rattle.std.specs.Int.{w16, to_be_bytes}
-use Rattle.dwg_base.specs.Bytes.{AreBytes, StandsAt}
+use Rattle.dwg_base.specs.Bytes.{StandsAt}
 use Rattle.dwg_base.proofs.ByteLists.{joined_are_bytes}
 use Rattle.dwg_check.specs.CheckWord.{FRAME_START, check_word}
 use Rattle.dwg_grammar.specs.Combinators.{short_chain}

@@ -1,8 +1,9 @@
-//! The pairs of a map that were read so far, with a set of their handles.
+//! The pairs of a map that were read so far, with a set of their handles from where they cease to ascend.
 
-ghost use Rattle.std.specs.Prelude.{◌≡◌, ℕ, Bool, [], ◌∷◌, ◌++◌, ◌||◌, not, nat_eq, is_some, IfOk, OnOk, IfSome};
+ghost use Rattle.std.specs.Prelude.{◌≡◌, ℕ, Bool, [], ◌∷◌, ◌++◌, ◌||◌, ◌&&◌, not, nat_eq, nat_lt, is_some, IfOk, OnOk, IfSome};
 ghost use Rattle.std.specs.Ordering.{nat_cmp};
 ghost use Rattle.std.specs.BTreeSet as set;
+ghost use Rattle.dwg_objmap.specs.Gathered.{HasHandles, Knows};
 
 use crate::pair::Pair;
 use dwg_base::{Items, NoMemory};
@@ -14,6 +15,11 @@ use std::marker::Model;
 #[derive(Drop)]
 pub struct Gathered {
     pairs: Items<Pair>,
+    /// The highest handle of the pairs while they ascend; 0 where there are none.
+    highest: u64,
+    /// Whether each handle was above all before it, so that no set is needed yet.
+    ascending: bool,
+    /// No handle while they ascend, else those of all pairs.
     handles: BTreeSet<u64>,
 }
 
@@ -23,11 +29,11 @@ impl Model for Gathered {
 
     ghost Value = { List Pair };
 
-    ghost use Rattle.dwg_objmap.specs.Gathered.{HasHandles};
+    ghost use Rattle.dwg_objmap.specs.Gathered.{Knows};
 
     ghost view = { λ gathered. gathered.pairs };
 
-    ghost invariant = { λ gathered. HasHandles gathered.handles gathered.pairs };
+    ghost invariant = { λ gathered. Knows gathered.ascending gathered.highest gathered.handles gathered.pairs };
 }
 
 /// Puts a handle into the set, and says whether it is new there. The only refusal is want of memory.
@@ -41,6 +47,41 @@ fn insert(handles: &mut BTreeSet<u64>, handle: u64) -> Result<bool, NoMemory>
     }
 }
 
+/// The set, which has no handle yet, with those of the pairs. The only refusal is want of memory.
+fn filled(handles: BTreeSet<u64>, pairs: &[Pair]) -> Result<BTreeSet<u64>, NoMemory>
+    requires none { HasHandles handles [] }
+    ensures all { IfOk result (λ all. HasHandles all pairs.now) }
+{
+    let mut handles = handles;
+    'along: for pair in pairs {
+        let _new = insert(&mut handles, pair.handle.value())?;
+    }
+    Ok(handles)
+}
+
+/// The set with the handles of all pairs, whether they ascended so far or not. The only refusal is want of memory.
+fn all_handles(
+    ascending: bool,
+    highest: u64,
+    handles: BTreeSet<u64>,
+    pairs: &[Pair],
+) -> Result<BTreeSet<u64>, NoMemory>
+    requires known { Knows ascending highest handles pairs.now }
+    ensures all { IfOk result (λ all. HasHandles all pairs.now) }
+{
+    if ascending {
+        return filled(handles, pairs);
+    }
+    Ok(handles)
+}
+
+/// Whether the pairs ascended so far and still do with this handle behind them.
+fn ascends_with(ascending: bool, highest: u64, handle: u64) -> bool
+    ensures { result ≡ (ascending && nat_lt highest handle) }
+{
+    ascending && handle > highest
+}
+
 impl Gathered {
     ghost use Rattle.dwg_objmap.specs.MapLines.{has_handle};
 
@@ -50,6 +91,8 @@ impl Gathered {
     {
         Gathered {
             pairs: Items::new(alloc),
+            highest: 0,
+            ascending: true,
             handles: BTreeSet::new(alloc),
         }
     }
@@ -61,13 +104,33 @@ impl Gathered {
     {
         let Gathered {
             mut pairs,
-            mut handles,
+            highest,
+            ascending,
+            handles,
         } = self;
-        if !insert(&mut handles, pair.handle.value())? {
+        let handle = pair.handle.value();
+        if ascends_with(ascending, highest, handle) {
+            return match pairs.push(*pair) {
+                Ok(()) => Ok(Some(Gathered {
+                    pairs,
+                    highest: handle,
+                    ascending: true,
+                    handles,
+                })),
+                Err(_) => Err(NoMemory),
+            };
+        }
+        let mut handles = all_handles(ascending, highest, handles, pairs.as_slice())?;
+        if !insert(&mut handles, handle)? {
             return Ok(None);
         }
         match pairs.push(*pair) {
-            Ok(()) => Ok(Some(Gathered { pairs, handles })),
+            Ok(()) => Ok(Some(Gathered {
+                pairs,
+                highest,
+                ascending: false,
+                handles,
+            })),
             Err(_) => Err(NoMemory),
         }
     }
