@@ -3,6 +3,7 @@ use Rattle.std.specs.Prelude.{ℕ, List}
 use Rattle.dwg_base.specs.Refusals.{IsFaultOfTable, Tells, first_fault}
 use Rattle.dwg_base.specs.declared.refusal.Fault.{Fault}
 use Rattle.dwg_answers.specs.declared.answer.Answer.{Answer}
+use Rattle.dwg_file.specs.Contents.{contents_of}
 use Rattle.dwg_answers.specs.declared.reply.Reply.{Reply}
 use Rattle.dwg_answers.specs.declared.reply.Reply.TheVariants.{Whole, Note, Text, File}
 use Rattle.dwg_answers.specs.declared.words.Reading.{Reading}
@@ -14,8 +15,8 @@ use Rattle.dwg_show.specs.DrawingText.{show_text}
 abbrev pub answer_of : Reply → Answer
 answer_of (Whole answer) = answer
 answer_of (Note note status) = noted note.now status
-answer_of (Text drawing) = printed (show_text drawing)
-answer_of (File drawing note status) = filed drawing note status
+answer_of (Text drawing) = printed (show_text (contents_of drawing))
+answer_of (File drawing note status) = filed (contents_of drawing) note status
 
 -- a fault tells the first of a command's lines that fails, which is one of the table's
 abbrev pub IsRefused : Reading → List ℕ → Fault → Type 0

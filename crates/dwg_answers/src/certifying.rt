@@ -9,6 +9,7 @@ ghost use Rattle.dwg_cert.specs.AcceptTests.{is_accepted};
 ghost use Rattle.dwg_cert.specs.CertificateLines.{CERTIFICATE_LINES};
 ghost use Rattle.dwg_cert.specs.Certified.{certificate_of};
 ghost use Rattle.dwg_cert.specs.WrittenForm.{certificate_bytes};
+ghost use Rattle.dwg_file.specs.Contents.{contents_of};
 ghost use Rattle.dwg_file.specs.DrawingAt.{drawing_at};
 ghost use Rattle.dwg_answers.specs.CertifiedInput.{cert_in, drawing_bytes};
 ghost use Rattle.dwg_answers.specs.Lines.{lines_of};
@@ -60,8 +61,8 @@ fn certificate_of_drawing(
     alloc: Global,
     drawing: &Drawing<'_>,
 ) -> Result<Option<Certificate>, NoMemory>
-    ensures certified { IfOk result (λ found. IfSome found (λ cert. cert ≡ certificate_of drawing.now.objects)) }
-    ensures told { IfOk result (λ found. is_some found ≡ is_accepted drawing.now.objects (certificate_of drawing.now.objects)) }
+    ensures certified { IfOk result (λ found. IfSome found (λ cert. cert ≡ certificate_of (contents_of drawing.now).objects)) }
+    ensures told { IfOk result (λ found. is_some found ≡ is_accepted (contents_of drawing.now).objects (certificate_of (contents_of drawing.now).objects)) }
 {
     auditable_laws();
     acceptance_laws();
@@ -72,8 +73,8 @@ fn certificate_of_drawing(
 /// What is replied of a drawing's certificate. The only refusal is want of memory.
 #[tactic(auto, using(crate::proofs::CertificateReplies::certified_some, crate::proofs::CertificateReplies::certified_none))]
 fn certified_reply<'a>(alloc: Global, drawing: &Drawing<'_>) -> Result<Reply<'a>, NoMemory>
-    requires { length drawing.now.objects ≤ MOST_BYTES }
-    ensures { IfOk result (λ reply. answer_of reply ≡ certified drawing.now) }
+    requires { length (contents_of drawing.now).objects ≤ MOST_BYTES }
+    ensures { IfOk result (λ reply. answer_of reply ≡ certified (contents_of drawing.now)) }
 {
     match certificate_of_drawing(alloc, drawing)? {
         Some(cert) => {
@@ -107,7 +108,7 @@ fn accepts_drawing(
     drawing: &Drawing<'_>,
     cert: &Certificate,
 ) -> Result<bool, NoMemory>
-    ensures { IfOk result (λ is. is ≡ is_accepted drawing.now.objects cert.now) }
+    ensures { IfOk result (λ is. is ≡ is_accepted (contents_of drawing.now).objects cert.now) }
 {
     auditable_laws();
     let parts = drawing.parts();
@@ -146,7 +147,7 @@ fn accepted_reply<'a>(
     drawing: &Drawing<'_>,
     cert: &Certificate,
 ) -> Result<Reply<'a>, NoMemory>
-    ensures { IfOk result (λ reply. answer_of reply ≡ accepted drawing.now cert.now) }
+    ensures { IfOk result (λ reply. answer_of reply ≡ accepted (contents_of drawing.now) cert.now) }
 {
     let is = accepts_drawing(alloc, drawing, cert)?;
     Ok(Reply::Whole(acceptance_answer(alloc, is)?))
@@ -171,7 +172,7 @@ fn drawing_behind<'a>(alloc: Global, bytes: &'a [u8], end: usize) -> Result<Draw
     requires within { end ≤ length bytes.now }
     requires behind { drop end bytes.now ≡ drawing_bytes bytes.now }
     requires passes { first_fault CERTIFICATE_LINES bytes.now ≡ None }
-    ensures drawing { IfOk result (λ drawing. drawing ≡ drawing_at (drawing_bytes bytes.now)) }
+    ensures drawing { IfOk result (λ drawing. contents_of drawing ≡ drawing_at (drawing_bytes bytes.now)) }
     ensures holds { OnOk result (first_fault (lines_of Reading.Accept) bytes.now ≡ None) }
     ensures refused { IfErr result (λ fault. IsRefused Reading.Accept bytes.now fault) }
 {

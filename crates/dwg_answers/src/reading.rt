@@ -3,6 +3,7 @@
 ghost use Rattle.std.specs.Prelude.{◌≡◌, ◌≤◌, IfErr, IfOk, IfSome, OnOk, None, length};
 ghost use Rattle.dwg_base.specs.Devices.{MOST_BYTES};
 ghost use Rattle.dwg_base.specs.Refusals.{first_fault, IsOfTable};
+ghost use Rattle.dwg_file.specs.Contents.{contents_of};
 ghost use Rattle.dwg_file.specs.DrawingAt.{drawing_at};
 ghost use Rattle.dwg_file.specs.FileLines.{ALL_LINES};
 ghost use Rattle.dwg_recover.specs.Results.{recovered_value};
@@ -55,9 +56,9 @@ fn classes_reply<'a>(alloc: Global, bytes: &'a [u8]) -> Result<Reply<'a>, Fault>
 /// The drawing of an input in which no line fails. It has no more objects than an input may have bytes.
 pub(crate) fn drawing_of<'a>(alloc: Global, bytes: &'a [u8]) -> Result<Drawing<'a>, Fault>
     requires { length bytes.now ≤ MOST_BYTES }
-    ensures drawing { IfOk result (λ drawing. drawing ≡ drawing_at bytes.now) }
+    ensures drawing { IfOk result (λ drawing. contents_of drawing ≡ drawing_at bytes.now) }
     ensures holds { OnOk result (first_fault ALL_LINES bytes.now ≡ None) }
-    ensures few { IfOk result (λ drawing. length drawing.objects ≤ MOST_BYTES) }
+    ensures few { IfOk result (λ drawing. length (contents_of drawing).objects ≤ MOST_BYTES) }
     ensures refused { IfErr result (λ fault. IsRefused Reading.Rewrite bytes.now fault) }
 {
     drawing_laws();
@@ -107,7 +108,7 @@ fn status_of(found: &[Finding]) -> Status
 /// The findings of a drawing, and the verdict. The only refusal is want of memory.
 #[tactic(auto, unfolding(crate::specs::Outcome::audited))]
 fn audit_answer(alloc: Global, drawing: &Drawing<'_>) -> Result<Answer, NoMemory>
-    ensures { IfOk result (λ answer. answer ≡ audited drawing.now) }
+    ensures { IfOk result (λ answer. answer ≡ audited (contents_of drawing.now)) }
 {
     let found = audit_drawing(alloc, drawing)?;
     let status = status_of(found.as_slice());

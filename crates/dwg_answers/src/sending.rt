@@ -3,6 +3,7 @@
 ghost use Rattle.std.specs.Prelude.{◌≡◌, ◌≤◌, ◌⊎◌, ℕ, List, Option};
 ghost use Rattle.std.specs.Io.KnownBytes.{Appends};
 ghost use Rattle.dwg_base.specs.Devices.{AppendsFront, Rose};
+ghost use Rattle.dwg_file.specs.Contents.{contents_of};
 ghost use Rattle.dwg_file.specs.Canonical.{canonical};
 ghost use Rattle.dwg_show.specs.DrawingText.{show_text};
 ghost use Rattle.dwg_answers.specs.Outcome.{filed, noted, printed};
@@ -63,7 +64,7 @@ fn send_answer<W: Sink, N: Sink>(answer: &Answer, output: &mut W, notes: &mut N)
 
 /// Sends the text of a drawing, as it is made.
 fn send_text<W: Sink>(alloc: Global, drawing: &Drawing<'_>, output: &mut W) -> Status
-    ensures { (notes : Option (List ℕ)) (note_faults : ℕ) → Sent (printed (show_text drawing.now)) result
+    ensures { (notes : Option (List ℕ)) (note_faults : ℕ) → Sent (printed (show_text (contents_of drawing.now))) result
         (record { output = W.taken output.old; output_faults = W.faults output.old; notes = notes; note_faults = note_faults })
         (record { output = W.taken output.new; output_faults = W.faults output.new; notes = notes; note_faults = note_faults }) }
 {
@@ -117,7 +118,7 @@ fn send_file<W: Sink, N: Sink>(
     output: &mut W,
     notes: &mut N,
 ) -> Status
-    ensures { Sent (filed drawing.now note.now status) result
+    ensures { Sent (filed (contents_of drawing.now) note.now status) result
         (sinks W.taken W.faults output.old N.taken N.faults notes.old) (sinks W.taken W.faults output.new N.taken N.faults notes.new) }
 {
     match Plan::prepare(alloc, drawing) {

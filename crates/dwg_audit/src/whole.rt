@@ -2,6 +2,7 @@
 
 ghost use Rattle.std.specs.Prelude.{◌≡◌, ◌↔◌, ◌<◌, [], IfOk};
 ghost use Rattle.dwg_audit.specs.Findings.{findings};
+ghost use Rattle.dwg_file.specs.Contents.{contents_of};
 ghost use Rattle.dwg_graph.specs.Sound.{IsSound};
 
 use crate::auditing::audit;
@@ -23,8 +24,8 @@ fn audit_counted<L: Ledger>(
     requires name { blank.name ≡ L.name }
     requires parts { blank.parts ≡ L.parts }
     requires some { 0 < blank.parts }
-    ensures findings { IfOk result (λ found. found ≡ findings drawing.now.objects) }
-    ensures sound { IfOk result (λ found. (found ≡ []) ↔ IsSound drawing.now.objects) }
+    ensures findings { IfOk result (λ found. found ≡ findings (contents_of drawing.now).objects) }
+    ensures sound { IfOk result (λ found. (found ≡ []) ↔ IsSound (contents_of drawing.now).objects) }
 {
     slot_laws();
     let parts = drawing.parts();
@@ -35,8 +36,8 @@ fn audit_counted<L: Ledger>(
 /// What the references of a drawing fail (a rule of this project): nothing exactly where the drawing is sound. The findings stand
 /// in order of handle, rule, field and position. The only refusal is want of memory.
 pub fn audit_drawing(alloc: Global, drawing: &Drawing<'_>) -> Result<Items<Finding>, NoMemory>
-    ensures findings { IfOk result (λ found. found ≡ findings drawing.now.objects) }
-    ensures sound { IfOk result (λ found. (found ≡ []) ↔ IsSound drawing.now.objects) }
+    ensures findings { IfOk result (λ found. found ≡ findings (contents_of drawing.now).objects) }
+    ensures sound { IfOk result (λ found. (found ≡ []) ↔ IsSound (contents_of drawing.now).objects) }
 {
     audit_counted::<Brand>(alloc, drawing, Blank::new(1))
 }

@@ -3,6 +3,7 @@
 ghost use Rattle.std.specs.Prelude.{◌≡◌, ◌≤◌, ◌<◌, ◌⊎◌, ℕ, Err, IfOk, OnOk, IsErrOf};
 ghost use Rattle.dwg_base.specs.Devices.{MOST_BYTES};
 ghost use Rattle.dwg_drill.specs.Drilled.{DRILL_SEED};
+ghost use Rattle.dwg_file.specs.Contents.{contents_of};
 ghost use Rattle.dwg_file.specs.Canonical.{canonical, size_of};
 ghost use Rattle.dwg_make.specs.Made.{MOST_ENTITIES, made};
 
@@ -17,7 +18,7 @@ const SEED: u32 = 1;
 
 /// Makes the drawing of a drill. Size exactly where the count is out of range; the only other refusal is want of memory.
 fn make_drawing(alloc: Global, n: u32) -> Result<Drawing<'static>, DrillFault>
-    ensures made { IfOk result (λ drawing. drawing ≡ made n DRILL_SEED) }
+    ensures made { IfOk result (λ drawing. contents_of drawing ≡ made n DRILL_SEED) }
     ensures within { OnOk result ((0 < n) × (n ≤ MOST_ENTITIES)) }
     ensures size { IsErrOf result DrillFault.Size → (n ≡ 0) ⊎ (MOST_ENTITIES < n) }
     ensures size_told { (n ≡ 0) ⊎ (MOST_ENTITIES < n) → IsErrOf result DrillFault.Size }
@@ -46,9 +47,9 @@ fn send(alloc: Global, plan: &mut Plan<'_, '_>) -> Result<ByteRun, NoMemory>
 /// The canonical file of a drawing. TooLarge exactly where it has more bytes than a file may have, with their count; the only other
 /// refusal is want of memory.
 fn write_drawing(alloc: Global, drawing: &Drawing<'_>) -> Result<ByteRun, DrillFault>
-    ensures file { IfOk result (λ file. file ≡ canonical drawing.now) }
-    ensures within { OnOk result (size_of drawing.now ≤ MOST_BYTES) }
-    ensures too_large { (size : ℕ) → result ≡ Err (DrillFault.TooLarge size) → (MOST_BYTES < size_of drawing.now) × (size ≡ size_of drawing.now) }
+    ensures file { IfOk result (λ file. file ≡ canonical (contents_of drawing.now)) }
+    ensures within { OnOk result (size_of (contents_of drawing.now) ≤ MOST_BYTES) }
+    ensures too_large { (size : ℕ) → result ≡ Err (DrillFault.TooLarge size) → (MOST_BYTES < size_of (contents_of drawing.now)) × (size ≡ size_of (contents_of drawing.now)) }
     ensures never_size { IsErrOf result DrillFault.Size → ⊥ }
 {
     let mut plan = match Plan::prepare(alloc, drawing) {

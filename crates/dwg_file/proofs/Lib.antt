@@ -27,6 +27,8 @@ pub mod TakenRuns
 pub mod PairReading
 pub mod FramesAlong
 pub mod HandleOrder
+pub mod Ascending
+pub mod Borrowing
 pub mod OthersAlong
 pub mod FileReading
 pub mod PlanLoops

@@ -1,9 +1,7 @@
 -- The frame of a pair: its span, the bytes it shares, what is found of it, and its own handle.
-use Rattle.std.proofs.Common.{◌≡◌, refl, sym, ◌∙◌, ap, subst, ℕ, ◌<◌, Bool, true, false, List, Some, None, get_or, ◌==◌, ◌≢◌, arith}
-use Rattle.std.specs.Bool.{then_some}
+use Rattle.std.proofs.Common.{◌≡◌, sym, ◌∙◌, ap, subst, ℕ, ◌<◌, Bool, true, false, List, get_or, ◌==◌, ◌≢◌, arith}
 use Rattle.std.specs.Prelude.{Result, Ok, Err, if◌then◌else◌}
 use Rattle.std.proofs.lemmas.Bool.Decides.{nat_tests}
-use Rattle.std.proofs.lemmas.Option.{same_Some}
 use Rattle.dwg_base.proofs.ByteLists.{are_bytes}
 use Rattle.dwg_base.specs.declared.refusal.Refusal.{Refusal}
 use Rattle.dwg_base.specs.declared.refusal.Fault.{Fault}
@@ -109,18 +107,3 @@ frame_apart bytes taken index place span found small stands from is apart =
     let there = span_found bytes index place span found small stands from is in
     let end : span.end ≡ found.end = ap (λ (s : Span). s.end) there.0 ∙ sym is.same_end in
     subst (λ (e : ℕ). shares taken place e ≡ false) end (subst (λ (f : ℕ). shares taken f span.end ≡ false) from apart)
-
--- a frame is kept exactly where the own handle of its object is the pair's
-pub kept_own : (own handle : ℕ) (found kept : Found) → Some kept ≡ then_some (own == handle) found → (kept ≡ found) × (own ≡ handle)
-kept_own own handle found kept is = by_test (own == handle) refl is
-  where
-    by_test : (test : Bool) → (own == handle) ≡ test → Some kept ≡ then_some test found → (kept ≡ found) × (own ≡ handle)
-    by_test true same kept = (same_Some _ _ kept, grind (arith, nat_tests, same))
-    by_test false same kept = absurd cc
-
-pub unkept_own : (own handle : ℕ) (found : Found) → None ≡ then_some (own == handle) found → own ≢ handle
-unkept_own own handle found is = by_test (own == handle) refl is
-  where
-    by_test : (test : Bool) → (own == handle) ≡ test → None ≡ then_some test found → own ≢ handle
-    by_test true same unkept = absurd cc
-    by_test false same unkept = grind (arith, nat_tests, same)

@@ -14,7 +14,6 @@ use Rattle.dwg_object.specs.FrameLines.{span_body}
 use Rattle.dwg_objmap.specs.declared.pair.Pair.{Pair}
 use Rattle.dwg_objmap.specs.Pages.{AreHandles, handles_of}
 use Rattle.dwg_objmap.proofs.MapLemmas.{map_is_tried}
-use Rattle.dwg_file.specs.Contents.{Contents}
 use Rattle.dwg_file.specs.FileLines.{ALL_LINES, FoundFrame, section_place, classes_tried, map_tried, frames_behind, frames_tried}
 use Rattle.dwg_file.specs.ReadAs.{AreFormsOf, ReadsAs}
 use Rattle.dwg_file.specs.Spelled.{Spelled, AreAscending}

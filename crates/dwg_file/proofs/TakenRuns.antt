@@ -1,7 +1,8 @@
--- Runs by their last bytes: the first that ends behind a place decides, and one that shares no byte goes to its place.
-use Rattle.std.proofs.Common.{◌≡◌, refl, sym, ◌∙◌, ap, subst, ℕ, ◌+◌, ◌-◌, ◌^◌, ◌<◌, ◌≤◌, Bool, true, false, List, [], ◌∷◌, arith, inl, inr, cond}
+-- Runs by their last bytes: the first that ends behind a place decides, one in a row is found by its place there, and one that shares no byte goes to its place.
+use Rattle.std.proofs.Common.{◌≡◌, refl, sym, ◌∙◌, ap, subst, ℕ, zero, suc, ◌+◌, ◌-◌, ◌^◌, ◌<◌, ◌≤◌, Bool, true, false, List, [], ◌∷◌, ◌++◌, length, Option, None, Some, arith, inl, inr, cond, slice_index_or}
 use Rattle.std.specs.Prelude.{◌⊎◌, ◌&&◌, ◌||◌, nat_le, nat_lt}
 use Rattle.std.specs.List.{AllByRecursion}
+use Rattle.std.specs.List.Sorted.{IsPartitionedBy, IsPartitionPoint}
 use Rattle.std.specs.Ordering.{nat_cmp, match_ordering}
 use Rattle.std.specs.declared.cmp.Ordering.{Ordering}
 use Rattle.std.specs.declared.cmp.Ordering.TheVariants.{Less, Equal, Greater}
@@ -9,12 +10,8 @@ use Rattle.std.specs.declared.ops.Bound.TheVariants.{Included, Unbounded}
 use Rattle.std.specs.BTreeMap.{insert_entry}
 use Rattle.std.specs.BTreeMap.Range.{range_contains, entries_between}
 use Rattle.std.proofs.lemmas.Bool.Decides.{nat_tests}
-use Rattle.dwg_file.specs.Taken.{Run, meets, shares, AreRuns}
-
--- whether the first of the runs that are left begins before the end
-abbrev decided : List Run → ℕ → Bool
-decided [] end = false
-decided (run ∷ runs) end = nat_lt run.1 end
+use Rattle.std.proofs.lemmas.List.Folds.{list_any-append}
+use Rattle.dwg_file.specs.Taken.{Run, meets, shares, AreRuns, IsRow, IsBehind, first_behind, begins_before}
 
 -- runs behind a place share no byte with what ends before it
 behind_place : (from end place : ℕ) (runs : List Run) → end ≤ place → AllByRecursion (λ (behind : Run). place < behind.1) runs → shares runs from end ≡ false
@@ -24,33 +21,90 @@ behind_place from end place (run ∷ runs) before behind =
     ap (λ test. test || shares runs from end) out ∙ behind_place from end place runs before behind.1
 
 -- one run more
-decided_by : (inside hits others : Bool) (end : ℕ) (run : Run) (kept : List Run) → (inside ≡ true → hits ≡ false → others ≡ false) → nat_lt run.1 end ≡ hits → decided kept end ≡ others
-    → decided (cond inside (run ∷ kept) kept) end ≡ ((inside && hits) || others)
-decided_by true true others end run kept last hits behind = hits
-decided_by true false others end run kept last hits behind = hits ∙ sym (last refl refl)
-decided_by false hit others end run kept last hits behind = behind
+decided_by : (inside hits others : Bool) (end : ℕ) (run : Run) (found : Option Run) → (inside ≡ true → hits ≡ false → others ≡ false) → nat_lt run.1 end ≡ hits → begins_before end found ≡ others
+    → begins_before end (cond inside (Some run) found) ≡ ((inside && hits) || others)
+decided_by true true others end run found last hits behind = hits
+decided_by true false others end run found last hits behind = hits ∙ sym (last refl refl)
+decided_by false hit others end run found last hits behind = behind
+
+-- of the runs that end behind a place, the first decides
+pub decides : (from end : ℕ) (runs : List Run) → AreRuns runs → begins_before end (first_behind from runs) ≡ shares runs from end
+decides from end [] are = refl
+decides from end (run ∷ runs) are =
+    decided_by (nat_le from run.0) (nat_lt run.1 end) (shares runs from end) end run (first_behind from runs)
+    (λ inside out. let before : end ≤ run.0 = grind (arith, nat_tests, out, are.0) in behind_place from end run.0 runs before are.1)
+    refl (decides from end runs are.2)
+
+-- the first of a list, where it has one
+abbrev first_of : List Run → Option Run
+first_of [] = None
+first_of (run ∷ runs) = Some run
 
 -- the test of a range from a place on
 in_range : (from key : ℕ) → range_contains nat_cmp (Included from) Unbounded key ≡ nat_le from key
 in_range from key = grind (arith, nat_tests)
 
--- of the runs that end behind a place, the first decides
-decides : (from end : ℕ) (runs : List Run) → AreRuns runs → decided (entries_between nat_cmp (Included from) Unbounded runs) end ≡ shares runs from end
-decides from end [] are = refl
-decides from end (run ∷ runs) are =
-    let kept : List Run = entries_between nat_cmp (Included from) Unbounded runs in
-    ap (λ (inside : Bool). decided (cond inside (run ∷ kept) kept) end) (in_range from run.0)
-    ∙ decided_by (nat_le from run.0) (nat_lt run.1 end) (shares runs from end) end run kept
-    (λ inside out. let before : end ≤ run.0 = grind (arith, nat_tests, out, are.0) in behind_place from end run.0 runs before are.1)
-    refl (decides from end runs are.2)
+-- the first of a range from a place on
+first_between : (place : ℕ) (runs : List Run) → first_of (entries_between nat_cmp (Included place) Unbounded runs) ≡ first_behind place runs
+first_between place [] = refl
+first_between place (run ∷ runs) =
+    ap (λ (inside : Bool). first_of (cond inside (run ∷ entries_between nat_cmp (Included place) Unbounded runs) (entries_between nat_cmp (Included place) Unbounded runs))) (in_range place run.0)
+    ∙ by_test (nat_le place run.0) (entries_between nat_cmp (Included place) Unbounded runs) ∙ ap (λ (found : Option Run). cond (nat_le place run.0) (Some run) found) (first_between place runs)
+  where
+    by_test : (inside : Bool) (kept : List Run) → first_of (cond inside (run ∷ kept) kept) ≡ cond inside (Some run) (first_of kept)
+    by_test true kept = refl
+    by_test false kept = refl
 
--- the first run that ends behind a place decides
-pub first_decides : (from end : ℕ) (runs behind : List Run) (first : Run) → AreRuns runs → entries_between nat_cmp (Included from) Unbounded runs ≡ first ∷ behind → nat_lt first.1 end ≡ shares runs from end
-first_decides from end runs behind first are is = sym (ap (λ kept. decided kept end) is) ∙ decides from end runs are
+pub first_of_range : (place : ℕ) (runs behind : List Run) (first : Run) → entries_between nat_cmp (Included place) Unbounded runs ≡ first ∷ behind → Some first ≡ first_behind place runs
+first_of_range place runs behind first is = sym (ap first_of is) ∙ first_between place runs
 
--- where none ends behind it, no byte is shared
-pub none_decides : (from end : ℕ) (runs : List Run) → AreRuns runs → entries_between nat_cmp (Included from) Unbounded runs ≡ [] → false ≡ shares runs from end
-none_decides from end runs are is = sym (ap (λ kept. decided kept end) is) ∙ decides from end runs are
+pub none_of_range : (place : ℕ) (runs : List Run) → entries_between nat_cmp (Included place) Unbounded runs ≡ [] → None ≡ first_behind place runs
+none_of_range place runs is = sym (ap first_of is) ∙ first_between place runs
+
+-- runs behind a place end behind it too
+ends_behind : (place : ℕ) (runs : List Run) (at : ℕ) (d : Run) → AreRuns runs → AllByRecursion (λ (behind : Run). place < behind.1) runs → at < length runs → place ≤ (slice_index_or runs at d).0
+ends_behind place [] at d are behind within = absurd (omega (arith, within))
+ends_behind place (run ∷ runs) zero d are behind within = omega (arith, behind.0, are.0)
+ends_behind place (run ∷ runs) (suc at) d are behind within = ends_behind place runs at d are.2 behind.1 (omega (arith, within))
+
+-- the last bytes of runs rise
+last_rise : (runs : List Run) (i j : ℕ) (d : Run) → AreRuns runs → i ≤ j → j < length runs → (slice_index_or runs i d).0 ≤ (slice_index_or runs j d).0
+last_rise [] i j d are before within = absurd (omega (arith, within))
+last_rise (run ∷ runs) zero zero d are before within = omega arith
+last_rise (run ∷ runs) zero (suc j) d are before within = ends_behind run.0 runs j d are.2 are.1 (omega (arith, within))
+last_rise (run ∷ runs) (suc i) zero d are before within = absurd (omega (arith, before))
+last_rise (run ∷ runs) (suc i) (suc j) d are before within = last_rise runs i j d are.2 (omega (arith, before)) (omega (arith, within))
+
+-- so a search among them may halve
+pub parted_runs : (place : ℕ) (runs : List Run) → AreRuns runs → IsPartitionedBy (λ (run : Run). nat_lt run.0 place) runs
+parted_runs place runs are i j d before within passes =
+    let rise : (slice_index_or runs i d).0 ≤ (slice_index_or runs j d).0 = last_rise runs i j d are before within in
+    grind (arith, nat_tests, rise, passes)
+
+-- behind runs that end before a place, the first that does not
+first_at : (place : ℕ) (runs : List Run) (at : ℕ) (d : Run) → ((k : ℕ) (e : Run) → k < at → nat_lt (slice_index_or runs k e).0 place ≡ true) → at < length runs
+    → nat_lt (slice_index_or runs at d).0 place ≡ false → Some (slice_index_or runs at d) ≡ first_behind place runs
+first_at place [] at d before within behind = absurd (omega (arith, within))
+first_at place (run ∷ runs) zero d before within behind = let reaches : nat_le place run.0 ≡ true = grind (arith, nat_tests, behind) in ap (λ (inside : Bool). cond inside (Some run) (first_behind place runs)) (sym reaches)
+first_at place (run ∷ runs) (suc at) d before within behind =
+    let misses : nat_le place run.0 ≡ false = grind (arith, nat_tests, before 0 run (omega arith)) in
+    first_at place runs at d (λ k e more. before (suc k) e (omega (arith, more))) (omega (arith, within)) behind ∙ ap (λ (inside : Bool). cond inside (Some run) (first_behind place runs)) (sym misses)
+
+-- where all end before it, there is none
+none_at : (place : ℕ) (runs : List Run) → ((k : ℕ) (e : Run) → k < length runs → nat_lt (slice_index_or runs k e).0 place ≡ true) → None ≡ first_behind place runs
+none_at place [] before = refl
+none_at place (run ∷ runs) before =
+    let misses : nat_le place run.0 ≡ false = grind (arith, nat_tests, before 0 run (omega arith)) in
+    none_at place runs (λ k e more. before (suc k) e (omega (arith, more))) ∙ ap (λ (inside : Bool). cond inside (Some run) (first_behind place runs)) (sym misses)
+
+-- what a search that halves finds
+pub first_of_row : (place : ℕ) (runs : List Run) (at : ℕ) (d : Run) → IsPartitionPoint (λ (run : Run). nat_lt run.0 place ≡ true) (λ (run : Run). nat_lt run.0 place ≡ false) runs at → at < length runs
+    → Some (slice_index_or runs at d) ≡ first_behind place runs
+first_of_row place runs at d point within = first_at place runs at d (λ k e before. point.0 k e (omega arith) before) within (point.1 at d (omega arith) within)
+
+pub none_of_row : (place : ℕ) (runs : List Run) (at : ℕ) → IsPartitionPoint (λ (run : Run). nat_lt run.0 place ≡ true) (λ (run : Run). nat_lt run.0 place ≡ false) runs at → length runs ≤ at
+    → None ≡ first_behind place runs
+none_of_row place runs at point all = none_at place runs (λ k e within. point.0 k e (omega arith) (omega (arith, all, within)))
 
 -- the order of tests
 turned : (one other : Bool) → (one || other) ≡ (other || one)
@@ -66,11 +120,9 @@ record IsFirst (place : ℕ) (runs : List Run) (first : Run) : Type 0 where
   pub taken : (other : ℕ) → first.1 ≤ other → other ≤ first.0 → shares runs other (other + 1) ≡ true
 
 -- so it is of it
-first_is : (place : ℕ) (runs behind : List Run) (first : Run) → AreRuns runs → entries_between nat_cmp (Included place) Unbounded runs ≡ first ∷ behind → IsFirst place runs first
-first_is place [] behind first are is = absurd cc
-first_is place (run ∷ runs) behind first are is =
-    let kept : List Run = entries_between nat_cmp (Included place) Unbounded runs in
-    of_test kept (nat_le place run.0) refl (ap (λ (inside : Bool). cond inside (run ∷ kept) kept) (sym (in_range place run.0)) ∙ is) (λ further. first_is place runs behind first are.2 further)
+first_is : (place : ℕ) (runs : List Run) (first : Run) → AreRuns runs → Some first ≡ first_behind place runs → IsFirst place runs first
+first_is place [] first are is = absurd cc
+first_is place (run ∷ runs) first are is = of_test (nat_le place run.0) refl is (λ further. first_is place runs first are.2 further)
   where
     here : nat_le place run.0 ≡ true → run ≡ first → IsFirst place (run ∷ runs) first
     here reaches same = subst (IsFirst place (run ∷ runs)) same (record {
@@ -86,31 +138,60 @@ first_is place (run ∷ runs) behind first are is =
       taken = λ other begun within. ap (λ test. meets other (other + 1) run || test) (is.taken other begun within) ∙ turned (meets other (other + 1) run) true;
     }
 
-    of_test : (kept : List Run) (inside : Bool) → nat_le place run.0 ≡ inside → cond inside (run ∷ kept) kept ≡ first ∷ behind → (kept ≡ first ∷ behind → IsFirst place runs first)
-        → IsFirst place (run ∷ runs) first
-    of_test kept true reaches same later = here reaches cc
-    of_test kept false misses same later = there (later same)
+    of_test : (inside : Bool) → nat_le place run.0 ≡ inside → Some first ≡ cond inside (Some run) (first_behind place runs) → (Some first ≡ first_behind place runs → IsFirst place runs first) → IsFirst place (run ∷ runs) first
+    of_test true reaches same later = here reaches cc
+    of_test false misses same later = there (later same)
 
--- the place behind a run, where a place lies in it: it comes after, it is a number of 64 bits, and each byte up to it is shared
-pub record IsBehind (place behind : ℕ) (runs : List Run) : Type 0 where
-  pub after : place < behind
-  pub taken : (other : ℕ) → place ≤ other → other < behind → shares runs other (other + 1) ≡ true
+pub first_fits : (place : ℕ) (runs : List Run) (first : Run) → AreRuns runs → Some first ≡ first_behind place runs → first.0 < 2 ^ 64 - 1
+first_fits place runs first are is = (first_is place runs first are is).fits
 
-pub behind_first : (place : ℕ) (runs behind : List Run) (first : Run) → AreRuns runs → entries_between nat_cmp (Included place) Unbounded runs ≡ first ∷ behind → first.1 ≤ place
-    → IsBehind place (first.0 + 1) runs
-behind_first place runs behind first are is begun =
-    let found = first_is place runs behind first are is in
-    record { after = omega (arith, found.reaches); taken = λ other from within. found.taken other (omega arith) (omega arith) }
+-- the place behind the first run that ends behind another, where that lies in it
+pub behind_begun : (place : ℕ) (runs : List Run) (first : Run) → AreRuns runs → Some first ≡ first_behind place runs → first.1 ≤ place → IsBehind runs place (first.0 + 1)
+behind_begun place runs first are is begun =
+    let found = first_is place runs first are is in
+    record {
+      after = omega (arith, found.reaches);
+      taken = λ other from within. found.taken other (omega arith) (omega arith);
+      free = λ same. absurd (omega (arith, found.reaches, same));
+    }
 
-pub first_fits : (place : ℕ) (runs behind : List Run) (first : Run) → AreRuns runs → entries_between nat_cmp (Included place) Unbounded runs ≡ first ∷ behind → first.0 + 1 < 2 ^ 64
-first_fits place runs behind first are is = omega (arith, (first_is place runs behind first are is).fits)
+-- a byte that no run shares stays where it is
+stays : (place : ℕ) (runs : List Run) → shares runs place (place + 1) ≡ false → IsBehind runs place place
+stays place runs free = record { after = omega arith; taken = λ other from within. absurd (omega (arith, from, within)); free = λ same. free }
 
--- where the first run that ends behind a place begins behind it too, the byte there is shared with none
-pub behind_none : (place : ℕ) (runs behind : List Run) (first : Run) → AreRuns runs → entries_between nat_cmp (Included place) Unbounded runs ≡ first ∷ behind → place < first.1
-    → shares runs place (place + 1) ≡ false
-behind_none place runs behind first are is before =
+-- as where that run begins behind it too
+pub behind_unbegun : (place : ℕ) (runs : List Run) (first : Run) → AreRuns runs → Some first ≡ first_behind place runs → place < first.1 → IsBehind runs place place
+behind_unbegun place runs first are is before =
     let out : nat_lt first.1 (place + 1) ≡ false = grind (arith, nat_tests) in
-    sym (first_decides place (place + 1) runs behind first are is) ∙ out
+    stays place runs (sym (decides place (place + 1) runs are) ∙ sym (ap (begins_before (place + 1)) is) ∙ out)
+
+-- and where there is none
+pub behind_none : (place : ℕ) (runs : List Run) → AreRuns runs → None ≡ first_behind place runs → IsBehind runs place place
+behind_none place runs are is = stays place runs (sym (decides place (place + 1) runs are) ∙ sym (ap (begins_before (place + 1)) is))
+
+-- a row shares no byte with what begins behind it
+pub row_ended : (last from end : ℕ) (runs : List Run) → IsRow last runs → last ≤ from → shares runs from end ≡ false
+row_ended last from end [] row after = refl
+row_ended last from end (run ∷ runs) row after =
+    let out : meets from end run ≡ false = grind (arith, nat_tests, row.before.0, after) in
+    ap (λ test. test || shares runs from end) out ∙ row_ended last from end runs (record { are = row.are.2; before = row.before.1 }) after
+
+pub row_stays : (last place : ℕ) (runs : List Run) → IsRow last runs → last ≤ place → IsBehind runs place place
+row_stays last place runs row after = stays place runs (row_ended last place (place + 1) runs row after)
+
+-- and with such a run at its end it is a row
+pub row_with : (last from end : ℕ) (runs : List Run) → IsRow last runs → last ≤ from → from < end → end < 2 ^ 64 → IsRow end (runs ++ (end - 1, from) ∷ [])
+row_with last from end [] row after some fits = record { are = (omega arith, tt, tt, omega arith); before = (omega arith, tt) }
+row_with last from end (run ∷ runs) row after some fits =
+    let more = row_with last from end runs (record { are = row.are.2; before = row.before.1 }) after some fits in
+    record {
+      are = (row.are.0, all_joined run.0 runs row.are.1 (omega (arith, row.before.0, after)), more.are, row.are.3);
+      before = (omega (arith, row.before.0, after, some), more.before);
+    }
+  where
+    all_joined : (place : ℕ) (ones : List Run) → AllByRecursion (λ (behind : Run). place < behind.1) ones → place < from → AllByRecursion (λ (behind : Run). place < behind.1) (ones ++ (end - 1, from) ∷ [])
+    all_joined place [] all before = (before, tt)
+    all_joined place (one ∷ ones) all before = (all.0, all_joined place ones all.1 before)
 
 -- how two numbers compare
 compared : (x y : ℕ) → ((x < y) × (nat_cmp x y ≡ Less)) ⊎ (((x ≡ y) × (nat_cmp x y ≡ Equal)) ⊎ ((y < x) × (nat_cmp x y ≡ Greater)))
@@ -177,3 +258,18 @@ shares_with last from end other to (run ∷ runs) are is some apart =
           ∙ ap (λ test. meets other to run || test) (shares_with last from end other to runs are.2 is some tests.1)
           ∙ regrouped (meets other to run) (shares runs other to) (meets other to (last, from))
     ]
+
+-- two lists of runs share a byte where one of them does
+pub shares_both : (from end : ℕ) (row others : List Run) → shares (row ++ others) from end ≡ (shares row from end || shares others from end)
+shares_both from end row others = list_any-append (meets from end) row others
+
+-- what shares no byte with both shares none with the second
+pub others_apart : (from end : ℕ) (row others : List Run) → shares (row ++ others) from end ≡ false → shares others from end ≡ false
+others_apart from end row others apart = (neither (shares row from end) (shares others from end) (sym (shares_both from end row others) ∙ apart)).1
+
+-- one run more in the second
+pub shares_other : (last from end other to : ℕ) (row others : List Run) → AreRuns others → end ≡ last + 1 → from < end → shares others from end ≡ false
+    → shares (row ++ insert_entry nat_cmp others last from) other to ≡ (shares (row ++ others) other to || meets other to (last, from))
+shares_other last from end other to row others are is some apart =
+    shares_both other to row (insert_entry nat_cmp others last from) ∙ ap (λ test. shares row other to || test) (shares_with last from end other to others are is some apart)
+    ∙ regrouped (shares row other to) (shares others other to) (meets other to (last, from)) ∙ ap (λ test. test || meets other to (last, from)) (sym (shares_both other to row others))

@@ -1,5 +1,7 @@
 -- What a drawing says, as a plain value, whoever holds its bytes.
 pub mod Contents
+-- What a drawing borrows of the input that it was read from.
+pub mod Borrowed
 -- What an input spells: the drawing that its parts, each at its place, say.
 pub mod Spelled
 -- The lines of the table of refusals over a whole file, in their order.

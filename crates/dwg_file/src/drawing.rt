@@ -4,18 +4,21 @@ use crate::parts::Parts;
 use std::marker::Model;
 
 /// A drawing whose parts are valid: what its canonical file spells again.
+///
+/// Contracts see its parts as they are held; what it says is the contents of these.
 #[derive(Drop)]
 pub struct Drawing<'a> {
     parts: Parts<'a>,
 }
 
 impl<'a> Model for Drawing<'a> {
-    ghost use Rattle.dwg_file.specs.Contents.{Contents, contents_of};
+    ghost use Rattle.dwg_file.specs.Contents.{contents_of};
     ghost use Rattle.dwg_file.specs.Valid.{IsValid};
+    ghost use Rattle.dwg_file.specs.declared.parts.Parts as declared;
 
-    ghost Value = { Contents };
+    ghost Value = { declared.Parts };
 
-    ghost view = { λ drawing. contents_of drawing.parts };
+    ghost view = { λ drawing. drawing.parts };
 
     ghost invariant = { λ drawing. IsValid (contents_of drawing.parts) };
 }
@@ -28,15 +31,16 @@ impl<'a> Drawing<'a> {
     /// The drawing of these parts.
     pub fn build(parts: Parts<'a>) -> Drawing<'a>
         requires { IsValid (contents_of parts) }
-        ensures { result ≡ contents_of parts.entry }
+        ensures { result ≡ parts.entry }
     {
         Drawing { parts }
     }
 
     /// Its parts.
     pub fn parts(&self) -> &Parts<'a>
-        ensures parts { contents_of result.now ≡ self.now }
-        ensures valid { IsValid self.now }
+        ensures held { result.now ≡ self.now }
+        ensures parts { contents_of result.now ≡ contents_of self.now }
+        ensures valid { IsValid (contents_of self.now) }
     {
         &self.parts
     }

@@ -1,10 +1,10 @@
 //! Reading frames, pair by pair in map order.
 
-ghost use Rattle.std.specs.Bool.{then_some};
-ghost use Rattle.std.specs.Prelude.{◌≡◌, ℕ, ◌-◌, ◌<◌, ◌||◌, List, [], ◌∷◌, ◌++◌, map, false, nat_eq, IfOk, IfErr};
+ghost use Rattle.std.specs.Prelude.{◌≡◌, ℕ, ◌-◌, ◌<◌, ◌||◌, List, [], ◌∷◌, ◌++◌, map, false, ◌↔◌, IsTrue, IfOk, IfErr};
 ghost use Rattle.dwg_base.specs.Refusals.{IsFaultOfTable};
 ghost use Rattle.dwg_object.specs.FrameLines.{frame_refusal};
-ghost use Rattle.dwg_object.specs.Objects.{handle_of, value_of};
+ghost use Rattle.std.specs.List.{All};
+ghost use Rattle.dwg_object.specs.Objects.{BorrowsItsBytes, handle_of, value_of};
 ghost use Rattle.dwg_objmap.specs.Pages.{handles_of};
 ghost use Rattle.dwg_file.specs.FileLines.{FoundFrame, tried_pair, frames_behind};
 ghost use Rattle.dwg_file.specs.FrameReading.{AreTaken, AnswersPair, HasRead, GoesOn, AnswersFrames, values_of};
@@ -29,11 +29,11 @@ fn refused(line: u8, index: u64, place: u64) -> Fault
     Fault::Refused(Refusal { line, index, place })
 }
 
-/// A frame that was found, where the own handle of its object is this one.
-fn of_handle<'a>(found: Found<'a>, handle: Handle) -> Option<Found<'a>>
-    ensures { result ≡ then_some (nat_eq (handle_of (value_of found.entry.object)) handle) found.entry }
+/// Whether the own handle of a frame's object is this one.
+fn has_handle(found: &Found<'_>, handle: Handle) -> bool
+    ensures { IsTrue result ↔ (handle_of (value_of found.now.object) ≡ handle) }
 {
-    (found.object.handle().value() == handle.value()).then_some(found)
+    found.object.handle().value() == handle.value()
 }
 
 /// Reads the frame of a pair: it has a span, which shares no byte with those of earlier pairs, a check word and a head, and
@@ -47,6 +47,7 @@ fn frame_of_pair<'a>(
     hints: &Hints<'_>,
 ) -> Result<Found<'a>, Fault>
     ensures tried { (earlier : List FoundFrame) → AreTaken earlier taken.now → AnswersPair hints.now bytes.now pair.now (tried_pair bytes.now earlier index pair.now) result }
+    ensures lent { IfOk result (λ found. BorrowsItsBytes found.object) }
     ensures some { IfOk result (λ found. pair.now.place < found.end) }
     ensures apart { IfOk result (λ found. shares taken.now pair.now.place found.end ≡ false) }
     ensures of_table { IfErr result IsFaultOfTable }
@@ -63,10 +64,10 @@ fn frame_of_pair<'a>(
         Ok(found) => found,
         Err(fault) => return Err(fault),
     };
-    match of_handle(found, pair.handle) {
-        Some(found) => Ok(found),
-        None => Err(refused(HANDLE_LINE, index, place)),
+    if !has_handle(&found, pair.handle) {
+        return Err(refused(HANDLE_LINE, index, place));
     }
+    Ok(found)
 }
 
 /// The frame of an object of a file: a length, a body and a check word (Open Design Specification, "R13 to R2000 file layout,
@@ -144,6 +145,7 @@ fn with_frame<'a>(read: Frames<'a>, pair: &Pair, found: Found<'a>) -> Result<Fra
 }
 
 /// The frames and the one of the next pair.
+#[tactic(auto, using(crate::proofs::Borrowing::object_lent))]
 fn next_frame<'a>(
     alloc: Global,
     read: Frames<'a>,
@@ -152,6 +154,7 @@ fn next_frame<'a>(
     index: u64,
     hints: &Hints<'_>,
 ) -> Result<Frames<'a>, Fault>
+    ensures lent { All BorrowsItsBytes read.entry.objects.items → IfOk result (λ more. All BorrowsItsBytes more.objects.items) }
     ensures goes_on { (earlier : List FoundFrame) (handles : List ℕ) → HasRead hints.now bytes.now earlier handles read.entry → GoesOn hints.now bytes.now earlier handles pair.now (tried_pair bytes.now earlier index pair.now) result }
     ensures of_table { IfErr result IsFaultOfTable }
 {
@@ -166,6 +169,7 @@ fn next_frame<'a>(
 }
 
 /// Reads the frames of pairs, in their order, and their objects.
+#[tactic(auto, using(crate::proofs::Borrowing::no_objects_lent))]
 pub(crate) fn read_frames<'a>(
     alloc: Global,
     bytes: &'a [u8],
@@ -174,6 +178,7 @@ pub(crate) fn read_frames<'a>(
 ) -> Result<Frames<'a>, Fault>
     ensures tried { AnswersFrames hints.now bytes.now (frames_behind bytes.now 0 [] pairs.now) result }
     ensures own { IfOk result (λ read. map handle_of (values_of read.objects.items) ≡ handles_of pairs.now) }
+    ensures lent { IfOk result (λ read. All BorrowsItsBytes read.objects.items) }
     ensures of_table { IfErr result IsFaultOfTable }
 {
     let mut read = Frames {

@@ -2,12 +2,14 @@
 
 ghost use Rattle.std.specs.Prelude.{◌≡◌, ◌≤◌, List, [], ◌∷◌, ◌++◌, take, drop, map, IfOk, IfSome, None, false};
 ghost use Rattle.dwg_base.specs.Refusals.{IsOfTable};
+ghost use Rattle.std.specs.List.{All};
+ghost use Rattle.dwg_file.specs.Borrowed.{IsBorrowedSection};
 ghost use Rattle.dwg_file.specs.Contents.{other_value};
 ghost use Rattle.dwg_file.specs.FileLines.{is_cut, first_cut};
 ghost use Rattle.dwg_file.specs.ReadAs.{sections_at, whole_locators};
 
 use crate::parts::Other;
-use dwg_base::{ByteRun, Items, NoMemory, Refusal};
+use dwg_base::{Items, NoMemory, Refusal};
 use dwg_codes::BytePart;
 use dwg_sections::Locator;
 use std::alloc::Global;
@@ -64,14 +66,15 @@ fn bytes_of<'a>(bytes: &'a [u8], locator: &Locator) -> &'a [u8]
 }
 
 /// The unknown sections and that of one locator more, where its number is none that is known and its bytes don't pass the end
-/// of the input. The only refusal is want of memory, of which as much is taken as the section has bytes.
+/// of the input. The only refusal is want of memory.
+#[tactic(auto, using(crate::proofs::Borrowing::section_lent))]
 fn with_section<'a>(
-    alloc: Global,
     others: Items<Other<'a>>,
     bytes: &'a [u8],
     locator: &Locator,
 ) -> Result<Items<Other<'a>>, NoMemory>
-    ensures { IfOk result (λ more. map other_value more ≡ map other_value others.entry ++ sections_at bytes.now (whole_locators bytes.now (locator.now ∷ []))) }
+    ensures value { IfOk result (λ more. map other_value more ≡ map other_value others.entry ++ sections_at bytes.now (whole_locators bytes.now (locator.now ∷ []))) }
+    ensures lent { All IsBorrowedSection others.entry → IfOk result (All IsBorrowedSection) }
 {
     if is_cut(bytes, locator) {
         return Ok(others);
@@ -79,11 +82,10 @@ fn with_section<'a>(
     if locator.number < LEAST_NUMBER {
         return Ok(others);
     }
-    let run = ByteRun::from_slice(alloc, bytes_of(bytes, locator))?;
     let mut others = others;
     match others.push(Other {
         number: locator.number,
-        bytes: BytePart::Owned(run),
+        bytes: BytePart::Lent(bytes_of(bytes, locator)),
     }) {
         Ok(()) => Ok(others),
         Err(_) => Err(NoMemory),
@@ -92,16 +94,18 @@ fn with_section<'a>(
 
 /// The unknown sections of locators, in their order, but for those that pass the end of the input. The only refusal is want of
 /// memory.
+#[tactic(auto, using(crate::proofs::Borrowing::no_sections_lent))]
 pub fn whole_others<'a>(
     alloc: Global,
     bytes: &'a [u8],
     locators: &[Locator],
 ) -> Result<Items<Other<'a>>, NoMemory>
-    ensures { IfOk result (λ others. map other_value others ≡ sections_at bytes.now (whole_locators bytes.now locators.now)) }
+    ensures value { IfOk result (λ others. map other_value others ≡ sections_at bytes.now (whole_locators bytes.now locators.now)) }
+    ensures lent { IfOk result (All IsBorrowedSection) }
 {
     let mut others = Items::new(alloc);
     'along: for index in 0..locators.len() {
-        others = with_section(alloc, others, bytes, &locators[index])?;
+        others = with_section(others, bytes, &locators[index])?;
     }
     Ok(others)
 }

@@ -119,25 +119,25 @@ pub struct Plan<'d, 'a> {
 }
 
 impl<'d, 'a> Model for Plan<'d, 'a> {
-    ghost use Rattle.dwg_file.specs.Contents.{Contents};
+    ghost use Rattle.dwg_file.specs.Contents.{Contents, contents_of};
 
     ghost Value = { Contents };
 
     ghost use Rattle.dwg_file.specs.Plans.{IsPlan};
 
-    ghost view = { λ plan. plan.drawing.now };
+    ghost view = { λ plan. contents_of plan.drawing.now };
 
-    ghost invariant = { λ plan. IsPlan plan.drawing.now plan.file };
+    ghost invariant = { λ plan. IsPlan (contents_of plan.drawing.now) plan.file };
 }
 
 impl<'d, 'a> Plan<'d, 'a> {
     /// Makes the canonical file of a drawing. TooLarge exactly where that has more than `LIMIT` bytes, with their count; the
     /// only other refusal is want of memory. All memory that writing needs is taken here, in proportion to the drawing.
     pub fn prepare(alloc: Global, drawing: &'d Drawing<'a>) -> Result<Plan<'d, 'a>, PlanFault>
-        ensures plan { IfOk result (λ plan. plan ≡ drawing.now) }
-        ensures within { OnOk result (size_of drawing.now ≤ MOST_BYTES) }
-        ensures too_large { (size : ℕ) → result ≡ Err (PlanFault.TooLarge size) → MOST_BYTES < size_of drawing.now }
-        ensures with_size { (size : ℕ) → result ≡ Err (PlanFault.TooLarge size) → size ≡ size_of drawing.now }
+        ensures plan { IfOk result (λ plan. plan ≡ contents_of drawing.now) }
+        ensures within { OnOk result (size_of (contents_of drawing.now) ≤ MOST_BYTES) }
+        ensures too_large { (size : ℕ) → result ≡ Err (PlanFault.TooLarge size) → MOST_BYTES < size_of (contents_of drawing.now) }
+        ensures with_size { (size : ℕ) → result ≡ Err (PlanFault.TooLarge size) → size ≡ size_of (contents_of drawing.now) }
     {
         let parts = drawing.parts();
         let layout = match layout_of(alloc, parts) {

@@ -5,6 +5,9 @@ ghost use Rattle.std.specs.Result.{result_unwrap_or};
 ghost use Rattle.dwg_base.specs.Devices.{MOST_BYTES};
 ghost use Rattle.dwg_base.specs.Refusals.{first_fault, Tells, IsFaultOfTable};
 ghost use Rattle.dwg_sections.specs.HeaderLines.{HEADER_LINES, header_at};
+ghost use Rattle.std.specs.List.{All};
+ghost use Rattle.dwg_object.specs.Objects.{BorrowsItsBytes};
+ghost use Rattle.dwg_file.specs.Borrowed.{IsBorrowed};
 ghost use Rattle.dwg_file.specs.Contents.{contents_of};
 ghost use Rattle.dwg_file.specs.FileLines.{ALL_LINES, map_row, frames_row, frames_tried};
 ghost use Rattle.dwg_file.specs.FrameReading.{values_of, AreObjectsIn};
@@ -18,7 +21,7 @@ use crate::laws::drawing_laws;
 use crate::objects::{FramedObjects, read_objects};
 use crate::parts::Parts;
 use crate::sections::{classes_of_file, others_of_file, pairs_of_file, variables_of_file};
-use dwg_base::{ByteRun, Fault, Items, NoMemory};
+use dwg_base::{Fault, Items};
 use dwg_classes::Class;
 use dwg_codes::BytePart;
 use dwg_sections::{FileHeader, read_file_header};
@@ -34,6 +37,7 @@ fn objects_of_file<'a>(
 ) -> Result<FramedObjects<'a>, Fault>
     requires { header.now ≡ header_at bytes.now }
     ensures objects { IfOk result (λ read. AreObjectsIn classes.now bytes.now (values_of read.objects)) }
+    ensures lent { IfOk result (λ read. All BorrowsItsBytes read.objects) }
     ensures frames { IfOk result (λ read. read.frames ≡ map frame_of (result_unwrap_or (frames_tried bytes.now) [])) }
     ensures holds { OnOk result (first_fault (map_row ∷ frames_row ∷ []) bytes.now ≡ None) }
     ensures refused { IfErr result (λ fault. Tells fault (first_fault (map_row ∷ frames_row ∷ []) bytes.now)) }
@@ -66,6 +70,7 @@ fn parts_behind<'a>(
     requires header { header.now ≡ header_at bytes.now }
     requires holds { first_fault HEADER_LINES bytes.now ≡ None }
     ensures read { IfOk result (λ read. ReadsAs (contents_of read.parts) bytes.now) }
+    ensures lent { IfOk result (λ read. IsBorrowed read.parts) }
     ensures frames { IfOk result (λ read. read.frames ≡ map frame_of (result_unwrap_or (frames_tried bytes.now) [])) }
     ensures refused { IfErr result (λ fault. Tells fault (first_fault ALL_LINES bytes.now)) }
     ensures of_table { IfErr result IsFaultOfTable }
@@ -86,16 +91,12 @@ fn parts_behind<'a>(
         Ok(others) => others,
         Err(fault) => return Err(fault),
     };
-    let variables = match ByteRun::from_slice(alloc, content) {
-        Ok(run) => BytePart::Owned(run),
-        Err(NoMemory) => return Err(Fault::NoMemory),
-    };
     let FramedObjects { objects, frames } = framed;
     let parts = Parts {
         lead: header.lead,
         mark: header.mark,
         code_page: header.code_page,
-        variables,
+        variables: BytePart::Lent(content),
         classes,
         others,
         objects,
@@ -107,6 +108,7 @@ fn parts_behind<'a>(
 fn read_parts<'a>(alloc: Global, bytes: &'a [u8]) -> Result<FramedParts<'a>, Fault>
     requires { length bytes.now ≤ MOST_BYTES }
     ensures read { IfOk result (λ read. ReadsAs (contents_of read.parts) bytes.now) }
+    ensures lent { IfOk result (λ read. IsBorrowed read.parts) }
     ensures frames { IfOk result (λ read. read.frames ≡ map frame_of (result_unwrap_or (frames_tried bytes.now) [])) }
     ensures refused { IfErr result (λ fault. Tells fault (first_fault ALL_LINES bytes.now)) }
     ensures of_table { IfErr result IsFaultOfTable }
@@ -135,8 +137,11 @@ pub struct FramedDrawing<'a> {
 pub fn read_with_frames<'a>(alloc: Global, bytes: &'a [u8]) -> Result<FramedDrawing<'a>, Fault>
     requires { length bytes.now ≤ MOST_BYTES }
     // The drawing that the input spells; it spells one exactly where no line fails.
-    ensures spelled { IfOk result (λ read. Spelled read.drawing bytes.now) }
+    ensures spelled { IfOk result (λ read. Spelled (contents_of read.drawing) bytes.now) }
     ensures holds { OnOk result (first_fault ALL_LINES bytes.now ≡ None) }
+
+    // It borrows from the input all runs of bytes and bits that it keeps.
+    ensures lent { IfOk result (λ read. IsBorrowed read.drawing) }
 
     // The frames of the map's pairs, in map order.
     ensures frames { IfOk result (λ read. read.frames ≡ map frame_of (result_unwrap_or (frames_tried bytes.now) [])) }
@@ -164,8 +169,12 @@ pub fn read_with_frames<'a>(alloc: Global, bytes: &'a [u8]) -> Result<FramedDraw
 pub fn read_drawing<'a>(alloc: Global, bytes: &'a [u8]) -> Result<Drawing<'a>, Fault>
     requires { length bytes.now ≤ MOST_BYTES }
     // The drawing that the input spells; it spells one exactly where no line fails.
-    ensures spelled { IfOk result (λ drawing. Spelled drawing bytes.now) }
+    ensures spelled { IfOk result (λ drawing. Spelled (contents_of drawing) bytes.now) }
     ensures holds { OnOk result (first_fault ALL_LINES bytes.now ≡ None) }
+
+    // It borrows from the input all runs of bytes and bits that it keeps: the header variables, the unknown sections, the free
+    // bits of Plain objects and the bytes of Raw ones.
+    ensures lent { IfOk result IsBorrowed }
 
     // The first line that fails, or want of memory.
     ensures refused { IfErr result (λ fault. Tells fault (first_fault ALL_LINES bytes.now)) }

@@ -6,6 +6,8 @@ ghost use Rattle.dwg_base.specs.Refusals.{first_fault, Answers, Tells, IsOfTable
 ghost use Rattle.dwg_objmap.specs.Pages.{AreHandles, handles_of};
 ghost use Rattle.dwg_sections.specs.FramedLines.{content_at};
 ghost use Rattle.dwg_sections.specs.HeaderLines.{header_at};
+ghost use Rattle.std.specs.List.{All};
+ghost use Rattle.dwg_file.specs.Borrowed.{IsBorrowedSection};
 ghost use Rattle.dwg_file.specs.Contents.{other_value};
 ghost use Rattle.dwg_file.specs.FileLines.{section_place, variables_row, classes_section_row, classes_tried, classes_row, map_tried, sections_row};
 ghost use Rattle.dwg_file.specs.ReadAs.{sections_at};
@@ -84,6 +86,7 @@ pub(crate) fn others_of_file<'a>(
 ) -> Result<Items<Other<'a>>, Fault>
     requires { header.now ≡ header_at bytes.now }
     ensures value { IfOk result (λ others. map other_value others ≡ sections_at bytes.now (header_at bytes.now).locators) }
+    ensures lent { IfOk result (All IsBorrowedSection) }
     ensures holds { OnOk result (sections_row bytes.now ≡ None) }
     ensures refused { IfErr result (λ fault. Tells fault (sections_row bytes.now)) }
     ensures of_table { IfErr result IsFaultOfTable }

@@ -85,7 +85,7 @@ fn parts_of(alloc: Global, count: u32, seed: u32) -> Result<Parts<'static>, NoMe
 /// it): the entities are drawn by random numbers from the seed on. The same two numbers give the same drawing. Size exactly where the
 /// count is out of range; the only other refusal is want of memory.
 pub fn make(alloc: Global, n: u32, seed: u32) -> Result<Drawing<'static>, MakeFault>
-    ensures made { IfOk result (λ drawing. drawing ≡ made n seed) }
+    ensures made { IfOk result (λ drawing. contents_of drawing ≡ made n seed) }
     ensures within { OnOk result ((0 < n) × (n ≤ MOST_ENTITIES)) }
     ensures size { IsErrOf result MakeFault.Size → (n ≡ 0) ⊎ (MOST_ENTITIES < n) }
     ensures size_told { (n ≡ 0) ⊎ (MOST_ENTITIES < n) → IsErrOf result MakeFault.Size }

@@ -200,9 +200,8 @@ pub common_has_none : (classes : List Class) (body : List ℕ) → (HasCommonFor
 common_has_none classes body none = (λ plain. none (common_of_plain classes body plain), λ typed. none (common_of_typed classes body typed))
 
 -- what is kept of a body without either is its form
-pub raw_kept : (body : List ℕ) (kind : Kind) (number : ℕ) (result : Result Object NoMemory)
+pub raw_kept : (body : List ℕ) (kind : Kind) (number : ℕ) (object : Object)
     → ((classes : List Class) → kind ≡ kind_under classes number → (HasPlainForm classes body → ⊥) × (HasTypedForm classes body → ⊥))
-    → IfOk result (λ object. (classes : List Class) → (HasPlainForm classes body → ⊥) → (HasTypedForm classes body → ⊥) → FormOf classes body (value_of object))
-    → IfOk result (λ object. (classes : List Class) → kind ≡ kind_under classes number → FormOf classes body (value_of object))
-raw_kept body kind number (Ok object) none form = λ classes same. form classes (none classes same).0 (none classes same).1
-raw_kept body kind number (Err fault) none form = form
+    → ((classes : List Class) → (HasPlainForm classes body → ⊥) → (HasTypedForm classes body → ⊥) → FormOf classes body (value_of object))
+    → (classes : List Class) → kind ≡ kind_under classes number → FormOf classes body (value_of object)
+raw_kept body kind number object none form classes same = form classes (none classes same).0 (none classes same).1

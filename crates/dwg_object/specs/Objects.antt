@@ -72,17 +72,17 @@ kind_of (TypedValue number handle common body) = body_kind body
 kind_of (PlainValue number handle common rest refs) = kind_at number (hint_of_common common)
 kind_of (RawValue number handle bytes) = kind_at number hints.Absent
 
--- bits and bytes that are owned and not lent
-abbrev pub AreOwnedBits : BitPart → Type 0
-AreOwnedBits (bit_parts.Owned run) = ⊤
-AreOwnedBits (bit_parts.Lent span) = ⊥
+-- bits and bytes that are lent and not owned
+abbrev pub AreLentBits : BitPart → Type 0
+AreLentBits (bit_parts.Owned run) = ⊥
+AreLentBits (bit_parts.Lent span) = ⊤
 
-abbrev pub IsOwnedPart : BytePart → Type 0
-IsOwnedPart (Owned run) = ⊤
-IsOwnedPart (Lent slice) = ⊥
+abbrev pub IsLentPart : BytePart → Type 0
+IsLentPart (Owned run) = ⊥
+IsLentPart (Lent slice) = ⊤
 
--- an object that lends no bits and no bytes
-abbrev pub HoldsItsBytes : declared.Object → Type 0
-HoldsItsBytes (objects.Typed typed) = ⊤
-HoldsItsBytes (objects.Plain plain) = AreOwnedBits plain.rest
-HoldsItsBytes (objects.Raw raw) = IsOwnedPart raw.bytes
+-- an object that borrows its free bits or its bytes
+abbrev pub BorrowsItsBytes : declared.Object → Type 0
+BorrowsItsBytes (objects.Typed typed) = ⊤
+BorrowsItsBytes (objects.Plain plain) = AreLentBits plain.rest
+BorrowsItsBytes (objects.Raw raw) = IsLentPart raw.bytes

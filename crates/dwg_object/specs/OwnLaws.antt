@@ -1,10 +1,8 @@
 -- What a kind has of its own is a body, and is of that kind.
 use Rattle.std.proofs.Common.{◌≡◌, ℕ, ◌^◌, ◌<◌, Bool, List}
 use Rattle.dwg_grammar.specs.Bodies.{IsLawfulBody}
-use Rattle.dwg_kinds.specs.declared.kind.Kind.TheVariants as kinds
 use Rattle.dwg_kinds.specs.declared.kind.Kind.{Kind}
 use Rattle.dwg_object.specs.OwnBodies.{body_kind, own_body}
-use Rattle.dwg_object.specs.declared.body.Body.TheVariants as bodies
 use Rattle.dwg_object.specs.declared.body.Body.{Body}
 
 -- what kinds have of their own is lawful

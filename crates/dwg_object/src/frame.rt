@@ -7,7 +7,7 @@ ghost use Rattle.dwg_object.specs.Forms.{FormOf};
 ghost use Rattle.dwg_object.specs.FoundFrames.{AnswersFrame};
 ghost use Rattle.dwg_object.specs.FrameLines.{bytes_from, has_check_word, span_body, tried_frame};
 ghost use Rattle.dwg_object.specs.Frames.{FrameAt, SpanAt};
-ghost use Rattle.dwg_object.specs.Objects.{HoldsItsBytes, value_of};
+ghost use Rattle.dwg_object.specs.Objects.{BorrowsItsBytes, value_of};
 
 use crate::object::Object;
 use crate::reading::read_body_hinted;
@@ -81,8 +81,8 @@ pub fn read_span<'a>(
     hints: &Hints<'_>,
 ) -> Result<Found<'a>, Fault>
     requires { SpanAt bytes.now span.now }
-    // The object of the frame that stands there, which has its bits and bytes as its own.
-    ensures owned { IfOk result (λ found. HoldsItsBytes found.object) }
+    // The object of the frame that stands there, which borrows the bits and bytes that it keeps.
+    ensures lent { IfOk result (λ found. BorrowsItsBytes found.object) }
     ensures found { IfOk result (λ found. (body : List ℕ) × FrameAt bytes.now span.now.from body found.end × FormOf hints.now body (value_of found.object)) }
 
     // What is found and what is refused is what is tried; there is want of memory beside.
@@ -114,8 +114,8 @@ pub fn read_frame<'a>(
     index: u64,
     classes: &[Class],
 ) -> Result<Found<'a>, Fault>
-    // The object of the frame that stands there, which has its bits and bytes as its own.
-    ensures owned { IfOk result (λ found. HoldsItsBytes found.object) }
+    // The object of the frame that stands there, which borrows the bits and bytes that it keeps.
+    ensures lent { IfOk result (λ found. BorrowsItsBytes found.object) }
     ensures found { IfOk result (λ found. (body : List ℕ) × FrameAt bytes.now place body found.end × FormOf classes.now body (value_of found.object)) }
 
     // What is found and what is refused is what is tried; there is want of memory beside.

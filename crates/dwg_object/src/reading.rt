@@ -11,15 +11,15 @@ ghost use Rattle.dwg_kinds.specs.declared.kind.Kind.TheVariants as kinds;
 ghost use Rattle.dwg_object.specs.declared.reading.Rest.{Rest};
 ghost use Rattle.dwg_object.specs.Forms.{BeginsWithHead, CommonForm, FormOf, HasCommonForm, HasPlainForm, HasTypedForm, kind_under};
 ghost use Rattle.dwg_object.specs.Heads.{IsHeadAt};
-ghost use Rattle.dwg_object.specs.Objects.{HoldsItsBytes, PlainValue, parts_of, value_of};
+ghost use Rattle.dwg_object.specs.Objects.{BorrowsItsBytes, PlainValue, parts_of, value_of};
 ghost use Rattle.dwg_object.specs.OwnBits.{AreOwn, HasOwn};
 
 use crate::body::Body;
 use crate::common::Common;
 use crate::head::{HeadAt, head_of};
 use crate::object::{Object, Plain, Raw, Typed};
-use dwg_base::{ByteRun, Handle, Items, NoMemory};
-use dwg_bits::{BitCursor, BitPart, BitRun, BitSpan};
+use dwg_base::{Handle, Items, NoMemory};
+use dwg_bits::{BitCursor, BitPart, BitSpan};
 use dwg_classes::{Class, Hints};
 use dwg_codes::BytePart;
 use dwg_handles::{Ref, read_refs_to_end};
@@ -34,16 +34,6 @@ fn span_left<'a>(cursor: &BitCursor<'a>) -> BitSpan<'a>
     match ahead.run(ahead.left()) {
         Some(span) => span,
         None => unreachable!(),
-    }
-}
-
-/// All bits that are left, as a list of its own. The only refusal is want of memory.
-fn take_rest(alloc: Global, cursor: &BitCursor<'_>) -> Result<BitRun, NoMemory>
-    ensures { IfOk result (λ run. run ≡ rest cursor.now) }
-{
-    match BitRun::copy(alloc, &BitPart::Lent(span_left(cursor))) {
-        Some(run) => Ok(run),
-        None => Err(NoMemory),
     }
 }
 
@@ -115,21 +105,21 @@ fn read_value(
 
 /// What stands behind the common part of a body in its Plain form.
 #[derive(Drop)]
-struct Rest {
+struct Rest<'a> {
     /// The bits before the references.
-    bits: BitRun,
+    bits: BitSpan<'a>,
     /// The references.
     refs: Items<Ref>,
 }
 
 /// Reads what stands behind the common part of a body in its Plain form. None exactly where the kind is unknown or what stands
 /// there are no references; the only refusal is want of memory.
-fn read_rest(
+fn read_rest<'a>(
     alloc: Global,
-    front: &Front<'_>,
+    front: &Front<'a>,
     kind: Kind,
     own: Handle,
-) -> Result<Option<Rest>, NoMemory>
+) -> Result<Option<Rest<'a>>, NoMemory>
     ensures known { IfOk result (λ read. IfSome read (λ behind. kind ≢ kinds.Unknown)) }
     ensures bits { IfOk result (λ read. IfSome read (λ behind. behind.bits ≡ rest front.now.main)) }
     ensures refs { IfOk result (λ read. IfSome read (λ behind. (left : List Bool) × ReadsToEnd 8 (reference own) (Some behind.refs) (rest front.now.refs) left)) }
@@ -142,21 +132,25 @@ fn read_rest(
     let Some(refs) = read_refs_to_end(alloc, &mut cursor, own)? else {
         return Ok(None);
     };
-    let bits = take_rest(alloc, &front.main)?;
+    let bits = span_left(&front.main);
     Ok(Some(Rest { bits, refs }))
 }
 
 /// The object of a body in its Plain form, where it has one.
-fn plain_object<'a>(found: &HeadAt, front: Front<'_>, behind: Option<Rest>) -> Option<Object<'a>>
-    ensures form { option_map value_of result ≡ option_map (λ (parts : Rest). PlainValue found.now.head.number found.now.head.own front.entry.common parts.bits parts.refs) behind }
-    ensures owned { IfSome result HoldsItsBytes }
+fn plain_object<'a>(
+    found: &HeadAt,
+    front: Front<'a>,
+    behind: Option<Rest<'a>>,
+) -> Option<Object<'a>>
+    ensures form { option_map value_of result ≡ option_map (λ (parts : Rest). PlainValue found.now.head.number found.now.head.own front.entry.common parts.bits parts.refs) behind.entry }
+    ensures lent { IfSome result BorrowsItsBytes }
 {
     let Rest { bits, refs } = behind?;
     Some(Object::Plain(Plain {
         number: found.head.number,
         handle: found.head.own,
         common: front.common,
-        rest: BitPart::Owned(bits),
+        rest: BitPart::Lent(bits),
         refs,
     }))
 }
@@ -164,15 +158,15 @@ fn plain_object<'a>(found: &HeadAt, front: Front<'_>, behind: Option<Rest>) -> O
 /// Reads a body in its Plain form, behind its common part. None exactly where it has none; the only refusal is want of memory.
 fn read_plain<'a>(
     alloc: Global,
-    body: &[u8],
+    body: &'a [u8],
     found: &HeadAt,
     kind: Kind,
-    front: Front<'_>,
+    front: Front<'a>,
 ) -> Result<Option<Object<'a>>, NoMemory>
     requires form { (classes : List Class) → kind ≡ kind_under classes found.now.head.number → CommonForm classes body.now found.now.head.number found.now.head.own front.common (rest front.main) (rest front.refs) }
     ensures form { IfOk result (λ read. IfSome read (λ object. (classes : List Class) → kind ≡ kind_under classes found.now.head.number → (HasTypedForm classes body.now → ⊥) → FormOf classes body.now (value_of object))) }
     ensures none { result ≡ Ok None → (classes : List Class) → kind ≡ kind_under classes found.now.head.number → HasPlainForm classes body.now → ⊥ }
-    ensures owned { IfOk result (λ read. IfSome read HoldsItsBytes) }
+    ensures lent { IfOk result (λ read. IfSome read BorrowsItsBytes) }
 {
     let behind = read_rest(alloc, &front, kind, found.head.own)?;
     Ok(plain_object(found, front, behind))
@@ -182,15 +176,15 @@ fn read_plain<'a>(
 /// is want of memory.
 fn read_behind<'a>(
     alloc: Global,
-    body: &[u8],
+    body: &'a [u8],
     found: &HeadAt,
     kind: Kind,
-    front: Front<'_>,
+    front: Front<'a>,
 ) -> Result<Option<Object<'a>>, NoMemory>
     requires form { (classes : List Class) → kind ≡ kind_under classes found.now.head.number → CommonForm classes body.now found.now.head.number found.now.head.own front.common (rest front.main) (rest front.refs) }
     ensures form { IfOk result (λ read. IfSome read (λ object. (classes : List Class) → kind ≡ kind_under classes found.now.head.number → FormOf classes body.now (value_of object))) }
     ensures none { result ≡ Ok None → (classes : List Class) → kind ≡ kind_under classes found.now.head.number → (HasPlainForm classes body.now → ⊥) × (HasTypedForm classes body.now → ⊥) }
-    ensures owned { IfOk result (λ read. IfSome read HoldsItsBytes) }
+    ensures lent { IfOk result (λ read. IfSome read BorrowsItsBytes) }
 {
     let Some(value) = read_value(alloc, &front, kind, found.head.own)? else {
         return read_plain(alloc, body, found, kind, front);
@@ -203,19 +197,17 @@ fn read_behind<'a>(
     })))
 }
 
-/// The object that keeps a body as its bytes, under the number and the own handle of its head. The only refusal is want of
-/// memory.
-fn raw_object<'a>(alloc: Global, found: &HeadAt, body: &[u8]) -> Result<Object<'a>, NoMemory>
+/// The object that keeps a body as its bytes, under the number and the own handle of its head.
+fn raw_object<'a>(found: &HeadAt, body: &'a [u8]) -> Object<'a>
     requires head { IsHeadAt (bits body.now) (parts_of found.now.head) found.now.end }
-    ensures form { IfOk result (λ object. (classes : List Class) → (HasPlainForm classes body.now → ⊥) → (HasTypedForm classes body.now → ⊥) → FormOf classes body.now (value_of object)) }
-    ensures owned { IfOk result HoldsItsBytes }
+    ensures form { (classes : List Class) → (HasPlainForm classes body.now → ⊥) → (HasTypedForm classes body.now → ⊥) → FormOf classes body.now (value_of result) }
+    ensures lent { BorrowsItsBytes result }
 {
-    let bytes = ByteRun::from_slice(alloc, body)?;
-    Ok(Object::Raw(Raw {
+    Object::Raw(Raw {
         number: found.head.number,
         handle: found.head.own,
-        bytes: BytePart::Owned(bytes),
-    }))
+        bytes: BytePart::Lent(body),
+    })
 }
 
 /// Reads a body of a kind, in the strongest form that it has. The only refusal is want of memory.
@@ -228,14 +220,14 @@ fn read_kind<'a>(
     requires small { length body.now < 2 ^ 60 }
     requires head { IsHeadAt (bits body.now) (parts_of found.now.head) found.now.end }
     ensures form { IfOk result (λ object. (classes : List Class) → kind ≡ kind_under classes found.now.head.number → FormOf classes body.now (value_of object)) }
-    ensures owned { IfOk result HoldsItsBytes }
+    ensures lent { IfOk result BorrowsItsBytes }
 {
     let Some(front) = read_front(alloc, body, found, kind)? else {
-        return raw_object(alloc, found, body);
+        return Ok(raw_object(found, body));
     };
     match read_behind(alloc, body, found, kind, front)? {
         Some(object) => Ok(object),
-        None => raw_object(alloc, found, body),
+        None => Ok(raw_object(found, body)),
     }
 }
 
@@ -252,8 +244,8 @@ pub fn read_body_hinted<'a>(
     ensures form { IfOk result (λ found. IfSome found (λ object. FormOf hints.now body.now (value_of object))) }
     ensures none { result ≡ Ok None → (number own : ℕ) → BeginsWithHead (bits body.now) number own → ⊥ }
 
-    // It has the bits and bytes of the body as its own.
-    ensures owned { IfOk result (λ found. IfSome found HoldsItsBytes) }
+    // It borrows the bits and bytes of the body that it keeps.
+    ensures lent { IfOk result (λ found. IfSome found BorrowsItsBytes) }
 {
     let Some(found) = head_of(body) else {
         return Ok(None);
@@ -274,8 +266,8 @@ pub fn read_body<'a>(
     ensures form { IfOk result (λ found. IfSome found (λ object. FormOf classes.now body.now (value_of object))) }
     ensures none { result ≡ Ok None → (number own : ℕ) → BeginsWithHead (bits body.now) number own → ⊥ }
 
-    // It has the bits and bytes of the body as its own.
-    ensures owned { IfOk result (λ found. IfSome found HoldsItsBytes) }
+    // It borrows the bits and bytes of the body that it keeps.
+    ensures lent { IfOk result (λ found. IfSome found BorrowsItsBytes) }
 {
     let hints = Hints::build(alloc, classes)?;
     read_body_hinted(alloc, body, &hints)

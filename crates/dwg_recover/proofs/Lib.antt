@@ -9,6 +9,7 @@ pub mod IntactLemmas
 pub mod IntactMap
 pub mod IntactParts
 pub mod KeptFrames
+pub mod Noting
 pub mod KeptMembers
 pub mod KeptObjects
 pub mod ListMembers

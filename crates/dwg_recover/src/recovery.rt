@@ -225,7 +225,7 @@ fn parts_recovered<'a>(
 {
     let front = front_of(header);
     let (lead, mark) = (front.lead, front.mark);
-    let variables = variables_at(alloc, bytes, places.variables)?;
+    let variables = variables_at(bytes, places.variables);
     let others = whole_others(alloc, bytes, locators_of(header))?;
     let objects = in_handle_order(objects);
     Ok(Parts {
@@ -243,7 +243,7 @@ fn parts_recovered<'a>(
 fn drawing_of<'a>(bytes: &[u8], parts: Parts<'a>) -> Drawing<'a>
     requires limit { length bytes.now ≤ MOST_BYTES }
     requires parts { contents_of parts ≡ drawing_recovered bytes.now }
-    ensures { result ≡ drawing_recovered bytes.now }
+    ensures { contents_of result ≡ drawing_recovered bytes.now }
 {
     drawing_laws();
     recovered_laws();
@@ -434,7 +434,7 @@ fn recover_whole<'a>(
     bytes: &'a [u8],
     read: FramedDrawing<'a>,
 ) -> Result<Recovered<'a>, NoMemory>
-    requires drawing { read.drawing ≡ drawing_at bytes.now }
+    requires drawing { contents_of read.drawing ≡ drawing_at bytes.now }
     requires frames { read.frames ≡ map frame_of (result_unwrap_or (frames_tried bytes.now) []) }
     ensures recovered { IfOk result (λ value. recovered_value value ≡ recovered_whole bytes.now) }
     ensures of_table { IfOk result (λ value. IfSome value.refusal IsOfTable) }

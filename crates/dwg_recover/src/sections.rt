@@ -14,7 +14,7 @@ ghost use Rattle.dwg_sections.specs.Framed.{begin_sentinel};
 ghost use Rattle.dwg_sections.specs.FramedLines.{BEFORE_CONTENT, content_at, framed_lines, size_at};
 ghost use Rattle.dwg_sections.specs.HeaderLines.{bytes_at, place_of, rs_at};
 
-use dwg_base::{ByteRun, Fault, Items, NoMemory, bytes_behind};
+use dwg_base::{Fault, Items, NoMemory, bytes_behind};
 use dwg_check::{FRAME_START, SpanChecks};
 use dwg_classes::{Class, read_classes};
 use dwg_codes::BytePart;
@@ -223,22 +223,16 @@ pub(crate) fn section_found<L: Ledger>(
     first_whole(alloc, bytes, checks, which, steps)
 }
 
-/// The content of the header variables that were found; without them there is none. The only refusal is want of memory, of which
-/// as much is taken as there are bytes.
-pub(crate) fn variables_at<'a>(
-    alloc: Global,
-    bytes: &[u8],
-    found: Option<usize>,
-) -> Result<BytePart<'a>, NoMemory>
+/// The content of the header variables that were found; without them there is none.
+pub(crate) fn variables_at<'a>(bytes: &'a [u8], found: Option<usize>) -> BytePart<'a>
     requires { found ≡ section_found Framed.Variables bytes.now }
-    ensures { IfOk result (λ part. part_bytes part ≡ variables_of bytes.now found) }
+    ensures { part_bytes result ≡ variables_of bytes.now found }
 {
     let content = match found {
         Some(place) => content(bytes, place),
         None => &[],
     };
-    let run = ByteRun::from_slice(alloc, content)?;
-    Ok(BytePart::Owned(run))
+    BytePart::Lent(content)
 }
 
 /// The classes that were found; without their section there are none. The only refusal is want of memory.

@@ -148,7 +148,7 @@ fn tell_drawing<W: Sink>(parts: &Parts<'_>, page: &mut Page, sink: &mut W)
 /// sections, and the objects in order of handle, each with all its fields. A write fault comes only where the sink's count of
 /// faults rose; the only other refusal is want of memory. After either the sink took a front of the text.
 pub fn show<W: Sink>(alloc: Global, drawing: &Drawing<'_>, sink: &mut W) -> Result<(), ShowFault>
-    ensures bytes { Sends (W.taken sink.old) (W.taken sink.new) (texts.show_text drawing.now) result }
+    ensures bytes { Sends (W.taken sink.old) (W.taken sink.new) (texts.show_text (contents_of drawing.now)) result }
     ensures never_falls { W.faults sink.old ≤ W.faults sink.new }
     ensures stands { W.faults sink.old ≡ LAST_COUNT → W.faults sink.new ≡ LAST_COUNT }
     ensures ok { OnOk result (W.faults sink.new ≡ W.faults sink.old) }

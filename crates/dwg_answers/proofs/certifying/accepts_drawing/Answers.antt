@@ -2,7 +2,7 @@ use Rattle.std.proofs.Common.{◌≡◌, ap, ◌∙◌, subst, List, arith}
 use Rattle.std.specs.Prelude.{map, IfOk}
 use Rattle.std.proofs.lemmas.List.{length-map}
 use Rattle.dwg_cert.specs.AcceptTests.{is_accepted}
-use Rattle.dwg_file.specs.Contents.{Contents}
+use Rattle.dwg_file.specs.Contents.{Contents, contents_of}
 use Rattle.dwg_object.specs.declared.object.Object.{Object}
 use Rattle.dwg_object.specs.Objects.{ObjectValue, value_of}
 use Rattle.dwg_answers.proofs.CertificateReplies.{can_be_certified}
@@ -11,7 +11,7 @@ use Rattle.dwg_answers.proofs.certifying.accepts_drawing.Goals as goal
 pub accepts-requires : goal.accepts-requires
 accepts-requires c =
     let same = ap (λ (objects : List Object). map value_of objects) c.as_slice.ensures ∙ ap (λ (drawing : Contents). drawing.objects) c.parts-parts.ensures.parts in
-    let can = can_be_certified c.auditable_laws.ensures.auditable c.args.drawing.now (map value_of c.as_slice.result.now) same c.parts-parts.ensures.valid in
+    let can = can_be_certified c.auditable_laws.ensures.auditable (contents_of c.args.drawing.now) (map value_of c.as_slice.result.now) same c.parts-parts.ensures.valid in
     record { ascending = can.ascending; whole = can.whole; few = omega (arith, can.few, length-map c.as_slice.result.now value_of) }
 
 pub returns : goal.returns

@@ -4,9 +4,10 @@ use Rattle.dwg_base.specs.Devices.{MOST_BYTES}
 use Rattle.dwg_cert.specs.Certified.{certificate_of}
 use Rattle.dwg_cert.specs.declared.entry.Entry.{Entry}
 use Rattle.dwg_answers.proofs.OwnCertificate.{own_is_few}
+use Rattle.dwg_file.specs.Contents.{contents_of}
 use Rattle.dwg_answers.proofs.certifying.certified_reply.Goals as goal
 
 pub written_form-requires : goal.written_form-requires
 written_form-requires c =
-    let is = subst (λ (found : Option (List Entry)). IfSome found (λ cert. cert ≡ certificate_of c.args.drawing.now.objects)) c.in-Some.is c.in_ok-cert.ensures.certified in
-    own_is_few c.args.drawing.now.objects c.in-Some.cert MOST_BYTES c.requires is
+    let is = subst (λ (found : Option (List Entry)). IfSome found (λ cert. cert ≡ certificate_of (contents_of c.args.drawing.now).objects)) c.in-Some.is c.in_ok-cert.ensures.certified in
+    own_is_few (contents_of c.args.drawing.now).objects c.in-Some.cert MOST_BYTES c.requires is

@@ -5,13 +5,17 @@ use Rattle.dwg_file.proofs.frames.read_frames.Goals as goal
 
 pub returns-in-Err-clause-tried : goal.returns-in-Err-clause-tried
 returns-in-Err-clause-tried c =
-    frames_refused c.args.hints.now c.args.bytes.now c.args.pairs.now c.along.index c.along.read c.index-pairs-index.result c.in-Err.fault c.along.invariant (omega arith) c.index-pairs-index.is
-    (c.in-Err.ensures.goes_on c.along.invariant.earlier (handles_of (take c.along.index c.args.pairs.now)) c.along.invariant.has_read)
+    frames_refused c.args.hints.now c.args.bytes.now c.args.pairs.now c.along.index c.along.read c.index-pairs-index.result c.in-Err.fault c.along.invariant.along (omega arith) c.index-pairs-index.is
+    (c.in-Err.ensures.goes_on c.along.invariant.along.earlier (handles_of (take c.along.index c.args.pairs.now)) c.along.invariant.along.has_read)
 
 pub along-preserved : goal.along-preserved
 along-preserved c =
-    frames_on c.args.hints.now c.args.bytes.now c.args.pairs.now c.along.index c.along.read c.index-pairs-index.result c.in-Ok.more c.along.invariant (omega arith) c.index-pairs-index.is
-    (c.in-Ok.ensures.goes_on c.along.invariant.earlier (handles_of (take c.along.index c.args.pairs.now)) c.along.invariant.has_read)
+    record {
+      along =
+          frames_on c.args.hints.now c.args.bytes.now c.args.pairs.now c.along.index c.along.read c.index-pairs-index.result c.in-Ok.more c.along.invariant.along (omega arith) c.index-pairs-index.is
+          (c.in-Ok.ensures.goes_on c.along.invariant.along.earlier (handles_of (take c.along.index c.args.pairs.now)) c.along.invariant.along.has_read);
+      lent = c.in-Ok.ensures.lent c.along.invariant.lent;
+    }
 
 pub returns-clause-tried : goal.returns-clause-tried
-returns-clause-tried c = frames_over c.args.hints.now c.args.bytes.now c.args.pairs.now c.along.index c.along.read c.along.invariant (omega arith)
+returns-clause-tried c = frames_over c.args.hints.now c.args.bytes.now c.args.pairs.now c.along.index c.along.read c.along.invariant.along (omega arith)

@@ -1,6 +1,11 @@
+use Rattle.std.specs.List.{All}
+use Rattle.dwg_object.specs.Objects.{BorrowsItsBytes}
 use Rattle.dwg_file.proofs.FrameReading.{IsAlong}
 use Rattle.dwg_file.proofs.frames.read_frames.Given as goal
 
--- the frames of the pairs so far were read, and what is left gives the whole
+-- the frames of the pairs so far were read, what is left gives the whole, and the objects so far borrow what they keep
 abbrev pub invariant-along : goal.invariant-along
-invariant-along l = IsAlong l.hints l.bytes l.pairs l.index l.read
+invariant-along l = record {
+  along : IsAlong l.hints l.bytes l.pairs l.index l.read;
+  lent : All BorrowsItsBytes l.read.objects.items;
+}

@@ -1,3 +1,4 @@
+use Rattle.dwg_file.proofs.Borrowing.{order_lent}
 use Rattle.dwg_file.proofs.HandleOrder.{objects_ordered}
 use Rattle.dwg_file.proofs.objects.in_handle_order.Goals as goal
 
@@ -9,3 +10,6 @@ returns-clause-ascend c = (objects_ordered _ _ _ c.requires c.sorted.ensures.sam
 
 pub returns-clause-sorted : goal.returns-clause-sorted
 returns-clause-sorted c = (objects_ordered _ _ _ c.requires c.sorted.ensures.same c.sorted.ensures.ascend c.from_vec.ensures).is_sorted
+
+pub returns-clause-lent : goal.returns-clause-lent
+returns-clause-lent c = order_lent _ _ _ c.sorted.ensures.same c.from_vec.ensures

@@ -1,6 +1,7 @@
 use Rattle.std.proofs.Common.{sym, subst, arith}
 use Rattle.dwg_base.proofs.ByteLists.{are_bytes}
-use Rattle.dwg_file.specs.Contents.{Contents, contents_of}
+use Rattle.dwg_file.specs.Contents.{contents_of}
+use Rattle.dwg_file.specs.declared.parts.Parts.{Parts}
 use Rattle.dwg_file.specs.Spelled.{Spelled}
 use Rattle.dwg_file.proofs.reading.read_with_frames.Goals as goal
 
@@ -13,5 +14,5 @@ build-requires c =
 pub returns-in-Ok-clause-spelled : goal.returns-in-Ok-clause-spelled
 returns-in-Ok-clause-spelled c =
     let are = are_bytes c.args.bytes.now (λ i. omega (arith, c.type_inv.bytes i)) in
-    subst (λ (drawing : Contents). Spelled drawing c.args.bytes.now) (sym c.build.ensures)
+    subst (λ (parts : Parts). Spelled (contents_of parts) c.args.bytes.now) (sym c.build.ensures)
     (c.drawing_laws.ensures.read c.args.bytes.now (contents_of c.in-Ok.read.parts) are c.in-Ok.ensures.read)

@@ -1,6 +1,7 @@
 use Rattle.std.proofs.Common.{◌∙◌, ap, map}
 use Rattle.dwg_recover.proofs.WholeRecovery.{damaged_value, kept_placed}
 use Rattle.dwg_recover.specs.Recovering.{classes_found, object_of, told}
+use Rattle.dwg_file.specs.Contents.{contents_of}
 use Rattle.dwg_recover.proofs.recovery.recovered_of.Goals as goal
 
 pub parts_recovered-requires-clause-header : goal.parts_recovered-requires-clause-header
@@ -21,5 +22,5 @@ told-requires c = kept_placed c.args.bytes.now c.into_frames-frames.result.items
 
 pub returns-clause-recovered : goal.returns-clause-recovered
 returns-clause-recovered c =
-    damaged_value c.args.bytes.now c.drawing_of.result c.args.refusal c.args.gathered.losses c.in_ok-kept.kept c.requires.refusal c.drawing_of.ensures c.requires.losses
+    damaged_value c.args.bytes.now (contents_of c.drawing_of.result) c.args.refusal c.args.gathered.losses c.in_ok-kept.kept c.requires.refusal c.drawing_of.ensures c.requires.losses
     (c.in_ok-kept.ensures ∙ ap (told c.args.bytes.now) (c.into_frames-frames.ensures ∙ c.requires.frames))
