@@ -15,3 +15,4 @@ mod sinks;
 mod text;
 mod told;
 mod travels;
+mod words;

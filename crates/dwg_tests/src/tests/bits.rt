@@ -50,7 +50,7 @@ impl Tale for Takes {
 struct Copies;
 
 /// Copies bits as a number.
-fn copy_number(cursor: &mut BitCursor<'_>, sink: &mut BitSink, count: u64) {
+pub fn copy_number(cursor: &mut BitCursor<'_>, sink: &mut BitSink, count: u64) {
     let count = count.min(64) as u32;
     if !has_room(sink, 64) {
         return;
@@ -69,7 +69,7 @@ fn push_list(sink: &mut BitSink, part: &BitPart<'_>, count: u64) {
 }
 
 /// Copies bits as a lent list.
-fn copy_lent(cursor: &mut BitCursor<'_>, sink: &mut BitSink, count: u64) {
+pub fn copy_lent(cursor: &mut BitCursor<'_>, sink: &mut BitSink, count: u64) {
     if let Some(span) = cursor.run(count) {
         push_list(sink, &BitPart::Lent(span), count);
     }
