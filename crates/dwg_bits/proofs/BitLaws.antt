@@ -1,12 +1,12 @@
 -- The lemmas on bits, by recursion over them: of numbers, of joined bytes, between two places, and where one is taken.
-use Rattle.std.proofs.Common.{◌≡◌, refl, sym, ◌∙◌, ap, ap₂, ℕ, zero, suc, ◌+◌, ◌-◌, ◌*◌, ◌/◌, ◌%◌, ◌^◌, ◌<◌, ◌≤◌, Bool, true, false, List, [], ◌∷◌, ◌++◌, length, take, drop, get_or, arith, mod-eq_of_lt, take-add, drop-drop}
+use Rattle.std.proofs.Common.{◌≡◌, refl, sym, ◌∙◌, ap, ap₂, ℕ, zero, suc, ◌+◌, ◌-◌, ◌*◌, ◌/◌, ◌%◌, ◌^◌, ◌<◌, ◌≤◌, Bool, true, false, List, [], ◌∷◌, ◌++◌, length, take, drop, arith, mod-eq_of_lt, take-add, drop-drop}
 use Rattle.std.specs.Prelude.{◌==◌, if◌then◌else◌}
 use Rattle.std.specs.Int.{bit_at}
 use Rattle.std.proofs.Math.Nat.{suc-add, pow-suc}
 use Rattle.std.proofs.lemmas.Nat.{pow-add, shr-shr, mod-pow-add}
 use Rattle.std.proofs.lemmas.Nat.Bits.{bit_at-lt, bit_at_cat_low, bit_at_cat_high, bit_at_above}
-use Rattle.std.proofs.lemmas.List.{append-nil, length-append, length-take-le, length-drop, take_at, drop_at, take_all, take_more, get_or-drop}
-use Rattle.std.proofs.lemmas.List.Concat.{flat_map-append, get_or-flat_map}
+use Rattle.std.proofs.lemmas.List.{append-nil, length-append, length-take-le, length-drop, take_at, drop_at, take_all}
+use Rattle.std.proofs.lemmas.List.Concat.{flat_map-append}
 use Rattle.dwg_base.specs.Bytes.{AreBytes}
 use Rattle.dwg_bits.specs.Bits.{is_set, low_bits, bits, num}
 use Rattle.dwg_bits.specs.Cursor.{bits_between}
@@ -99,12 +99,6 @@ num_joined (true ∷ s) t =
     ∙ omega arith
 num_joined (false ∷ s) t = ap (λ rest. 0 + rest) (num_joined s t) ∙ omega arith
 
--- one bit more at the end doubles the number
-pub num_push : (s : List Bool) (bit : Bool) → num (s ++ bit ∷ []) ≡ num s * 2 + (if bit then 1 else 0)
-unfolding num
-num_push s true = num_joined s (true ∷ [])
-num_push s false = num_joined s (false ∷ [])
-
 -- the bits of joined bytes are joined
 pub bits_joined : (a b : List ℕ) → bits (a ++ b) ≡ bits a ++ bits b
 unfolding bits
@@ -166,46 +160,12 @@ pub bits_between_all : (bytes : List ℕ) (to : ℕ) → to ≡ 8 * length bytes
 unfolding bits_between
 bits_between_all bytes to last = take_all (to - 0) (bits bytes) (omega (arith, length_of_bits bytes))
 
--- a bit of the low bits of a number, counted from the highest
-pub bit_of_low_bits : (count value i : ℕ) (d : Bool) → i < count → get_or (low_bits count value) i d ≡ is_set value (count - 1 - i)
-unfolding low_bits
-bit_of_low_bits zero value i d h = absurd (omega arith)
-bit_of_low_bits (suc count) value zero d h = let last : count ≡ suc count - 1 - 0 = omega arith in ap (is_set value) last
-bit_of_low_bits (suc count) value (suc i) d h =
-    let less : count - 1 - i ≡ suc count - 1 - suc i = omega arith in
-    bit_of_low_bits count value i d (omega arith) ∙ ap (is_set value) less
-
--- a bit of bytes: that of the byte at its place, counted from the highest
-pub bit_of_bytes : (bytes : List ℕ) (place : ℕ) (d : Bool) → place < 8 * length bytes → get_or (bits bytes) place d ≡ is_set (get_or bytes (place / 8) 0) (7 - place % 8)
-unfolding bits
-bit_of_bytes bytes place d h =
-    let i : ℕ = place / 8 in
-    let j : ℕ = place % 8 in
-    let inside : i < length bytes = omega arith in
-    let byte : ℕ = get_or bytes i 0 in
-    let before : length (bits (take i bytes)) ≡ 8 * i = length_of_bits (take i bytes) ∙ ap (λ n. 8 * n) (length-take-le i bytes (omega arith)) in
-    let at : place ≡ length (bits (take i bytes)) + j = omega arith in
-    ap (λ n. get_or (bits bytes) n d) at
-    ∙ get_or-flat_map (low_bits 8) bytes i j 0 d inside (omega (arith, length_of_low_bits 8 byte))
-    ∙ bit_of_low_bits 8 byte j d (omega arith)
-
--- one bit further
-pub bits_between_more : (bytes : List ℕ) (from to : ℕ) (d : Bool) → from ≤ to → to < 8 * length bytes → bits_between bytes from (to + 1) ≡ bits_between bytes from to ++ get_or (bits bytes) to d ∷ []
-unfolding bits_between
-bits_between_more bytes from to d h within =
-    let wide : to + 1 - from ≡ (to - from) + 1 = omega arith in
-    let at : from + (to - from) ≡ to = omega arith in
-    let all : List Bool = bits bytes in
-    ap (λ n. take n (drop from all)) wide
-    ∙ take_more (drop from all) (to - from) d (omega (arith, length-drop from all, length_of_bits bytes))
-    ∙ ap (λ bit. take (to - from) (drop from all) ++ bit ∷ []) (get_or-drop from all (to - from) d ∙ ap (λ n. get_or all n d) at)
-
 -- the bits taken as a number stand in front of those that are left then
 pub taken_front : (bytes : List ℕ) (place count end value : ℕ) → place + count ≤ end → end ≤ 8 * length bytes → value ≡ num (bits_between bytes place (place + count))
     → bits_between bytes place end ≡ low_bits count value ++ bits_between bytes (place + count) end
 taken_front bytes place count end value within reach spelled =
     let front : List Bool = bits_between bytes place (place + count) in
-    let long : length front ≡ count = length_of_bits_between bytes place (place + count) (omega arith) ∙ omega arith in
+    let long : length front ≡ count = run_counted bytes place count (omega arith) in
     let same : low_bits count value ≡ front = ap₂ low_bits (sym long) spelled ∙ low_bits_of_num front in
     sym (bits_between_joined bytes place (place + count) end (omega arith) within)
     ∙ ap (λ first. first ++ bits_between bytes (place + count) end) (sym same)

@@ -1,5 +1,5 @@
 -- Bytes that are filled up by zero bits, and more bits behind those they hold.
-use Rattle.std.proofs.Common.{◌≡◌, refl, sym, ◌∙◌, ap, ap₂, subst, ℕ, zero, suc, ◌+◌, ◌-◌, ◌*◌, ◌/◌, ◌%◌, ◌^◌, ◌<◌, ◌≤◌, ◌≢◌, Bool, false, List, [], ◌∷◌, ◌++◌, length, take, drop, set, get_or, replicate, arith, pow-suc, mul-lt-mul_of_pos_right, mod-eq_of_lt}
+use Rattle.std.proofs.Common.{◌≡◌, refl, sym, ◌∙◌, ap, ap₂, subst, ℕ, zero, suc, ◌+◌, ◌-◌, ◌*◌, ◌/◌, ◌%◌, ◌^◌, ◌<◌, ◌≤◌, ◌≢◌, Bool, false, List, [], ◌∷◌, ◌++◌, length, take, drop, set, get_or, replicate, arith, pow-suc, mod-eq_of_lt}
 use Rattle.std.specs.Prelude.{bit_or, ◌==◌}
 use Rattle.std.proofs.lemmas.Nat.Bits.{bit_at-zero}
 use Rattle.std.specs.Int.{byte_at, bytes_high_first}
@@ -12,6 +12,7 @@ use Rattle.dwg_bits.proofs.BitLaws.{length_of_low_bits, num_of_low_bits, low_bit
 use Rattle.dwg_bits.specs.Cursor.{bits_between}
 use Rattle.dwg_bits.specs.Sink.{missing_bits, padding}
 use Rattle.dwg_bits.specs.Filled.{AreFilled, HoldsMore}
+use Rattle.dwg_bits.proofs.WordParts.{shifted_fits}
 
 -- the first bits of bytes, where their bits begin with a list of that length
 pub begins : (bytes : List ℕ) (front rest : List Bool) (count : ℕ) → length front ≡ count → bits bytes ≡ front ++ rest → bits_between bytes 0 count ≡ front
@@ -193,11 +194,6 @@ all_appended old new count value width filled even is =
     holds_more old new count (missing_bits width) (low_bits width value) filled missing
     (is ∙ ap (λ front. front ++ (low_bits width value ++ replicate (missing_bits width) false)) (sym (bits_between_all old count (omega (arith, filled.whole)))))
 
--- a number that fits into the byte that is begun also does once it is shifted up to where the zero bits begin
-pub raised_fits : (value width up free : ℕ) → width + up ≡ free → free < 8 → value < 2 ^ width → value * 2 ^ up < 2 ^ free
-raised_fits value width up free whole few fits =
-    subst (λ (p : ℕ). value * 2 ^ up < p) (sym (pow-add 2 width up) ∙ ap (λ n. 2 ^ n) whole) (mul-lt-mul_of_pos_right fits (pow_pos up))
-
 -- what a byte that is begun takes is less than a byte
 pub byte_at_most : (k : ℕ) → k < 8 → 2 ^ k ≤ 2 ^ 7
 byte_at_most k h = raised k 7 (omega arith)
@@ -208,7 +204,7 @@ byte_at_most k h = raised k 7 (omega arith)
 -- so no bit of it leaves the word
 pub raised_whole : (value width up free : ℕ) → width + up ≡ free → free < 8 → value < 2 ^ width → value * 2 ^ up % 2 ^ 64 ≡ value * 2 ^ up
 raised_whole value width up free whole few fits =
-    mod-eq_of_lt (omega (arith, raised_fits value width up free whole few fits, byte_at_most free few))
+    mod-eq_of_lt (omega (arith, shifted_fits value width up free fits whole, byte_at_most free few))
 
 -- what the byte that is begun takes of a longer number fits there
 pub highest_fits : (value width free left : ℕ) → free + left ≡ width → value < 2 ^ width → value / 2 ^ left < 2 ^ free

@@ -4,7 +4,7 @@ use Rattle.std.proofs.lemmas.List.{append_assoc, append-nil, length-append, leng
 use Rattle.dwg_bits.specs.Bits.{low_bits, bits, num}
 use Rattle.dwg_bits.specs.Cursor.{bits_between}
 use Rattle.dwg_bits.specs.Filled.{AreFilled}
-use Rattle.dwg_bits.proofs.BitLaws.{length_of_bits, bits_joined, bits_between_none, bits_between_joined, bits_between_all, length_of_bits_between, low_bits_of_num}
+use Rattle.dwg_bits.proofs.BitLaws.{length_of_bits, bits_joined, bits_between_none, bits_between_joined, bits_between_all, length_of_bits_between, run_counted, low_bits_of_num}
 use Rattle.dwg_bits.proofs.Filling.{all_filled, length_held}
 use Rattle.dwg_bits.proofs.WordParts.{bits_of_run}
 
@@ -18,7 +18,7 @@ pub word_placed : (old before after : List Bool) (bytes : List ℕ) (from place 
 word_placed old before after bytes from place count value ordered within spelled pushed so_far =
     let front : List Bool = bits_between bytes from place in
     let next : List Bool = bits_between bytes place (place + count) in
-    let long : length next ≡ count = length_of_bits_between bytes place (place + count) within ∙ omega arith in
+    let long : length next ≡ count = run_counted bytes place count within in
     let same : low_bits count value ≡ next = ap₂ low_bits (sym long) spelled ∙ low_bits_of_num next in
     pushed
     ∙ ap₂ (λ written more. written ++ more) so_far same

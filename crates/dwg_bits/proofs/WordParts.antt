@@ -7,7 +7,7 @@ use Rattle.std.specs.Prelude.{bit_or}
 use Rattle.std.specs.Int.{from_be_bytes}
 use Rattle.dwg_bits.specs.Bits.{low_bits, bits, num}
 use Rattle.dwg_bits.specs.Cursor.{bits_between}
-use Rattle.dwg_bits.proofs.BitLaws.{length_of_bits, length_of_bits_between, bits_between_joined, bits_between_none, num_of_low_bits, num_joined, num_fits, bits_joined}
+use Rattle.dwg_bits.proofs.BitLaws.{length_of_bits, length_of_bits_between, run_counted, bits_between_joined, bits_between_none, num_of_low_bits, num_joined, num_fits, bits_joined}
 
 -- a number shifted up, and one that fits below
 pub joined_number : (front behind count : ℕ) → front * 2 ^ count < 2 ^ 64 → behind < 2 ^ count → bit_or (front * 2 ^ count % 2 ^ 64) behind ≡ front * 2 ^ count + behind
@@ -34,6 +34,10 @@ unfolding bits
 byte_in_front byte bytes h =
     num_joined (low_bits 8 byte) (bits bytes) ∙ ap₂ (λ v n. v * 2 ^ n + num (bits bytes)) (num_of_low_bits 8 byte h) (length_of_bits bytes)
 
+-- a number shifted up is below a power of two as much higher
+pub shifted_fits : (x k m w : ℕ) → x < 2 ^ k → k + m ≡ w → x * 2 ^ m < 2 ^ w
+shifted_fits x k m w h e = subst (λ (p : ℕ). x * 2 ^ m < p) (sym (pow-add 2 k m) ∙ ap (λ n. 2 ^ n) e) (mul-lt-mul_of_pos_right h (pow_pos m))
+
 -- a part in the middle of so many bits: shifting up drops what is before it, and shifting down what is behind it
 pub middle_of : (a b c : List Bool) (width : ℕ) → length a + (length b + length c) ≡ width → num (a ++ (b ++ c)) * 2 ^ length a % 2 ^ width / 2 ^ (width - length b) ≡ num b
 middle_of a b c width whole =
@@ -56,9 +60,6 @@ middle_of a b c width whole =
     spread : (x p y q : ℕ) → (x * p + y) * q ≡ x * (p * q) + y * q
     spread x p y q = grind arith
 
-    shifted_fits : (x k m w : ℕ) → x < 2 ^ k → k + m ≡ w → x * 2 ^ m < 2 ^ w
-    shifted_fits x k m w h e = subst (λ (p : ℕ). x * 2 ^ m < p) (sym (pow-add 2 k m) ∙ ap (λ n. 2 ^ n) e) (mul-lt-mul_of_pos_right h (pow_pos m))
-
 -- so of the bits between two places, whose number two shifts cut out of that of a longer run around them
 pub part_of_run : (bytes : List ℕ) (first place count last width word : ℕ) → first ≤ place → place + count ≤ last → last ≤ 8 * length bytes → first + width ≡ last
     → word ≡ num (bits_between bytes first last) → word * 2 ^ (place - first) % 2 ^ width / 2 ^ (width - count) ≡ num (bits_between bytes place (place + count))
@@ -67,7 +68,7 @@ part_of_run bytes first place count last width word before behind within whole i
     let b : List Bool = bits_between bytes place (place + count) in
     let c : List Bool = bits_between bytes (place + count) last in
     let in_front : length a ≡ place - first = length_of_bits_between bytes first place (omega arith) in
-    let middle : length b ≡ count = length_of_bits_between bytes place (place + count) (omega arith) ∙ omega arith in
+    let middle : length b ≡ count = run_counted bytes place count (omega arith) in
     let left : length c ≡ last - (place + count) = length_of_bits_between bytes (place + count) last within in
     let split : bits_between bytes first last ≡ a ++ (b ++ c) =
     sym (bits_between_joined bytes first place last before (omega arith)) ∙ ap (λ rest. a ++ rest) (sym (bits_between_joined bytes place (place + count) last (omega arith) behind)) in
@@ -78,7 +79,7 @@ part_of_run bytes first place count last width word before behind within whole i
 -- so many bits spell a number below that power of two
 pub count_fits : (bytes : List ℕ) (place count value : ℕ) → place + count ≤ 8 * length bytes → value ≡ num (bits_between bytes place (place + count)) → value < 2 ^ count
 count_fits bytes place count value within is =
-    let long : length (bits_between bytes place (place + count)) ≡ count = length_of_bits_between bytes place (place + count) within ∙ omega arith in
+    let long : length (bits_between bytes place (place + count)) ≡ count = run_counted bytes place count within in
     subst (λ (v : ℕ). v < 2 ^ count) (sym is) (subst (λ (n : ℕ). num (bits_between bytes place (place + count)) < 2 ^ n) long (num_fits (bits_between bytes place (place + count))))
 
 -- no bytes spell 0
@@ -107,12 +108,10 @@ part_of_byte_fits bytes place count byte there inside fits is =
     count_fits bytes place count (byte * 2 ^ (place % 8) % 2 ^ 8 / 2 ^ (8 - count)) (omega arith) (part_of_byte bytes place count byte there inside fits is)
 
 -- the bits of eight bytes
-pub part_of_word : (bytes : List ℕ) (place count word : ℕ) → place / 8 + 8 ≤ length bytes → place % 8 + count ≤ 64 → word ≡ num (bits_between bytes (8 * (place / 8)) (8 * (place / 8) + 64))
-    → word * 2 ^ (place % 8) % 2 ^ 64 / 2 ^ (64 - count) ≡ num (bits_between bytes place (place + count))
-part_of_word bytes place count word there inside is =
-    let skip : place - 8 * (place / 8) ≡ place % 8 = omega arith in
-    ap (λ m. word * 2 ^ m % 2 ^ 64 / 2 ^ (64 - count)) (sym skip)
-    ∙ part_of_run bytes (8 * (place / 8)) place count (8 * (place / 8) + 64) 64 word (omega arith) (omega arith) (omega arith) refl is
+pub part_of_word : (bytes : List ℕ) (at place count word : ℕ) → at + 8 ≤ length bytes → 8 * at ≤ place → place + count ≤ 8 * at + 64 → word ≡ num (bits_between bytes (8 * at) (8 * at + 64))
+    → word * 2 ^ (place - 8 * at) % 2 ^ 64 / 2 ^ (64 - count) ≡ num (bits_between bytes place (place + count))
+part_of_word bytes at place count word there behind inside is =
+    part_of_run bytes (8 * at) place count (8 * at + 64) 64 word (omega arith) (omega arith) (omega arith) refl is
 
 -- eight bytes, the first of them highest, are the number of their bits
 eight_bytes : (a b c d e f g h : ℕ) → a < 256 → b < 256 → c < 256 → d < 256 → e < 256 → f < 256 → g < 256 → h < 256
@@ -164,7 +163,7 @@ pub more_bits : (bytes : List ℕ) (from place count value behind : ℕ) → fro
 more_bits bytes from place count value behind ordered within front more =
     let a : List Bool = bits_between bytes from place in
     let b : List Bool = bits_between bytes place (place + count) in
-    let long : length b ≡ count = length_of_bits_between bytes place (place + count) within ∙ omega arith in
+    let long : length b ≡ count = run_counted bytes place count within in
     ap₂ (λ v w. v * 2 ^ count + w) front more ∙ ap (λ n. num a * 2 ^ n + num b) (sym long) ∙ sym (num_joined a b)
     ∙ ap num (bits_between_joined bytes from place (place + count) ordered (omega arith))
 

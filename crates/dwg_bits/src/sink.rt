@@ -9,7 +9,7 @@ ghost use Rattle.dwg_bits.specs.Sink.{Extends, padding};
 
 use crate::fill::put;
 use crate::part::{BitPart, BitRun};
-use crate::words::{number_at, piece};
+use crate::words::{next_count, number_at};
 use std::alloc::Global;
 use std::marker::Model;
 
@@ -98,7 +98,7 @@ impl BitSink {
     /// Appends whole bytes as they are, where the sink ends with a whole byte.
     #[tactic(auto, using(crate::proofs::Filling::length_held, crate::proofs::Pushing::bytes_held, crate::proofs::Pushing::bytes_filled, crate::proofs::BitLaws::length_of_bits))]
     fn push_whole(&mut self, bytes: &[u8])
-        requires even { length self.old.written % 8 ≡ 0 }
+        requires whole { length self.old.written % 8 ≡ 0 }
         requires room { 8 * length bytes.now ≤ self.old.spare }
         ensures { Extends self.old self.new (bits bytes.now) }
     {
@@ -109,7 +109,7 @@ impl BitSink {
         self.count += 8 * bytes.len() as u64;
     }
 
-    /// Appends the bits between two places of bytes, 56 at a time: so many lie in eight bytes wherever they begin.
+    /// Appends the bits between two places of bytes, a word's at a time.
     fn push_words(&mut self, bytes: &[u8], from: u64, to: u64)
         requires ordered { from ≤ to }
         requires within { to ≤ 8 * length bytes.now }
@@ -118,7 +118,7 @@ impl BitSink {
     {
         let mut place = from;
         'along: while place < to {
-            let count = piece(to - place);
+            let count = next_count(to - place);
             self.push(number_at(bytes, place, count), count);
             place += u64::from(count);
         }

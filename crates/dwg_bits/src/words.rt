@@ -22,16 +22,17 @@ fn word_at(bytes: &[u8], at: usize) -> u64
     ])
 }
 
-/// The number that bits spell which lie in the eight bytes from the first one's on.
+/// The number that bits spell which lie in the eight bytes from a place on.
 #[tactic(auto, using(crate::proofs::WordParts::part_of_word))]
-fn in_word(bytes: &[u8], place: u64, count: u32) -> u64
+fn in_word(bytes: &[u8], at: usize, place: u64, count: u32) -> u64
     requires some { 1 ≤ count }
-    requires inside { place % 8 + count ≤ 64 }
-    requires there { place / 8 + 8 ≤ length bytes.now }
+    requires behind { 8 * at ≤ place }
+    requires inside { place + count ≤ 8 * at + 64 }
+    requires there { at + 8 ≤ length bytes.now }
     ensures { result ≡ num (bits_between bytes.now place (place + count)) }
 {
-    let word = word_at(bytes, (place / 8) as usize);
-    (word << (place % 8)) >> (64 - count)
+    let skip = place - 8 * at as u64;
+    (word_at(bytes, at) << skip) >> (64 - count)
 }
 
 /// The number that bits spell which lie in one byte.
@@ -58,7 +59,7 @@ fn joined(front: u64, behind: u64, count: u32) -> u64
     (front << count) | behind
 }
 
-/// The number that bits spell, byte by byte, as where fewer than eight bytes are left.
+/// The number that bits spell, byte by byte, as where there are fewer than eight bytes.
 #[tactic(auto, using(crate::proofs::WordParts::no_bits, crate::proofs::WordParts::more_bits, crate::proofs::WordParts::moved_fits))]
 fn by_bytes(bytes: &[u8], from: u64, to: u64) -> u64
     requires ordered { from ≤ to }
@@ -77,7 +78,8 @@ fn by_bytes(bytes: &[u8], from: u64, to: u64) -> u64
 }
 
 /// The number that up to 64 bits from a place on spell: of one word where they lie in eight bytes, else of a word and the
-/// byte behind it.
+/// byte behind it. In the last bytes the word is the last one there is. No bits spell 0, for which no word is shifted: a
+/// shift by all of its 64 bits isn't one.
 #[tactic(auto, using(crate::proofs::WordParts::word_and_byte, crate::proofs::WordParts::moved_fits))]
 pub fn number_at(bytes: &[u8], place: u64, count: u32) -> u64
     requires few { count ≤ 64 }
@@ -85,31 +87,35 @@ pub fn number_at(bytes: &[u8], place: u64, count: u32) -> u64
     requires within { place + count ≤ 8 * length bytes.now }
     ensures { result ≡ num (bits_between bytes.now place (place + count)) }
 {
-    let skip = (place % 8) as u32;
-    if count == 0 || bytes.len() - ((place / 8) as usize) < 8 {
+    if count == 0 || bytes.len() < 8 {
         return by_bytes(bytes, place, place + u64::from(count));
     }
+    let at = ((place / 8) as usize).min(bytes.len() - 8);
+    let skip = (place - 8 * at as u64) as u32;
     if skip + count <= 64 {
-        return in_word(bytes, place, count);
+        return in_word(bytes, at, place, count);
     }
     let more = skip + count - 64;
     let rest = place + u64::from(64 - skip);
     joined(
-        in_word(bytes, place, 64 - skip),
+        in_word(bytes, at, place, 64 - skip),
         in_byte(bytes, rest, more),
         more,
     )
 }
 
-/// How many of the bits that are left are read as one number: 56 at the most, which lie in eight bytes wherever they begin.
-pub fn piece(left: u64) -> u32
+/// So many bits lie in eight bytes wherever they begin.
+const BITS_OF_ANY_WORD: u32 = 56;
+
+/// How many of the bits that are left are read as one number: as many as lie in eight bytes wherever they begin.
+pub fn next_count(left: u64) -> u32
     requires { 1 ≤ left }
     ensures some { 1 ≤ result }
     ensures most { result ≤ 56 }
     ensures within { result ≤ left }
 {
-    if left < 56 {
+    if left < u64::from(BITS_OF_ANY_WORD) {
         return left as u32;
     }
-    56
+    BITS_OF_ANY_WORD
 }

@@ -1,6 +1,7 @@
 use Rattle.std.proofs.Common.{◌≡◌, ◌+◌, ◌-◌, ◌<◌, ℕ, arith}
 use Rattle.dwg_bits.specs.Sink.{missing_bits}
-use Rattle.dwg_bits.proofs.Filling.{none_put, all_appended, all_completed, both_put, raised_fits, raised_whole, highest_fits, byte_at_most}
+use Rattle.dwg_bits.proofs.Filling.{none_put, all_appended, all_completed, both_put, raised_whole, highest_fits, byte_at_most}
+use Rattle.dwg_bits.proofs.WordParts.{shifted_fits}
 use Rattle.dwg_bits.proofs.fill.put.Goals as goal
 
 pub returns-then-width-eq0-clause-bits : goal.returns-then-width-eq0-clause-bits
@@ -14,14 +15,14 @@ overflow_cast-value c =
     let free : ℕ = missing_bits c.args.count in
     let whole : c.args.width + (free - c.args.width) ≡ free = omega (arith, c.if-width-free.true) in
     let few : free < 8 = omega arith in
-    omega (arith, raised_whole c.args.value c.args.width (free - c.args.width) free whole few c.requires.value, raised_fits c.args.value c.args.width (free - c.args.width) free whole few c.requires.value, byte_at_most free few)
+    omega (arith, raised_whole c.args.value c.args.width (free - c.args.width) free whole few c.requires.value, shifted_fits c.args.value c.args.width (free - c.args.width) free c.requires.value whole, byte_at_most free few)
 
 pub complete-requires-clause-low : goal.complete-requires-clause-low
 complete-requires-clause-low c =
     let free : ℕ = missing_bits c.args.count in
     let whole : c.args.width + (free - c.args.width) ≡ free = omega (arith, c.if-width-free.true) in
     let few : free < 8 = omega arith in
-    omega (arith, raised_whole c.args.value c.args.width (free - c.args.width) free whole few c.requires.value, raised_fits c.args.value c.args.width (free - c.args.width) free whole few c.requires.value)
+    omega (arith, raised_whole c.args.value c.args.width (free - c.args.width) free whole few c.requires.value, shifted_fits c.args.value c.args.width (free - c.args.width) free c.requires.value whole)
 
 pub returns-then-width-free-clause-bits : goal.returns-then-width-free-clause-bits
 returns-then-width-free-clause-bits c =

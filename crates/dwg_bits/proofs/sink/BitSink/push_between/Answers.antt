@@ -6,8 +6,8 @@ use Rattle.dwg_bits.proofs.Pushing.{run_and_rest, run_long}
 use Rattle.dwg_bits.proofs.BitLaws.{length_of_bits_between}
 use Rattle.dwg_bits.proofs.sink.BitSink.push_between.Goals as goal
 
-pub push_whole-requires-clause-even : goal.push_whole-requires-clause-even
-push_whole-requires-clause-even c =
+pub push_whole-requires-clause-whole : goal.push_whole-requires-clause-whole
+push_whole-requires-clause-whole c =
     let held : length c.args.self.now.written ≡ c.self.inside.count = sym (ap (λ s. length s.written) c.self.view_is) ∙ length_held _ _ c.self.invariant.0 in
     omega (arith, held, c.if-self-ne0.false)
 

@@ -15,7 +15,7 @@ along-init c =
     }
 
 pub push-requires-clause-value : goal.push-requires-clause-value
-push-requires-clause-value c = count_fits c.args.bytes.now c.along.place c.piece-count.result _ (omega arith) c.number_at.ensures
+push-requires-clause-value c = count_fits c.args.bytes.now c.along.place c.next_count-count.result _ (omega arith) c.number_at.ensures
 
 pub along-preserved : goal.along-preserved
 along-preserved c =
@@ -23,7 +23,7 @@ along-preserved c =
       ordered = omega arith;
       inside = omega arith;
       bits = word_placed _ _ _ c.args.bytes.now _ c.along.place _ _ (omega arith) (omega arith) c.number_at.ensures c.push.ensures.bits c.along.invariant.bits ∙ ap (λ n. c.args.self.now.written ++ bits_between c.args.bytes.now c.args.from (c.along.place + n)) (omega arith);
-      spare = omega (arith, c.push.ensures.spare, c.along.invariant.spare, length_of_low_bits c.piece-count.result c.number_at.result);
+      spare = omega (arith, c.push.ensures.spare, c.along.invariant.spare, length_of_low_bits c.next_count-count.result c.number_at.result);
     }
 
 pub returns : goal.returns
