@@ -1,9 +1,8 @@
 -- Reading a body in its forms, by its head, its common part and what stands behind it.
 use Rattle.std.proofs.Common.{◌≡◌, ◌≢◌, refl, sym, ◌∙◌, ap, ap₂, subst, ℕ, ◌*◌, ◌^◌, ◌<◌, ◌≤◌, Bool, true, false, List, [], ◌∷◌, ◌++◌, length, Option, Some, None, inl, inr, arith}
 use Rattle.std.specs.Bool.{then_some}
-use Rattle.std.specs.Prelude.{◌↔◌, ◌⊎◌, option_map, Result, Ok, Err, IfOk, IfSome, IsTrue}
+use Rattle.std.specs.Prelude.{◌↔◌, ◌⊎◌, Result, Ok, IfSome, IsTrue}
 use Rattle.std.proofs.lemmas.List.{append_assoc, length-append}
-use Rattle.std.proofs.lemmas.Option.{same_Some}
 use Rattle.dwg_base.specs.declared.device.NoMemory.{NoMemory}
 use Rattle.dwg_bits.specs.Bits.{bits}
 use Rattle.dwg_bits.proofs.BitLaws.{bits_between_all, bits_between_joined, length_of_bits, length_of_bits_between}
@@ -22,10 +21,9 @@ use Rattle.dwg_object.specs.declared.body.Body.{Body}
 use Rattle.dwg_object.specs.declared.common.Common.{Common}
 use Rattle.dwg_object.proofs.CommonForms.{IsCutAt, same_fronts, common_in_cut, common_of_cut, size_of_common}
 use Rattle.dwg_object.specs.declared.object.Object.{Object}
-use Rattle.dwg_object.specs.declared.reading.Rest.{Rest}
 use Rattle.dwg_object.specs.Forms.{CommonForm, HasCommonForm, HasTypedForm, PlainForm, HasPlainForm, FormOf, kind_under, common_part}
 use Rattle.dwg_object.specs.Heads.{IsHeadAt}
-use Rattle.dwg_object.specs.Objects.{HeadParts, ObjectValue, PlainValue, value_of}
+use Rattle.dwg_object.specs.Objects.{HeadParts, value_of}
 use Rattle.dwg_object.specs.OwnBodies.{own_body}
 use Rattle.dwg_object.proofs.OwnLaws.{own_is_body}
 use Rattle.dwg_object.proofs.PlainLemmas.{plain_of_cut, plain_cut, common_of_plain}
@@ -160,40 +158,11 @@ plain_read classes body number handle kind common own rest behind left refs know
     plain_of_cut classes body number handle common rest behind left refs (known_under classes kind number known same)
     (subst (λ (o : List Bool). CommonForm classes body number handle common o behind) (sym kept) form) cut
 
--- what is put together of these parts is of the Plain form
-pub plain_of_parts : (body : List ℕ) (number handle : ℕ) (kind : Kind) (common : Common) (own behind : List Bool) (read : Option Rest) (found : Option Object)
-    → option_map value_of found ≡ option_map (λ (parts : Rest). PlainValue number handle common parts.bits parts.refs) read
-    → ((classes : List Class) → kind ≡ kind_under classes number → CommonForm classes body number handle common own behind)
-    → IfSome read (λ parts. kind ≢ Unknown) → IfSome read (λ parts. parts.bits ≡ own)
-    → IfSome read (λ parts. (left : List Bool) × ReadsToEnd 8 (reference handle) (Some parts.refs) behind left)
-    → IfSome found (λ object. (classes : List Class) → kind ≡ kind_under classes number → (HasTypedForm classes body → ⊥) → FormOf classes body (value_of object))
-plain_of_parts body number handle kind common own behind (Some parts) (Some object) made form known kept cut = λ classes same none.
-    subst (λ (value : ObjectValue). FormOf classes body value) (sym (same_Some _ _ made))
-    (plain_read classes body number handle kind common own parts.bits behind cut.0 parts.refs known same (form classes same) kept cut.1, none)
-plain_of_parts body number handle kind common own behind None (Some object) made form known kept cut = absurd cc
-plain_of_parts body number handle kind common own behind read None made form known kept cut = tt
-
--- where there are none of these parts, the body has no Plain form
-pub unread_parts : (classes : List Class) (body : List ℕ) (number handle : ℕ) (kind : Kind) (common : Common) (own behind : List Bool) (read : Option Rest) (found : Option Object)
-    → option_map value_of found ≡ option_map (λ (parts : Rest). PlainValue number handle common parts.bits parts.refs) read → kind ≡ kind_under classes number
-    → CommonForm classes body number handle common own behind
-    → (◌≡◌ {A = Result (Option Rest) NoMemory} (Ok read) (Ok None) → (kind ≡ Unknown) ⊎ ((left : List Bool) × ReadsToEnd {V = Reference} 8 (reference handle) None behind left))
-    → ◌≡◌ {A = Result (Option Object) NoMemory} (Ok found) (Ok None) → HasPlainForm classes body → ⊥
-unread_parts classes body number handle kind common own behind read (Some object) made same form why none = absurd cc
-unread_parts classes body number handle kind common own behind (Some parts) None made same form why none = absurd cc
-unread_parts classes body number handle kind common own behind None None made same form why none = by_cause (why refl)
-  where
-    by_cause : (kind ≡ Unknown) ⊎ ((left : List Bool) × ReadsToEnd {V = Reference} 8 (reference handle) None behind left) → HasPlainForm classes body → ⊥
-    by_cause (inl unknown) = unknown_unread classes body number handle kind common own behind unknown same form
-    by_cause (inr unread) = refs_unread classes body number handle common own behind unread.0 form unread.1
-
--- what is read of a body without a Typed form is its form
-pub plain_kept : (body : List ℕ) (kind : Kind) (number : ℕ) (result : Result (Option Object) NoMemory) → ((classes : List Class) → kind ≡ kind_under classes number → HasTypedForm classes body → ⊥)
-    → IfOk result (λ read. IfSome read (λ object. (classes : List Class) → kind ≡ kind_under classes number → (HasTypedForm classes body → ⊥) → FormOf classes body (value_of object)))
-    → IfOk result (λ read. IfSome read (λ object. (classes : List Class) → kind ≡ kind_under classes number → FormOf classes body (value_of object)))
-plain_kept body kind number (Ok (Some object)) none form = λ classes same. form classes same (none classes same)
-plain_kept body kind number (Ok None) none form = form
-plain_kept body kind number (Err fault) none form = form
+-- nor has one without the parts behind its common part
+pub unread_rest : (classes : List Class) (body : List ℕ) (number handle : ℕ) (kind : Kind) (common : Common) (own behind : List Bool) → kind ≡ kind_under classes number
+    → CommonForm classes body number handle common own behind → (kind ≡ Unknown) ⊎ ((left : List Bool) × ReadsToEnd {V = Reference} 8 (reference handle) None behind left) → HasPlainForm classes body → ⊥
+unread_rest classes body number handle kind common own behind same form (inl unknown) = unknown_unread classes body number handle kind common own behind unknown same form
+unread_rest classes body number handle kind common own behind same form (inr unread) = refs_unread classes body number handle common own behind unread.0 form unread.1
 
 -- a body that isn't cut into parts has neither form
 pub common_has_none : (classes : List Class) (body : List ℕ) → (HasCommonForm classes body → ⊥) → (HasPlainForm classes body → ⊥) × (HasTypedForm classes body → ⊥)

@@ -81,8 +81,8 @@ abbrev pub IsLentPart : BytePart → Type 0
 IsLentPart (Owned run) = ⊥
 IsLentPart (Lent slice) = ⊤
 
--- an object that borrows its free bits or its bytes
-abbrev pub BorrowsItsBytes : declared.Object → Type 0
-BorrowsItsBytes (objects.Typed typed) = ⊤
-BorrowsItsBytes (objects.Plain plain) = AreLentBits plain.rest
-BorrowsItsBytes (objects.Raw raw) = IsLentPart raw.bytes
+-- an object whose free bits, where it is Plain, or whose bytes, where it is Raw, are lent
+abbrev pub IsBorrowedObject : declared.Object → Type 0
+IsBorrowedObject (objects.Typed typed) = ⊤
+IsBorrowedObject (objects.Plain plain) = AreLentBits plain.rest
+IsBorrowedObject (objects.Raw raw) = IsLentPart raw.bytes

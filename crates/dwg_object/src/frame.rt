@@ -7,10 +7,11 @@ ghost use Rattle.dwg_object.specs.Forms.{FormOf};
 ghost use Rattle.dwg_object.specs.FoundFrames.{AnswersFrame};
 ghost use Rattle.dwg_object.specs.FrameLines.{bytes_from, has_check_word, span_body, tried_frame};
 ghost use Rattle.dwg_object.specs.Frames.{FrameAt, SpanAt};
-ghost use Rattle.dwg_object.specs.Objects.{BorrowsItsBytes, value_of};
+ghost use Rattle.dwg_object.specs.Objects.{IsBorrowedObject, value_of};
 
+use crate::head::head_of;
 use crate::object::Object;
-use crate::reading::read_body_hinted;
+use crate::reading::read_behind_head;
 use crate::span::{Span, frame_refusal, span_at};
 use dwg_base::{Fault, NoMemory};
 use dwg_check::{FRAME_START, check};
@@ -81,8 +82,8 @@ pub fn read_span<'a>(
     hints: &Hints<'_>,
 ) -> Result<Found<'a>, Fault>
     requires { SpanAt bytes.now span.now }
-    // The object of the frame that stands there, which borrows the bits and bytes that it keeps.
-    ensures lent { IfOk result (λ found. BorrowsItsBytes found.object) }
+    // The object of the frame that stands there; the free bits of a Plain one and the bytes of a Raw one are lent.
+    ensures lent { IfOk result (λ found. IsBorrowedObject found.object) }
     ensures found { IfOk result (λ found. (body : List ℕ) × FrameAt bytes.now span.now.from body found.end × FormOf hints.now body (value_of found.object)) }
 
     // What is found and what is refused is what is tried; there is want of memory beside.
@@ -92,12 +93,15 @@ pub fn read_span<'a>(
     if !has_frame_word(bytes, span) {
         return Err(Fault::Refused(frame_refusal(CHECK_LINE, index, span.from)));
     }
-    match read_body_hinted(alloc, piece(bytes, span.body, span.body_end), hints) {
-        Ok(Some(object)) => Ok(Found {
+    let body = piece(bytes, span.body, span.body_end);
+    let Some(head) = head_of(body) else {
+        return Err(Fault::Refused(frame_refusal(HEAD_LINE, index, span.from)));
+    };
+    match read_behind_head(alloc, body, &head, hints) {
+        Ok(object) => Ok(Found {
             object,
             end: span.end,
         }),
-        Ok(None) => Err(Fault::Refused(frame_refusal(HEAD_LINE, index, span.from))),
         Err(NoMemory) => Err(Fault::NoMemory),
     }
 }
@@ -114,8 +118,8 @@ pub fn read_frame<'a>(
     index: u64,
     classes: &[Class],
 ) -> Result<Found<'a>, Fault>
-    // The object of the frame that stands there, which borrows the bits and bytes that it keeps.
-    ensures lent { IfOk result (λ found. BorrowsItsBytes found.object) }
+    // The object of the frame that stands there; the free bits of a Plain one and the bytes of a Raw one are lent.
+    ensures lent { IfOk result (λ found. IsBorrowedObject found.object) }
     ensures found { IfOk result (λ found. (body : List ℕ) × FrameAt bytes.now place body found.end × FormOf classes.now body (value_of found.object)) }
 
     // What is found and what is refused is what is tried; there is want of memory beside.

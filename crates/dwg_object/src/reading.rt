@@ -1,6 +1,6 @@
 //! Reading bodies, in the strongest form that they have.
 
-ghost use Rattle.std.specs.Prelude.{◌≡◌, ◌≢◌, ◌^◌, ◌<◌, ◌↔◌, ◌⊎◌, ℕ, Bool, List, length, Ok, Some, None, option_map, IfOk, IfSome, IsTrue};
+ghost use Rattle.std.specs.Prelude.{◌≡◌, ◌≢◌, ◌^◌, ◌<◌, ◌↔◌, ◌⊎◌, ℕ, Bool, List, length, Ok, Some, None, IfOk, IfSome, IsTrue};
 ghost use Rattle.dwg_bits.specs.Bits.{bits};
 ghost use Rattle.dwg_bits.specs.Cursor.{rest};
 ghost use Rattle.dwg_classes.specs.declared.class.Class.{Class};
@@ -11,12 +11,12 @@ ghost use Rattle.dwg_kinds.specs.declared.kind.Kind.TheVariants as kinds;
 ghost use Rattle.dwg_object.specs.declared.reading.Rest.{Rest};
 ghost use Rattle.dwg_object.specs.Forms.{BeginsWithHead, CommonForm, FormOf, HasCommonForm, HasPlainForm, HasTypedForm, kind_under};
 ghost use Rattle.dwg_object.specs.Heads.{IsHeadAt};
-ghost use Rattle.dwg_object.specs.Objects.{BorrowsItsBytes, PlainValue, parts_of, value_of};
+ghost use Rattle.dwg_object.specs.Objects.{IsBorrowedObject, PlainValue, parts_of, value_of};
 ghost use Rattle.dwg_object.specs.OwnBits.{AreOwn, HasOwn};
 
 use crate::body::Body;
 use crate::common::Common;
-use crate::head::{HeadAt, head_of};
+use crate::head::{Head, HeadAt, head_of};
 use crate::object::{Object, Plain, Raw, Typed};
 use dwg_base::{Handle, Items, NoMemory};
 use dwg_bits::{BitCursor, BitPart, BitSpan};
@@ -136,72 +136,11 @@ fn read_rest<'a>(
     Ok(Some(Rest { bits, refs }))
 }
 
-/// The object of a body in its Plain form, where it has one.
-fn plain_object<'a>(
-    found: &HeadAt,
-    front: Front<'a>,
-    behind: Option<Rest<'a>>,
-) -> Option<Object<'a>>
-    ensures form { option_map value_of result ≡ option_map (λ (parts : Rest). PlainValue found.now.head.number found.now.head.own front.entry.common parts.bits parts.refs) behind.entry }
-    ensures lent { IfSome result BorrowsItsBytes }
-{
-    let Rest { bits, refs } = behind?;
-    Some(Object::Plain(Plain {
-        number: found.head.number,
-        handle: found.head.own,
-        common: front.common,
-        rest: BitPart::Lent(bits),
-        refs,
-    }))
-}
-
-/// Reads a body in its Plain form, behind its common part. None exactly where it has none; the only refusal is want of memory.
-fn read_plain<'a>(
-    alloc: Global,
-    body: &'a [u8],
-    found: &HeadAt,
-    kind: Kind,
-    front: Front<'a>,
-) -> Result<Option<Object<'a>>, NoMemory>
-    requires form { (classes : List Class) → kind ≡ kind_under classes found.now.head.number → CommonForm classes body.now found.now.head.number found.now.head.own front.common (rest front.main) (rest front.refs) }
-    ensures form { IfOk result (λ read. IfSome read (λ object. (classes : List Class) → kind ≡ kind_under classes found.now.head.number → (HasTypedForm classes body.now → ⊥) → FormOf classes body.now (value_of object))) }
-    ensures none { result ≡ Ok None → (classes : List Class) → kind ≡ kind_under classes found.now.head.number → HasPlainForm classes body.now → ⊥ }
-    ensures lent { IfOk result (λ read. IfSome read BorrowsItsBytes) }
-{
-    let behind = read_rest(alloc, &front, kind, found.head.own)?;
-    Ok(plain_object(found, front, behind))
-}
-
-/// Reads a body in the strongest form that stands behind its common part. None exactly where it has neither; the only refusal
-/// is want of memory.
-fn read_behind<'a>(
-    alloc: Global,
-    body: &'a [u8],
-    found: &HeadAt,
-    kind: Kind,
-    front: Front<'a>,
-) -> Result<Option<Object<'a>>, NoMemory>
-    requires form { (classes : List Class) → kind ≡ kind_under classes found.now.head.number → CommonForm classes body.now found.now.head.number found.now.head.own front.common (rest front.main) (rest front.refs) }
-    ensures form { IfOk result (λ read. IfSome read (λ object. (classes : List Class) → kind ≡ kind_under classes found.now.head.number → FormOf classes body.now (value_of object))) }
-    ensures none { result ≡ Ok None → (classes : List Class) → kind ≡ kind_under classes found.now.head.number → (HasPlainForm classes body.now → ⊥) × (HasTypedForm classes body.now → ⊥) }
-    ensures lent { IfOk result (λ read. IfSome read BorrowsItsBytes) }
-{
-    let Some(value) = read_value(alloc, &front, kind, found.head.own)? else {
-        return read_plain(alloc, body, found, kind, front);
-    };
-    Ok(Some(Object::Typed(Typed {
-        number: found.head.number,
-        handle: found.head.own,
-        common: front.common,
-        body: value,
-    })))
-}
-
 /// The object that keeps a body as its bytes, under the number and the own handle of its head.
 fn raw_object<'a>(found: &HeadAt, body: &'a [u8]) -> Object<'a>
     requires head { IsHeadAt (bits body.now) (parts_of found.now.head) found.now.end }
     ensures form { (classes : List Class) → (HasPlainForm classes body.now → ⊥) → (HasTypedForm classes body.now → ⊥) → FormOf classes body.now (value_of result) }
-    ensures lent { BorrowsItsBytes result }
+    ensures lent { IsBorrowedObject result }
 {
     Object::Raw(Raw {
         number: found.head.number,
@@ -210,7 +149,22 @@ fn raw_object<'a>(found: &HeadAt, body: &'a [u8]) -> Object<'a>
     })
 }
 
-/// Reads a body of a kind, in the strongest form that it has. The only refusal is want of memory.
+/// The object of a body in its Plain form, which borrows its free bits.
+fn plain_object<'a>(found: &HeadAt, common: Common, behind: Rest<'a>) -> Object<'a>
+    ensures value { value_of result ≡ PlainValue found.now.head.number found.now.head.own common behind.entry.bits behind.entry.refs }
+    ensures lent { IsBorrowedObject result }
+{
+    Object::Plain(Plain {
+        number: found.head.number,
+        handle: found.head.own,
+        common,
+        rest: BitPart::Lent(behind.bits),
+        refs: behind.refs,
+    })
+}
+
+/// Reads a body of a kind, in the strongest form that it has: its parts are read one by one, and put together where the object is
+/// answered. The only refusal is want of memory.
 fn read_kind<'a>(
     alloc: Global,
     body: &'a [u8],
@@ -220,15 +174,41 @@ fn read_kind<'a>(
     requires small { length body.now < 2 ^ 60 }
     requires head { IsHeadAt (bits body.now) (parts_of found.now.head) found.now.end }
     ensures form { IfOk result (λ object. (classes : List Class) → kind ≡ kind_under classes found.now.head.number → FormOf classes body.now (value_of object)) }
-    ensures lent { IfOk result BorrowsItsBytes }
+    ensures lent { IfOk result IsBorrowedObject }
 {
+    let Head { number, own, .. } = found.head;
     let Some(front) = read_front(alloc, body, found, kind)? else {
         return Ok(raw_object(found, body));
     };
-    match read_behind(alloc, body, found, kind, front)? {
-        Some(object) => Ok(object),
-        None => Ok(raw_object(found, body)),
+    if let Some(value) = read_value(alloc, &front, kind, own)? {
+        return Ok(Object::Typed(Typed {
+            number,
+            handle: own,
+            common: front.common,
+            body: value,
+        }));
     }
+    let Some(behind) = read_rest(alloc, &front, kind, own)? else {
+        return Ok(raw_object(found, body));
+    };
+    Ok(plain_object(found, front.common, behind))
+}
+
+/// Reads a body that begins with this head, in the strongest form that it has under the classes of its drawing. The only refusal
+/// is want of memory.
+pub(crate) fn read_behind_head<'a>(
+    alloc: Global,
+    body: &'a [u8],
+    found: &HeadAt,
+    hints: &Hints<'_>,
+) -> Result<Object<'a>, NoMemory>
+    requires small { length body.now < 2 ^ 60 }
+    requires head { IsHeadAt (bits body.now) (parts_of found.now.head) found.now.end }
+    ensures form { IfOk result (λ object. FormOf hints.now body.now (value_of object)) }
+    ensures lent { IfOk result IsBorrowedObject }
+{
+    let number = found.head.number;
+    read_kind(alloc, body, found, kind_of(number, hints.hint(number)))
 }
 
 /// Reads a body of fewer than 2^60 bytes, in the strongest form that it has under the classes of its drawing: with its
@@ -244,15 +224,13 @@ pub fn read_body_hinted<'a>(
     ensures form { IfOk result (λ found. IfSome found (λ object. FormOf hints.now body.now (value_of object))) }
     ensures none { result ≡ Ok None → (number own : ℕ) → BeginsWithHead (bits body.now) number own → ⊥ }
 
-    // It borrows the bits and bytes of the body that it keeps.
-    ensures lent { IfOk result (λ found. IfSome found BorrowsItsBytes) }
+    // The free bits of a Plain object and the bytes of a Raw one are lent.
+    ensures lent { IfOk result (λ found. IfSome found IsBorrowedObject) }
 {
     let Some(found) = head_of(body) else {
         return Ok(None);
     };
-    let number = found.head.number;
-    let object = read_kind(alloc, body, &found, kind_of(number, hints.hint(number)))?;
-    Ok(Some(object))
+    Ok(Some(read_behind_head(alloc, body, &found, hints)?))
 }
 
 /// The same by the classes themselves: it makes a table of them, which who reads more than one body makes once.
@@ -266,8 +244,8 @@ pub fn read_body<'a>(
     ensures form { IfOk result (λ found. IfSome found (λ object. FormOf classes.now body.now (value_of object))) }
     ensures none { result ≡ Ok None → (number own : ℕ) → BeginsWithHead (bits body.now) number own → ⊥ }
 
-    // It borrows the bits and bytes of the body that it keeps.
-    ensures lent { IfOk result (λ found. IfSome found BorrowsItsBytes) }
+    // The free bits of a Plain object and the bytes of a Raw one are lent.
+    ensures lent { IfOk result (λ found. IfSome found IsBorrowedObject) }
 {
     let hints = Hints::build(alloc, classes)?;
     read_body_hinted(alloc, body, &hints)
