@@ -1,6 +1,6 @@
 //! Where the references of all objects lead: each is looked up once.
 
-ghost use Rattle.std.specs.Prelude.{◌≡◌, ◌<◌, ◌≤◌, ◌+◌, ◌*◌, ◌^◌, ◌-◌, ◌++◌, ℕ, suc, List, [], ◌∷◌, None, Some, length, map, take, drop, IfOk, IfSome, OnOk};
+ghost use Rattle.std.specs.Prelude.{◌≡◌, ◌<◌, ◌≤◌, ◌+◌, ◌*◌, ◌^◌, ◌-◌, ◌++◌, ℕ, suc, List, [], ◌∷◌, None, Some, length, map, take, drop, IfOk, IfSome};
 ghost use Rattle.std.specs.List.{slice_get, slice_index_or};
 ghost use Rattle.dwg_audit.specs.Lookups.{AreGathered, AreLookups, AreStarts, IsSlotTable, TakeAtMost, all_slots, part_of, slot_places};
 ghost use Rattle.dwg_graph.specs.Claimed.{reference_count};
@@ -10,7 +10,7 @@ ghost use Rattle.dwg_graph.specs.Slots.{slots};
 ghost use Rattle.dwg_object.specs.Objects.{ObjectValue, value_of};
 
 use dwg_base::{Handle, Items, NoMemory};
-use dwg_graph::{Index, Slot, SpaceHandles, next_of, owner_of, with_slots};
+use dwg_graph::{Index, Slot, SpaceHandles, next_of, owner_of, push_item, with_slots};
 use dwg_object::Object;
 use dwg_steps::Steps;
 use std::alloc::Global;
@@ -42,16 +42,6 @@ pub(crate) fn with_room<T: Drop>(alloc: Global, count: usize) -> Result<Vec<T>, 
 {
     match Vec::with_capacity(alloc, count) {
         Ok(items) => Ok(items),
-        Err(_) => Err(NoMemory),
-    }
-}
-
-/// Puts an item at the end. The only refusal is want of memory.
-pub(crate) fn push_item<T: Drop>(items: &mut Vec<T>, item: T) -> Result<(), NoMemory>
-    ensures { OnOk result (items.new.items ≡ items.old.items ++ item ∷ []) }
-{
-    match items.push(item) {
-        Ok(()) => Ok(()),
         Err(_) => Err(NoMemory),
     }
 }

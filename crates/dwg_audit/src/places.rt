@@ -8,9 +8,9 @@ ghost use Rattle.dwg_graph.specs.Placed.{place_in, owner_table, root_table, home
 ghost use Rattle.dwg_graph.specs.Slots.{slots};
 ghost use Rattle.dwg_object.specs.Objects.{value_of};
 
-use crate::lookups::{SlotTable, places_at, push_item, slots_at};
+use crate::lookups::{SlotTable, places_at, slots_at};
 use dwg_base::NoMemory;
-use dwg_graph::{Slot, SpaceHandles, home_of, is_root};
+use dwg_graph::{Slot, SpaceHandles, home_of, is_root, push_item};
 use dwg_kinds::{Field, number_of};
 use dwg_object::{Body, Object};
 use dwg_paths::Ends;
