@@ -10,7 +10,7 @@ pub mod Lines
 pub mod Outcome
 -- What the program is asked, and which answer that asks for.
 pub mod Requests
--- What the commands that read answer, said of the header that the input begins with, the classes that it has, and the drawing that it spells.
+-- What the commands that read answer, said of the header that the input begins with, the classes that it has, the drawing that it spells, and the certificate in front of one.
 pub mod OutcomeLaws
 -- Which answer is sent of what is made of one before it is sent.
 pub mod Replies

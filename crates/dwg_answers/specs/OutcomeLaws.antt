@@ -1,4 +1,4 @@
--- What the commands that read answer, said of the header that the input begins with, the classes that it has, and the drawing that it spells. A rule of this project.
+-- What the commands that read answer, said of the header that the input begins with, the classes that it has, the drawing that it spells, and the certificate in front of one. A rule of this project.
 use Rattle.std.specs.Prelude.{◌≡◌, ◌↔◌, ℕ, ◌≤◌, ◌<◌, List, [], ◌∷◌, ◌++◌, length, codes, Some}
 use Rattle.dwg_audit.specs.Findings.{findings}
 use Rattle.dwg_base.specs.Bytes.{AreBytes}
@@ -12,6 +12,7 @@ use Rattle.dwg_cert.specs.WrittenForm.{BeginsWithCertificate, certificate_bytes}
 use Rattle.dwg_cert.specs.declared.entry.Entry.{Entry}
 use Rattle.dwg_classes.specs.Class.{AreClasses}
 use Rattle.dwg_classes.specs.declared.class.Class.{Class}
+use Rattle.dwg_file.specs.CanonicalFrames.{canonical_frames}
 use Rattle.dwg_file.specs.Canonical.{size_of, canonical}
 use Rattle.dwg_file.specs.Contents.{Contents}
 use Rattle.dwg_file.specs.FileLines.{ALL_LINES, classes_row, classes_section_row}
@@ -20,7 +21,6 @@ use Rattle.dwg_file.specs.Spelled.{PairFrame, Spelled}
 use Rattle.dwg_file.specs.Valid.{IsValid}
 use Rattle.dwg_graph.specs.Sound.{IsSound}
 use Rattle.dwg_recover.specs.declared.loss.Loss.TheVariants.{Object}
-use Rattle.dwg_recover.specs.Intact.{canonical_frames}
 use Rattle.dwg_recover.specs.ListMembers.{IsOneOf}
 use Rattle.dwg_recover.specs.Recovering.{RecoveredValue, recovered}
 use Rattle.dwg_recover.specs.ShortDamage.{word_refusal}

@@ -14,7 +14,7 @@ use Rattle.dwg_sections.specs.FileHeader.{header_bytes, IsFileHeader}
 use Rattle.dwg_sections.specs.Framed.{framed_bytes}
 use Rattle.dwg_file.specs.Contents.{Contents}
 use Rattle.dwg_file.specs.Canonical.{PREVIEW, class_content, frames_bytes, placed, others_bytes, variables_place, classes_place, objects_place, map_place, map_of, others_place, size_of, header_of, canonical}
-use Rattle.dwg_file.specs.CanonicalFrames.{frames_from}
+use Rattle.dwg_file.specs.CanonicalFrames.{canonical_frames}
 use Rattle.dwg_file.proofs.CanonicalFrames.{pairs_of_frames, objects_of_frames, frames_stand, frames_apart, pairs_ascend, frames_are_bytes, others_are_bytes, others_stand}
 use Rattle.dwg_file.proofs.CanonicalHeader.{header_fits, length_of_located}
 use Rattle.dwg_file.proofs.CanonicalParts.{length_of_header, header_is_bytes, length_of_framed, framed_is_bytes, length_of_preview, preview_is_bytes, content_is_bytes, content_is_classes}
@@ -126,14 +126,14 @@ canonical_spells drawing is small =
       classes = content_is_classes drawing.classes is.classes;
       pairs = placed (objects_place drawing) drawing.objects;
       mapped = map_is_written (map_place drawing) (canonical drawing) (placed (objects_place drawing) drawing.objects) (canonical_ascends drawing is) stand.mapped;
-      frames = frames_from (objects_place drawing) drawing.objects;
+      frames = canonical_frames drawing;
       framed = pairs_of_frames drawing.objects (objects_place drawing);
       stand = frames_stand drawing.classes (canonical drawing) drawing.objects (objects_place drawing) is.objects stand.frames;
       apart = frames_apart drawing.objects (objects_place drawing);
       objects =
-          subst (λ (objects : List ObjectValue). IsPermutation (map (λ (frame : PairFrame). frame.object) (frames_from (objects_place drawing) drawing.objects)) objects)
+          subst (λ (objects : List ObjectValue). IsPermutation (map (λ (frame : PairFrame). frame.object) (canonical_frames drawing)) objects)
           (objects_of_frames drawing.objects (objects_place drawing))
-          (IsPermutation-refl (map (λ (frame : PairFrame). frame.object) (frames_from (objects_place drawing) drawing.objects)));
+          (IsPermutation-refl (map (λ (frame : PairFrame). frame.object) (canonical_frames drawing)));
       ascending = is.ascending;
       others = sections_stand drawing is stand.others;
     }

@@ -19,7 +19,7 @@ use Rattle.dwg_object.proofs.SpanLaws.{lengths_same}
 use Rattle.dwg_object.proofs.StandingLemmas.{stands_bytes, stands_first, stands_next, stands_same}
 use Rattle.dwg_object.specs.Written.{body_bytes}
 use Rattle.dwg_file.specs.Canonical.{canonical, objects_place, placed, size_of}
-use Rattle.dwg_file.specs.CanonicalFrames.{frames_from}
+use Rattle.dwg_file.specs.CanonicalFrames.{canonical_frames}
 use Rattle.dwg_file.proofs.CanonicalLaws.{canonical_is_counted}
 use Rattle.dwg_file.specs.Contents.{Contents}
 use Rattle.dwg_file.proofs.DamagedParts.{damaged_spliced, earlier_stand}
@@ -156,7 +156,7 @@ no_frame bytes place damage body end frame =
 
 -- the frame of a drawing in which its input is damaged
 pub frame_damaged : DamageUnderSealShows → (drawing : Contents) (bytes : List ℕ) (earlier : List PairFrame) (frame : PairFrame) (later : List PairFrame) → IsValid drawing
-    → size_of drawing ≤ MOST_BYTES → AreBytes bytes → frames_from (objects_place drawing) drawing.objects ≡ earlier ++ frame ∷ later → IsDamagedShortly drawing frame bytes
+    → size_of drawing ≤ MOST_BYTES → AreBytes bytes → canonical_frames drawing ≡ earlier ++ frame ∷ later → IsDamagedShortly drawing frame bytes
     → FrameDamage bytes frame.pair.place
 unfolding frame_bytes
 frame_damaged shows drawing bytes earlier frame later is small are whole damaged =
@@ -166,9 +166,9 @@ frame_damaged shows drawing bytes earlier frame later is small are whole damaged
     let body : List ℕ = body_bytes frame.object in
     let size : List ℕ = ms.short (length body) in
     let short : length (ms.short (length frame.body)) ≡ length size = ap (λ (b : List ℕ). length (ms.short (length b))) written.body in
-    let to : ℕ = length damaged.before + length damaged.here in
-    damage_of shows (canonical drawing) bytes (length damaged.before) to frame.pair.place size body (damaged_spliced drawing frame bytes damaged) (canonical_is_counted drawing is small).1 are
-    damaged.few damaged.differ (ms_is_code.canonical (length body) (ms_has (length body) (omega (arith, (valid_fits drawing.classes frame.object written.valid).2)))) written.stands
+    let to : ℕ = length damaged.differ.before + length damaged.differ.here in
+    damage_of shows (canonical drawing) bytes (length damaged.differ.before) to frame.pair.place size body (damaged_spliced drawing frame bytes damaged) (canonical_is_counted drawing is small).1 are
+    damaged.differ.few damaged.differ.differ (ms_is_code.canonical (length body) (ms_has (length body) (omega (arith, (valid_fits drawing.classes frame.object written.valid).2)))) written.stands
     (omega (arith, damaged.from, short)) (omega (arith, damaged.to, written.ends, length_of_frame frame.object))
 
 -- the check word of a damaged frame is refused
@@ -196,7 +196,7 @@ shares_none (frame ∷ frames) place span before from (inr more) = shares_none f
 
 -- the damaged frame is the first that fails a line
 pub damaged_is_first : DamageUnderSealShows → (drawing : Contents) (bytes : List ℕ) (earlier : List PairFrame) (frame : PairFrame) (later : List PairFrame) → IsValid drawing
-    → size_of drawing ≤ MOST_BYTES → AreBytes bytes → frames_from (objects_place drawing) drawing.objects ≡ earlier ++ frame ∷ later → IsDamagedShortly drawing frame bytes
+    → size_of drawing ≤ MOST_BYTES → AreBytes bytes → canonical_frames drawing ≡ earlier ++ frame ∷ later → IsDamagedShortly drawing frame bytes
     → FramesRefused drawing.classes bytes (placed (objects_place drawing) drawing.objects) (frame_refusal 30 (length earlier) frame.pair.place)
 damaged_is_first shows drawing bytes earlier frame later is small are whole damaged =
     let before = earlier_stand drawing bytes earlier frame later is small whole damaged in

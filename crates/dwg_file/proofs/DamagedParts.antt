@@ -17,11 +17,11 @@ use Rattle.dwg_sections.specs.declared.framed.Framed.TheVariants.{Variables, Cla
 use Rattle.dwg_sections.specs.FileHeader.{BeginsWithHeader, header_bytes}
 use Rattle.dwg_sections.specs.Framed.{FramedAt, framed_bytes}
 use Rattle.dwg_file.specs.Canonical.{canonical, class_content, classes_place, frames_bytes, header_of, map_of, map_place, objects_place, others_place, placed, preview_place, size_of, variables_place}
-use Rattle.dwg_file.specs.CanonicalFrames.{frames_from}
+use Rattle.dwg_file.specs.CanonicalFrames.{canonical_frames, frames_from}
 use Rattle.dwg_file.proofs.CanonicalFrames.{frames_apart, frames_stand, pairs_of_frames}
 use Rattle.dwg_file.proofs.CanonicalHeader.{header_fits}
 use Rattle.dwg_file.proofs.CanonicalLaws.{canonical_ascends, canonical_is_counted, header_reaches, parts_stand}
-use Rattle.dwg_file.specs.CanonicalParts.{HasPart}
+use Rattle.dwg_file.specs.CanonicalBytes.{HasPart}
 use Rattle.dwg_file.proofs.CanonicalParts.{length_of_framed}
 use Rattle.dwg_file.specs.Contents.{Contents}
 use Rattle.dwg_file.specs.ShortDamage.{AllElseIsSame, IsDamagedShortly}
@@ -32,9 +32,9 @@ use Rattle.dwg_file.proofs.WrittenFrames.{all_of_front, lies_among, pairs_of_fro
 
 -- the damaged input has in the middle other bytes than the canonical file
 abbrev pub damaged_spliced : (drawing : Contents) (frame : PairFrame) (bytes : List ℕ) (is : IsDamagedShortly drawing frame bytes)
-    → IsSpliced (canonical drawing) bytes (length is.before) (length is.before + length is.here)
+    → IsSpliced (canonical drawing) bytes (length is.differ.before) (length is.differ.before + length is.differ.here)
 damaged_spliced drawing frame bytes is =
-    record { before = is.before; here = is.here; there = is.there; behind = is.behind; first = is.first; second = is.second; long = is.long; begins = refl; ends = refl }
+    let differ = is.differ in record { before = differ.before; here = differ.here; there = differ.there; behind = differ.behind; first = differ.first; second = differ.second; long = differ.long; begins = refl; ends = refl }
 
 -- places that are in order, the last of them in the file
 pub record AreInOrder (most : ℕ) (frame : PairFrame) : Type 0 where
@@ -72,8 +72,8 @@ behind_same drawing bytes from to is limit past (one ∷ frames) are begin = (
 pub else_is_same : AllElseIsSame
 else_is_same drawing bytes earlier frame later is small whole damaged =
     let splice = damaged_spliced drawing frame bytes damaged in
-    let from : ℕ = length damaged.before in
-    let to : ℕ = length damaged.before + length damaged.here in
+    let from : ℕ = length damaged.differ.before in
+    let to : ℕ = length damaged.differ.before + length damaged.differ.here in
     let among = lies_among drawing.objects (objects_place drawing) earlier frame later whole in
     let size : length (canonical drawing) ≡ size_of drawing = (canonical_is_counted drawing is small).0 in
     let ahead : frame.pair.place ≤ from = omega (arith, damaged.from) in
@@ -101,12 +101,12 @@ pub record DamagedStands (drawing : Contents) (bytes : List ℕ) : Type 0 where
   pub mapped : MapOf bytes (map_place drawing) (placed (objects_place drawing) drawing.objects)
 
 pub damaged_stands : (drawing : Contents) (bytes : List ℕ) (earlier : List PairFrame) (frame : PairFrame) (later : List PairFrame) → IsValid drawing → size_of drawing ≤ MOST_BYTES
-    → frames_from (objects_place drawing) drawing.objects ≡ earlier ++ frame ∷ later → IsDamagedShortly drawing frame bytes → DamagedStands drawing bytes
+    → canonical_frames drawing ≡ earlier ++ frame ∷ later → IsDamagedShortly drawing frame bytes → DamagedStands drawing bytes
 damaged_stands drawing bytes earlier frame later is small whole damaged =
     let fits = header_fits drawing is small in
     let stand = parts_stand drawing fits in
-    let from : ℕ = length damaged.before in
-    let to : ℕ = length damaged.before + length damaged.here in
+    let from : ℕ = length damaged.differ.before in
+    let to : ℕ = length damaged.differ.before + length damaged.differ.here in
     let among = lies_among drawing.objects (objects_place drawing) earlier frame later whole in
     let ahead : objects_place drawing ≤ from = omega (arith, damaged.from, among.from) in
     let past : to ≤ map_place drawing = omega (arith, damaged.to, among.to) in
@@ -167,15 +167,15 @@ pub record EarlierStand (drawing : Contents) (bytes : List ℕ) (earlier : List 
   pub whole : placed (objects_place drawing) drawing.objects ≡ map (λ (one : PairFrame). one.pair) earlier ++ frame.pair ∷ map (λ (one : PairFrame). one.pair) later
 
 pub earlier_stand : (drawing : Contents) (bytes : List ℕ) (earlier : List PairFrame) (frame : PairFrame) (later : List PairFrame) → IsValid drawing → size_of drawing ≤ MOST_BYTES
-    → frames_from (objects_place drawing) drawing.objects ≡ earlier ++ frame ∷ later → IsDamagedShortly drawing frame bytes → EarlierStand drawing bytes earlier frame later
+    → canonical_frames drawing ≡ earlier ++ frame ∷ later → IsDamagedShortly drawing frame bytes → EarlierStand drawing bytes earlier frame later
 earlier_stand drawing bytes earlier frame later is small whole damaged =
     let stand = parts_stand drawing (header_fits drawing is small) in
     let among = lies_among drawing.objects (objects_place drawing) earlier frame later whole in
     let all = frames_stand drawing.classes (canonical drawing) drawing.objects (objects_place drawing) is.objects stand.frames in
-    let to : ℕ = length damaged.before + length damaged.here in
+    let to : ℕ = length damaged.differ.before + length damaged.differ.here in
     record {
       stand =
-          frames_still drawing.classes (canonical drawing) bytes (length damaged.before) to (damaged_spliced drawing frame bytes damaged) frame.pair.place (omega (arith, damaged.from)) earlier
+          frames_still drawing.classes (canonical drawing) bytes (length damaged.differ.before) to (damaged_spliced drawing frame bytes damaged) frame.pair.place (omega (arith, damaged.from)) earlier
           among.before
           (all_of_front (IsFrameOfPair drawing.classes (canonical drawing)) earlier (frame ∷ later)
           (subst (AllByRecursion (IsFrameOfPair drawing.classes (canonical drawing))) whole all)).0;

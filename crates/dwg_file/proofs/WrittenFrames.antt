@@ -12,7 +12,7 @@ use Rattle.dwg_object.specs.Objects.{ObjectValue, handle_of}
 use Rattle.dwg_object.proofs.StandingLemmas.{stands_first, stands_next}
 use Rattle.dwg_object.specs.Written.{IsValidObject, body_bytes}
 use Rattle.dwg_file.specs.Canonical.{canonical, frames_bytes, objects_place, size_of}
-use Rattle.dwg_file.specs.CanonicalFrames.{frames_from}
+use Rattle.dwg_file.specs.CanonicalFrames.{canonical_frames, frames_from}
 use Rattle.dwg_file.proofs.CanonicalFrames.{frames_behind}
 use Rattle.dwg_file.proofs.CanonicalHeader.{header_fits, pairs_head, pairs_tail}
 use Rattle.dwg_file.proofs.CanonicalLaws.{parts_stand}
@@ -39,7 +39,7 @@ frames_written classes bytes (object ∷ objects) place are stands = (
 
 -- so are those of the canonical file
 pub canonical_written : (drawing : Contents) → IsValid drawing → size_of drawing ≤ MOST_BYTES
-    → AllByRecursion (IsWritten drawing.classes (canonical drawing)) (frames_from (objects_place drawing) drawing.objects)
+    → AllByRecursion (IsWritten drawing.classes (canonical drawing)) (canonical_frames drawing)
 canonical_written drawing is small =
     frames_written drawing.classes (canonical drawing) drawing.objects (objects_place drawing) is.objects (parts_stand drawing (header_fits drawing is small)).frames
 

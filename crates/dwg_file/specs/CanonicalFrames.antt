@@ -1,8 +1,10 @@
--- Frames of objects that stand one behind the other from a place on. A rule of this project.
+-- The frames of the canonical file of a drawing: those of its objects, one behind the other. A rule of this project.
 use Rattle.std.proofs.Common.{ℕ, ◌+◌, List, [], ◌∷◌, length}
 use Rattle.dwg_object.specs.Written.{body_bytes}
 use Rattle.dwg_object.specs.Frames.{frame_bytes}
 use Rattle.dwg_object.specs.Objects.{ObjectValue, handle_of}
+use Rattle.dwg_file.specs.Canonical.{objects_place}
+use Rattle.dwg_file.specs.Contents.{Contents}
 use Rattle.dwg_file.specs.Spelled.{PairFrame}
 
 -- the frames of objects that stand one behind the other from a place
@@ -14,3 +16,7 @@ frames_from place (object ∷ objects) = record {
   end = place + length (frame_bytes object);
   object = object;
 } ∷ frames_from (place + length (frame_bytes object)) objects
+
+-- the frames of the canonical file, in the order of its map
+abbrev pub canonical_frames : Contents → List PairFrame
+canonical_frames drawing = frames_from (objects_place drawing) drawing.objects

@@ -39,7 +39,7 @@ pub mod CanonicalFrames
 -- The canonical file of a valid drawing that isn't too large spells it, has the size that is counted, and is bytes.
 pub mod CanonicalLaws
 -- Which bytes of the canonical file of a drawing an input has.
-pub mod CanonicalParts
+pub mod CanonicalBytes
 -- Canonical files in which one byte, or two neighbouring ones, of one object's frame are changed: they are refused at that object.
 pub mod ShortDamage
 -- What a drawing needs to be written: where its parts stand, and the file.

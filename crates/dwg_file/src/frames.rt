@@ -4,12 +4,13 @@ ghost use Rattle.std.specs.Prelude.{◌≡◌, ℕ, ◌-◌, ◌<◌, ◌||◌, 
 ghost use Rattle.dwg_base.specs.Refusals.{IsFaultOfTable};
 ghost use Rattle.dwg_object.specs.FrameLines.{frame_refusal};
 ghost use Rattle.std.specs.List.{All};
-ghost use Rattle.dwg_object.specs.Objects.{BorrowsItsBytes, handle_of, value_of};
+ghost use Rattle.dwg_object.specs.Objects.{IsBorrowedObject, handle_of, value_of};
 ghost use Rattle.dwg_objmap.specs.Pages.{handles_of};
 ghost use Rattle.dwg_file.specs.FileLines.{FoundFrame, tried_pair, frames_behind};
 ghost use Rattle.dwg_file.specs.FrameReading.{AreTaken, AnswersPair, HasRead, GoesOn, AnswersFrames, values_of};
 ghost use Rattle.dwg_file.specs.Taken.{meets, shares};
 
+use crate::lists::with_item;
 use crate::taken::Taken;
 use dwg_base::{Fault, Handle, Items, NoMemory, Refusal};
 use dwg_classes::Hints;
@@ -47,7 +48,7 @@ fn frame_of_pair<'a>(
     hints: &Hints<'_>,
 ) -> Result<Found<'a>, Fault>
     ensures tried { (earlier : List FoundFrame) → AreTaken earlier taken.now → AnswersPair hints.now bytes.now pair.now (tried_pair bytes.now earlier index pair.now) result }
-    ensures lent { IfOk result (λ found. BorrowsItsBytes found.object) }
+    ensures lent { IfOk result (λ found. IsBorrowedObject found.object) }
     ensures some { IfOk result (λ found. pair.now.place < found.end) }
     ensures apart { IfOk result (λ found. shares taken.now pair.now.place found.end ≡ false) }
     ensures of_table { IfErr result IsFaultOfTable }
@@ -82,23 +83,31 @@ pub struct ObjectFrame {
     pub end: u64,
 }
 
+/// No frame that has an object is shorter: its length and its check word take two bytes each, and the 50 bits of the shortest head
+/// seven.
+const LEAST_FRAME: usize = 11;
+
+/// A list with room for the objects of so many pairs, and for no more than an input of so many bytes can hold. The only refusal is
+/// want of memory.
+fn room_for_objects<'a>(
+    alloc: Global,
+    pairs: usize,
+    bytes: usize,
+) -> Result<Vec<Object<'a>>, NoMemory>
+    ensures { IfOk result (λ objects. objects.items ≡ []) }
+{
+    match Vec::with_capacity(alloc, pairs.min(bytes / LEAST_FRAME)) {
+        Ok(objects) => Ok(objects),
+        Err(_) => Err(NoMemory),
+    }
+}
+
 /// The frames that were read so far, their objects, and the bytes that they took.
 #[derive(Drop)]
 pub(crate) struct Frames<'a> {
     taken: Taken,
     pub(crate) frames: Items<ObjectFrame>,
     pub(crate) objects: Vec<Object<'a>>,
-}
-
-/// The items and one more at the end. The only refusal is want of memory.
-fn with_item<T: Drop>(items: Vec<T>, item: T) -> Result<Vec<T>, NoMemory>
-    ensures { IfOk result (λ more. more.items ≡ items.items ++ item ∷ []) }
-{
-    let mut items = items;
-    match items.push(item) {
-        Ok(()) => Ok(items),
-        Err(_) => Err(NoMemory),
-    }
 }
 
 /// A list of frames and one more at the end. The only refusal is want of memory.
@@ -154,7 +163,7 @@ fn next_frame<'a>(
     index: u64,
     hints: &Hints<'_>,
 ) -> Result<Frames<'a>, Fault>
-    ensures lent { All BorrowsItsBytes read.entry.objects.items → IfOk result (λ more. All BorrowsItsBytes more.objects.items) }
+    ensures lent { All IsBorrowedObject read.entry.objects.items → IfOk result (λ more. All IsBorrowedObject more.objects.items) }
     ensures goes_on { (earlier : List FoundFrame) (handles : List ℕ) → HasRead hints.now bytes.now earlier handles read.entry → GoesOn hints.now bytes.now earlier handles pair.now (tried_pair bytes.now earlier index pair.now) result }
     ensures of_table { IfErr result IsFaultOfTable }
 {
@@ -178,13 +187,17 @@ pub(crate) fn read_frames<'a>(
 ) -> Result<Frames<'a>, Fault>
     ensures tried { AnswersFrames hints.now bytes.now (frames_behind bytes.now 0 [] pairs.now) result }
     ensures own { IfOk result (λ read. map handle_of (values_of read.objects.items) ≡ handles_of pairs.now) }
-    ensures lent { IfOk result (λ read. All BorrowsItsBytes read.objects.items) }
+    ensures lent { IfOk result (λ read. All IsBorrowedObject read.objects.items) }
     ensures of_table { IfErr result IsFaultOfTable }
 {
+    let objects = match room_for_objects(alloc, pairs.len(), bytes.len()) {
+        Ok(objects) => objects,
+        Err(NoMemory) => return Err(Fault::NoMemory),
+    };
     let mut read = Frames {
         taken: Taken::new(alloc),
         frames: Items::new(alloc),
-        objects: Vec::new(alloc),
+        objects,
     };
     'along: for index in 0..pairs.len() {
         let pair = &pairs[index];

@@ -1,10 +1,10 @@
 //! The objects of frames, in ascending order of their handles.
 
-ghost use Rattle.std.specs.Prelude.{◌≡◌, [], map, IfOk, IfErr, IsTrue};
+ghost use Rattle.std.specs.Prelude.{◌≡◌, [], map, IfOk, IfErr, IsTrue, ◌↔◌};
 ghost use Rattle.std.specs.List.Sorted.{IsPermutation, IsNonDecreasingBy};
 ghost use Rattle.dwg_base.specs.Refusals.{IsFaultOfTable};
 ghost use Rattle.std.specs.List.{All};
-ghost use Rattle.dwg_object.specs.Objects.{BorrowsItsBytes, handle_of, value_of};
+ghost use Rattle.dwg_object.specs.Objects.{IsBorrowedObject, handle_of, value_of};
 ghost use Rattle.dwg_objmap.specs.Pages.{AreHandles, handles_of};
 ghost use Rattle.dwg_file.specs.FileLines.{frames_behind};
 ghost use Rattle.dwg_file.specs.FrameReading.{AnswersObjects, values_of};
@@ -19,9 +19,9 @@ use dwg_objmap::Pair;
 use std::alloc::Global;
 
 /// Whether the objects stand in ascending order of their handles.
-#[tactic(auto, using(crate::proofs::Ascending::none_ascend, crate::proofs::Ascending::more_ascend, crate::proofs::Ascending::all_ascend))]
+#[tactic(auto, using(crate::proofs::Ascending::none_ascend, crate::proofs::Ascending::more_ascend))]
 fn are_sorted(objects: &[Object<'_>]) -> bool
-    ensures { IsTrue result → IsNonDecreasingBy (λ object. handle_of (value_of object)) objects.now }
+    ensures { IsTrue result ↔ IsNonDecreasingBy (λ object. handle_of (value_of object)) objects.now }
 {
     let mut last = 0;
     'along: for object in objects {
@@ -34,54 +34,55 @@ fn are_sorted(objects: &[Object<'_>]) -> bool
     true
 }
 
-/// The objects in ascending order of their handles, in n log n steps, without taking memory.
-fn sorted_in_place<'a>(objects: Vec<Object<'a>>) -> Vec<Object<'a>>
-    ensures same { IsPermutation objects.entry.items result.items }
-    ensures ascend { IsNonDecreasingBy (λ object. handle_of (value_of object)) result.items }
-{
-    let mut objects = objects;
-    objects.sort_unstable_by_key(|object| object.handle().value());
-    objects
-}
-
-/// The objects in ascending order of their handles: places are sorted, and each object is moved to its own. Want of memory hands
-/// them back as they were.
-fn sorted_by_places<'a>(objects: Vec<Object<'a>>) -> Result<Vec<Object<'a>>, Vec<Object<'a>>>
+/// The objects in ascending order of their handles, in n log n steps. Those that stand so stay where they are; else places are
+/// sorted, and each object is moved to its own. The only refusal is want of memory.
+fn sorted_by_places<'a>(objects: Vec<Object<'a>>) -> Result<Vec<Object<'a>>, NoMemory>
     ensures same { IfOk result (λ sorted. IsPermutation objects.entry.items sorted.items) }
     ensures ascend { IfOk result (λ sorted. IsNonDecreasingBy (λ object. handle_of (value_of object)) sorted.items) }
-    ensures handed_back { IfErr result (λ back. back.items ≡ objects.entry.items) }
 {
+    if are_sorted(objects.as_slice()) {
+        return Ok(objects);
+    }
     let mut objects = objects;
     match objects.sort_by_cached_key(|object| object.handle().value()) {
         Ok(()) => Ok(objects),
-        Err(_) => Err(objects),
+        Err(_) => Err(NoMemory),
     }
 }
 
-/// The objects in ascending order of their handles, in n log n steps. Those that stand so stay where they are.
-fn sorted<'a>(objects: Vec<Object<'a>>) -> Vec<Object<'a>>
+/// The objects in ascending order of their handles, in n log n steps, without taking memory. Those that stand so stay where they
+/// are; else they are moved as often as they are compared.
+fn sorted_in_place<'a>(objects: Vec<Object<'a>>) -> Vec<Object<'a>>
     ensures same { IsPermutation objects.entry.items result.items }
     ensures ascend { IsNonDecreasingBy (λ object. handle_of (value_of object)) result.items }
 {
     if are_sorted(objects.as_slice()) {
         return objects;
     }
-    match sorted_by_places(objects) {
-        Ok(objects) => objects,
-        Err(objects) => sorted_in_place(objects),
-    }
+    let mut objects = objects;
+    objects.sort_unstable_by_key(|object| object.handle().value());
+    objects
 }
 
-/// The objects in ascending order of their handles, which are distinct, in n log n steps. Memory is taken only where they don't
-/// stand so, and isn't needed.
+/// The objects in ascending order of their handles, which are distinct, in n log n steps, without taking memory.
 pub fn in_handle_order<'a>(objects: Vec<Object<'a>>) -> Items<Object<'a>>
     requires { AreHandles (map handle_of (values_of objects.items)) }
     ensures same { IsPermutation (values_of objects.entry.items) (values_of result) }
     ensures ascend { AreAscending (values_of result) }
     ensures sorted { values_of result ≡ sorted (values_of objects.entry.items) }
-    ensures lent { All BorrowsItsBytes objects.entry.items → All BorrowsItsBytes result }
+    ensures lent { All IsBorrowedObject objects.entry.items → All IsBorrowedObject result }
 {
-    Items::from_vec(sorted(objects))
+    Items::from_vec(sorted_in_place(objects))
+}
+
+/// The same by places. The only refusal is want of memory, which is taken only where they don't stand so.
+fn ordered_by_places<'a>(objects: Vec<Object<'a>>) -> Result<Items<Object<'a>>, NoMemory>
+    requires { AreHandles (map handle_of (values_of objects.items)) }
+    ensures same { IfOk result (λ ordered. IsPermutation (values_of objects.entry.items) (values_of ordered)) }
+    ensures ascend { IfOk result (λ ordered. AreAscending (values_of ordered)) }
+    ensures lent { All IsBorrowedObject objects.entry.items → IfOk result (λ ordered. All IsBorrowedObject ordered) }
+{
+    Ok(Items::from_vec(sorted_by_places(objects)?))
 }
 
 /// Objects in ascending order of their handles, and their frames in map order.
@@ -101,7 +102,7 @@ pub(crate) fn read_objects<'a>(
 ) -> Result<FramedObjects<'a>, Fault>
     requires { AreHandles (handles_of pairs.now) }
     ensures tried { AnswersObjects classes.now bytes.now (frames_behind bytes.now 0 [] pairs.now) result }
-    ensures lent { IfOk result (λ read. All BorrowsItsBytes read.objects) }
+    ensures lent { IfOk result (λ read. All IsBorrowedObject read.objects) }
     ensures of_table { IfErr result IsFaultOfTable }
 {
     let hints = match Hints::build(alloc, classes) {
@@ -112,8 +113,11 @@ pub(crate) fn read_objects<'a>(
         Ok(read) => read,
         Err(fault) => return Err(fault),
     };
-    Ok(FramedObjects {
-        objects: in_handle_order(read.objects),
-        frames: read.frames,
-    })
+    match ordered_by_places(read.objects) {
+        Ok(objects) => Ok(FramedObjects {
+            objects,
+            frames: read.frames,
+        }),
+        Err(NoMemory) => Err(Fault::NoMemory),
+    }
 }

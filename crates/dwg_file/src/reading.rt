@@ -6,7 +6,7 @@ ghost use Rattle.dwg_base.specs.Devices.{MOST_BYTES};
 ghost use Rattle.dwg_base.specs.Refusals.{first_fault, Tells, IsFaultOfTable};
 ghost use Rattle.dwg_sections.specs.HeaderLines.{HEADER_LINES, header_at};
 ghost use Rattle.std.specs.List.{All};
-ghost use Rattle.dwg_object.specs.Objects.{BorrowsItsBytes};
+ghost use Rattle.dwg_object.specs.Objects.{IsBorrowedObject};
 ghost use Rattle.dwg_file.specs.Borrowed.{IsBorrowed};
 ghost use Rattle.dwg_file.specs.Contents.{contents_of};
 ghost use Rattle.dwg_file.specs.FileLines.{ALL_LINES, map_row, frames_row, frames_tried};
@@ -37,7 +37,7 @@ fn objects_of_file<'a>(
 ) -> Result<FramedObjects<'a>, Fault>
     requires { header.now ≡ header_at bytes.now }
     ensures objects { IfOk result (λ read. AreObjectsIn classes.now bytes.now (values_of read.objects)) }
-    ensures lent { IfOk result (λ read. All BorrowsItsBytes read.objects) }
+    ensures lent { IfOk result (λ read. All IsBorrowedObject read.objects) }
     ensures frames { IfOk result (λ read. read.frames ≡ map frame_of (result_unwrap_or (frames_tried bytes.now) [])) }
     ensures holds { OnOk result (first_fault (map_row ∷ frames_row ∷ []) bytes.now ≡ None) }
     ensures refused { IfErr result (λ fault. Tells fault (first_fault (map_row ∷ frames_row ∷ []) bytes.now)) }
@@ -140,7 +140,7 @@ pub fn read_with_frames<'a>(alloc: Global, bytes: &'a [u8]) -> Result<FramedDraw
     ensures spelled { IfOk result (λ read. Spelled (contents_of read.drawing) bytes.now) }
     ensures holds { OnOk result (first_fault ALL_LINES bytes.now ≡ None) }
 
-    // It borrows from the input all runs of bytes and bits that it keeps.
+    // The header variables, the unknown sections, the free bits of Plain objects and the bytes of Raw ones are lent.
     ensures lent { IfOk result (λ read. IsBorrowed read.drawing) }
 
     // The frames of the map's pairs, in map order.
@@ -172,8 +172,7 @@ pub fn read_drawing<'a>(alloc: Global, bytes: &'a [u8]) -> Result<Drawing<'a>, F
     ensures spelled { IfOk result (λ drawing. Spelled (contents_of drawing) bytes.now) }
     ensures holds { OnOk result (first_fault ALL_LINES bytes.now ≡ None) }
 
-    // It borrows from the input all runs of bytes and bits that it keeps: the header variables, the unknown sections, the free
-    // bits of Plain objects and the bytes of Raw ones.
+    // The header variables, the unknown sections, the free bits of Plain objects and the bytes of Raw ones are lent.
     ensures lent { IfOk result IsBorrowed }
 
     // The first line that fails, or want of memory.

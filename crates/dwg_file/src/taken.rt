@@ -5,12 +5,13 @@ ghost use Rattle.std.specs.BTreeMap.{insert_entry};
 ghost use Rattle.std.specs.Ordering.{nat_cmp};
 ghost use Rattle.dwg_file.specs.Taken.{Run, AreRuns, IsRow, IsBehind, begins_before, first_behind, meets, shares};
 
+use crate::lists::with_item;
 use dwg_base::NoMemory;
 use std::alloc::Global;
 use std::collections::BTreeMap;
 use std::marker::Model;
 
-/// Runs of bytes of which no two share one. Whether further bytes share one with any run is told in as many steps as an
+/// Runs of bytes. Whether further bytes share one with any run is told in as many steps as an
 /// ordered map takes, however many runs there are; a run that begins behind the row is added without touching the map.
 #[derive(Drop)]
 pub struct Taken {
@@ -118,17 +119,6 @@ fn behind_map(runs: &BTreeMap<u64, u64>, place: u64) -> u64
     behind_run(first_in_map(runs, place), place)
 }
 
-/// A row and one run more at its end. The only refusal is want of memory.
-fn with_run(row: Vec<(u64, u64)>, run: (u64, u64)) -> Result<Vec<(u64, u64)>, NoMemory>
-    ensures { IfOk result (λ more. more.items ≡ row.items ++ run ∷ []) }
-{
-    let mut row = row;
-    match row.push(run) {
-        Ok(()) => Ok(row),
-        Err(_) => Err(NoMemory),
-    }
-}
-
 /// A map and one run more, by its last byte. The only refusal is want of memory.
 fn with_other(
     runs: BTreeMap<u64, u64>,
@@ -193,7 +183,7 @@ impl Taken {
             others,
         } = self;
         if last <= from {
-            let row = with_run(row, (end - 1, from))?;
+            let row = with_item(row, (end - 1, from))?;
             return Ok(Taken { row, end, others });
         }
         let others = with_other(others, end - 1, from)?;

@@ -10,7 +10,7 @@ pub mod Writing
 pub mod OpenPages
 -- The length of a map, counted pair by pair.
 pub mod MapLength
--- A set of handles beside a list of pairs.
+-- Which handles a list of pairs has, told by the highest while they ascend and by a set from there on.
 pub mod Gathered
 -- What one step of reading does to what is left to try.
 pub mod Reading

@@ -11,8 +11,9 @@ use Rattle.dwg_base.specs.declared.refusal.Refusal.{Refusal}
 use Rattle.dwg_classes.specs.declared.class.Class.{Class}
 use Rattle.dwg_classes.specs.Class.{AreClasses}
 use Rattle.dwg_classes.proofs.ClassLineLemmas.{classes_alike}
+use Rattle.dwg_file.specs.CanonicalFrames.{canonical_frames}
 use Rattle.dwg_file.specs.Canonical.{canonical, class_content, classes_place, header_of as canonical_header, map_place, objects_place, preview_place, size_of}
-use Rattle.dwg_file.specs.CanonicalParts.{HasPart}
+use Rattle.dwg_file.specs.CanonicalBytes.{HasPart}
 use Rattle.dwg_file.proofs.CanonicalParts.{content_is_classes}
 use Rattle.dwg_file.specs.Contents.{Contents}
 use Rattle.dwg_file.specs.DrawingAt.{drawing_at}
@@ -43,7 +44,7 @@ use Rattle.dwg_recover.proofs.FoundLemmas.{candidates_found, found_placed}
 use Rattle.dwg_recover.specs.Frames.{candidates, kept_of, mapped_frames}
 use Rattle.dwg_recover.specs.FoundFrames.{frame_of}
 use Rattle.dwg_recover.proofs.FoundFrames.{candidates_hold}
-use Rattle.dwg_recover.specs.Intact.{IntactObjectsAreKept, IsPartlyIntact, canonical_frames, kept_frame, pairs_framed}
+use Rattle.dwg_recover.specs.Intact.{IntactObjectsAreKept, IsPartlyIntact, kept_frame, pairs_framed}
 use Rattle.dwg_recover.proofs.IntactFrames.{HoldsOrNone, IsKeptFrame, intact_is_kept, one_ordered}
 use Rattle.dwg_recover.proofs.IntactMap.{map_is_read}
 use Rattle.dwg_recover.proofs.IntactParts.{IntactParts, body_is_found, classes_are_found, classes_are_intact, frame_is_intact, intact_holds, parts_are_intact, written_positive}

@@ -11,11 +11,12 @@ use Rattle.dwg_base.specs.Refusals.{Tried}
 use Rattle.dwg_bits.specs.Bits.{bits}
 use Rattle.dwg_classes.specs.declared.class.Class.{Class}
 use Rattle.dwg_classes.specs.Class.{AreClasses}
+use Rattle.dwg_file.specs.CanonicalFrames.{canonical_frames}
 use Rattle.dwg_file.specs.Canonical.{canonical, class_content, classes_place, header_of as canonical_header, map_of, map_place, objects_place, others_place, placed, preview_place, size_of, variables_place}
 use Rattle.dwg_file.proofs.CanonicalFrames.{frames_stand, objects_of_frames, pairs_of_frames as placed_pairs}
 use Rattle.dwg_file.proofs.CanonicalHeader.{header_fits}
 use Rattle.dwg_file.proofs.CanonicalLaws.{canonical_ascends, header_reaches, parts_stand}
-use Rattle.dwg_file.specs.CanonicalParts.{HasPart}
+use Rattle.dwg_file.specs.CanonicalBytes.{HasPart}
 use Rattle.dwg_file.proofs.CanonicalParts.{length_of_framed}
 use Rattle.dwg_file.specs.Contents.{Contents}
 use Rattle.dwg_file.proofs.ReadingLemmas.{SectionLaws}
@@ -42,7 +43,7 @@ use Rattle.dwg_sections.specs.FileHeader.{BeginsWithHeader, header_bytes}
 use Rattle.dwg_sections.specs.Framed.{FramedAt, framed_bytes}
 use Rattle.dwg_sections.specs.HeaderLines.{place_of}
 use Rattle.dwg_recover.specs.Frames.{span_found}
-use Rattle.dwg_recover.specs.Intact.{CanonicalPartsStand, IsPartlyIntact, canonical_frames, pairs_framed}
+use Rattle.dwg_recover.specs.Intact.{CanonicalPartsStand, IsPartlyIntact, pairs_framed}
 use Rattle.dwg_recover.proofs.FoundParts.{content_is_taken, section_is_whole}
 use Rattle.dwg_recover.specs.Recovering.{body_tried, classes_found, frame_body}
 use Rattle.dwg_recover.specs.Sections.{classes_of, first_whole, header_of, is_whole, locators_of, number_of_section, section_found, whole_at}

@@ -8,8 +8,9 @@ use Rattle.std.proofs.lemmas.Option.{same_Some}
 use Rattle.dwg_base.specs.Bytes.{AreBytes}
 use Rattle.dwg_base.specs.Devices.{MOST_BYTES}
 use Rattle.dwg_base.specs.Refusals.{first_fault}
+use Rattle.dwg_file.specs.CanonicalFrames.{canonical_frames}
 use Rattle.dwg_file.specs.Canonical.{canonical, class_content, classes_place, header_of as canonical_header, map_place, objects_place, others_bytes, others_located, others_place, size_of, variables_place}
-use Rattle.dwg_file.specs.CanonicalParts.{HasPart}
+use Rattle.dwg_file.specs.CanonicalBytes.{HasPart}
 use Rattle.dwg_file.proofs.CanonicalLaws.{canonical_is_counted}
 use Rattle.dwg_file.proofs.CanonicalParts.{content_is_classes}
 use Rattle.dwg_file.specs.Contents.{Contents, OtherValue}
@@ -31,7 +32,7 @@ use Rattle.dwg_recover.specs.FoundFrames.{frame_of}
 use Rattle.dwg_recover.proofs.FoundFrames.{candidate_is, candidates_hold}
 use Rattle.dwg_recover.proofs.FoundParts.{header_is_found}
 use Rattle.dwg_recover.specs.Frames.{candidate, candidates, is_kept_pair, lost_pairs, mapped_frames}
-use Rattle.dwg_recover.specs.Intact.{IsPartlyIntact, canonical_frames, pairs_framed}
+use Rattle.dwg_recover.specs.Intact.{IsPartlyIntact, pairs_framed}
 use Rattle.dwg_recover.proofs.IntactFrames.{numbered_is_kept}
 use Rattle.dwg_recover.proofs.IntactLemmas.{each_holds_or_none, intact_objects_are_kept}
 use Rattle.dwg_recover.proofs.IntactMap.{IsWholeWalk, map_is_walked}

@@ -4,8 +4,8 @@ use Rattle.std.specs.List.{AllByRecursion}
 use Rattle.dwg_base.specs.Bytes.{AreBytes, StandsAt}
 use Rattle.dwg_base.specs.Devices.{MOST_BYTES}
 use Rattle.dwg_file.specs.Canonical.{canonical, class_content, classes_place, map_of, map_place, objects_place, others_place, preview_place, size_of, variables_place, header_of as canonical_header}
-use Rattle.dwg_file.specs.CanonicalFrames.{frames_from}
-use Rattle.dwg_file.specs.CanonicalParts.{HasPart}
+use Rattle.dwg_file.specs.CanonicalFrames.{canonical_frames}
+use Rattle.dwg_file.specs.CanonicalBytes.{HasPart}
 use Rattle.dwg_file.specs.Contents.{Contents}
 use Rattle.dwg_file.specs.Spelled.{IsFrameOfPair, PairFrame}
 use Rattle.dwg_file.specs.Valid.{IsValid}
@@ -19,16 +19,12 @@ use Rattle.dwg_recover.specs.declared.loss.Kept.{Kept}
 use Rattle.dwg_recover.specs.ListMembers.{IsOneOf}
 use Rattle.dwg_recover.specs.Recovering.{recovered}
 
--- the frames of the canonical file, in the order of its map
-abbrev pub canonical_frames : Contents → List PairFrame
-canonical_frames drawing = frames_from (objects_place drawing) drawing.objects
-
 -- the pairs of frames
 abbrev pub pairs_framed : List PairFrame → List Pair
 pairs_framed frames = map (λ (frame : PairFrame). frame.pair) frames
 
 -- they are: one for each object, each standing at the place of its pair; and the header, the classes and the map stand at their places
-pub record CanonicalParts (drawing : Contents) : Type 0 where
+pub record PartsStand (drawing : Contents) : Type 0 where
   pub begins : BeginsWithHeader (canonical drawing) (canonical_header drawing)
   pub reaches : length (header_bytes (canonical_header drawing)) ≡ variables_place drawing
   pub classes : FramedAt (canonical drawing) (classes_place drawing) framed.Classes (class_content drawing.classes)
@@ -38,7 +34,7 @@ pub record CanonicalParts (drawing : Contents) : Type 0 where
   pub stand : AllByRecursion (IsFrameOfPair drawing.classes (canonical drawing)) (canonical_frames drawing)
 
 abbrev pub CanonicalPartsStand : Type 0
-CanonicalPartsStand = (drawing : Contents) → IsValid drawing → size_of drawing ≤ MOST_BYTES → CanonicalParts drawing
+CanonicalPartsStand = (drawing : Contents) → IsValid drawing → size_of drawing ≤ MOST_BYTES → PartsStand drawing
 
 -- an input as long as the canonical file of a drawing, with its file header and its pages of the map; each frame is as it is there, or none with the handle of its pair holds at its place
 pub record IsPartlyIntact (drawing : Contents) (bytes : List ℕ) : Type 0 where

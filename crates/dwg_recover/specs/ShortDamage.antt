@@ -3,6 +3,7 @@ use Rattle.std.proofs.Common.{◌≡◌, ℕ, ◌≤◌, List, [], ◌∷◌, �
 use Rattle.dwg_base.specs.Bytes.{AreBytes}
 use Rattle.dwg_base.specs.Devices.{MOST_BYTES}
 use Rattle.dwg_base.specs.declared.refusal.Refusal.{Refusal}
+use Rattle.dwg_file.specs.CanonicalFrames.{canonical_frames}
 use Rattle.dwg_file.specs.Canonical.{size_of}
 use Rattle.dwg_file.specs.Contents.{Contents}
 use Rattle.dwg_file.specs.ShortDamage.{IsDamagedShortly}
@@ -10,7 +11,6 @@ use Rattle.dwg_file.specs.Spelled.{PairFrame}
 use Rattle.dwg_file.specs.Valid.{IsValid}
 use Rattle.dwg_object.specs.FrameLines.{frame_refusal}
 use Rattle.dwg_recover.specs.declared.loss.Loss.TheVariants.{Object}
-use Rattle.dwg_recover.specs.Intact.{canonical_frames}
 use Rattle.dwg_recover.specs.ListMembers.{IsOneOf}
 use Rattle.dwg_recover.specs.Recovering.{recovered}
 

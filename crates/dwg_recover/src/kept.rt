@@ -6,9 +6,8 @@ ghost use Rattle.std.specs.BTreeSet as set;
 ghost use Rattle.dwg_recover.specs.Frames.{is_number};
 
 use crate::frame::Frame;
-use crate::lists::with_item;
 use dwg_base::{Handle, NoMemory};
-use dwg_file::Taken;
+use dwg_file::{Taken, with_item};
 use std::alloc::Global;
 use std::collections::BTreeSet;
 use std::marker::Model;

@@ -6,7 +6,6 @@ mod damage;
 mod frame;
 mod kept;
 mod laws;
-mod lists;
 mod loss;
 mod losses;
 mod objects;

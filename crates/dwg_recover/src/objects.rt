@@ -10,9 +10,9 @@ ghost use Rattle.dwg_recover.specs.Recovering.{object_of};
 
 use crate::frame::Frame;
 use crate::kept::KeptFrames;
-use crate::lists::with_item;
 use dwg_base::NoMemory;
 use dwg_classes::Hints;
+use dwg_file::with_item;
 use dwg_object::{Object, read_body_hinted, span_at, span_body};
 use std::alloc::Global;
 
@@ -59,7 +59,9 @@ fn read_objects<'a>(
     requires { AllByRecursion (IsFound bytes.now) frames.now }
     ensures { IfOk result (λ objects. map value_of objects.items ≡ map (object_of hints.now bytes.now) frames.now) }
 {
-    let mut objects = Vec::new(alloc);
+    let Ok(mut objects) = Vec::with_capacity(alloc, frames.len()) else {
+        return Err(NoMemory);
+    };
     'along: for index in 0..frames.len() {
         objects = with_item(objects, object_of(alloc, bytes, hints, &frames[index])?)?;
     }

@@ -25,7 +25,6 @@ use crate::candidates::{in_place_order, mapped_frames};
 use crate::frame::Frame;
 use crate::kept::KeptFrames;
 use crate::laws::recovered_laws;
-use crate::lists::with_item;
 use crate::loss::{Kept, Loss};
 use crate::losses::{with_loss_if, with_losses, with_lost_pairs, with_lost_sections};
 use crate::objects::KeptObjects;
@@ -37,7 +36,7 @@ use dwg_check::SpanChecks;
 use dwg_classes::Class;
 use dwg_file::{
     Drawing, FramedDrawing, ObjectFrame, Parts, drawing_laws, in_handle_order, read_with_frames,
-    whole_others,
+    whole_others, with_item,
 };
 use dwg_object::Object;
 use dwg_sections::{FileHeader, Framed, Locator, OBJECT_MAP_NUMBER};

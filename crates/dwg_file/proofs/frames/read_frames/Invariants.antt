@@ -1,5 +1,5 @@
 use Rattle.std.specs.List.{All}
-use Rattle.dwg_object.specs.Objects.{BorrowsItsBytes}
+use Rattle.dwg_object.specs.Objects.{IsBorrowedObject}
 use Rattle.dwg_file.proofs.FrameReading.{IsAlong}
 use Rattle.dwg_file.proofs.frames.read_frames.Given as goal
 
@@ -7,5 +7,5 @@ use Rattle.dwg_file.proofs.frames.read_frames.Given as goal
 abbrev pub invariant-along : goal.invariant-along
 invariant-along l = record {
   along : IsAlong l.hints l.bytes l.pairs l.index l.read;
-  lent : All BorrowsItsBytes l.read.objects.items;
+  lent : All IsBorrowedObject l.read.objects.items;
 }
