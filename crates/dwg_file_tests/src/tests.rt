@@ -5,6 +5,7 @@ mod file;
 mod forms;
 mod inputs;
 mod kinds;
+mod lists;
 mod objects;
 mod objmap;
 mod slots;

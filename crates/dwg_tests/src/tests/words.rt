@@ -127,6 +127,34 @@ impl Trial for Lends {
     }
 }
 
+/// Whether bytes are those that stand from a place of a run on.
+fn are_from(run: &[u8], place: u64, bytes: &[u8]) -> bool {
+    for (at, byte) in bytes.iter().enumerate() {
+        let bit = place.saturating_add((at as u64).saturating_mul(8));
+        if number_by_bits(run, bit, 8) != Some(u64::from(*byte)) {
+            return false;
+        }
+    }
+    true
+}
+
+/// So many whole bytes, or none where fewer are left, copied from a lent list that begins at the place.
+struct Copies;
+
+impl Trial for Copies {
+    fn holds(alloc: Global, run: &[u8], place: u64, count: u64) -> bool {
+        let count = count.min(64);
+        let mut cursor = cursor_of(run, place, u64::MAX);
+        let Some(span) = cursor.run(8 * count) else {
+            return number_by_bits(run, place, 8 * count).is_none();
+        };
+        match span.to_bytes(alloc) {
+            Some(bytes) => bytes.len() as u64 == count && are_from(run, place, &bytes),
+            None => false,
+        }
+    }
+}
+
 /// The check word after one more bit: shifted right, then xored with A001 where the leaving bit isn't the coming one.
 fn after_bit(word: u16, bit: u8) -> u16 {
     if word % 2 == u16::from(bit) {
@@ -174,8 +202,25 @@ fn takes_and_pushes_0_to_64_bits_at_each_place_as_single_bits(rt: HostRuntime) {
     assert_eq!(rt; run.len(), 17);
     // All places up to the end: from 73 on fewer than 64 bits are left, and from 80 on fewer than eight bytes.
     assert_eq!(rt; first_wrong::<Takes>(alloc, &run, 137, 65), None);
+    // Bytes too few for a word, just enough for one, and one more.
+    for short in 0..10usize {
+        let few = run.get(17 - short..17).unwrap_or(&[]);
+        assert_eq!(rt; few.len(), short);
+        assert_eq!(rt;
+            first_wrong::<Takes>(alloc, few, 8 * short as u64 + 1, 65),
+            None
+        );
+    }
     assert_eq!(rt; first_wrong::<Pushes>(alloc, &run, 64, 65), None);
     assert_eq!(rt; first_wrong::<Lends>(alloc, &run, 137, 65), None);
+}
+
+#[test]
+fn copies_0_to_17_bytes_from_each_place_as_single_bits(rt: HostRuntime) {
+    let alloc = rt.alloc();
+    let run = bytes_of(alloc, "243F6A8885A308D313198A2E03707344A4").unwrap_or(Vec::new(alloc));
+    assert_eq!(rt; run.len(), 17);
+    assert_eq!(rt; first_wrong::<Copies>(alloc, &run, 137, 18), None);
 }
 
 #[test]
