@@ -9,7 +9,7 @@ ghost use Rattle.dwg_show.specs.DrawingText.{show_text};
 ghost use Rattle.dwg_answers.specs.Outcome.{filed, noted, printed};
 ghost use Rattle.dwg_text.specs.Notes as texts;
 ghost use Rattle.dwg_answers.specs.Replies.{answer_of};
-ghost use Rattle.dwg_answers.specs.Run.{Sent, Sinks, sinks};
+ghost use Rattle.dwg_answers.specs.Run.{Sent, sinks};
 
 use crate::answer::{Answer, too_large_answer};
 use crate::reply::Reply;

@@ -9,14 +9,11 @@ use Rattle.std.proofs.lemmas.Option.{same_Some, slice_get-map, slice_get-get_or}
 use Rattle.dwg_audit.proofs.Choosing.{drop_at_place}
 use Rattle.dwg_base.specs.declared.device.NoMemory.{NoMemory}
 use Rattle.dwg_audit.specs.Findings.{control_findings, findings, resolve_findings, claim_findings, chain_findings, path_findings, findings_of}
-use Rattle.dwg_graph.specs.SlotLaws.{HoldsFields}
 use Rattle.dwg_audit.specs.declared.finding.Finding.{Finding}
 use Rattle.dwg_graph.specs.declared.owner.SpaceHandles.{SpaceHandles}
 use Rattle.dwg_graph.specs.Graph.{is_typed}
 use Rattle.dwg_graph.specs.Owners.{spaces}
-use Rattle.dwg_graph.specs.SlotLaws.{SlotsAreHeld, OwnersAreHeld}
-use Rattle.dwg_object.specs.Objects.{ObjectValue, TypedValue, PlainValue, RawValue}
-use Rattle.dwg_object.specs.Written.{IsWhole}
+use Rattle.dwg_object.specs.Objects.{ObjectValue}
 
 -- what is found of a Typed object by each rule
 pub found_by_rules : (objects : List ObjectValue) (known : Option SpaceHandles) (x : ObjectValue) (none one two three four : List Finding) → IsTrue (is_typed x)

@@ -1,7 +1,7 @@
 //! The audit of a drawing's objects.
 
-ghost use Rattle.std.specs.Prelude.{◌≡◌, ◌↔◌, ◌<◌, ◌≤◌, ◌^◌, ◌+◌, ◌*◌, ◌++◌, ℕ, [], Some, length, map, IfOk, OnOk};
-ghost use Rattle.std.specs.List.{AllByRecursion, slice_get};
+ghost use Rattle.std.specs.Prelude.{◌≡◌, ◌↔◌, ◌<◌, ◌≤◌, ◌^◌, ◌+◌, ◌*◌, ◌++◌, ℕ, [], length, map, IfOk, OnOk};
+ghost use Rattle.std.specs.List.{AllByRecursion};
 ghost use Rattle.dwg_audit.specs.Findings.{control_findings, findings, findings_of};
 ghost use Rattle.dwg_audit.specs.Lookups.{slot_places};
 ghost use Rattle.dwg_audit.specs.Standing.{IsStanding};
@@ -11,7 +11,7 @@ ghost use Rattle.dwg_graph.specs.Owners.{spaces};
 ghost use Rattle.dwg_graph.specs.Places.{Ascend, handles_of};
 ghost use Rattle.dwg_graph.specs.Slots.{slots};
 ghost use Rattle.dwg_graph.specs.Sound.{IsSound};
-ghost use Rattle.dwg_object.specs.Objects.{ObjectValue, value_of};
+ghost use Rattle.dwg_object.specs.Objects.{value_of};
 ghost use Rattle.dwg_object.specs.Written.{IsWhole};
 
 use crate::finding::{Finding, Rule};

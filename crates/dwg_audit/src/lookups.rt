@@ -1,16 +1,16 @@
 //! Where the references of all objects lead: each is looked up once.
 
-ghost use Rattle.std.specs.Prelude.{◌≡◌, ◌<◌, ◌≤◌, ◌+◌, ◌*◌, ◌^◌, ◌-◌, ◌++◌, ℕ, suc, List, [], ◌∷◌, None, Some, length, map, take, drop, IfOk, IfSome};
+ghost use Rattle.std.specs.Prelude.{◌≡◌, ◌<◌, ◌≤◌, ◌+◌, ◌*◌, ◌^◌, ◌-◌, ◌++◌, ℕ, List, [], ◌∷◌, None, Some, length, map, take, drop, IfOk, IfSome};
 ghost use Rattle.std.specs.List.{slice_get, slice_index_or};
-ghost use Rattle.dwg_audit.specs.Lookups.{AreGathered, AreLookups, AreStarts, IsSlotTable, TakeAtMost, all_slots, part_of, slot_places};
+ghost use Rattle.dwg_audit.specs.Lookups.{AreGathered, AreLookups, IsSlotTable, TakeAtMost, all_slots, part_of, slot_places};
 ghost use Rattle.dwg_graph.specs.Claimed.{reference_count};
 ghost use Rattle.dwg_graph.specs.Placed.{place_in};
 ghost use Rattle.dwg_graph.specs.Places.{Ascend, handles_of};
 ghost use Rattle.dwg_graph.specs.Slots.{slots};
 ghost use Rattle.dwg_object.specs.Objects.{ObjectValue, value_of};
 
-use dwg_base::{Handle, Items, NoMemory};
-use dwg_graph::{Index, Slot, SpaceHandles, next_of, owner_of, push_item, with_slots};
+use dwg_base::{Handle, Items, NoMemory, push_item, with_room};
+use dwg_graph::{Index, Slot, SpaceHandles, next_of, owner_of, with_slots};
 use dwg_object::Object;
 use dwg_steps::Steps;
 use std::alloc::Global;
@@ -34,16 +34,6 @@ pub(crate) struct Lookups {
     pub(crate) next: Vec<Option<usize>>,
     /// The other references.
     pub(crate) slots: SlotTable,
-}
-
-/// An empty list with room for so many items. The only refusal is want of memory.
-pub(crate) fn with_room<T: Drop>(alloc: Global, count: usize) -> Result<Vec<T>, NoMemory>
-    ensures { IfOk result (λ items. items.items ≡ []) }
-{
-    match Vec::with_capacity(alloc, count) {
-        Ok(items) => Ok(items),
-        Err(_) => Err(NoMemory),
-    }
 }
 
 /// What names an object by its handle.

@@ -1,6 +1,6 @@
 //! The references of objects as tables of places.
 
-ghost use Rattle.std.specs.Prelude.{◌≡◌, ℕ, List, [], ◌∷◌, ◌++◌, length, map, IfOk};
+ghost use Rattle.std.specs.Prelude.{◌≡◌, ℕ, List, length, map, IfOk};
 ghost use Rattle.std.specs.Option.{option_map};
 ghost use Rattle.dwg_audit.specs.Lookups.{IsSlotTable, is_of, place_of, slot_places};
 ghost use Rattle.dwg_graph.specs.Graph.{known_ends, ends_of};
@@ -9,8 +9,8 @@ ghost use Rattle.dwg_graph.specs.Slots.{slots};
 ghost use Rattle.dwg_object.specs.Objects.{value_of};
 
 use crate::lookups::{SlotTable, places_at, slots_at};
-use dwg_base::NoMemory;
-use dwg_graph::{Slot, SpaceHandles, home_of, is_root, push_item};
+use dwg_base::{NoMemory, push_item};
+use dwg_graph::{Slot, SpaceHandles, home_of, is_root};
 use dwg_kinds::{Field, number_of};
 use dwg_object::{Body, Object};
 use dwg_paths::Ends;

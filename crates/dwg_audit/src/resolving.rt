@@ -1,7 +1,6 @@
 //! The rule on what references lead to.
 
-ghost use Rattle.std.specs.Prelude.{◌≡◌, ◌<◌, ◌^◌, ◌++◌, List, [], ◌∷◌, Some, length, map, flat_map, OnOk, IsTrue};
-ghost use Rattle.std.specs.List.{slice_get};
+ghost use Rattle.std.specs.Prelude.{◌≡◌, ◌<◌, ◌++◌, [], ◌∷◌, Some, map, flat_map, OnOk, IsTrue};
 ghost use Rattle.dwg_audit.specs.Findings.{is_application_field, resolve_findings, unmet};
 ghost use Rattle.dwg_audit.specs.Held.{chosen};
 ghost use Rattle.dwg_audit.specs.Lookups.{slot_places};
@@ -15,7 +14,6 @@ ghost use Rattle.dwg_object.specs.Objects.{kind_of, value_of};
 
 use crate::finding::{Finding, Rule};
 use crate::lookups::place_at;
-use crate::rules::push;
 use dwg_base::{Items, NoMemory};
 use dwg_graph::{Slot, SpaceHandles, is_met, owner_of};
 use dwg_kinds::Field;
@@ -55,7 +53,7 @@ fn push_unmet(
         position: slot.position,
         target: slot.target,
     };
-    push(found, finding)
+    found.add(finding)
 }
 
 /// Finds a slot that doesn't meet its need, where it is an application's, or where it isn't.

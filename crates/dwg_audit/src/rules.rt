@@ -1,6 +1,6 @@
 //! The rules on one object that look at no reference by itself: claim, chain and path.
 
-ghost use Rattle.std.specs.Prelude.{◌≡◌, ◌++◌, List, [], ◌∷◌, false, length, map, OnOk};
+ghost use Rattle.std.specs.Prelude.{◌≡◌, ◌++◌, length, map, OnOk};
 ghost use Rattle.std.specs.List.{filter};
 ghost use Rattle.std.specs.Option.{option_map_or};
 ghost use Rattle.dwg_audit.specs.Findings.{claim_findings, chain_findings, is_chained, path_findings, unless};
@@ -17,16 +17,6 @@ use dwg_base::{Handle, Items, NoMemory};
 use dwg_graph::{ClaimCounts, SpaceHandles, is_claimed, is_exempt, is_header, owner_of};
 use dwg_object::{Body, Object};
 
-/// Puts a finding behind those that are found. The only refusal is want of memory.
-pub(crate) fn push(found: &mut Items<Finding>, finding: Finding) -> Result<(), NoMemory>
-    ensures { OnOk result (found.new ≡ found.old ++ finding ∷ []) }
-{
-    match found.push(finding) {
-        Ok(()) => Ok(()),
-        Err(_) => Err(NoMemory),
-    }
-}
-
 /// Puts a finding behind those that are found, unless a test holds. The only refusal is want of memory.
 pub(crate) fn push_unless(
     found: &mut Items<Finding>,
@@ -38,7 +28,7 @@ pub(crate) fn push_unless(
     if holds {
         return Ok(());
     }
-    push(found, finding)
+    found.add(finding)
 }
 
 /// Finds an object of which a claim is asked and that isn't claimed as it should be. The only refusal is want of memory.
@@ -71,7 +61,7 @@ pub(crate) fn push_unclaimed(
         position: counts.all,
         target: owner_of(object, *known),
     };
-    push(found, finding)
+    found.add(finding)
 }
 
 /// The last entity that a block names, null where it names none, or both ends are null.
@@ -116,7 +106,7 @@ pub(crate) fn push_unchained(
         position: 0,
         target: last_of(object),
     };
-    push(found, finding)
+    found.add(finding)
 }
 
 /// Finds an object whose owners don't lead to a root. The only refusal is want of memory.
@@ -141,5 +131,5 @@ pub(crate) fn push_lost(
         position: 0,
         target: owner_of(object, *known),
     };
-    push(found, finding)
+    found.add(finding)
 }

@@ -85,8 +85,9 @@ fn tabulate_by(
     ensures { IfOk result (AreTables (map value_of objects.now)) }
 {
     let homes = homes(alloc, objects, &known, &lookups.owners)?;
-    let ranks = ranked(alloc, objects, &known, &lookups.owners)?;
+    // Chains take the most memory while they are found: what they don't need comes after them.
     let chains = chained(alloc, objects, &homes, &lookups)?;
+    let ranks = ranked(alloc, objects, &known, &lookups.owners)?;
     let claims = count_claims(alloc, objects, &known, &lookups.slots)?;
     Ok(Tables {
         known,

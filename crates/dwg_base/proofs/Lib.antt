@@ -2,3 +2,4 @@ pub mod ByteLists
 pub mod SendingLemmas
 pub mod Sending
 pub mod Giving
+pub mod RangeSearch

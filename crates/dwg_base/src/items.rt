@@ -1,7 +1,8 @@
 //! Lists of one type.
 
-ghost use Rattle.std.specs.Prelude.{◌≡◌, List, [], ◌∷◌, ◌++◌, OnOk, IfErr, OnErr};
+ghost use Rattle.std.specs.Prelude.{◌≡◌, List, [], ◌∷◌, ◌++◌, OnOk, IfOk, IfErr, OnErr};
 
+use crate::device::NoMemory;
 use std::alloc::Global;
 use std::marker::Model;
 
@@ -51,5 +52,26 @@ impl<T> Items<T> {
         ensures { result.now ≡ self.now }
     {
         self.items.as_slice()
+    }
+}
+
+impl<T: Drop> Items<T> {
+    /// Puts an item at the end. The only refusal is want of memory.
+    pub fn add(&mut self, item: T) -> Result<(), NoMemory>
+        ensures { OnOk result (self.new ≡ self.old ++ item ∷ []) }
+    {
+        match self.push(item) {
+            Ok(()) => Ok(()),
+            Err(_) => Err(NoMemory),
+        }
+    }
+
+    /// The list and one item more at its end. The only refusal is want of memory.
+    pub fn with(self, item: T) -> Result<Items<T>, NoMemory>
+        ensures { IfOk result (λ more. more ≡ self ++ item ∷ []) }
+    {
+        let mut more = self;
+        more.add(item)?;
+        Ok(more)
     }
 }

@@ -38,7 +38,7 @@ fn append(bytes: &mut Vec<u8>, value: u64, width: u32)
 
 /// Puts the low bits of a number behind the first `count` bits: what the byte that is begun takes, and the rest by whole
 /// bytes. Takes no memory.
-pub fn put(bytes: &mut Vec<u8>, count: u64, value: u64, width: u32)
+pub(crate) fn put(bytes: &mut Vec<u8>, count: u64, value: u64, width: u32)
     requires filled { AreFilled bytes.old.items count }
     requires most { width ≤ 64 }
     requires value { value < 2 ^ width }

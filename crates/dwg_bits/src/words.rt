@@ -78,10 +78,10 @@ fn by_bytes(bytes: &[u8], from: u64, to: u64) -> u64
 }
 
 /// The number that up to 64 bits from a place on spell: of one word where they lie in eight bytes, else of a word and the
-/// byte behind it. In the last bytes the word is the last one there is. No bits spell 0, for which no word is shifted: a
-/// shift by all of its 64 bits isn't one.
+/// byte behind it. In the last bytes the word is the last one there is. Where no bits are asked, no word is read: it would
+/// be shifted by all of its 64 bits.
 #[tactic(auto, using(crate::proofs::WordParts::word_and_byte, crate::proofs::WordParts::moved_fits))]
-pub fn number_at(bytes: &[u8], place: u64, count: u32) -> u64
+pub(crate) fn number_at(bytes: &[u8], place: u64, count: u32) -> u64
     requires few { count ≤ 64 }
     requires reach { place + count < 2 ^ 64 }
     requires within { place + count ≤ 8 * length bytes.now }
@@ -104,11 +104,11 @@ pub fn number_at(bytes: &[u8], place: u64, count: u32) -> u64
     )
 }
 
-/// So many bits lie in eight bytes wherever they begin.
+/// Seven bytes' bits: at whatever bit they begin, they lie in eight bytes.
 const BITS_OF_ANY_WORD: u32 = 56;
 
-/// How many of the bits that are left are read as one number: as many as lie in eight bytes wherever they begin.
-pub fn next_count(left: u64) -> u32
+/// How many of the bits that are left are read as one number: seven bytes' bits, or all of them where there are fewer.
+pub(crate) fn next_count(left: u64) -> u32
     requires { 1 ≤ left }
     ensures some { 1 ≤ result }
     ensures most { result ≤ 56 }

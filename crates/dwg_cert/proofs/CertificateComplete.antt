@@ -15,7 +15,7 @@ use Rattle.dwg_cert.proofs.EntryTests.{test_from_passes}
 use Rattle.dwg_cert.proofs.FormBytes.{length_of_entry, certificate_is_counted}
 use Rattle.dwg_cert.proofs.NumberPieces.{number_there}
 use Rattle.dwg_cert.proofs.PassingLines.{HasRoom, room_from_none, entries_decide, none_of_read, read_of_none}
-use Rattle.dwg_cert.proofs.RangeSearch.{none_found}
+use Rattle.dwg_base.proofs.RangeSearch.{none_found}
 use Rattle.dwg_cert.proofs.StoredNumbers.{stored_small, unstored_again}
 
 -- the entry of these parts

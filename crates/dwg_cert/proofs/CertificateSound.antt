@@ -15,7 +15,7 @@ use Rattle.dwg_cert.proofs.EntryReading.{none_of_tried, length_of_read}
 use Rattle.dwg_cert.proofs.EntryTests.{passes_from_test}
 use Rattle.dwg_cert.proofs.NumberPieces.{front_more, number_back}
 use Rattle.dwg_cert.proofs.PassingLines.{HasRoom, room_from_none}
-use Rattle.dwg_cert.proofs.RangeSearch.{each_fails}
+use Rattle.dwg_base.proofs.RangeSearch.{each_fails}
 use Rattle.dwg_cert.proofs.StoredNumbers.{stored_again}
 
 -- 24 bytes are an entry

@@ -7,7 +7,7 @@ use Rattle.dwg_cert.specs.declared.entry.Entry.{Entry}
 use Rattle.dwg_cert.specs.Certificates.{IsSmallEntry, HandlesAscend, IsCertificate, HaveHandles}
 use Rattle.dwg_cert.specs.CertificateLines.{stored_handle_at, least_handle, entry_told_at}
 use Rattle.dwg_cert.proofs.EntryTests.{Passes, least_first, least_behind}
-use Rattle.dwg_cert.proofs.RangeSearch.{all_in_turn, each_in_turn}
+use Rattle.dwg_base.proofs.RangeSearch.{all_in_turn, each_in_turn}
 use Rattle.dwg_cert.proofs.StoredNumbers.{small_unstored, unstored_small}
 
 -- the first so many entries that the bytes say

@@ -7,7 +7,7 @@ use Rattle.dwg_base.specs.declared.refusal.Refusal.{Refusal}
 use Rattle.dwg_cert.specs.declared.entry.Entry.{Entry}
 use Rattle.dwg_cert.specs.CertificateLines.{count_at, entry_told_at, entry_fails, entry_refusal, entries_at, first_failing, least_handle, tried_entries, tried_certificate}
 use Rattle.dwg_cert.proofs.EntryTests.{least_behind}
-use Rattle.dwg_cert.proofs.RangeSearch.{found_here, found_behind, found_nowhere}
+use Rattle.dwg_base.proofs.RangeSearch.{found_here, found_behind, found_nowhere}
 
 -- where none fails, the entries are given
 pub tried_of_none : (bytes : List ℕ) → first_failing bytes ≡ None → tried_certificate bytes ≡ Ok (entries_at bytes)

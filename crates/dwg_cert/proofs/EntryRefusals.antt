@@ -6,7 +6,7 @@ use Rattle.dwg_cert.specs.CertificateLines.{RefusesEntry, count_at, entry_fails,
 use Rattle.dwg_cert.specs.CertificateLaws.{RefusedEntryIsFirst}
 use Rattle.dwg_cert.proofs.EntryReading.{some_of_tried, tried_of_some}
 use Rattle.dwg_cert.proofs.EntryTests.{fails_from_test, holds_from_test, test_from_fails, test_from_holds}
-use Rattle.dwg_cert.proofs.RangeSearch.{first_from_found, found_from_first}
+use Rattle.dwg_base.proofs.RangeSearch.{first_from_found, found_from_first}
 
 -- an entry that is refused is the first that fails
 first_refused : (bytes : List ℕ) (refusal : Refusal) → tried_certificate bytes ≡ Err refusal → RefusesEntry bytes refusal

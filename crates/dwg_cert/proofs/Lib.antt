@@ -9,7 +9,6 @@ pub mod ChainPlaces
 pub mod AcceptedOfSound
 pub mod FormBytes
 pub mod NumberPieces
-pub mod RangeSearch
 pub mod EntryTests
 pub mod EntryReading
 pub mod EntryWriting

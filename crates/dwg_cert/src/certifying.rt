@@ -18,7 +18,7 @@ use crate::accepting::accepts;
 use crate::certificate::Certificate;
 use crate::entry::Entry;
 use crate::placing::{Indexed, Tables};
-use dwg_base::{Handle, Items, NoMemory};
+use dwg_base::{Handle, Items, NoMemory, push_item, with_room};
 use dwg_object::Object;
 use std::alloc::Global;
 
@@ -117,14 +117,9 @@ fn entries(
     requires tables { AreTables drawing.now tables.now.owners.items tables.now.ranks.items tables.now.left.items }
     ensures { IfOk result (λ entries. entries ≡ drawn drawing.now) }
 {
-    let Ok(mut entries) = Vec::with_capacity(alloc, drawing.objects.len()) else {
-        return Err(NoMemory);
-    };
+    let mut entries = with_room(alloc, drawing.objects.len())?;
     'along: for (place, object) in drawing.objects.iter().enumerate() {
-        match entries.push(entry(drawing, tables, object, place)) {
-            Ok(()) => {}
-            Err(_) => return Err(NoMemory),
-        }
+        push_item(&mut entries, entry(drawing, tables, object, place))?;
     }
     Ok(Items::from_vec(entries))
 }

@@ -3,7 +3,7 @@
 ghost use Rattle.std.specs.Prelude.{◌≡◌, ◌<◌, ◌^◌, ◌||◌, false, length, map, Some, IsTrue};
 ghost use Rattle.std.specs.List.{filter, list_all, slice_get};
 ghost use Rattle.std.specs.Option.{option_and_then, option_map_or};
-ghost use Rattle.dwg_cert.specs.AcceptTests.{holds_together, is_begun, is_in_place, is_member_at, is_place, is_placed, is_placed_in, is_rank, is_ranked, is_resolved, is_right};
+ghost use Rattle.dwg_cert.specs.AcceptTests.{holds_together, is_begun, is_in_place, is_member_at, is_place, is_placed, is_rank, is_ranked, is_resolved, is_right};
 ghost use Rattle.dwg_cert.specs.Accepts.{entry_at, members_of, place_at, rank_at};
 ghost use Rattle.dwg_cert.specs.Checked.{end_handles};
 ghost use Rattle.dwg_graph.specs.Counts.{by_holder};

@@ -1,6 +1,6 @@
 //! Where the references of a drawing's objects lead, and how many steps lead from each to a root and to the last of its block.
 
-ghost use Rattle.std.specs.Prelude.{◌≡◌, ◌<◌, [], length, map, None, Some, IfOk, if◌then◌else◌};
+ghost use Rattle.std.specs.Prelude.{◌≡◌, ◌<◌, map, None, Some, IfOk, if◌then◌else◌};
 ghost use Rattle.std.specs.List.{slice_get};
 ghost use Rattle.std.specs.Option.{option_and_then, option_map};
 ghost use Rattle.dwg_cert.specs.Certified.{rank_of};
@@ -14,8 +14,8 @@ ghost use Rattle.dwg_object.specs.Objects.{value_of};
 
 use crate::ends::{BlockEnds, ends_of};
 use crate::lookup::place_of;
-use dwg_base::{Handle, NoMemory};
-use dwg_graph::{Index, SpaceHandles, is_member, is_root, next_of, owner_of, push_item, spaces};
+use dwg_base::{Handle, NoMemory, push_item};
+use dwg_graph::{Index, SpaceHandles, is_member, is_root, next_of, owner_of, spaces};
 use dwg_object::Object;
 use dwg_paths::ranks;
 use std::alloc::Global;

@@ -1,6 +1,6 @@
 //! A table of what the classes say, for drawings of many objects.
 
-ghost use Rattle.std.specs.Prelude.{◌≡◌, ℕ, find, option_map, IfOk, OnOk, ◌==◌, Some, None, if◌then◌else◌};
+ghost use Rattle.std.specs.Prelude.{◌≡◌, ℕ, IfOk, OnOk, ◌==◌, Some, None, if◌then◌else◌};
 ghost use Rattle.std.specs.Option.{option_or};
 ghost use Rattle.std.specs.Ordering.{nat_cmp};
 ghost use Rattle.std.specs.BTreeMap as tree;

@@ -1,6 +1,6 @@
 //! The program's devices: std's readers and writers as sources and sinks that tell no bytes.
 
-ghost use Rattle.std.specs.Prelude.{◌≡◌, ℕ, List, Option, None};
+ghost use Rattle.std.specs.Prelude.{◌≡◌, None};
 
 use dwg_base::{Failed, Sink, Source};
 use std::io::{Read, Write};

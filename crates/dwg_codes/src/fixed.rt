@@ -1,6 +1,6 @@
 //! Codes of fixed length (Open Design Specification, "Bit codes").
 
-ghost use Rattle.std.specs.Prelude.{◌≡◌, ◌≤◌, ⊤};
+ghost use Rattle.std.specs.Prelude.{⊤};
 ghost use Rattle.dwg_grammar.specs.Codes.{bb, rc, rs, rl, rd, b};
 ghost use Rattle.dwg_grammar.proofs.TruthCode.{b_is_code};
 ghost use Rattle.dwg_grammar.proofs.NumberLemmas.{bb_is_code, rc_is_code, rs_is_code, rl_is_code, rd_is_code};

@@ -1,6 +1,6 @@
 //! Codes that begin with a tag (Open Design Specification, "Bit codes").
 
-ghost use Rattle.std.specs.Prelude.{◌≡◌, ◌+◌, ◌^◌, ◌<◌, ◌≤◌, ◌++◌, ⊤, ℕ, Bool, length, IfSome, IfNone};
+ghost use Rattle.std.specs.Prelude.{◌≡◌, ◌+◌, ◌^◌, ◌<◌, ◌≤◌, ⊤, ℕ, Bool, length, IfSome, IfNone};
 ghost use Rattle.std.proofs.Common.{lit≤};
 ghost use Rattle.dwg_bits.specs.Cursor.{rest};
 ghost use Rattle.dwg_bits.specs.Sink.{Extends};

@@ -1,6 +1,6 @@
 //! Points as bits: each word by a code of its own (Open Design Specification, "Bit codes").
 
-ghost use Rattle.std.specs.Prelude.{◌≡◌, ◌^◌, ◌<◌, ⊤};
+ghost use Rattle.std.specs.Prelude.{◌≡◌, ◌<◌, ⊤};
 ghost use Rattle.std.specs.Option.{option_map};
 ghost use Rattle.dwg_bits.specs.Cursor.{rest};
 ghost use Rattle.dwg_grammar.specs.Codes.{IsPoint3};

@@ -1,6 +1,6 @@
 //! An insert of a block.
 
-ghost use Rattle.std.specs.Prelude.{◌≡◌, IfOk, IsTrue, ◌↔◌, length, ◌^◌, ◌<◌};
+ghost use Rattle.std.specs.Prelude.{◌≡◌, length, ◌<◌};
 ghost use Rattle.std.specs.Option.{option_map};
 ghost use Rattle.dwg_bits.specs.Cursor.{rest};
 ghost use Rattle.dwg_entities.specs.BodiesLaws.{insert_is_body};

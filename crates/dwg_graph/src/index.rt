@@ -1,11 +1,11 @@
 //! Where the object of a handle stands among the objects of a drawing.
 
-ghost use Rattle.std.specs.Prelude.{◌≡◌, ◌<◌, ◌≤◌, ◌+◌, ◌-◌, ◌^◌, ℕ, List, [], length, map, IfOk};
+ghost use Rattle.std.specs.Prelude.{◌≡◌, ◌<◌, ◌≤◌, ◌+◌, ◌-◌, ◌^◌, ℕ, List, length, map, IfOk};
 ghost use Rattle.std.specs.List.{slice_index_or};
 ghost use Rattle.dwg_graph.specs.Places.{Ascend, CanStand, IsPlaceOf, handles_of};
 ghost use Rattle.dwg_object.specs.Objects.{value_of};
 
-use dwg_base::{Handle, NoMemory};
+use dwg_base::{Handle, NoMemory, push_item, with_room};
 use dwg_object::Object;
 use dwg_steps::Steps;
 use std::alloc::Global;
@@ -101,25 +101,13 @@ fn place_of<L: Ledger>(
     None
 }
 
-/// No handles, with room for so many. Want of memory is the only refusal.
-fn with_room(alloc: Global, count: usize) -> Result<Vec<Handle>, NoMemory>
-    ensures { IfOk result (λ handles. handles.items ≡ []) }
-{
-    match Vec::with_capacity(alloc, count) {
-        Ok(handles) => Ok(handles),
-        Err(_) => Err(NoMemory),
-    }
-}
-
 /// The handles of objects, in their order. Want of memory is the only refusal.
 fn gather(alloc: Global, objects: &[Object<'_>]) -> Result<Vec<Handle>, NoMemory>
     ensures { IfOk result (λ handles. handles.items ≡ handles_of (map value_of objects.now)) }
 {
     let mut handles = with_room(alloc, objects.len())?;
     'along: for object in objects {
-        if handles.push(object.handle()).is_err() {
-            return Err(NoMemory);
-        }
+        push_item(&mut handles, object.handle())?;
     }
     Ok(handles)
 }

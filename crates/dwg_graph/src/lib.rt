@@ -4,7 +4,6 @@
 mod claims;
 mod index;
 mod laws;
-mod lists;
 mod needs;
 mod owner;
 mod roles;
@@ -15,7 +14,6 @@ mod walk;
 pub use claims::{ClaimCounts, Claimed, count_slot, is_claimed, is_exempt, raise, zeros};
 pub use index::Index;
 pub use laws::{graph_laws, slot_laws};
-pub use lists::push_item;
 pub use needs::{is_met, meets};
 pub use owner::{SpaceHandles, control_count, next_of, owner_of, spaces};
 pub use roles::{can_claim, home_of, is_header, is_member, is_raw, is_root, is_typed};

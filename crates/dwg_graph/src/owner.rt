@@ -1,6 +1,6 @@
 //! Who owns an object, and what follows it in a block.
 
-ghost use Rattle.std.specs.Prelude.{◌≡◌, List, [], length, map};
+ghost use Rattle.std.specs.Prelude.{◌≡◌, [], length, map};
 ghost use Rattle.std.specs.List.{cons_option};
 ghost use Rattle.dwg_paths.specs.Paths.{first_of};
 ghost use Rattle.dwg_graph.specs.Owners.{block_controls, common_next, common_owner, entity_owner, handle_behind, model_space, next_of, owner_of, paper_space, spaces, told_spaces};

@@ -5,7 +5,7 @@ ghost use Rattle.std.specs.List.{list_any};
 ghost use Rattle.std.specs.Option.{option_and_then};
 ghost use Rattle.dwg_graph.specs.Graph.{is_typed, is_raw, is_header, is_root, is_member, is_member_kind, claims_by, TOP_NUMBERS};
 ghost use Rattle.dwg_graph.specs.Placed.{home_at};
-ghost use Rattle.dwg_object.specs.Objects.{number_of, value_of};
+ghost use Rattle.dwg_object.specs.Objects.{value_of};
 
 use crate::owner::{SpaceHandles, owner_of};
 use dwg_kinds::{Field, Kind, is_entity, is_same};

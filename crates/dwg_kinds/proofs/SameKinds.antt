@@ -1,5 +1,5 @@
 -- Two kinds are one where their places are, and two fields where their numbers or names are: each is found again by its place, number or name.
--- Whether two kinds are one is cited by dwg_audit.
+-- Whether two kinds are one is cited by dwg_graph.
 use Rattle.std.proofs.Common.{◌≡◌, refl, sym, ◌∙◌, ap, ℕ, List, [], ◌∷◌, Option, Some, subst, arith}
 use Rattle.std.specs.Prelude.{◌==◌, ◌↔◌, IsTrue, find}
 use Rattle.std.specs.Str.{bytes_eq}

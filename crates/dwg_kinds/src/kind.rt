@@ -1,6 +1,6 @@
 //! Kinds as values: which are entities, and the names that are printed of them.
 
-ghost use Rattle.std.specs.Prelude.{◌≡◌, ◌↔◌, IsTrue};
+ghost use Rattle.std.specs.Prelude.{◌≡◌};
 ghost use Rattle.dwg_kinds.specs.Kinds.{is_entity_kind, kind_name, place_of_kind, same_kind};
 
 /// What an object is (Open Design Specification, "R13 to R2000 file layout, object data"). The last three are a rule of this

@@ -4,7 +4,7 @@ ghost use Rattle.std.specs.Prelude.{◌≡◌, ◌++◌, IfOk, OnOk};
 ghost use Rattle.dwg_object.specs.Objects.{value_of};
 ghost use Rattle.dwg_make.specs.Fixed.{block_control, layer_control, style_control, ltype_control, appid_control, controls};
 
-use crate::lists::{add_to, one};
+use crate::lists::one;
 use crate::making::Making;
 use crate::objects::other_object;
 use crate::references::{hard_owner, soft_owner};
@@ -32,7 +32,7 @@ fn layer_control(alloc: Global) -> Result<Object<'static>, NoMemory>
     ensures { IfOk result (λ object. value_of object ≡ layer_control) }
 {
     let mut entries = one(alloc, soft_owner(0x10))?;
-    add_to(&mut entries, soft_owner(0x17))?;
+    entries.add(soft_owner(0x17))?;
     let body = Body::LayerControl(LayerControl { entries });
     Ok(other_object(alloc, 50, 0x2, 0, body))
 }

@@ -1,6 +1,6 @@
 //! The entities that follow the fixed objects, drawn by random numbers.
 
-ghost use Rattle.std.specs.Prelude.{◌≡◌, ◌≤◌, ◌<◌, ◌++◌, ◌∷◌, [], map, codes, decimal, string_bytes, IfOk, OnOk};
+ghost use Rattle.std.specs.Prelude.{◌≡◌, ◌≤◌, ◌<◌, ◌++◌, map, codes, decimal, string_bytes, IfOk, OnOk};
 ghost use Rattle.std.specs.List.{range_with_len};
 ghost use Rattle.dwg_object.specs.Objects.{value_of};
 ghost use Rattle.dwg_make.specs.Draws.{drawn_body, drawn_entity};
@@ -61,25 +61,15 @@ fn text_of(alloc: Global, number: u32, draw: &Draw) -> Result<Text, NoMemory>
     }
 }
 
-/// Puts a point at the end. The only refusal is want of memory.
-fn add_point(points: &mut Items<Point2>, x: u64, y: u64) -> Result<(), NoMemory>
-    ensures { OnOk result (points.new ≡ points.old ++ flat_point x y ∷ []) }
-{
-    match points.push(flat_point(x, y)) {
-        Ok(()) => Ok(()),
-        Err(_) => Err(NoMemory),
-    }
-}
-
 /// The polyline of four points. The only refusal is want of memory.
 fn polyline_of(alloc: Global, draw: &Draw) -> Result<LwPolyline, NoMemory>
     ensures { IfOk result (λ polyline. bodies.LwPolyline polyline ≡ further_body 5 0 draw.now.w2 draw.now.w3 draw.now.w4 draw.now.w5 draw.now.w6 draw.now.w7 draw.now.w8 draw.now.w9) }
 {
     let mut points = Items::new(alloc);
-    add_point(&mut points, draw.w2, draw.w3)?;
-    add_point(&mut points, draw.w4, draw.w5)?;
-    add_point(&mut points, draw.w6, draw.w7)?;
-    add_point(&mut points, draw.w8, draw.w9)?;
+    points.add(flat_point(draw.w2, draw.w3))?;
+    points.add(flat_point(draw.w4, draw.w5))?;
+    points.add(flat_point(draw.w6, draw.w7))?;
+    points.add(flat_point(draw.w8, draw.w9))?;
     Ok(LwPolyline {
         flag: 0,
         width: None,

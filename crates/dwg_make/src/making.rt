@@ -3,7 +3,6 @@
 ghost use Rattle.std.specs.Prelude.{◌≡◌, [], ◌∷◌, ◌++◌, map, OnOk};
 ghost use Rattle.dwg_object.specs.Objects.{value_of};
 
-use crate::lists::add_to;
 use dwg_base::{Items, NoMemory};
 use dwg_object::Object;
 use std::alloc::Global;
@@ -38,7 +37,7 @@ impl Making {
     pub(crate) fn add(&mut self, object: Object<'static>) -> Result<(), NoMemory>
         ensures { OnOk result (self.new ≡ self.old ++ value_of object.entry ∷ []) }
     {
-        add_to(&mut self.objects, object)?;
+        self.objects.add(object)?;
         Ok(())
     }
 

@@ -1,6 +1,6 @@
 //! Which homes have a chain of their members, from a first to a last.
 
-ghost use Rattle.std.specs.Prelude.{◌≡◌, ◌↔◌, ◌<◌, ◌≤◌, ℕ, true, false, length, Some, IsTrue, IfOk};
+ghost use Rattle.std.specs.Prelude.{◌≡◌, ◌↔◌, ◌<◌, ℕ, true, false, length, Some, IsTrue, IfOk};
 ghost use Rattle.dwg_paths.specs.Tables.{leads, marked, lives_at, ends_at, AreWithin, HasChainAt};
 ghost use Rattle.dwg_paths.specs.ChainMarks.{AreMet, IsJudged};
 

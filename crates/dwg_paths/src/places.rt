@@ -1,6 +1,6 @@
 //! Reading and marking tables of places.
 
-ghost use Rattle.std.specs.Prelude.{◌≡◌, ◌<◌, ℕ, Bool, false, length, Some, None, IfOk};
+ghost use Rattle.std.specs.Prelude.{◌≡◌, ◌<◌, ℕ, false, length, Some, None, IfOk};
 ghost use Rattle.std.specs.List.{slice_set};
 ghost use Rattle.dwg_paths.specs.Tables.{leads, marked, is_at, lives_at, ends_at};
 

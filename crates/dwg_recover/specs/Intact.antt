@@ -3,7 +3,7 @@ use Rattle.std.specs.Prelude.{◌≡◌, ◌⊎◌, ℕ, ◌≤◌, true, List, 
 use Rattle.std.specs.List.{AllByRecursion}
 use Rattle.dwg_base.specs.Bytes.{AreBytes, StandsAt}
 use Rattle.dwg_base.specs.Devices.{MOST_BYTES}
-use Rattle.dwg_file.specs.Canonical.{canonical, class_content, classes_place, map_of, map_place, objects_place, others_place, preview_place, size_of, variables_place, header_of as canonical_header}
+use Rattle.dwg_file.specs.Canonical.{canonical, class_content, classes_place, map_of, map_place, others_place, preview_place, size_of, variables_place, header_of as canonical_header}
 use Rattle.dwg_file.specs.CanonicalFrames.{canonical_frames}
 use Rattle.dwg_file.specs.CanonicalBytes.{HasPart}
 use Rattle.dwg_file.specs.Contents.{Contents}

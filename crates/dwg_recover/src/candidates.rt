@@ -8,9 +8,8 @@ ghost use Rattle.dwg_recover.specs.Placing.{IsPlaced};
 
 use crate::frame::{Frame, own_of_span};
 use crate::kept::KeptFrames;
-use dwg_base::NoMemory;
+use dwg_base::{NoMemory, with_item};
 use dwg_check::SpanChecks;
-use dwg_file::with_item;
 use dwg_object::span_at;
 use dwg_objmap::Pair;
 use dwg_steps::Steps;

@@ -6,8 +6,8 @@ ghost use Rattle.std.specs.BTreeSet as set;
 ghost use Rattle.dwg_recover.specs.Frames.{is_number};
 
 use crate::frame::Frame;
-use dwg_base::{Handle, NoMemory};
-use dwg_file::{Taken, with_item};
+use dwg_base::{Handle, NoMemory, with_item};
+use dwg_file::Taken;
 use std::alloc::Global;
 use std::collections::BTreeSet;
 use std::marker::Model;

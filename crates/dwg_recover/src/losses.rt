@@ -1,7 +1,6 @@
 //! What is lost of a damaged file, in its order.
 
-ghost use Rattle.std.specs.Prelude.{◌≡◌, [], ◌∷◌, ◌++◌, false, IfOk};
-ghost use Rattle.std.specs.Option.{is_some};
+ghost use Rattle.std.specs.Prelude.{◌≡◌, [], ◌∷◌, ◌++◌, IfOk};
 ghost use Rattle.dwg_recover.specs.Frames.{lost_pairs};
 ghost use Rattle.dwg_recover.specs.Sections.{lost_if, lost_sections};
 
@@ -11,17 +10,6 @@ use dwg_base::{Items, NoMemory};
 use dwg_file::is_cut;
 use dwg_objmap::Pair;
 use dwg_sections::Locator;
-
-/// Losses and one more. The only refusal is want of memory.
-pub(crate) fn with_loss(losses: Items<Loss>, loss: Loss) -> Result<Items<Loss>, NoMemory>
-    ensures { IfOk result (λ more. more ≡ losses ++ loss ∷ []) }
-{
-    let mut losses = losses;
-    match losses.push(loss) {
-        Ok(()) => Ok(losses),
-        Err(_) => Err(NoMemory),
-    }
-}
 
 /// Losses and one more, if it is one. The only refusal is want of memory.
 pub(crate) fn with_loss_if(
@@ -34,7 +22,7 @@ pub(crate) fn with_loss_if(
     if !lost {
         return Ok(losses);
     }
-    with_loss(losses, loss)
+    losses.with(loss)
 }
 
 /// Losses and others behind them. The only refusal is want of memory.
@@ -43,7 +31,7 @@ pub(crate) fn with_losses(losses: Items<Loss>, others: &[Loss]) -> Result<Items<
 {
     let mut losses = losses;
     'along: for loss in others {
-        losses = with_loss(losses, *loss)?;
+        losses.add(*loss)?;
     }
     Ok(losses)
 }
@@ -59,13 +47,10 @@ fn with_lost_section(
     if !is_cut(bytes, locator) {
         return Ok(losses);
     }
-    with_loss(
-        losses,
-        Loss::Section {
-            number: locator.number,
-            place: u64::from(locator.place),
-        },
-    )
+    losses.with(Loss::Section {
+        number: locator.number,
+        place: u64::from(locator.place),
+    })
 }
 
 /// Losses and the unknown sections of locators that pass the end of the input. The only refusal is want of memory.
@@ -96,13 +81,10 @@ fn with_lost_pair(
     if kept.is_kept_pair(number) {
         return Ok(losses);
     }
-    with_loss(
-        losses,
-        Loss::Object {
-            handle: pair.handle,
-            place: pair.place,
-        },
-    )
+    losses.with(Loss::Object {
+        handle: pair.handle,
+        place: pair.place,
+    })
 }
 
 /// Losses and the pairs that no frame was kept for, in map order. The only refusal is want of memory.

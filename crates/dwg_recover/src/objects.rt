@@ -10,9 +10,8 @@ ghost use Rattle.dwg_recover.specs.Recovering.{object_of};
 
 use crate::frame::Frame;
 use crate::kept::KeptFrames;
-use dwg_base::NoMemory;
+use dwg_base::{NoMemory, with_item, with_room};
 use dwg_classes::Hints;
-use dwg_file::with_item;
 use dwg_object::{Object, read_body_hinted, span_at, span_body};
 use std::alloc::Global;
 
@@ -59,9 +58,7 @@ fn read_objects<'a>(
     requires { AllByRecursion (IsFound bytes.now) frames.now }
     ensures { IfOk result (λ objects. map value_of objects.items ≡ map (object_of hints.now bytes.now) frames.now) }
 {
-    let Ok(mut objects) = Vec::with_capacity(alloc, frames.len()) else {
-        return Err(NoMemory);
-    };
+    let mut objects = with_room(alloc, frames.len())?;
     'along: for index in 0..frames.len() {
         objects = with_item(objects, object_of(alloc, bytes, hints, &frames[index])?)?;
     }

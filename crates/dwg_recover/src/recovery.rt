@@ -1,6 +1,6 @@
 //! Recovery of a whole input.
 
-ghost use Rattle.std.specs.Prelude.{◌≡◌, ◌+◌, ◌*◌, ◌≤◌, [], ◌∷◌, ◌++◌, length, map, None, Some, IfOk, IfSome};
+ghost use Rattle.std.specs.Prelude.{◌≡◌, ◌+◌, ◌*◌, ◌≤◌, [], ◌++◌, length, map, None, Some, IfOk, IfSome};
 ghost use Rattle.std.specs.List.{AllByRecursion};
 ghost use Rattle.std.specs.Result.{result_unwrap_or};
 ghost use Rattle.dwg_base.specs.Devices.{MOST_BYTES};
@@ -31,12 +31,12 @@ use crate::objects::KeptObjects;
 use crate::scan::scan;
 use crate::sections::{classes_at, header_of, place_located, section_found, variables_at};
 use crate::walk::{Walked, walk};
-use dwg_base::{Fault, Items, NoMemory, Refusal};
+use dwg_base::{Fault, Items, NoMemory, Refusal, with_item};
 use dwg_check::SpanChecks;
 use dwg_classes::Class;
 use dwg_file::{
     Drawing, FramedDrawing, ObjectFrame, Parts, drawing_laws, in_handle_order, read_with_frames,
-    whole_others, with_item,
+    whole_others,
 };
 use dwg_object::Object;
 use dwg_sections::{FileHeader, Framed, Locator, OBJECT_MAP_NUMBER};
@@ -75,10 +75,7 @@ fn all_kept(alloc: Global, frames: &[Frame]) -> Result<Items<Kept>, NoMemory>
 {
     let mut kept = Items::new(alloc);
     'along: for frame in frames {
-        match kept.push(kept_of(frame)) {
-            Ok(()) => {}
-            Err(_) => return Err(NoMemory),
-        }
+        kept.add(kept_of(frame))?;
     }
     Ok(kept)
 }

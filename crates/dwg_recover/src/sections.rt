@@ -9,7 +9,7 @@ ghost use Rattle.dwg_base.specs.Refusals.{first_fault};
 ghost use Rattle.dwg_check.specs.CheckWord.{FRAME_START, check_word};
 ghost use Rattle.dwg_classes.specs.ClassLines.{tried_classes};
 ghost use Rattle.dwg_codes.specs.Parts.{part_bytes};
-ghost use Rattle.dwg_recover.specs.Sections.{classes_of, first_whole, has_content, header_of, is_whole, locators_of, number_of_section, section_found, variables_of};
+ghost use Rattle.dwg_recover.specs.Sections.{classes_of, first_whole, header_of, is_whole, locators_of, number_of_section, section_found, variables_of};
 ghost use Rattle.dwg_sections.specs.Framed.{begin_sentinel};
 ghost use Rattle.dwg_sections.specs.FramedLines.{BEFORE_CONTENT, content_at, framed_lines, size_at};
 ghost use Rattle.dwg_sections.specs.HeaderLines.{bytes_at, place_of, rs_at};

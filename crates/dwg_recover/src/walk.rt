@@ -6,7 +6,6 @@ ghost use Rattle.dwg_recover.specs.Walks.{lost_end, lost_pages, pairs_at, pairs_
 ghost use Rattle.dwg_recover.specs.declared.loss.Loss.TheVariants.{MapEnd};
 
 use crate::loss::Loss;
-use crate::losses::with_loss;
 use dwg_base::{Items, NoMemory};
 use dwg_objmap::{Pair, page_holds, page_pairs, page_size};
 use std::alloc::Global;
@@ -28,10 +27,7 @@ fn with_pairs(pairs: Items<Pair>, others: &[Pair]) -> Result<Items<Pair>, NoMemo
 {
     let mut pairs = pairs;
     'along: for pair in others {
-        match pairs.push(*pair) {
-            Ok(()) => {}
-            Err(_) => return Err(NoMemory),
-        }
+        pairs.add(*pair)?;
     }
     Ok(pairs)
 }
@@ -51,7 +47,7 @@ fn with_page(
 {
     let Walked { pairs, losses } = walked;
     if !page_holds(bytes, place) {
-        let losses = with_loss(losses, Loss::Page { index, place })?;
+        let losses = losses.with(Loss::Page { index, place })?;
         return Ok(Walked { pairs, losses });
     }
     let others = page_pairs(alloc, bytes, place)?;
@@ -65,7 +61,7 @@ fn with_end(walked: Walked, place: u64) -> Result<Walked, NoMemory>
     ensures losses { IfOk result (λ more. more.losses ≡ walked.losses ++ MapEnd place ∷ []) }
 {
     let Walked { pairs, losses } = walked;
-    let losses = with_loss(losses, Loss::MapEnd { place })?;
+    let losses = losses.with(Loss::MapEnd { place })?;
     Ok(Walked { pairs, losses })
 }
 

@@ -1,6 +1,6 @@
 //! Arcs of circles.
 
-ghost use Rattle.std.specs.Prelude.{◌≡◌, ◌^◌, ◌<◌, length};
+ghost use Rattle.std.specs.Prelude.{◌≡◌, ◌<◌, length};
 ghost use Rattle.std.specs.Option.{option_map};
 ghost use Rattle.dwg_bits.specs.Cursor.{rest};
 ghost use Rattle.dwg_shapes.specs.Arcs.{arc_body, arc_main};

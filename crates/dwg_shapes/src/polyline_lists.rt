@@ -4,7 +4,7 @@ ghost use Rattle.std.specs.Prelude.{◌≡◌, ◌^◌, ◌<◌, ◌≤◌, ◌�
 ghost use Rattle.std.specs.List.{AllByRecursion};
 ghost use Rattle.dwg_bits.specs.Cursor.{rest};
 ghost use Rattle.dwg_bits.specs.Sink.{Extends};
-ghost use Rattle.dwg_grammar.specs.Codes.{bd, bl};
+ghost use Rattle.dwg_grammar.specs.Codes.{bd};
 ghost use Rattle.dwg_shapes.specs.LwPolylines.{counts_of, items_where, lists_of, polyline_counts, polyline_lists, width_pair};
 
 use crate::lists::{

@@ -1,6 +1,6 @@
 //! What a lightweight polyline begins with, as bits (Open Design Specification, "LWPOLYLINE").
 
-ghost use Rattle.std.specs.Prelude.{◌≡◌, ◌==◌, ◌^◌, ◌<◌, ◌≤◌, ◌↔◌, length, IfSome, IsTrue};
+ghost use Rattle.std.specs.Prelude.{◌≡◌, ◌==◌, ◌^◌, ◌<◌, ◌≤◌, ◌↔◌, length, IsTrue};
 ghost use Rattle.std.specs.Option.{option_map};
 ghost use Rattle.dwg_bits.specs.Cursor.{rest};
 ghost use Rattle.dwg_bits.specs.Sink.{Extends};

@@ -1,9 +1,8 @@
 //! The text of a drawing.
 
-ghost use Rattle.std.specs.Prelude.{◌≡◌, ⊤, ◌≤◌, ◌++◌, codes, decimal, length, flat_map, IsErrOf, IfOk, OnOk, map, string_bytes};
+ghost use Rattle.std.specs.Prelude.{◌≡◌, ⊤, ◌≤◌, ◌++◌, codes, decimal, flat_map, IsErrOf, IfOk, OnOk, map, string_bytes};
 ghost use Rattle.std.specs.List.{AllByRecursion};
 ghost use Rattle.dwg_base.specs.Devices.{LAST_COUNT, Rose, Sends};
-ghost use Rattle.dwg_codes.specs.Parts.{part_bytes};
 ghost use Rattle.dwg_file.specs.Contents.{contents_of, other_value};
 ghost use Rattle.dwg_file.specs.Valid.{IsValid};
 ghost use Rattle.dwg_object.specs.Objects.{value_of};

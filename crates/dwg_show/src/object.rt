@@ -5,7 +5,7 @@ ghost use Rattle.dwg_bits.specs.Bits.{bits};
 ghost use Rattle.dwg_bits.specs.Parts.{part_bits};
 ghost use Rattle.dwg_bits.specs.Sink.{padding};
 ghost use Rattle.dwg_bits.specs.WholeBytes.{whole_bytes};
-ghost use Rattle.dwg_object.specs.Objects.{number_of, value_of};
+ghost use Rattle.dwg_object.specs.Objects.{value_of};
 ghost use Rattle.dwg_show.specs.Fields as printers;
 ghost use Rattle.dwg_show.specs.FewBits.{HasFewBits};
 ghost use Rattle.dwg_show.specs.ObjectText as texts;
