@@ -1,6 +1,6 @@
 //! The pairs of a map that were read so far, with a set of their handles from where they cease to ascend.
 
-ghost use Rattle.std.specs.Prelude.{◌≡◌, ℕ, Bool, [], ◌∷◌, ◌++◌, ◌||◌, ◌&&◌, not, nat_eq, nat_lt, is_some, IfOk, OnOk, IfSome};
+ghost use Rattle.std.specs.Prelude.{◌≡◌, ℕ, [], ◌∷◌, ◌++◌, ◌||◌, ◌&&◌, not, nat_eq, nat_lt, is_some, IfOk, OnOk, IfSome};
 ghost use Rattle.std.specs.Ordering.{nat_cmp};
 ghost use Rattle.std.specs.BTreeSet as set;
 ghost use Rattle.dwg_objmap.specs.Gathered.{HasHandles, Knows};

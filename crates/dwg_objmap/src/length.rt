@@ -2,9 +2,9 @@
 
 ghost use Rattle.std.specs.Prelude.{◌≡◌, ◌+◌, ◌*◌, ◌^◌, ◌<◌, ◌≤◌, List, [], ◌∷◌, length};
 ghost use Rattle.dwg_objmap.specs.declared.pair.Pair.{Pair};
-ghost use Rattle.dwg_objmap.specs.Pairs.{IsPair, ORIGIN, pair_behind};
+ghost use Rattle.dwg_objmap.specs.Pairs.{IsPair};
 ghost use Rattle.dwg_objmap.specs.Writing.{MOST_PAGE, Ascend, map_bytes};
-ghost use Rattle.dwg_objmap.specs.MapLength.{told_at, size_added, length_behind};
+ghost use Rattle.dwg_objmap.specs.MapLength.{size_added, length_behind};
 
 use crate::pair::{Pair, origin};
 use crate::writing::{MOST_PAGE, pair_bytes};

@@ -1,6 +1,6 @@
 //! Pages of the map as recovery reads them: each by itself, whatever is wrong with its pairs or its check word.
 
-ghost use Rattle.std.specs.Prelude.{◌≡◌, ◌↔◌, ◌++◌, ◌∷◌, [], IsTrue, IfOk, OnOk, IfSome, IfNone};
+ghost use Rattle.std.specs.Prelude.{◌≡◌, ◌↔◌, IsTrue, IfOk, IfSome, IfNone};
 ghost use Rattle.dwg_objmap.specs.MapLines.{body_at, HasPage, HasCheckWord};
 ghost use Rattle.dwg_objmap.specs.Walking.{AreLongest, pairs_in_front, page_holds_at, size_of_page};
 
@@ -40,16 +40,6 @@ pub fn page_holds(bytes: &[u8], place: u64) -> bool
     is_right(bytes, place as usize, size as usize)
 }
 
-/// Puts a pair behind the others. The only refusal is want of memory.
-fn add(pairs: &mut Items<Pair>, pair: &Pair) -> Result<(), NoMemory>
-    ensures { OnOk result (pairs.new ≡ pairs.old ++ pair.now ∷ []) }
-{
-    match pairs.push(*pair) {
-        Ok(()) => Ok(()),
-        Err(_) => Err(NoMemory),
-    }
-}
-
 /// Reads pairs up to where no pair in range is spelled. Each takes a byte or more.
 fn read_in_front(alloc: Global, body: &[u8]) -> Result<Items<Pair>, NoMemory>
     ensures { IfOk result (λ pairs. pairs ≡ pairs_in_front body.now) }
@@ -61,8 +51,8 @@ fn read_in_front(alloc: Global, body: &[u8]) -> Result<Items<Pair>, NoMemory>
         let Some((pair, used)) = read_pair(&last, bytes_behind(body, at)) else {
             return Ok(pairs);
         };
-        add(&mut pairs, &pair)?;
         last = pair;
+        pairs.add(last)?;
         at += used;
     }
     Ok(pairs)

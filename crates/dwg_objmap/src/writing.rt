@@ -1,6 +1,6 @@
 //! Writing the map: which pairs go into which page, and the pages one behind the other.
 
-ghost use Rattle.std.specs.Prelude.{◌≡◌, ◌+◌, ◌-◌, ◌*◌, ◌%◌, ◌^◌, ◌<◌, ◌≤◌, ◌++◌, List, [], length, true, false, IfOk, OnOk, OnErr};
+ghost use Rattle.std.specs.Prelude.{◌≡◌, ◌+◌, ◌-◌, ◌*◌, ◌%◌, ◌^◌, ◌<◌, ◌≤◌, ◌++◌, [], length, true, false, IfOk, OnOk, OnErr};
 ghost use Rattle.std.specs.Int.{w16, to_be_bytes};
 ghost use Rattle.dwg_check.specs.CheckWord.{FRAME_START, check_word};
 ghost use Rattle.dwg_bits.specs.Bits.{bits};
@@ -161,8 +161,8 @@ fn send_filled<W: Sink>(body: &[u8], sink: &mut W) -> Result<(), WriteFault>
 /// Writes the map of pairs that come in ascending order of handle (Open Design Specification, "Object map").
 ///
 /// A pair goes into the page that is being filled where that page's size with it is at most 2032, and else begins the next
-/// page. Contracts see the page that is being filled, the last pair, and whether the map has ended. After a fault a writer
-/// isn't used again.
+/// page. Contracts see the page that is being filled, the last pair, and whether the map has ended. After a fault, and after
+/// its end, a writer isn't used before [`restart`](PageWriter::restart).
 #[derive(Drop)]
 pub struct PageWriter {
     page: BitSink,
@@ -199,8 +199,17 @@ impl PageWriter {
         })
     }
 
+    /// Makes the writer what it was after `new`, whatever became of it since. It keeps its room, and takes no memory.
+    pub fn restart(&mut self)
+        ensures { self.new ≡ FRESH }
+    {
+        self.page.clear();
+        self.last = origin();
+        self.ended = false;
+    }
+
     /// Puts the next pair into the map, and sends the page that has no room for it. A fault comes only where the sink's count
-    /// of faults rose; then it took a front of that page, and the writer isn't used again.
+    /// of faults rose; then it took a front of that page, and the writer isn't used before `restart`.
     pub fn put<W: Sink>(&mut self, pair: Pair, sink: &mut W) -> Result<(), WriteFault>
         requires handle { self.old.last.handle < pair.handle }
         requires place { pair.place < 2 ^ 63 }
@@ -231,7 +240,7 @@ impl PageWriter {
     }
 
     /// Ends the map: sends the page that is being filled, if it has pairs, and the page without pairs. A fault comes only
-    /// where the sink's count of faults rose; then it took a front of these bytes.
+    /// where the sink's count of faults rose; then it took a front of these bytes. The writer isn't used before `restart`.
     pub fn end<W: Sink>(&mut self, sink: &mut W) -> Result<(), WriteFault>
         requires { self.old.ended ≡ false }
         ensures bytes { Sends (W.taken sink.old) (W.taken sink.new) (closing self.old) result }

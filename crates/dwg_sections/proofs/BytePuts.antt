@@ -1,5 +1,5 @@
 -- Bytes that are appended piece by piece.
-use Rattle.std.proofs.Common.{◌≡◌, ℕ, ◌%◌, ◌<◌, List, [], ◌∷◌, ◌++◌, length, get_or, sym, ap, subst, ◌∙◌, arith, length-append}
+use Rattle.std.proofs.Common.{◌≡◌, ℕ, ◌%◌, ◌<◌, List, [], ◌++◌, length, get_or, sym, ap, subst, ◌∙◌, arith, length-append}
 use Rattle.dwg_base.specs.Bytes.{AreBytes}
 use Rattle.dwg_base.proofs.ByteLists.{are_bytes, joined_are_bytes}
 use Rattle.dwg_bits.specs.Bits.{bits}

@@ -1,45 +1,13 @@
 -- Lists of numbers: which of them stand there twice and which are missing, and how that is looked up number by number.
-use Rattle.std.proofs.Common.{◌≡◌, ◌≢◌, sym, ◌∙◌, ap, refl, ℕ, zero, suc, ◌+◌, ◌-◌, ◌<◌, ◌≤◌, Bool, true, false, List, [], ◌∷◌, length, take, get_or, Some, None, arith, eqb-true, eq-eqb, inl, inr}
+use Rattle.std.proofs.Common.{◌≡◌, ◌≢◌, sym, ◌∙◌, ap, ℕ, ◌<◌, ◌≤◌, true, false, List, [], ◌∷◌, length, take, get_or, None, arith, eqb-true, eq-eqb}
 use Rattle.std.specs.Prelude.{◌==◌, slice_index, Contains, find}
 use Rattle.std.specs.List.{list_any, range_with_len}
-use Rattle.std.proofs.lemmas.Bool.{both_ways, cases_eq, false_from_ne_true, not-false, not_from_true, not_from_false, cond-true, cond-false}
+use Rattle.std.proofs.lemmas.Bool.{both_ways, false_from_ne_true, not-false, not_from_true, not_from_false}
 use Rattle.std.proofs.lemmas.List.{get_or-take, length-take-le, take_all}
 use Rattle.std.proofs.lemmas.List.Folds.{Any-from_list_any, list_any_at}
 use Rattle.std.proofs.lemmas.Grind.{get_or_default_zero}
+use Rattle.dwg_base.proofs.RangeSearch.{each_fails, none_found}
 use Rattle.dwg_sections.specs.HeaderLines.{stands_earlier, is_missing}
-
--- of numbers in turn none passes a test where none is found
-pub none_passes : (test : ℕ → Bool) (from count : ℕ) → find test (range_with_len from count) ≡ None → (k : ℕ) → from ≤ k → k < from + count → test k ≡ false
-none_passes test from zero none k least below = absurd (omega arith)
-none_passes test from (suc count) none k least below =
-    let here : test from ≡ false = false_from_ne_true (test from) (λ (yes : test from ≡ true). absurd (let some = cond-true (test from) (Some from) (find test (range_with_len (from + 1) count)) yes in cc)) in
-    let behind : find test (range_with_len (from + 1) count) ≡ None = sym (cond-false (test from) (Some from) (find test (range_with_len (from + 1) count)) here) ∙ none in
-    elim (cases_eq k from) [ inl same ↦ ap test same ∙ here | inr other ↦ none_passes test (from + 1) count behind k (omega arith) (omega arith) ]
-
--- and none is found where none passes
-pub none_found : (test : ℕ → Bool) (from count : ℕ) → ((k : ℕ) → from ≤ k → k < from + count → test k ≡ false) → find test (range_with_len from count) ≡ None
-none_found test from zero fails = refl
-none_found test from (suc count) fails =
-    cond-false (test from) (Some from) _ (fails from (omega arith) (omega arith))
-    ∙ none_found test (from + 1) count (λ k least below. fails k (omega arith) (omega arith))
-
--- where the first number passes, it is found
-pub found_here : (test : ℕ → Bool) (from count : ℕ) → from < count → test from ≡ true → find test (range_with_len from (count - from)) ≡ Some from
-found_here test from count inside passes =
-    let one : count - from ≡ suc (count - (from + 1)) = omega arith in
-    ap (λ n. find test (range_with_len from n)) one ∙ cond-true (test from) (Some from) _ passes
-
--- where it fails, the search goes on behind it
-pub found_behind : (test : ℕ → Bool) (from count : ℕ) → from < count → test from ≡ false → find test (range_with_len (from + 1) (count - (from + 1))) ≡ find test (range_with_len from (count - from))
-found_behind test from count inside fails =
-    let one : count - from ≡ suc (count - (from + 1)) = omega arith in
-    sym (ap (λ n. find test (range_with_len from n)) one ∙ cond-false (test from) (Some from) _ fails)
-
--- where no number is left, none is found
-pub found_nowhere : (test : ℕ → Bool) (from count : ℕ) → count ≤ from → find test (range_with_len from (count - from)) ≡ None
-found_nowhere test from count past =
-    let none : count - from ≡ 0 = omega arith in
-    ap (λ n. find test (range_with_len from n)) none
 
 -- the numbers of a list are distinct
 abbrev pub AreDistinct : List ℕ → Type 0
@@ -64,7 +32,7 @@ has_earlier numbers j within stands =
 -- where no number stands earlier too, the numbers are distinct
 pub distinct_from_none : (numbers : List ℕ) (count : ℕ) → length numbers ≡ count → find (stands_earlier numbers) (range_with_len 0 count) ≡ None → AreDistinct numbers
 distinct_from_none numbers count counted none i j before inside same =
-    both_ways (stands_earlier numbers j) (none_passes (stands_earlier numbers) 0 count none j (omega arith) (omega arith)) (is_earlier numbers i j before (omega arith) same)
+    both_ways (stands_earlier numbers j) (each_fails (stands_earlier numbers) 0 count none j (omega arith) (omega arith)) (is_earlier numbers i j before (omega arith) same)
 
 -- of distinct numbers none stands earlier too
 pub none_from_distinct : (numbers : List ℕ) (count : ℕ) → length numbers ≡ count → AreDistinct numbers → find (stands_earlier numbers) (range_with_len 0 count) ≡ None
@@ -92,7 +60,7 @@ is_there numbers number there =
 -- where none of 0, 1 and 2 is missing, they are among the numbers
 pub located_from_none : (numbers : List ℕ) → find (is_missing numbers) (0 ∷ 1 ∷ 2 ∷ []) ≡ None → AreLocated numbers
 located_from_none numbers none number below =
-    stands_there numbers number (not-false _ (none_passes (is_missing numbers) 0 3 none number (omega arith) (omega arith)))
+    stands_there numbers number (not-false _ (each_fails (is_missing numbers) 0 3 none number (omega arith) (omega arith)))
 
 -- where 0, 1 and 2 are among the numbers, none is missing
 pub none_from_located : (numbers : List ℕ) → AreLocated numbers → find (is_missing numbers) (0 ∷ 1 ∷ 2 ∷ []) ≡ None

@@ -1,58 +1,15 @@
 -- The lines on the numbers of locators tell the first number that fails.
-use Rattle.std.proofs.Common.{◌≡◌, ◌∙◌, refl, sym, ap, ℕ, zero, suc, ◌+◌, ◌<◌, ◌≤◌, Bool, true, false, List, Option, Some, None, inl, inr, arith}
-use Rattle.std.specs.Prelude.{cond, find, option_map}
+use Rattle.std.proofs.Common.{◌≡◌, ◌∙◌, refl, sym, ap, ℕ, ◌<◌, true, List, Option, Some, None, arith}
+use Rattle.std.specs.Prelude.{find, option_map}
 use Rattle.std.specs.List.{range_with_len}
-use Rattle.std.proofs.lemmas.Bool.{both_ways, cases_eq, false_from_ne_true, not-false, not_from_true, not_from_false, cond-true, cond-false}
+use Rattle.std.proofs.lemmas.Bool.{both_ways, false_from_ne_true, not-false, not_from_true, not_from_false}
 use Rattle.std.proofs.lemmas.Option.{same_Some}
+use Rattle.dwg_base.proofs.RangeSearch.{first_from_found, found_from_first}
 use Rattle.dwg_base.specs.declared.refusal.Refusal.{Refusal}
 use Rattle.dwg_sections.specs.HeaderLines.{count_at, numbers_at, stands_earlier, is_missing, repeated_refusal, missing_refusal, repeated_line, missing_line}
 use Rattle.dwg_sections.specs.HeaderLaws.{IsFirstRepeated, RepeatedIsFirst, IsLeastMissing, MissingIsLeast}
 use Rattle.dwg_sections.proofs.LocatorStep.{numbers_counted}
 use Rattle.dwg_sections.proofs.LocatorNumbers.{is_earlier, has_earlier, stands_there, is_there}
-
--- of numbers in turn this is the first that passes a test
-record IsFirstPassing (test : ℕ → Bool) (from count number : ℕ) : Type 0 where
-  least : from ≤ number
-  inside : number < from + count
-  passes : test number ≡ true
-  before : (k : ℕ) → from ≤ k → k < number → test k ≡ false
-
--- what is found is the number in front, or is found behind it
-front_or_behind : (test : ℕ → Bool) (from count number : ℕ) (here : Bool) (behind : Option ℕ) → test from ≡ here → cond here (Some from) behind ≡ Some number
-    → (behind ≡ Some number → IsFirstPassing test (from + 1) count number) → IsFirstPassing test from (suc count) number
-front_or_behind test from count number true behind passes found others =
-    let same : from ≡ number = same_Some from number found in
-    record {
-      least = omega arith;
-      inside = omega arith;
-      passes = ap test (sym same) ∙ passes;
-      before = λ k least below. absurd (omega arith);
-    }
-front_or_behind test from count number false behind fails found others =
-    let is = others found in
-    record {
-      least = omega (arith, is.least);
-      inside = omega (arith, is.inside);
-      passes = is.passes;
-      before = λ k least below. elim (cases_eq k from) [ inl same ↦ ap test same ∙ fails | inr other ↦ is.before k (omega arith) below ];
-    }
-
--- what is found is the first that passes
-first_from_found : (test : ℕ → Bool) (from count number : ℕ) → find test (range_with_len from count) ≡ Some number → IsFirstPassing test from count number
-first_from_found test from zero number found = absurd cc
-first_from_found test from (suc count) number found =
-    front_or_behind test from count number (test from) (find test (range_with_len (from + 1) count)) refl found (first_from_found test (from + 1) count number)
-
--- the first that passes is found
-found_from_first : (test : ℕ → Bool) (from count number : ℕ) → from ≤ number → number < from + count → test number ≡ true → ((k : ℕ) → from ≤ k → k < number → test k ≡ false)
-    → find test (range_with_len from count) ≡ Some number
-found_from_first test from zero number least inside passes before = absurd (omega arith)
-found_from_first test from (suc count) number least inside passes before =
-    elim (cases_eq number from) [
-      | inl same ↦ cond-true (test from) (Some from) _ (ap test (sym same) ∙ passes) ∙ ap (λ (n : ℕ). Some n) (sym same)
-      | inr other ↦ cond-false (test from) (Some from) _ (before from (omega arith) (omega arith))
-          ∙ found_from_first test (from + 1) count number (omega arith) (omega arith) passes (λ k over below. before k (omega arith) below)
-    ]
 
 -- where there is a refusal of what was found, something was
 found_some : (tell : ℕ → Refusal) (found : Option ℕ) (refusal : Refusal) → option_map tell found ≡ Some refusal → (number : ℕ) × (found ≡ Some number) × (refusal ≡ tell number)
@@ -89,10 +46,13 @@ repeated_told bytes refusal is =
     let counted = numbers_counted bytes in
     let inside : is.index < count_at bytes = is.inside in
     told_some repeated_refusal (find (stands_earlier numbers) (range_with_len 0 (count_at bytes))) refusal is.index
-    (found_from_first (stands_earlier numbers) 0 (count_at bytes) is.index (omega arith) (omega arith)
-    (is_earlier numbers is.repeats.0 is.index is.repeats.1 (omega arith) is.repeats.2)
-    (λ k over below. false_from_ne_true (stands_earlier numbers k) (λ (stands : stands_earlier numbers k ≡ true).
-    is.first k below (has_earlier numbers k (omega arith) stands))))
+    (found_from_first (stands_earlier numbers) 0 (count_at bytes) is.index (record {
+      least = omega arith;
+      inside = omega arith;
+      passes = is_earlier numbers is.repeats.0 is.index is.repeats.1 (omega arith) is.repeats.2;
+      before = λ k over below. false_from_ne_true (stands_earlier numbers k) (λ (stands : stands_earlier numbers k ≡ true).
+          is.first k below (has_earlier numbers k (omega arith) stands));
+    }))
     is.tells
 
 -- the line on repeated numbers tells the first such locator
@@ -121,9 +81,12 @@ missing_told bytes refusal is =
     let numbers = numbers_at bytes in
     let wanted : is.number < 3 = is.wanted in
     told_some missing_refusal (find (is_missing numbers) (range_with_len 0 3)) refusal is.number
-    (found_from_first (is_missing numbers) 0 3 is.number (omega arith) (omega arith)
-    (not_from_false _ (false_from_ne_true _ (λ found. is.missing (stands_there numbers is.number found))))
-    (λ k over below. not_from_true _ (is_there numbers k (is.least k below))))
+    (found_from_first (is_missing numbers) 0 3 is.number (record {
+      least = omega arith;
+      inside = omega arith;
+      passes = not_from_false _ (false_from_ne_true _ (λ found. is.missing (stands_there numbers is.number found)));
+      before = λ k over below. not_from_true _ (is_there numbers k (is.least k below));
+    }))
     is.tells
 
 -- the line on missing numbers tells the least such number

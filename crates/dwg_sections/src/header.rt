@@ -123,10 +123,7 @@ fn read_locators(alloc: Global, bytes: &[u8], count: u32) -> Result<Items<Locato
     let mut locators = Items::new(alloc);
     'along: for i in 0..count {
         let place = LOCATORS_PLACE + LOCATOR_SIZE * i as usize;
-        match locators.push(read_locator(bytes, place)) {
-            Ok(()) => {}
-            Err(_) => return Err(NoMemory),
-        }
+        locators.add(read_locator(bytes, place))?;
     }
     Ok(locators)
 }

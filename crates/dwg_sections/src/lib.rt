@@ -19,7 +19,7 @@ pub use framed::{
     CONTENT_PLACE, END_PLACE, FRAMED_SIZE, Framed, SIZE_PLACE, begin_sentinel, has_begin, has_end,
     read_framed,
 };
-pub use framed_writer::write_framed;
+pub use framed_writer::{FramedPieces, framed_pieces, write_framed};
 pub use header::{FileHeader, Locator, read_file_header};
 pub use header_places::{HEADER_SIZE, LOCATOR_SIZE};
 pub use header_writer::write_file_header;

@@ -15,7 +15,7 @@ pub along-preserved : goal.along-preserved
 along-preserved c = record {
   within = omega (arith, c.along.invariant.within, c.in-Some.ensures.used, ap length c.bytes_behind.ensures.rest, length-drop c.along.at c.args.body.now);
   whole =
-      front_on (length c.args.body.now - c.along.counter) (length c.args.body.now - (c.along.counter + 1)) c.along.at c.in-Some.used c.along.pairs c.add.new.pairs _ c.along.last c.in-Some.pair
+      front_on (length c.args.body.now - c.along.counter) (length c.args.body.now - (c.along.counter + 1)) c.along.at c.in-Some.used c.along.pairs c.add.new.self _ c.along.last c.in-Some.pair
       c.bytes_behind.result.now c.args.body.now (omega arith) c.along.invariant.whole c.bytes_behind.ensures.rest c.in-Some.ensures.found c.in_ok-add.ensures;
 }
 
