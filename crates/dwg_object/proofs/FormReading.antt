@@ -1,9 +1,7 @@
 -- Reading a body in its forms, by its head, its common part and what stands behind it.
-use Rattle.std.proofs.Common.{◌≡◌, ◌≢◌, refl, sym, ◌∙◌, ap, ap₂, subst, ℕ, ◌*◌, ◌^◌, ◌<◌, ◌≤◌, Bool, true, false, List, [], ◌∷◌, ◌++◌, length, Option, Some, None, inl, inr, arith}
-use Rattle.std.specs.Bool.{then_some}
-use Rattle.std.specs.Prelude.{◌↔◌, ◌⊎◌, Result, Ok, IfSome, IsTrue}
+use Rattle.std.proofs.Common.{◌≡◌, ◌≢◌, sym, ◌∙◌, ap, ap₂, subst, ℕ, ◌*◌, ◌^◌, ◌<◌, ◌≤◌, Bool, true, false, List, [], ◌∷◌, ◌++◌, length, Some, None, inl, inr, arith}
+use Rattle.std.specs.Prelude.{◌↔◌, ◌⊎◌, IsTrue}
 use Rattle.std.proofs.lemmas.List.{append_assoc, length-append}
-use Rattle.dwg_base.specs.declared.device.NoMemory.{NoMemory}
 use Rattle.dwg_bits.specs.Bits.{bits}
 use Rattle.dwg_bits.proofs.BitLaws.{bits_between_all, bits_between_joined, length_of_bits, length_of_bits_between}
 use Rattle.dwg_bits.specs.Cursor.{bits_between, rest}
@@ -112,24 +110,11 @@ pub own_read : (kind : Kind) (handle : ℕ) (own behind own_left left : List Boo
 own_read kind handle own behind [] left value begins none few = record { begins = begins; few = few }
 own_read kind handle own behind (letter ∷ more) left value begins none few = absurd cc
 
--- a value is kept exactly where all is read that it has of its own
-pub own_kept : (kind : Kind) (handle : ℕ) (own behind own_left left : List Bool) (value : Body) (out : Bool) (kept : Option Body) → ReadsBody (own_body kind handle) (Some value) own own_left behind left
-    → IsTrue out ↔ ((length own_left ≡ 0) × (length left < 8)) → kept ≡ then_some out value
-    → IfSome kept (λ (body : Body). (over : List Bool) × AreOwn kind handle body own behind over)
-own_kept kind handle own behind own_left left value true kept begins out is =
-    let ends = out.0 refl in
-    subst (λ (found : Option Body). IfSome found (λ (body : Body). (over : List Bool) × AreOwn kind handle body own behind over)) (sym is)
-    (left, own_read kind handle own behind own_left left value begins ends.0 ends.1)
-own_kept kind handle own behind own_left left value false kept begins out is =
-    subst (λ (found : Option Body). IfSome found (λ (body : Body). (over : List Bool) × AreOwn kind handle body own behind over)) (sym is) tt
-
--- where it isn't, own bits and own references aren't those of the kind
-pub own_unkept : (kind : Kind) (handle : ℕ) (own behind own_left left : List Bool) (value : Body) (out : Bool) (kept : Option Body) → handle < 2 ^ 63
-    → ReadsBody (own_body kind handle) (Some value) own own_left behind left → IsTrue out ↔ ((length own_left ≡ 0) × (length left < 8)) → kept ≡ then_some out value → ◌≡◌ {A = Result (Option Body) NoMemory} (Ok kept) (Ok None)
-    → HasOwn kind handle own behind → ⊥
-own_unkept kind handle own behind own_left left value true kept small begins out is none has = absurd cc
-own_unkept kind handle own behind own_left left value false kept small begins out is none has =
-    own_left_unread kind handle own behind own_left left value small begins (λ no few. let wrong : false ≡ true = out.1 (no, few) in absurd cc) has
+-- so it is where a test doesn't find them wholly read
+pub own_unkept : (kind : Kind) (handle : ℕ) (own behind own_left left : List Bool) (value : Body) (out : Bool) → handle < 2 ^ 63
+    → ReadsBody (own_body kind handle) (Some value) own own_left behind left → IsTrue out ↔ ((length own_left ≡ 0) × (length left < 8)) → out ≡ false → HasOwn kind handle own behind → ⊥
+own_unkept kind handle own behind own_left left value out small begins is not has =
+    own_left_unread kind handle own behind own_left left value small begins (λ none few. let wrong : out ≡ true = is.1 (none, few) in absurd cc) has
 
 -- a body whose own bits and own references aren't those of its kind has no Typed form
 pub untyped : (classes : List Class) (body : List ℕ) (number handle : ℕ) (kind : Kind) (common : Common) (own behind : List Bool) → kind ≡ kind_under classes number

@@ -14,7 +14,7 @@ use Rattle.dwg_check.specs.CheckWord.{FRAME_START, check_word}
 use Rattle.dwg_grammar.specs.ModularCodes.{ms}
 use Rattle.dwg_object.specs.declared.common.Common.{Common}
 use Rattle.dwg_object.specs.Forms.{head}
-use Rattle.dwg_object.specs.Frames.{frame_bytes}
+use Rattle.dwg_object.specs.Frames.{frame_bytes, sized}
 use Rattle.dwg_object.proofs.FormLaws.{length_of_frame}
 use Rattle.dwg_object.proofs.LengthLemmas.{bytes_joined, length_is_bytes}
 use Rattle.dwg_object.specs.Objects.{ObjectValue}
@@ -53,6 +53,12 @@ object_long number handle common own own_refs = length-append (front_bits number
 pub padded_long : (letters : List Bool) (count : ℕ) → count ≡ length letters → (count + 7) / 8 ≡ length (whole_bytes (letters ++ padding letters))
 padded_long letters count same = let padded = bytes_padded letters in omega (arith, same, padded.enough, padded.few)
 
+-- so are the bytes of an object, whose bits were counted before the references and of these
+pub object_counted : (number handle : ℕ) (common : Common) (own own_refs : List Bool) (front names : ℕ) → front ≡ length (front_bits number handle common own)
+    → names ≡ length (refs_bits handle common own_refs) → (front + names + 7) / 8 ≡ length (object_bytes number handle common own own_refs)
+object_counted number handle common own own_refs front names in_front behind =
+    padded_long (object_bits number handle common own own_refs) (front + names) (omega (arith, object_long number handle common own own_refs, in_front, behind))
+
 -- behind whole bytes, bits are filled up as they are alone
 pub padding_behind : (front letters : List Bool) → length front % 8 ≡ 0 → padding (front ++ letters) ≡ padding letters
 padding_behind front letters whole =
@@ -72,28 +78,32 @@ written_behind old new bytes from whole far are grew =
     let place : length (whole_bytes old.written) ≡ from = omega (arith, far, length_of_whole old.written whole) in
     ap (λ (letters : List Bool). drop from (whole_bytes letters)) grew.bits ∙ ap (drop from) (whole_joined old.written bytes whole are) ∙ drop_at (whole_bytes old.written) bytes from place
 
--- a length and a body that were written are those of the frame
-pub size_and_body : (first second third : Written) (value : ObjectValue) → Extends first second (bits (ms.short (length (body_bytes value)))) → Extends second third (bits (body_bytes value))
-    → Extends first third (bits (ms.short (length (body_bytes value)) ++ body_bytes value))
-size_and_body first second third value by_size by_body = both_written first second third (ms.short (length (body_bytes value))) (body_bytes value) by_size by_body
+-- bytes behind their length take the room of both
+pub sized_room : (bytes : List ℕ) → 8 * length (sized bytes) ≡ length (bits (ms.short (length bytes))) + 8 * length bytes
+sized_room bytes = omega (arith, length-append (ms.short (length bytes)) bytes, length_of_bits (ms.short (length bytes)))
 
--- they are bytes
-pub size_and_body_bytes : (value : ObjectValue) → AreBytes (body_bytes value) → length (body_bytes value) < 2 ^ 29 → AreBytes (ms.short (length (body_bytes value)) ++ body_bytes value)
-size_and_body_bytes value are small = bytes_joined (ms.short (length (body_bytes value))) (body_bytes value) (length_is_bytes (length (body_bytes value)) (omega (arith, small))) are
+-- they are what is written of their length and of them, one behind the other
+pub sized_written : (first second third : Written) (count : ℕ) (bytes : List ℕ) → count ≡ length bytes → Extends first second (bits (ms.short count)) → Extends second third (bits bytes)
+    → Extends first third (bits (sized bytes))
+sized_written first second third count bytes same by_size by_bytes =
+    both_written first second third (ms.short (length bytes)) bytes (subst (λ (n : ℕ). Extends first second (bits (ms.short n))) same by_size) by_bytes
+
+-- their length is bytes too
+pub sized_are_bytes : (content : List ℕ) → AreBytes content → length content < 2 ^ 29 → AreBytes (sized content)
+sized_are_bytes content are small = bytes_joined (ms.short (length content)) content (length_is_bytes (length content) (omega (arith, small))) are
 
 -- a length, a body and a check word that were written are the frame
-pub frame_written : (first third fourth : Written) (value : ObjectValue) (word_bytes : List ℕ) (word : ℕ) → word ≡ check_word FRAME_START (ms.short (length (body_bytes value)) ++ body_bytes value)
-    → word_bytes ≡ to_le_bytes w16 word → Extends first third (bits (ms.short (length (body_bytes value)) ++ body_bytes value)) → Extends third fourth (bits word_bytes)
-    → Extends first fourth (bits (frame_bytes value))
+pub frame_written : (first third fourth : Written) (value : ObjectValue) (word_bytes : List ℕ) (word : ℕ) → word ≡ check_word FRAME_START (sized (body_bytes value))
+    → word_bytes ≡ to_le_bytes w16 word → Extends first third (bits (sized (body_bytes value))) → Extends third fourth (bits word_bytes) → Extends first fourth (bits (frame_bytes value))
 unfolding frame_bytes
 frame_written first third fourth value word_bytes word checked spelled by_both by_word =
-    let both : List ℕ = ms.short (length (body_bytes value)) ++ body_bytes value in
+    let both : List ℕ = sized (body_bytes value) in
     both_written first third fourth both (to_le_bytes w16 (check_word FRAME_START both)) by_both
     (subst (λ (b : List ℕ). Extends third fourth (bits b)) (spelled ∙ ap (to_le_bytes w16) checked) by_word)
 
 -- the room of a frame is that of its length, its body and its check word
-pub frame_room : (value : ObjectValue) → 8 * length (frame_bytes value) ≡ length (bits (ms.short (length (body_bytes value)))) + 8 * length (body_bytes value) + 16
-frame_room value = omega (arith, length_of_frame value, length_of_bits (ms.short (length (body_bytes value))))
+pub frame_room : (value : ObjectValue) → 8 * length (frame_bytes value) ≡ 8 * length (sized (body_bytes value)) + 16
+frame_room value = omega (arith, length_of_frame value, length-append (ms.short (length (body_bytes value))) (body_bytes value))
 
 -- what is written one behind the other before the references is the front of an object
 pub front_written : (first second third fourth : Written) (number size handle : ℕ) (common : Common) (own : List Bool) → size ≡ length (front_bits number handle common own)

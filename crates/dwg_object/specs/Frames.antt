@@ -37,6 +37,10 @@ pub record SpanAt (bytes : List ℕ) (span : Span) : Type 0 where
   pub body_end : span.body_end ≡ span.body + length body
   pub ends : span.end ≡ span.body_end + 2
 
+-- bytes behind their length in the fewest units
+abbrev pub sized : List ℕ → List ℕ
+sized bytes = ms.short (length bytes) ++ bytes
+
 -- the frame of an object as it is written: the length in the fewest units
 unfoldable pub frame_bytes : ObjectValue → List ℕ
 frame_bytes value = framed_body (ms.short (length (body_bytes value))) (body_bytes value)

@@ -12,7 +12,7 @@ ghost use Rattle.dwg_object.specs.declared.reading.Rest.{Rest};
 ghost use Rattle.dwg_object.specs.Forms.{BeginsWithHead, CommonForm, FormOf, HasCommonForm, HasPlainForm, HasTypedForm, kind_under};
 ghost use Rattle.dwg_object.specs.Heads.{IsHeadAt};
 ghost use Rattle.dwg_object.specs.Objects.{IsBorrowedObject, PlainValue, parts_of, value_of};
-ghost use Rattle.dwg_object.specs.OwnBits.{AreOwn, HasOwn};
+ghost use Rattle.dwg_object.specs.OwnBits.{HasOwn};
 
 use crate::body::Body;
 use crate::common::Common;
@@ -82,27 +82,6 @@ fn is_read_out(main: &BitCursor<'_>, refs: &BitCursor<'_>) -> bool
     main.left() == 0 && refs.left() < 8
 }
 
-/// Reads what a kind has of its own behind the common part of a body. None exactly where own bits and own references are not
-/// those of the kind, but for fewer than eight bits; the only refusal is want of memory.
-fn read_value(
-    alloc: Global,
-    front: &Front<'_>,
-    kind: Kind,
-    own: Handle,
-) -> Result<Option<Body>, NoMemory>
-    ensures own { IfOk result (λ read. IfSome read (λ body. (left : List Bool) × AreOwn kind own body (rest front.now.main) (rest front.now.refs) left)) }
-    ensures none { result ≡ Ok None → HasOwn kind own (rest front.now.main) (rest front.now.refs) → ⊥ }
-{
-    // The laws of bodies ask that their base is a handle's number.
-    let _base = own.value();
-    let mut main = front.main;
-    let mut refs = front.refs;
-    match Body::read(alloc, kind, &mut main, &mut refs, own)? {
-        Some(body) => Ok(is_read_out(&main, &refs).then_some(body)),
-        None => Ok(None),
-    }
-}
-
 /// What stands behind the common part of a body in its Plain form.
 #[derive(Drop)]
 struct Rest<'a> {
@@ -163,6 +142,27 @@ fn plain_object<'a>(found: &HeadAt, common: Common, behind: Rest<'a>) -> Object<
     })
 }
 
+/// The object of a body that has no Typed form: in its Plain form where it has that, else as its bytes. The only refusal is want of
+/// memory.
+fn read_untyped<'a>(
+    alloc: Global,
+    body: &'a [u8],
+    found: &HeadAt,
+    kind: Kind,
+    front: Front<'a>,
+) -> Result<Object<'a>, NoMemory>
+    requires head { IsHeadAt (bits body.now) (parts_of found.now.head) found.now.end }
+    requires form { (classes : List Class) → kind ≡ kind_under classes found.now.head.number → CommonForm classes body.now found.now.head.number found.now.head.own front.common (rest front.main) (rest front.refs) }
+    requires untyped { HasOwn kind found.now.head.own (rest front.main) (rest front.refs) → ⊥ }
+    ensures form { IfOk result (λ object. (classes : List Class) → kind ≡ kind_under classes found.now.head.number → FormOf classes body.now (value_of object)) }
+    ensures lent { IfOk result IsBorrowedObject }
+{
+    let Some(behind) = read_rest(alloc, &front, kind, found.head.own)? else {
+        return Ok(raw_object(found, body));
+    };
+    Ok(plain_object(found, front.common, behind))
+}
+
 /// Reads a body of a kind, in the strongest form that it has: its parts are read one by one, and put together where the object is
 /// answered. The only refusal is want of memory.
 fn read_kind<'a>(
@@ -180,18 +180,19 @@ fn read_kind<'a>(
     let Some(front) = read_front(alloc, body, found, kind)? else {
         return Ok(raw_object(found, body));
     };
-    if let Some(value) = read_value(alloc, &front, kind, own)? {
-        return Ok(Object::Typed(Typed {
+    // The laws of bodies ask that their base is a handle's number.
+    let _base = own.value();
+    let mut main = front.main;
+    let mut refs = front.refs;
+    match Body::read(alloc, kind, &mut main, &mut refs, own)? {
+        Some(value) if is_read_out(&main, &refs) => Ok(Object::Typed(Typed {
             number,
             handle: own,
             common: front.common,
             body: value,
-        }));
+        })),
+        _ => read_untyped(alloc, body, found, kind, front),
     }
-    let Some(behind) = read_rest(alloc, &front, kind, own)? else {
-        return Ok(raw_object(found, body));
-    };
-    Ok(plain_object(found, front.common, behind))
 }
 
 /// Reads a body that begins with this head, in the strongest form that it has under the classes of its drawing. The only refusal

@@ -7,7 +7,7 @@ ghost use Rattle.dwg_bits.specs.Sink.{Extends};
 ghost use Rattle.dwg_bits.specs.WholeBytes.{whole_bytes};
 ghost use Rattle.dwg_check.specs.CheckWord.{FRAME_START, check_word};
 ghost use Rattle.dwg_object.specs.Forms.{common_part};
-ghost use Rattle.dwg_object.specs.Frames.{frame_bytes};
+ghost use Rattle.dwg_object.specs.Frames.{frame_bytes, sized};
 ghost use Rattle.dwg_object.specs.Objects.{is_of_entity, value_of};
 ghost use Rattle.dwg_object.specs.Written.{PartsFit, body_bytes, front_bits, object_bits, object_bytes, refs_bits};
 
@@ -99,8 +99,31 @@ fn parts_length<O: OwnPart>(number: u16, handle: Handle, common: &Common, own: &
     (lengths.front + lengths.refs).div_ceil(8)
 }
 
-/// Writes an object at a whole byte, with zero bits up to a whole byte.
+/// Writes an object at a whole byte, with zero bits up to a whole byte, and so many bits before the references.
 fn write_parts<O: OwnPart>(
+    number: u16,
+    handle: Handle,
+    common: &Common,
+    own: &O,
+    size: u32,
+    sink: &mut BitSink,
+)
+    requires positive { 0 < handle }
+    requires common { (common_part (is_of_entity common.now) handle).Fits common.now }
+    requires own { O.OwnFits handle own.now }
+    requires few { length (object_bytes number handle common.now (O.main handle own.now) (O.refs handle own.now)) < 2 ^ 29 }
+    requires size { size ≡ length (front_bits number handle common.now (O.main handle own.now)) }
+    requires aligned { length sink.old.written % 8 ≡ 0 }
+    requires room { 8 * length (object_bytes number handle common.now (O.main handle own.now) (O.refs handle own.now)) ≤ sink.old.spare }
+    ensures { Extends sink.old sink.new (bits (object_bytes number handle common.now (O.main handle own.now) (O.refs handle own.now))) }
+{
+    write_front(number, handle, common, own, size, sink);
+    write_references(handle, common, own, sink);
+    sink.pad();
+}
+
+/// Writes an object at a whole byte, behind its length in the fewest units. It is measured once.
+fn write_sized_parts<O: OwnPart>(
     number: u16,
     handle: Handle,
     common: &Common,
@@ -112,13 +135,23 @@ fn write_parts<O: OwnPart>(
     requires own { O.OwnFits handle own.now }
     requires few { length (object_bytes number handle common.now (O.main handle own.now) (O.refs handle own.now)) < 2 ^ 29 }
     requires aligned { length sink.old.written % 8 ≡ 0 }
-    requires room { 8 * length (object_bytes number handle common.now (O.main handle own.now) (O.refs handle own.now)) ≤ sink.old.spare }
-    ensures { Extends sink.old sink.new (bits (object_bytes number handle common.now (O.main handle own.now) (O.refs handle own.now))) }
+    requires room { 8 * length (sized (object_bytes number handle common.now (O.main handle own.now) (O.refs handle own.now))) ≤ sink.old.spare }
+    ensures written { Extends sink.old sink.new (bits (sized (object_bytes number handle common.now (O.main handle own.now) (O.refs handle own.now)))) }
+    ensures bytes { AreBytes (object_bytes number handle common.now (O.main handle own.now) (O.refs handle own.now)) }
 {
     let lengths = object_lengths(number, handle, common, own);
-    write_front(number, handle, common, own, lengths.front as u32, sink);
-    write_references(handle, common, own, sink);
-    sink.pad();
+    write_ms((lengths.front + lengths.refs).div_ceil(8), sink);
+    write_parts(number, handle, common, own, lengths.front as u32, sink);
+}
+
+/// Writes bytes at a whole byte, behind their length in the fewest units.
+fn write_sized_bytes(bytes: &[u8], sink: &mut BitSink)
+    requires few { length bytes.now < 2 ^ 29 }
+    requires room { 8 * length (sized bytes.now) ≤ sink.old.spare }
+    ensures { Extends sink.old sink.new (bits (sized bytes.now)) }
+{
+    write_ms(bytes.len() as u64, sink);
+    sink.push_bytes(bytes);
 }
 
 impl Object<'_> {
@@ -136,22 +169,23 @@ impl Object<'_> {
         }
     }
 
-    /// Writes the body at a whole byte.
-    fn write_body(&self, sink: &mut BitSink)
+    /// Writes the body at a whole byte, behind its length in the fewest units.
+    fn write_sized_body(&self, sink: &mut BitSink)
         requires fits { PartsFit (value_of self.now) }
         requires few { length (body_bytes (value_of self.now)) < 2 ^ 29 }
         requires aligned { length sink.old.written % 8 ≡ 0 }
-        requires room { 8 * length (body_bytes (value_of self.now)) ≤ sink.old.spare }
-        ensures { Extends sink.old sink.new (bits (body_bytes (value_of self.now))) }
+        requires room { 8 * length (sized (body_bytes (value_of self.now))) ≤ sink.old.spare }
+        ensures written { Extends sink.old sink.new (bits (sized (body_bytes (value_of self.now)))) }
+        ensures bytes { AreBytes (body_bytes (value_of self.now)) }
     {
         match self {
             Object::Typed(typed) => {
-                write_parts(typed.number, typed.handle, &typed.common, typed, sink)
+                write_sized_parts(typed.number, typed.handle, &typed.common, typed, sink)
             }
             Object::Plain(plain) => {
-                write_parts(plain.number, plain.handle, &plain.common, plain, sink)
+                write_sized_parts(plain.number, plain.handle, &plain.common, plain, sink)
             }
-            Object::Raw(raw) => sink.push_bytes(raw.bytes.as_slice()),
+            Object::Raw(raw) => write_sized_bytes(bounded_bytes(raw.bytes.as_slice()), sink),
         }
     }
 }
@@ -189,8 +223,7 @@ pub fn write_frame(object: &Object<'_>, sink: &mut BitSink)
     ensures { Extends sink.old sink.new (bits (frame_bytes (value_of object.now))) }
 {
     let from = sink.length() / 8;
-    write_ms(object.body_length(), sink);
-    object.write_body(sink);
+    object.write_sized_body(sink);
     let word = word_behind(sink, from);
     sink.push_bytes(&word.to_le_bytes());
 }

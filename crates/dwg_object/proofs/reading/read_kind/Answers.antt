@@ -1,9 +1,11 @@
-use Rattle.std.proofs.Common.{refl, sym, subst}
+use Rattle.std.proofs.Common.{refl, subst, arith}
 use Rattle.dwg_bits.specs.Cursor.{rest}
-use Rattle.dwg_object.specs.Forms.{FormOf}
-use Rattle.dwg_object.specs.Objects.{ObjectValue}
-use Rattle.dwg_object.proofs.FormReading.{raw_kept, common_has_none, untyped, unread_rest, plain_read}
+use Rattle.dwg_kinds.specs.declared.kind.Kind.{Kind}
+use Rattle.dwg_object.specs.OwnBits.{AreOwn}
+use Rattle.dwg_object.proofs.FormReading.{raw_kept, common_has_none, own_read, own_unkept, own_unread}
+use Rattle.dwg_object.proofs.TypedLaws.{typed_of_own}
 use Rattle.dwg_object.proofs.reading.read_kind.Goals as goal
+use Rattle.dwg_object.proofs.reading.read_kind.Goals.{in_default-2-via-in-Some-2+else-is_read_out, in_default-2-via-in_default-2}
 
 pub returns-in_default-clause-form : goal.returns-in_default-clause-form
 returns-in_default-clause-form c =
@@ -11,28 +13,29 @@ returns-in_default-clause-form c =
     raw_kept c.args.body.now c.args.kind c.args.found.now.head.number c.raw_object.result
     (λ classes same. common_has_none classes c.args.body.now (clauses.none refl classes same)) c.raw_object.ensures.form
 
-pub returns-in_default-3-clause-form : goal.returns-in_default-3-clause-form
-returns-in_default-3-clause-form c =
-    let head = c.args.found.now.head in
-    let front = c.in-Some.front in
-    let cut = rw c.in-Some.is at c.in_ok-front.ensures in
-    let own = rw c.in_default-2.is at c.in_ok-value.ensures in
-    let behind = rw c.in_default-3.is at c.in_ok-behind.ensures in
-    raw_kept c.args.body.now c.args.kind head.number c.raw_object-in_default-3.result
-    (λ classes same. (
-      unread_rest classes c.args.body.now head.number head.own c.args.kind front.common (rest front.main) (rest front.refs) same (cut.form classes same) (behind.none refl),
-      untyped classes c.args.body.now head.number head.own c.args.kind front.common (rest front.main) (rest front.refs) same (cut.form classes same) (own.none refl),
-    )) c.raw_object-in_default-3.ensures.form
+pub read_untyped-requires-clause-untyped : goal.read_untyped-requires-clause-untyped
+read_untyped-requires-clause-untyped c = λ has.
+    let own = c.args.found.now.head.own in
+    let main = rest c.in-Some.front.main in
+    let refs = rest c.in-Some.front.refs in
+    elim c.in_default-2.branch [
+      | in_default-2-via-in-Some-2+else-is_read_out w ↦
+          let clauses = rw w.in-Some-2.is at c.in_ok-value.ensures in
+          own_unkept c.args.kind own main refs (rest c.read.new.main) (rest c.read.new.refs) w.in-Some-2.value w.is_read_out.result (omega (arith, c.value-base.ensures)) clauses.reads
+          w.is_read_out.ensures w.if-is_read_out.false has
+      | in_default-2-via-in_default-2 w ↦
+          let clauses = rw w.in_default-2.is at c.in_ok-value.ensures in
+          own_unread c.args.kind own main refs _ _ clauses.reads has
+    ]
 
-pub returns-clause-form : goal.returns-clause-form
-returns-clause-form c = λ classes same.
+pub returns-in-Some-2-clause-form : goal.returns-in-Some-2-clause-form
+returns-in-Some-2-clause-form c = λ classes same.
     let head = c.args.found.now.head in
     let front = c.in-Some.front in
     let cut = rw c.in-Some.is at c.in_ok-front.ensures in
-    let own = rw c.in_default-2.is at c.in_ok-value.ensures in
-    let behind = rw c.in-Some-3.is at c.in_ok-behind.ensures in
-    subst (λ (value : ObjectValue). FormOf classes c.args.body.now value) (sym c.plain_object.ensures.value) (
-      plain_read classes c.args.body.now head.number head.own c.args.kind front.common (rest front.main) c.in-Some-3.behind.bits (rest front.refs) behind.refs.0 c.in-Some-3.behind.refs
-          behind.known same (cut.form classes same) behind.bits behind.refs.1,
-      untyped classes c.args.body.now head.number head.own c.args.kind front.common (rest front.main) (rest front.refs) same (cut.form classes same) (own.none refl),
-    )
+    let clauses = rw c.in-Some-2.is at c.in_ok-value.ensures in
+    let ends = c.if-is_read_out.ensures.0 refl in
+    let are = own_read c.args.kind head.own (rest front.main) (rest front.refs) (rest c.read.new.main) (rest c.read.new.refs) c.in-Some-2.value clauses.reads ends.0 ends.1 in
+    let left = rest c.read.new.refs in
+    typed_of_own classes c.args.body.now head.number head.own front.common c.in-Some-2.value (rest front.main) (rest front.refs) left (cut.form classes same)
+    (subst (λ (k : Kind). AreOwn k head.own c.in-Some-2.value (rest front.main) (rest front.refs) left) same are)

@@ -6,11 +6,16 @@ use Rattle.dwg_object.specs.Written.{object_bits, front_bits, refs_bits}
 use Rattle.dwg_object.proofs.FrameWriting.{object_long, object_small, object_room, object_written, fill_long}
 use Rattle.dwg_object.proofs.writing.write_parts.Goals as goal
 
-pub object_lengths-lengths-requires-clause-few : goal.object_lengths-lengths-requires-clause-few
-object_lengths-lengths-requires-clause-few g c = object_small c.args.number c.args.handle c.args.common.now (g.O.OwnPart.main c.args.handle c.args.own.now) (g.O.OwnPart.refs c.args.handle c.args.own.now) c.requires.few
-
 pub write_front-requires-clause-room : goal.write_front-requires-clause-room
 write_front-requires-clause-room g c = omega (arith, c.requires.room, object_room c.args.number c.args.handle c.args.common.now (g.O.OwnPart.main c.args.handle c.args.own.now) (g.O.OwnPart.refs c.args.handle c.args.own.now), length-append (object_bits c.args.number c.args.handle c.args.common.now (g.O.OwnPart.main c.args.handle c.args.own.now) (g.O.OwnPart.refs c.args.handle c.args.own.now)) (padding (object_bits c.args.number c.args.handle c.args.common.now (g.O.OwnPart.main c.args.handle c.args.own.now) (g.O.OwnPart.refs c.args.handle c.args.own.now))), object_long c.args.number c.args.handle c.args.common.now (g.O.OwnPart.main c.args.handle c.args.own.now) (g.O.OwnPart.refs c.args.handle c.args.own.now))
+
+pub write_references-requires-clause-few : goal.write_references-requires-clause-few
+write_references-requires-clause-few g c =
+    omega (
+      arith,
+      object_small c.args.number c.args.handle c.args.common.now (g.O.OwnPart.main c.args.handle c.args.own.now) (g.O.OwnPart.refs c.args.handle c.args.own.now) c.requires.few,
+      object_long c.args.number c.args.handle c.args.common.now (g.O.OwnPart.main c.args.handle c.args.own.now) (g.O.OwnPart.refs c.args.handle c.args.own.now),
+    )
 
 pub write_references-requires-clause-room : goal.write_references-requires-clause-room
 write_references-requires-clause-room g c = omega (arith, c.requires.room, c.write_front.ensures.spare, object_room c.args.number c.args.handle c.args.common.now (g.O.OwnPart.main c.args.handle c.args.own.now) (g.O.OwnPart.refs c.args.handle c.args.own.now), length-append (object_bits c.args.number c.args.handle c.args.common.now (g.O.OwnPart.main c.args.handle c.args.own.now) (g.O.OwnPart.refs c.args.handle c.args.own.now)) (padding (object_bits c.args.number c.args.handle c.args.common.now (g.O.OwnPart.main c.args.handle c.args.own.now) (g.O.OwnPart.refs c.args.handle c.args.own.now))), object_long c.args.number c.args.handle c.args.common.now (g.O.OwnPart.main c.args.handle c.args.own.now) (g.O.OwnPart.refs c.args.handle c.args.own.now))
