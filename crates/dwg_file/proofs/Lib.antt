@@ -38,3 +38,5 @@ pub mod PlanFacts
 pub mod PlanWriting
 pub mod PartRefusals
 pub mod WrittenFrames
+pub mod GivenBytes
+pub mod SentParts

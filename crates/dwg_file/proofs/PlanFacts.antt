@@ -1,20 +1,24 @@
 -- What the parts of a valid drawing meet, so that they can be written.
-use Rattle.std.proofs.Common.{◌≡◌, sym, ◌∙◌, ap, ap₂, subst, ℕ, ◌+◌, ◌^◌, ◌<◌, ◌≤◌, List, [], ◌∷◌, length, length-append, arith}
+use Rattle.std.proofs.Common.{◌≡◌, sym, ◌∙◌, ap, ap₂, subst, ℕ, ◌+◌, ◌*◌, ◌^◌, ◌<◌, ◌≤◌, List, [], ◌∷◌, ◌++◌, append_assoc, length, length-append, drop, get_or, map, arith}
 use Rattle.std.specs.List.{AllByRecursion}
+use Rattle.std.proofs.lemmas.List.{drop_all}
 use Rattle.dwg_classes.specs.declared.class.Class.{Class}
 use Rattle.dwg_classes.specs.WrittenClasses.{AreWritable}
 use Rattle.dwg_classes.proofs.WrittenClasses.{read_are_writable}
 use Rattle.dwg_object.specs.Written.{IsValidObject}
 use Rattle.dwg_object.proofs.FormLaws.{valid_fits, length_of_frame}
 use Rattle.dwg_object.specs.Frames.{frame_bytes}
-use Rattle.dwg_object.specs.Objects.{ObjectValue}
+use Rattle.dwg_object.specs.declared.object.Object.{Object}
+use Rattle.dwg_object.specs.Objects.{ObjectValue, handle_of, value_of}
+use Rattle.dwg_file.proofs.PlanLoops.{left_at}
 use Rattle.dwg_objmap.specs.declared.pair.Pair.{Pair}
 use Rattle.dwg_objmap.specs.Writing.{Ascend}
 use Rattle.dwg_file.specs.Contents.{Contents}
 use Rattle.dwg_file.specs.Canonical.{class_content, frames_bytes, placed, objects_place}
 use Rattle.dwg_file.proofs.CanonicalLaws.{canonical_ascends}
 use Rattle.dwg_file.proofs.CanonicalParts.{content_is_classes}
-use Rattle.dwg_file.specs.Plans.{CanBeFramed}
+use Rattle.dwg_file.specs.Plans.{CanBeFramed, CanBeSent, FitsIn, IsPlan, room_of_frame}
+use Rattle.dwg_sections.specs.declared.header.FileHeader.{FileHeader}
 use Rattle.dwg_file.specs.Valid.{IsValid}
 
 -- its classes can be written
@@ -48,3 +52,59 @@ pub pairs_few : (drawing : Contents) (from : ℕ) (objects : List ObjectValue) (
 pairs_few drawing from objects pairs is these same =
     let small = is.size in
     omega (arith, small, placed_few objects from, ap length same, ap (λ (all : List ObjectValue). length (frames_bytes all)) these)
+
+-- valid objects that fit in some room can be sent with it
+pub objects_sent : (classes : List Class) (objects : List ObjectValue) (part room : ℕ) → 8 * part ≤ room → AllByRecursion (IsValidObject classes) objects → AllByRecursion (FitsIn part) objects
+    → AllByRecursion (CanBeSent room) objects
+objects_sent classes [] part room within are fit = tt
+objects_sent classes (object ∷ objects) part room within are fit =
+    let whole = valid_fits classes object are.0 in
+    (record { framed = (whole.0, whole.2); are = whole.1; fits = omega (arith, within, fit.0) }, objects_sent classes objects part room within are.1 fit.1)
+
+-- an object that can be sent with some room can be with more
+pub sent_with_more : (room more : ℕ) (value : ObjectValue) → room ≤ more → CanBeSent room value → CanBeSent more value
+sent_with_more room more value fits can = record { framed = can.framed; are = can.are; fits = omega (arith, fits, can.fits) }
+
+-- what fits in some room, with those behind it, is all that is left
+pub one_fits : (objects : List Object) (i : ℕ) (object : Object) (most room : ℕ) → i < length objects → object ≡ get_or objects i object → room ≡ room_of_frame (value_of object) → room ≤ most
+    → AllByRecursion (FitsIn most) (map value_of (drop (i + 1) objects)) → AllByRecursion (FitsIn most) (map value_of (drop i objects))
+one_fits objects i object most room inside here is within left =
+    subst (λ (all : List Object). AllByRecursion (FitsIn most) (map value_of all)) (sym (left_at objects i object inside here)) (omega (arith, is, within), left)
+
+-- where none is left, what is left fits
+pub none_left_fits : (objects : List Object) (i most : ℕ) → length objects ≤ i → AllByRecursion (FitsIn most) (map value_of (drop i objects))
+none_left_fits objects i most past = subst (λ (all : List Object). AllByRecursion (FitsIn most) (map value_of all)) (sym (drop_all i objects past)) tt
+
+-- with one more object placed, those behind it are left
+pub placed_one : (objects : List Object) (i : ℕ) (object : Object) (from place frame handle : ℕ) (pairs more : List Pair) → i < length objects → object ≡ get_or objects i object
+    → frame ≡ length (frame_bytes (value_of object)) → handle ≡ handle_of (value_of object) → more ≡ pairs ++ record { handle = handle; place = place } ∷ []
+    → placed from (map value_of objects) ≡ pairs ++ placed place (map value_of (drop i objects)) → placed from (map value_of objects) ≡ more ++ placed (place + frame) (map value_of (drop (i + 1) objects))
+placed_one objects i object from place frame handle pairs more inside here long named put whole =
+    let left : List ObjectValue = map value_of (drop (i + 1) objects) in
+    let pair_of : ℕ → Pair = λ own. record { handle = own; place = place } in
+    let others : List Pair = placed (place + length (frame_bytes (value_of object))) left in
+    let same : pairs ++ pair_of (handle_of (value_of object)) ∷ [] ≡ more = ap (λ own. pairs ++ pair_of own ∷ []) (sym named) ∙ sym put in
+    whole ∙ ap (λ (all : List Object). pairs ++ placed place (map value_of all)) (left_at objects i object inside here)
+    ∙ sym (append_assoc pairs (pair_of (handle_of (value_of object)) ∷ []) others)
+    ∙ ap₂ (λ (front : List Pair) (n : ℕ). front ++ placed (place + n) left) same (sym long)
+
+-- so can all
+pub all_with_more : (room more : ℕ) (objects : List ObjectValue) → room ≤ more → AllByRecursion (CanBeSent room) objects → AllByRecursion (CanBeSent more) objects
+all_with_more room more [] within can = tt
+all_with_more room more (object ∷ objects) within can = (sent_with_more room more object within can.0, all_with_more room more objects within can.1)
+
+-- a plan with some room is one with more
+pub plan_with_more : (drawing : Contents) (pairs : List Pair) (size : ℕ) (header : FileHeader) (room more : ℕ) → room ≤ more → IsPlan drawing pairs size header room
+    → IsPlan drawing pairs size header more
+plan_with_more drawing pairs size header room more within plan = record {
+  valid = plan.valid;
+  small = plan.small;
+  are_placed = plan.are_placed;
+  is_size = plan.is_size;
+  is_header = plan.is_header;
+  has = record {
+    header = omega (arith, within, plan.has.header);
+    classes = omega (arith, within, plan.has.classes);
+    objects = all_with_more room more drawing.objects within plan.has.objects;
+  };
+}

@@ -1,12 +1,11 @@
--- Loops that count, place or write one piece for each item: what is done so far and what is left give the whole.
-use Rattle.std.proofs.Common.{◌≡◌, refl, sym, ◌∙◌, ap, subst, ℕ, ◌+◌, ◌*◌, ◌%◌, ◌<◌, ◌≤◌, List, [], ◌∷◌, ◌++◌, length, length-append, drop, get_or, append_assoc, arith}
+-- Loops that count, place or give one piece for each item: what is done so far and what is left give the whole.
+use Rattle.std.proofs.Common.{◌≡◌, refl, sym, ◌∙◌, ap, subst, ℕ, ◌+◌, ◌<◌, ◌≤◌, List, [], ◌∷◌, ◌++◌, length, length-append, drop, get_or, append_assoc, arith}
 use Rattle.std.specs.Prelude.{map, flat_map}
 use Rattle.std.specs.List.{AllByRecursion}
 use Rattle.std.proofs.lemmas.List.{append-nil, drop_more, drop_all}
-use Rattle.dwg_bits.specs.Bits.{bits}
-use Rattle.dwg_bits.proofs.BitLaws.{bits_joined, length_of_bits}
-use Rattle.dwg_bits.specs.Sink.{Written, Extends}
-use Rattle.dwg_bits.proofs.SinkLemmas.{extends_by_none, extends_by_both}
+use Rattle.std.specs.Prelude.{Option}
+use Rattle.dwg_file.specs.Gathering.{IsGiven, IsCut}
+use Rattle.dwg_file.proofs.GivenBytes.{waits, given_both, cut_before, cut_behind}
 
 -- what is left from a place on is the item there and what is left behind it
 pub left_at : {X : Type 0} (items : List X) (i : ℕ) (item : X) → i < length items → item ≡ get_or items i item → drop i items ≡ item ∷ drop (i + 1) items
@@ -37,57 +36,39 @@ module _ {X V : Type 0} (value : X → V) (piece : V → List ℕ) where
   pub all_counted : (all : List X) (i : ℕ) (from place : ℕ) → length all ≤ i → AreCounted all (drop i all) from place → place ≡ from + length (pieces all)
   all_counted all i from place past counted = omega (arith, counted, ap (λ rest. length (pieces rest)) (drop_all i all past))
 
-  -- pieces are written up to those of items that are left
-  pub record AreWritten (all left : List X) (old now : Written) : Type 0 where
+  -- pieces are given up to those of items that are left
+  pub record AreGiven (all left : List X) (old now : Option (List ℕ)) (waited waiting : List ℕ) : Type 0 where
     pub done : List ℕ
-    pub grown : Extends old now (bits done)
-    pub whole : pieces all ≡ done ++ pieces left
+    pub given : IsGiven old now waited waiting done
+    pub whole : done ++ pieces left ≡ pieces all
 
   -- at the begin all are left
-  pub none_written : (all : List X) (sink : Written) → AreWritten all all sink sink
-  unfolding bits
-  none_written all sink = record { done = []; grown = extends_by_none sink; whole = refl }
+  pub none_given : (all : List X) (now : Option (List ℕ)) (waited : List ℕ) → AreGiven all all now now waited waited
+  none_given all now waited = record { done = []; given = waits now waited [] waited (sym (append-nil waited)); whole = refl }
 
-  -- with one more written, those behind it are left
-  pub one_written : (all : List X) (i : ℕ) (item : X) (old mid new : Written) → i < length all → item ≡ get_or all i item → Extends mid new (bits (piece (value item)))
-      → AreWritten all (drop i all) old mid → AreWritten all (drop (i + 1) all) old new
-  one_written all i item old mid new inside here more written = record {
-    done = written.done ++ piece (value item);
-    grown =
-        subst (Extends old new) (sym (bits_joined written.done (piece (value item))))
-        (extends_by_both old mid new (bits written.done) (bits (piece (value item))) written.grown more);
+  -- with one more given, those behind it are left
+  pub one_given : (all : List X) (i : ℕ) (item : X) (old mid new : Option (List ℕ)) (waited between waiting : List ℕ) → i < length all → item ≡ get_or all i item
+      → IsGiven mid new between waiting (piece (value item)) → AreGiven all (drop i all) old mid waited between → AreGiven all (drop (i + 1) all) old new waited waiting
+  one_given all i item old mid new waited between waiting inside here more so_far = record {
+    done = so_far.done ++ piece (value item);
+    given = given_both old mid new waited between waiting so_far.done (piece (value item)) (so_far.done ++ piece (value item)) refl so_far.given more;
     whole =
-        written.whole ∙ ap (λ rest. written.done ++ pieces rest) (left_at all i item inside here)
-        ∙ sym (append_assoc written.done (piece (value item)) (pieces (drop (i + 1) all)));
+        append_assoc so_far.done (piece (value item)) (pieces (drop (i + 1) all))
+        ∙ ap (λ rest. so_far.done ++ pieces rest) (sym (left_at all i item inside here)) ∙ so_far.whole;
   }
 
-  -- there is room for one more, where there was room for all
-  pub room_for_one : (all : List X) (i : ℕ) (item : X) (old mid : Written) → i < length all → item ≡ get_or all i item → 8 * length (pieces all) ≤ old.spare
-      → AreWritten all (drop i all) old mid → 8 * length (piece (value item)) ≤ mid.spare
-  room_for_one all i item old mid inside here room written =
-      let left = drop (i + 1) all in
-      let whole : pieces all ≡ written.done ++ (piece (value item) ++ pieces left) =
-      written.whole ∙ ap (λ rest. written.done ++ pieces rest) (left_at all i item inside here) in
-      omega (
-        arith,
-        room,
-        written.grown.spare,
-        length_of_bits written.done,
-        ap length whole,
-        length-append written.done (piece (value item) ++ pieces left),
-        length-append (piece (value item)) (pieces left),
-      )
+  -- where one is cut off, all are
+  pub one_cut : (all : List X) (i : ℕ) (item : X) (old mid new : Option (List ℕ)) (waited between : List ℕ) → i < length all → item ≡ get_or all i item
+      → IsCut mid new between (piece (value item)) → AreGiven all (drop i all) old mid waited between → IsCut old new waited (pieces all)
+  one_cut all i item old mid new waited between inside here cut so_far =
+      cut_behind old mid new waited between so_far.done (pieces (drop i all)) (pieces all) so_far.whole so_far.given
+      (cut_before mid new between (piece (value item)) (pieces (drop (i + 1) all)) (pieces (drop i all)) (ap pieces (sym (left_at all i item inside here))) cut)
 
-  -- the sink stays at whole bytes
-  pub stays_aligned : (all left : List X) (old mid : Written) → length old.written % 8 ≡ 0 → AreWritten all left old mid → length mid.written % 8 ≡ 0
-  stays_aligned all left old mid aligned written =
-      omega (arith, aligned, ap length written.grown.bits, length-append old.written (bits written.done), length_of_bits written.done)
-
-  -- where none is left, all are written
-  pub all_written : (all : List X) (i : ℕ) (old new : Written) → length all ≤ i → AreWritten all (drop i all) old new → Extends old new (bits (pieces all))
-  all_written all i old new past written =
-      let whole : pieces all ≡ written.done = written.whole ∙ ap (λ rest. written.done ++ pieces rest) (drop_all i all past) ∙ append-nil written.done in
-      subst (λ done. Extends old new (bits done)) (sym whole) written.grown
+  -- where none is left, all are given
+  pub all_given : (all : List X) (i : ℕ) (old new : Option (List ℕ)) (waited waiting : List ℕ) → length all ≤ i → AreGiven all (drop i all) old new waited waiting
+      → IsGiven old new waited waiting (pieces all)
+  all_given all i old new waited waiting past so_far =
+      subst (IsGiven old new waited waiting) (sym (append-nil so_far.done) ∙ ap (λ rest. so_far.done ++ pieces rest) (sym (drop_all i all past)) ∙ so_far.whole) so_far.given
 
   -- what holds of all that are left holds of the first of them, and of those behind it
   pub holds_here : (P : V → Type 0) (all : List X) (i : ℕ) (item : X) → i < length all → item ≡ get_or all i item → AllByRecursion P (map value (drop i all))

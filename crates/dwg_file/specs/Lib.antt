@@ -42,5 +42,7 @@ pub mod CanonicalLaws
 pub mod CanonicalBytes
 -- Canonical files in which one byte, or two neighbouring ones, of one object's frame are changed: they are refused at that object.
 pub mod ShortDamage
--- What a drawing needs to be written: where its parts stand, and the file.
+-- What a drawing needs to be written: where its parts stand, and room for one of them.
 pub mod Plans
+-- Bytes on their way to a sink, of which some wait to go out together.
+pub mod Gathering

@@ -1,15 +1,22 @@
--- What a drawing needs to be written: where its parts stand, and the file. A rule of this project.
-use Rattle.std.specs.Prelude.{◌≡◌, ℕ, ◌^◌, ◌<◌, ◌≤◌, List, ◌++◌, length}
+-- What a drawing needs to be written: where its parts stand, and room for one of them. A rule of this project.
+use Rattle.std.specs.Prelude.{◌≡◌, ℕ, ◌*◌, ◌^◌, ◌<◌, ◌≤◌, List, ◌++◌, length, Option}
 use Rattle.dwg_base.specs.Devices.{MOST_BYTES}
-use Rattle.dwg_bits.specs.Bits.{bits}
-use Rattle.dwg_bits.specs.Sink.{Written}
+use Rattle.std.specs.List.{AllByRecursion}
+use Rattle.dwg_sections.specs.declared.header.FileHeader.{FileHeader}
 use Rattle.dwg_object.specs.Written.{PartsFit, body_bytes}
+use Rattle.dwg_base.specs.Bytes.{AreBytes}
+use Rattle.dwg_grammar.specs.ModularCodes.{ms}
+use Rattle.dwg_object.specs.Frames.{frame_bytes}
+use Rattle.dwg_objmap.specs.declared.pair.Pair.{Pair}
+use Rattle.dwg_objmap.specs.Writing.{OpenPage, map_behind}
+use Rattle.std.specs.Io.KnownBytes.{Appends}
 use Rattle.dwg_object.specs.Objects.{ObjectValue}
+use Rattle.dwg_object.specs.Objects.ObjectValue.{TypedValue, PlainValue, RawValue}
 use Rattle.dwg_sections.specs.declared.framed.Framed.TheVariants.{Variables, Classes}
 use Rattle.dwg_sections.specs.FileHeader.{header_bytes}
 use Rattle.dwg_sections.specs.Framed.{framed_bytes}
 use Rattle.dwg_file.specs.declared.layout.Layout.{Layout}
-use Rattle.dwg_file.specs.Canonical.{PREVIEW, class_content, frames_bytes, others_bytes, placed, variables_place, classes_place, preview_place, objects_place, map_place, map_of, others_place, header_of, canonical, size_of}
+use Rattle.dwg_file.specs.Canonical.{PREVIEW, class_content, placed, variables_place, classes_place, preview_place, objects_place, map_place, others_place, header_of, size_of}
 use Rattle.dwg_file.specs.Contents.{Contents}
 use Rattle.dwg_file.specs.Valid.{IsValid}
 
@@ -17,11 +24,33 @@ use Rattle.dwg_file.specs.Valid.{IsValid}
 abbrev pub CanBeFramed : ObjectValue → Type 0
 CanBeFramed value = PartsFit value × (length (body_bytes value) < 2 ^ 29)
 
--- the file that a sink holds is the canonical one of a valid drawing, and isn't too large
-pub record IsPlan (drawing : Contents) (sink : Written) : Type 0 where
-  pub valid : IsValid drawing
-  pub small : size_of drawing ≤ MOST_BYTES
-  pub file : sink.written ≡ bits (canonical drawing)
+-- the room that the frame of an object takes while it is sent: that of a Raw one takes room for its length alone, since its body is held elsewhere
+abbrev pub room_of_frame : ObjectValue → ℕ
+room_of_frame (TypedValue number handle common body) = length (frame_bytes (TypedValue number handle common body))
+room_of_frame (PlainValue number handle common rest refs) = length (frame_bytes (PlainValue number handle common rest refs))
+room_of_frame (RawValue number handle bytes) = length (ms.short (length bytes))
+
+-- an object whose frame can be written, with room for so many bits
+pub record CanBeSent (room : ℕ) (value : ObjectValue) : Type 0 where
+  pub framed : CanBeFramed value
+  pub are : AreBytes (body_bytes value)
+  pub fits : 8 * room_of_frame value ≤ room
+
+-- of a map a sink took all but what is made of the open page and of the pairs that are left
+pub record IsPut (old now : Option (List ℕ)) (page : OpenPage) (left : List Pair) (map : List ℕ) : Type 0 where
+  pub sent : List ℕ
+  pub taken : Appends old now sent
+  pub whole : sent ++ map_behind page left ≡ map
+
+-- the room for so many bytes holds what of an object's frame isn't held elsewhere
+abbrev pub FitsIn : ℕ → ObjectValue → Type 0
+FitsIn part value = room_of_frame value ≤ part
+
+-- with room for so many bits each part of a drawing's canonical file can be made that isn't held elsewhere: the file header, which ends where the header variables stand, the content of the classes, and each frame
+pub record HasRoom (room : ℕ) (drawing : Contents) : Type 0 where
+  pub header : 8 * variables_place drawing ≤ room
+  pub classes : 8 * length (class_content drawing.classes) ≤ room
+  pub objects : AllByRecursion (CanBeSent room) drawing.objects
 
 -- where the parts of a drawing's canonical file stand, and its size
 pub record IsLayout (layout : Layout) (drawing : Contents) : Type 0 where
@@ -33,11 +62,16 @@ pub record IsLayout (layout : Layout) (drawing : Contents) : Type 0 where
   pub others : layout.others ≡ others_place drawing
   pub size : layout.size ≡ size_of drawing
 
+-- what is at hand to write a drawing: it is valid and isn't too large, its objects are placed, its header is made, and there is room for each part
+pub record IsPlan (drawing : Contents) (pairs : List Pair) (size : ℕ) (header : FileHeader) (room : ℕ) : Type 0 where
+  pub valid : IsValid drawing
+  pub small : size_of drawing ≤ MOST_BYTES
+  pub are_placed : pairs ≡ placed (objects_place drawing) drawing.objects
+  pub is_size : size ≡ size_of drawing
+  pub is_header : header ≡ header_of drawing
+  pub has : HasRoom room drawing
+
 -- the parts of the canonical file before the frames
 unfoldable pub front_bytes : Contents → List ℕ
 front_bytes drawing =
     header_bytes (header_of drawing) ++ framed_bytes Variables drawing.variables ++ framed_bytes Classes (class_content drawing.classes) ++ PREVIEW
-
--- and from the frames on
-unfoldable pub back_bytes : Contents → List ℕ
-back_bytes drawing = frames_bytes drawing.objects ++ map_of drawing ++ others_bytes drawing.others

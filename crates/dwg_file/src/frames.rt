@@ -10,9 +10,8 @@ ghost use Rattle.dwg_file.specs.FileLines.{FoundFrame, tried_pair, frames_behind
 ghost use Rattle.dwg_file.specs.FrameReading.{AreTaken, AnswersPair, HasRead, GoesOn, AnswersFrames, values_of};
 ghost use Rattle.dwg_file.specs.Taken.{meets, shares};
 
-use crate::lists::with_item;
 use crate::taken::Taken;
-use dwg_base::{Fault, Handle, Items, NoMemory, Refusal};
+use dwg_base::{Fault, Handle, Items, NoMemory, Refusal, with_item, with_room};
 use dwg_classes::Hints;
 use dwg_object::{Found, Object, read_span, span_at};
 use dwg_objmap::Pair;
@@ -96,10 +95,7 @@ fn room_for_objects<'a>(
 ) -> Result<Vec<Object<'a>>, NoMemory>
     ensures { IfOk result (λ objects. objects.items ≡ []) }
 {
-    match Vec::with_capacity(alloc, pairs.min(bytes / LEAST_FRAME)) {
-        Ok(objects) => Ok(objects),
-        Err(_) => Err(NoMemory),
-    }
+    with_room(alloc, pairs.min(bytes / LEAST_FRAME))
 }
 
 /// The frames that were read so far, their objects, and the bytes that they took.
@@ -108,20 +104,6 @@ pub(crate) struct Frames<'a> {
     taken: Taken,
     pub(crate) frames: Items<ObjectFrame>,
     pub(crate) objects: Vec<Object<'a>>,
-}
-
-/// A list of frames and one more at the end. The only refusal is want of memory.
-fn with_listed(
-    frames: Items<ObjectFrame>,
-    frame: ObjectFrame,
-) -> Result<Items<ObjectFrame>, NoMemory>
-    ensures { IfOk result (λ more. more ≡ frames ++ frame ∷ []) }
-{
-    let mut frames = frames;
-    match frames.push(frame) {
-        Ok(()) => Ok(frames),
-        Err(_) => Err(NoMemory),
-    }
 }
 
 /// The frames and that of a pair, which was found and shares no byte with them. The only refusal is want of memory.
@@ -145,7 +127,7 @@ fn with_frame<'a>(read: Frames<'a>, pair: &Pair, found: Found<'a>) -> Result<Fra
         from,
         end,
     };
-    let frames = with_listed(frames, frame)?;
+    let frames = frames.with(frame)?;
     Ok(Frames {
         taken,
         frames,

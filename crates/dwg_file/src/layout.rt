@@ -1,10 +1,10 @@
 //! Where the parts of the canonical file stand.
 
-ghost use Rattle.std.specs.Prelude.{◌≡◌, ◌+◌, ◌^◌, ◌<◌, ◌≤◌, ◌++◌, ◌∷◌, [], length, map, IfOk, OnOk};
+ghost use Rattle.std.specs.Prelude.{◌≡◌, ◌+◌, ◌*◌, ◌^◌, ◌<◌, ◌≤◌, ◌++◌, ◌∷◌, [], length, map, IfOk, OnOk};
 ghost use Rattle.dwg_base.specs.Devices.{MOST_BYTES};
 ghost use Rattle.dwg_file.specs.Canonical.{others_bytes, others_located, header_of, size_of};
 ghost use Rattle.dwg_file.specs.Contents.{other_value, contents_of};
-ghost use Rattle.dwg_file.specs.Plans.{IsLayout};
+ghost use Rattle.dwg_file.specs.Plans.{HasRoom, IsLayout};
 ghost use Rattle.dwg_file.specs.Valid.{IsValid};
 
 use crate::parts::{Other, Parts};
@@ -37,17 +37,22 @@ pub(crate) struct Layout {
     pub others: u64,
     /// The size of the file.
     pub size: u64,
+    /// How many bytes the largest part has that isn't held elsewhere, so that it is made to be sent.
+    pub part: u64,
 }
 
 /// Lays out the canonical file of valid parts. The only refusal is want of memory.
 pub(crate) fn layout_of(alloc: Global, parts: &Parts<'_>) -> Result<Layout, NoMemory>
     requires { IsValid (contents_of parts.now) }
-    ensures { IfOk result (λ layout. IsLayout layout (contents_of parts.now)) }
+    ensures places { IfOk result (λ layout. IsLayout layout (contents_of parts.now)) }
+    ensures room { IfOk result (λ layout. HasRoom (8 * layout.part) (contents_of parts.now)) }
+    ensures few { IfOk result (λ layout. layout.part < 2 ^ 58) }
 {
     let sections = parts.others.as_slice();
     let variables = HEADER_SIZE as u64 + LOCATOR_SIZE as u64 * (3 + sections.len() as u64);
     let classes = variables + FRAMED_SIZE as u64 + parts.variables.as_slice().len() as u64;
-    let preview = classes + FRAMED_SIZE as u64 + content_length(parts.classes.as_slice());
+    let content = content_length(parts.classes.as_slice());
+    let preview = classes + FRAMED_SIZE as u64 + content;
     let frames = place_objects(alloc, parts.objects.as_slice(), preview + PREVIEW_SIZE)?;
     let others = frames.end + map_length(frames.pairs.as_slice());
     let size = others + others_length(sections);
@@ -59,6 +64,7 @@ pub(crate) fn layout_of(alloc: Global, parts: &Parts<'_>) -> Result<Layout, NoMe
         map: frames.end,
         others,
         size,
+        part: variables.max(content).max(frames.part),
     })
 }
 
@@ -73,14 +79,11 @@ fn add_locator(
     requires size { size < 2 ^ 32 }
     ensures { OnOk result (locators.new ≡ locators.old ++ record { number = number; place = place; size = size } ∷ []) }
 {
-    match locators.push(Locator {
+    locators.add(Locator {
         number,
         place: place as u32,
         size: size as u32,
-    }) {
-        Ok(()) => Ok(()),
-        Err(_) => Err(NoMemory),
-    }
+    })
 }
 
 /// Puts the locators of unknown sections that stand one behind the other at the end. The only refusal is want of memory.

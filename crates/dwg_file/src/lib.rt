@@ -4,9 +4,9 @@
 mod damage;
 mod drawing;
 mod frames;
+mod gathering;
 mod laws;
 mod layout;
-mod lists;
 mod objects;
 mod others;
 mod parts;
@@ -14,6 +14,7 @@ mod plan;
 mod plan_parts;
 mod reading;
 mod sections;
+mod sending;
 mod taken;
 mod written_laws;
 
@@ -21,7 +22,6 @@ pub use damage::short_damage_laws;
 pub use drawing::Drawing;
 pub use frames::ObjectFrame;
 pub use laws::drawing_laws;
-pub use lists::with_item;
 pub use objects::in_handle_order;
 pub use others::{is_cut, whole_others};
 pub use parts::{Other, Parts};

@@ -51,7 +51,7 @@ fn sorted_by_places<'a>(objects: Vec<Object<'a>>) -> Result<Vec<Object<'a>>, NoM
 }
 
 /// The objects in ascending order of their handles, in n log n steps, without taking memory. Those that stand so stay where they
-/// are; else they are moved as often as they are compared.
+/// are; else they are moved while they are sorted, each several times.
 fn sorted_in_place<'a>(objects: Vec<Object<'a>>) -> Vec<Object<'a>>
     ensures same { IsPermutation objects.entry.items result.items }
     ensures ascend { IsNonDecreasingBy (λ object. handle_of (value_of object)) result.items }

@@ -1,6 +1,6 @@
 //! Unknown sections: those whose number is none of a section that is known.
 
-ghost use Rattle.std.specs.Prelude.{◌≡◌, ◌≤◌, List, [], ◌∷◌, ◌++◌, take, drop, map, IfOk, IfSome, None, false};
+ghost use Rattle.std.specs.Prelude.{◌≡◌, ◌≤◌, [], ◌∷◌, ◌++◌, take, drop, map, IfOk, IfSome, None, false};
 ghost use Rattle.dwg_base.specs.Refusals.{IsOfTable};
 ghost use Rattle.std.specs.List.{All};
 ghost use Rattle.dwg_file.specs.Borrowed.{IsBorrowedSection};
@@ -82,14 +82,10 @@ fn with_section<'a>(
     if locator.number < LEAST_NUMBER {
         return Ok(others);
     }
-    let mut others = others;
-    match others.push(Other {
+    others.with(Other {
         number: locator.number,
         bytes: BytePart::Lent(bytes_of(bytes, locator)),
-    }) {
-        Ok(()) => Ok(others),
-        Err(_) => Err(NoMemory),
-    }
+    })
 }
 
 /// The unknown sections of locators, in their order, but for those that pass the end of the input. The only refusal is want of

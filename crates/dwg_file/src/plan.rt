@@ -1,21 +1,22 @@
-//! Writing drawings: the canonical file is made whole, and then sent.
+//! Writing drawings: the canonical file is measured, and then sent part after part.
 
-ghost use Rattle.std.specs.Prelude.{◌≡◌, ℕ, ◌*◌, ◌%◌, ◌<◌, ◌≤◌, [], length, IfOk, OnOk, Err};
+ghost use Rattle.std.specs.Prelude.{◌≡◌, ℕ, ◌+◌, ◌*◌, ◌^◌, ◌<◌, ◌≤◌, ◌++◌, [], length, IfOk, OnOk, Err};
 ghost use Rattle.dwg_base.specs.Devices.{MOST_BYTES, Counts, Sends};
-ghost use Rattle.dwg_bits.specs.Bits.{bits};
-ghost use Rattle.dwg_bits.specs.Sink.{Extends};
-ghost use Rattle.dwg_file.specs.Canonical.{PREVIEW, canonical, header_of, objects_place, size_of};
+ghost use Rattle.dwg_file.specs.Canonical.{canonical, frames_bytes, header_of, others_bytes, size_of};
 ghost use Rattle.dwg_file.specs.Contents.{contents_of};
-ghost use Rattle.dwg_file.specs.Plans.{IsLayout, IsPlan, front_bytes, back_bytes};
+ghost use Rattle.dwg_file.specs.Gathering.{Gives};
+ghost use Rattle.dwg_file.specs.Plans.{HasRoom, IsLayout, front_bytes};
 ghost use Rattle.dwg_file.specs.Valid.{IsValid};
 
 use crate::drawing::Drawing;
+use crate::gathering::Gathering;
 use crate::layout::{Layout, header_of, layout_of};
 use crate::parts::Parts;
-use crate::plan_parts::{bytes_of, write_class_section, write_frames, write_map, write_others};
-use dwg_base::{LIMIT, NoMemory, Sink, WriteFault, put_all};
+use crate::sending::{give_classes, give_framed, give_frames, give_header, give_others, send_map};
+use dwg_base::{Items, LIMIT, NoMemory, Sink, WriteFault};
 use dwg_bits::BitSink;
-use dwg_sections::{FileHeader, Framed, write_file_header, write_framed};
+use dwg_objmap::{PageWriter, Pair};
+use dwg_sections::{FileHeader, Framed};
 use std::alloc::Global;
 use std::marker::Model;
 use thiserror::Error;
@@ -41,114 +42,172 @@ const PREVIEW_BYTES: [u8; 37] = [
     0xC0, 0x62, 0xBB, 0xEF, 0xD4,
 ];
 
-/// Writes the preview.
-fn write_preview(file: &mut BitSink)
-    requires { 8 * 37 ≤ file.old.spare }
-    ensures { Extends file.old file.new (bits PREVIEW) }
-{
-    file.push_bytes(&PREVIEW_BYTES);
-}
-
-/// Writes the parts of the canonical file before the frames. The only refusal is want of memory.
-fn write_front(
-    alloc: Global,
+/// Gives the parts of the canonical file before the frames.
+fn give_front<W: Sink>(
     parts: &Parts<'_>,
     header: &FileHeader,
-    file: &mut BitSink,
-) -> Result<(), NoMemory>
+    part: &mut BitSink,
+    gathering: &mut Gathering,
+    sink: &mut W,
+) -> Result<(), WriteFault>
     requires valid { IsValid (contents_of parts.now) }
     requires small { size_of (contents_of parts.now) ≤ MOST_BYTES }
     requires header { header.now ≡ header_of (contents_of parts.now) }
-    requires empty { file.old.written ≡ [] }
-    requires room { 8 * objects_place (contents_of parts.now) ≤ file.old.spare }
-    ensures { OnOk result (Extends file.old file.new (bits (front_bytes (contents_of parts.now)))) }
+    requires room { HasRoom (part.old.spare + length part.old.written) (contents_of parts.now) }
+    ensures gives { Gives (W.taken sink.old) (W.taken sink.new) gathering.old gathering.new (front_bytes (contents_of parts.now)) result }
+    ensures counts { Counts (W.faults sink.old) (W.faults sink.new) result }
+    ensures room { part.old.spare + length part.old.written ≤ part.new.spare + length part.new.written }
 {
-    write_file_header(header, file);
-    write_framed(Framed::Variables, parts.variables.as_slice(), file);
-    write_class_section(alloc, parts.classes.as_slice(), file)?;
-    write_preview(file);
-    Ok(())
+    match give_header(header, part, gathering, sink) {
+        Ok(()) => {}
+        Err(WriteFault) => return Err(WriteFault),
+    }
+    match give_framed(
+        Framed::Variables,
+        parts.variables.as_slice(),
+        gathering,
+        sink,
+    ) {
+        Ok(()) => {}
+        Err(WriteFault) => return Err(WriteFault),
+    }
+    match give_classes(parts.classes.as_slice(), part, gathering, sink) {
+        Ok(()) => {}
+        Err(WriteFault) => return Err(WriteFault),
+    }
+    gathering.give(&PREVIEW_BYTES, sink)
 }
 
-/// Writes the parts of the canonical file from the frames on. The only refusal is want of memory.
-fn write_back(
-    alloc: Global,
+/// Sends the parts of the canonical file before the map.
+fn send_front<W: Sink>(
     parts: &Parts<'_>,
-    layout: &Layout,
-    file: &mut BitSink,
-) -> Result<(), NoMemory>
+    header: &FileHeader,
+    part: &mut BitSink,
+    gathering: &mut Gathering,
+    sink: &mut W,
+) -> Result<(), WriteFault>
     requires valid { IsValid (contents_of parts.now) }
-    requires layout { IsLayout layout.now (contents_of parts.now) }
-    requires aligned { length file.old.written % 8 ≡ 0 }
-    requires room { 8 * length (back_bytes (contents_of parts.now)) ≤ file.old.spare }
-    ensures { OnOk result (Extends file.old file.new (bits (back_bytes (contents_of parts.now)))) }
+    requires small { size_of (contents_of parts.now) ≤ MOST_BYTES }
+    requires header { header.now ≡ header_of (contents_of parts.now) }
+    requires room { HasRoom (part.old.spare + length part.old.written) (contents_of parts.now) }
+    requires none { gathering.old ≡ [] }
+    ensures bytes { Sends (W.taken sink.old) (W.taken sink.new) (front_bytes (contents_of parts.now) ++ frames_bytes (contents_of parts.now).objects) result }
+    ensures counts { Counts (W.faults sink.old) (W.faults sink.new) result }
+    ensures room { part.old.spare + length part.old.written ≤ part.new.spare + length part.new.written }
+    ensures none { OnOk result (gathering.new ≡ []) }
 {
-    write_frames(parts.objects.as_slice(), file);
-    write_map(
-        alloc,
-        layout.pairs.as_slice(),
-        layout.others - layout.map,
-        file,
-    )?;
-    write_others(parts.others.as_slice(), file);
-    Ok(())
+    match give_front(parts, header, part, gathering, sink) {
+        Ok(()) => {}
+        Err(WriteFault) => return Err(WriteFault),
+    }
+    match give_frames(parts.objects.as_slice(), part, gathering, sink) {
+        Ok(()) => {}
+        Err(WriteFault) => return Err(WriteFault),
+    }
+    gathering.flush(sink)
 }
 
-/// Makes the canonical file. The only refusal is want of memory.
-fn file_of(alloc: Global, parts: &Parts<'_>, layout: &Layout) -> Result<BitSink, NoMemory>
-    requires valid { IsValid (contents_of parts.now) }
-    requires layout { IsLayout layout.now (contents_of parts.now) }
-    requires small { size_of (contents_of parts.now) ≤ MOST_BYTES }
-    ensures { IfOk result (λ file. IsPlan (contents_of parts.now) file) }
+/// Sends the parts of the canonical file behind the map.
+fn send_back<W: Sink>(
+    parts: &Parts<'_>,
+    gathering: &mut Gathering,
+    sink: &mut W,
+) -> Result<(), WriteFault>
+    requires { gathering.old ≡ [] }
+    ensures bytes { Sends (W.taken sink.old) (W.taken sink.new) (others_bytes (contents_of parts.now).others) result }
+    ensures counts { Counts (W.faults sink.old) (W.faults sink.new) result }
 {
-    let header = header_of(alloc, parts, layout)?;
-    let mut file = BitSink::new(alloc);
-    if !file.reserve(8 * layout.size) {
+    match give_others(parts.others.as_slice(), gathering, sink) {
+        Ok(()) => {}
+        Err(WriteFault) => return Err(WriteFault),
+    }
+    gathering.flush(sink)
+}
+
+/// Room for a part of so many bytes. The only refusal is want of memory.
+fn room_for_part(alloc: Global, bytes: u64) -> Result<BitSink, NoMemory>
+    requires { bytes < 2 ^ 58 }
+    ensures { IfOk result (λ part. 8 * bytes ≤ part.spare + length part.written) }
+{
+    let mut part = BitSink::new(alloc);
+    if !part.reserve(8 * bytes) {
         return Err(NoMemory);
     }
-    write_front(alloc, parts, &header, &mut file)?;
-    write_back(alloc, parts, layout, &mut file)?;
-    Ok(file)
+    Ok(part)
 }
 
-/// A drawing with what its writing needs: the whole file, made. Contracts see the drawing.
+/// A drawing with what its writing needs: where its parts stand, and room for one of them. Contracts see the drawing.
 #[derive(Drop)]
 pub struct Plan<'d, 'a> {
     drawing: &'d Drawing<'a>,
-    file: BitSink,
+    // For each object its handle and the place of its frame, and the size of the file.
+    pairs: Items<Pair>,
+    size: u64,
+    header: FileHeader,
+    // Where a part is made that isn't held elsewhere, what waits to go out, and the pages of the map.
+    part: BitSink,
+    gathering: Gathering,
+    pages: PageWriter,
 }
 
 impl<'d, 'a> Model for Plan<'d, 'a> {
+    ghost use Rattle.std.specs.Prelude.{◌+◌, length};
     ghost use Rattle.dwg_file.specs.Contents.{Contents, contents_of};
+    ghost use Rattle.dwg_file.specs.Plans.{IsPlan};
 
     ghost Value = { Contents };
 
-    ghost use Rattle.dwg_file.specs.Plans.{IsPlan};
-
     ghost view = { λ plan. contents_of plan.drawing.now };
 
-    ghost invariant = { λ plan. IsPlan (contents_of plan.drawing.now) plan.file };
+    ghost invariant = { λ plan. IsPlan (contents_of plan.drawing.now) plan.pairs plan.size plan.header (plan.part.spare + length plan.part.written) };
+}
+
+/// What the writing of a laid out drawing needs. The only refusal is want of memory.
+fn plan_of<'d, 'a>(
+    alloc: Global,
+    drawing: &'d Drawing<'a>,
+    layout: Layout,
+) -> Result<Plan<'d, 'a>, NoMemory>
+    requires layout { IsLayout layout (contents_of drawing.now) }
+    requires small { size_of (contents_of drawing.now) ≤ MOST_BYTES }
+    requires room { HasRoom (8 * layout.part) (contents_of drawing.now) }
+    requires few { layout.part < 2 ^ 58 }
+    ensures { IfOk result (λ plan. plan ≡ contents_of drawing.now) }
+{
+    let header = header_of(alloc, drawing.parts(), &layout)?;
+    let part = room_for_part(alloc, layout.part)?;
+    let gathering = Gathering::new(alloc)?;
+    let pages = PageWriter::new(alloc)?;
+    Ok(Plan {
+        drawing,
+        pairs: layout.pairs,
+        size: layout.size,
+        header,
+        part,
+        gathering,
+        pages,
+    })
 }
 
 impl<'d, 'a> Plan<'d, 'a> {
-    /// Makes the canonical file of a drawing. TooLarge exactly where that has more than `LIMIT` bytes, with their count; the
-    /// only other refusal is want of memory. All memory that writing needs is taken here, in proportion to the drawing.
+    /// Measures the canonical file of a drawing. TooLarge exactly where that has more than `LIMIT` bytes, with their count; the
+    /// only other refusal is want of memory. All memory that writing needs is taken here: a pair for each object, the largest part
+    /// that isn't held elsewhere, a page of the map, and the least that goes out in one piece.
     pub fn prepare(alloc: Global, drawing: &'d Drawing<'a>) -> Result<Plan<'d, 'a>, PlanFault>
         ensures plan { IfOk result (λ plan. plan ≡ contents_of drawing.now) }
         ensures within { OnOk result (size_of (contents_of drawing.now) ≤ MOST_BYTES) }
         ensures too_large { (size : ℕ) → result ≡ Err (PlanFault.TooLarge size) → MOST_BYTES < size_of (contents_of drawing.now) }
         ensures with_size { (size : ℕ) → result ≡ Err (PlanFault.TooLarge size) → size ≡ size_of (contents_of drawing.now) }
     {
-        let parts = drawing.parts();
-        let layout = match layout_of(alloc, parts) {
+        let layout = match layout_of(alloc, drawing.parts()) {
             Ok(layout) => layout,
             Err(NoMemory) => return Err(PlanFault::NoMemory),
         };
         if layout.size > LIMIT {
             return Err(PlanFault::TooLarge { size: layout.size });
         }
-        match file_of(alloc, parts, &layout) {
-            Ok(file) => Ok(Plan { drawing, file }),
+        match plan_of(alloc, drawing, layout) {
+            Ok(plan) => Ok(plan),
             Err(NoMemory) => Err(PlanFault::NoMemory),
         }
     }
@@ -158,16 +217,36 @@ impl<'d, 'a> Plan<'d, 'a> {
         ensures size { result ≡ size_of self.now }
         ensures within { result ≤ MOST_BYTES }
     {
-        self.file.length() / 8
+        self.size
     }
 
-    /// Sends the canonical file. It takes no memory. A fault comes only where the sink's count of faults rose; then it took a
-    /// front of the file.
+    /// Sends the canonical file, part after part. It takes no memory, and may be called again, after Ok and after a fault: it sends
+    /// the whole file again. A fault comes only where the sink's count of faults rose; then it took a front of the file.
+    ///
+    /// Before the map and behind it small pieces go out together, 4,096 bytes at a time but for the last; the map goes out page by
+    /// page. What is held elsewhere takes no room of its own, and what of it is left behind a piece goes out as it is held, if it
+    /// has as many bytes.
     pub fn write_to<W: Sink>(&mut self, sink: &mut W) -> Result<(), WriteFault>
         ensures bytes { Sends (W.taken sink.old) (W.taken sink.new) (canonical self.old) result }
         ensures counts { Counts (W.faults sink.old) (W.faults sink.new) result }
         ensures kept { self.new ≡ self.old }
     {
-        put_all(sink, bytes_of(&self.file))
+        let parts = self.drawing.parts();
+        self.gathering.clear();
+        match send_front(
+            parts,
+            &self.header,
+            &mut self.part,
+            &mut self.gathering,
+            sink,
+        ) {
+            Ok(()) => {}
+            Err(WriteFault) => return Err(WriteFault),
+        }
+        match send_map(self.pairs.as_slice(), &mut self.pages, sink) {
+            Ok(()) => {}
+            Err(WriteFault) => return Err(WriteFault),
+        }
+        send_back(parts, &mut self.gathering, sink)
     }
 }

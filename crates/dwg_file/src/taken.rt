@@ -1,12 +1,11 @@
 //! The bytes that frames took so far, for overlaps in any order.
 
-ghost use Rattle.std.specs.Prelude.{◌≡◌, ℕ, ◌+◌, ◌-◌, ◌^◌, ◌<◌, ◌≤◌, ◌||◌, List, [], ◌∷◌, ◌++◌, Some, true, false, nat_lt, IfOk};
+ghost use Rattle.std.specs.Prelude.{◌≡◌, ℕ, ◌+◌, ◌-◌, ◌^◌, ◌<◌, ◌≤◌, ◌||◌, List, [], ◌++◌, Some, true, false, nat_lt, IfOk};
 ghost use Rattle.std.specs.BTreeMap.{insert_entry};
 ghost use Rattle.std.specs.Ordering.{nat_cmp};
 ghost use Rattle.dwg_file.specs.Taken.{Run, AreRuns, IsRow, IsBehind, begins_before, first_behind, meets, shares};
 
-use crate::lists::with_item;
-use dwg_base::NoMemory;
+use dwg_base::{NoMemory, with_item};
 use std::alloc::Global;
 use std::collections::BTreeMap;
 use std::marker::Model;

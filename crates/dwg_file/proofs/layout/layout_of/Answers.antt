@@ -8,12 +8,12 @@ use Rattle.dwg_classes.specs.WrittenClasses.{AreWritable}
 use Rattle.dwg_object.specs.declared.object.Object.{Object}
 use Rattle.dwg_object.specs.Objects.{value_of}
 use Rattle.dwg_file.specs.Contents.{other_value, contents_of}
-use Rattle.dwg_file.specs.Plans.{CanBeFramed}
-use Rattle.dwg_file.proofs.PlanFacts.{valid_writable, valid_framed, pairs_ascend_from, pairs_few}
+use Rattle.dwg_file.specs.Plans.{CanBeFramed, FitsIn}
+use Rattle.dwg_file.proofs.PlanFacts.{valid_writable, valid_framed, pairs_ascend_from, pairs_few, objects_sent}
 use Rattle.dwg_file.proofs.layout.layout_of.Goals as goal
 
-pub content_length-requires-clause-writable : goal.content_length-requires-clause-writable
-content_length-requires-clause-writable c = subst AreWritable (sym c.as_slice-2.ensures) (valid_writable (contents_of c.args.parts.now) c.requires)
+pub content_length-content-requires-clause-writable : goal.content_length-content-requires-clause-writable
+content_length-content-requires-clause-writable c = subst AreWritable (sym c.as_slice-2.ensures) (valid_writable (contents_of c.args.parts.now) c.requires)
 
 pub place_objects-requires-clause-framed : goal.place_objects-requires-clause-framed
 place_objects-requires-clause-framed c =
@@ -22,8 +22,8 @@ place_objects-requires-clause-framed c =
 pub map_length-requires-clause-ascending : goal.map_length-requires-clause-ascending
 map_length-requires-clause-ascending c =
     let classes : length (class_content c.as_slice-2.result.now) ≡ length (class_content c.args.parts.now.classes) = ap (λ (all : List Class). length (class_content all)) c.as_slice-2.ensures in
-    let there : 43 + 9 * (3 + length c.as_slice-sections.result.now) + 38 + length c.as_slice.result.now + 38 + c.content_length.result + 37 ≡ objects_place (contents_of c.args.parts.now) =
-    omega (arith, ap length c.as_slice-sections.ensures, length-map c.args.parts.now.others other_value, ap length c.as_slice.ensures, c.content_length.ensures, classes) in
+    let there : 43 + 9 * (3 + length c.as_slice-sections.result.now) + 38 + length c.as_slice.result.now + 38 + c.content_length-content.result + 37 ≡ objects_place (contents_of c.args.parts.now) =
+    omega (arith, ap length c.as_slice-sections.ensures, length-map c.args.parts.now.others other_value, ap length c.as_slice.ensures, c.content_length-content.ensures, classes) in
     pairs_ascend_from (contents_of c.args.parts.now) _ _ c.as_slice-4.result.now c.requires there (ap (λ (objects : List Object). map value_of objects) c.as_slice-3.ensures)
     (c.as_slice-4.ensures ∙ c.in_ok-frames.ensures.pairs)
 
@@ -31,3 +31,14 @@ pub map_length-requires-clause-few : goal.map_length-requires-clause-few
 map_length-requires-clause-few c =
     pairs_few (contents_of c.args.parts.now) _ _ c.as_slice-4.result.now c.requires (ap (λ (objects : List Object). map value_of objects) c.as_slice-3.ensures)
     (c.as_slice-4.ensures ∙ c.in_ok-frames.ensures.pairs)
+
+pub returns-clause-room : goal.returns-clause-room
+returns-clause-room c =
+    let drawing = contents_of c.args.parts.now in
+    let part = c.max-2.result in
+    let all = subst (λ (objects : List Object). AllByRecursion (FitsIn c.in_ok-frames.frames.part) (map value_of objects)) c.as_slice-3.ensures c.in_ok-frames.ensures.part in
+    record {
+      header = omega (arith, c.max.ensures, c.max-2.ensures, ap length c.as_slice-sections.ensures, length-map c.args.parts.now.others other_value);
+      classes = omega (arith, c.max.ensures, c.max-2.ensures, c.content_length-content.ensures, ap (λ (all : List Class). length (class_content all)) c.as_slice-2.ensures);
+      objects = objects_sent c.args.parts.now.classes drawing.objects c.in_ok-frames.frames.part (8 * part) (omega (arith, c.max-2.ensures)) c.requires.objects all;
+    }

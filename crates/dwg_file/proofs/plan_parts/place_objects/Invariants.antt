@@ -1,17 +1,19 @@
-use Rattle.std.proofs.Common.{◌≡◌, ◌++◌, drop}
+use Rattle.std.proofs.Common.{◌≡◌, ℕ, ◌^◌, ◌<◌, ◌≤◌, ◌++◌, drop}
 use Rattle.std.specs.Prelude.{map}
 use Rattle.std.specs.List.{AllByRecursion}
 use Rattle.dwg_object.specs.Frames.{frame_bytes}
 use Rattle.dwg_object.specs.Objects.{value_of}
 use Rattle.dwg_file.specs.Canonical.{placed}
-use Rattle.dwg_file.specs.Plans.{CanBeFramed}
+use Rattle.dwg_file.specs.Plans.{CanBeFramed, FitsIn}
 use Rattle.dwg_file.proofs.PlanLoops.{AreCounted}
 use Rattle.dwg_file.proofs.plan_parts.place_objects.Given as goal
 
--- what is placed so far and what is left give the whole
+-- what is placed so far and what is left give the whole; and where what is left fits in as much as those so far, all do
 abbrev pub invariant-along : goal.invariant-along
 invariant-along l = record {
   counted : AreCounted value_of frame_bytes l.objects (drop l.object-index l.objects) l.fn.from l.place;
-  whole : placed l.fn.from (map value_of l.objects) ≡ l.pairs ++ placed l.place (map value_of (drop l.object-index l.objects));
+  whole : placed l.fn.from (map value_of l.objects) ≡ l.pairs.items ++ placed l.place (map value_of (drop l.object-index l.objects));
   framed : AllByRecursion CanBeFramed (map value_of (drop l.object-index l.objects));
+  fit : (most : ℕ) → l.part ≤ most → AllByRecursion (FitsIn most) (map value_of (drop l.object-index l.objects)) → AllByRecursion (FitsIn most) (map value_of l.objects);
+  few : l.part < 2 ^ 30;
 }

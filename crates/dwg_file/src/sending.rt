@@ -1,0 +1,234 @@
+//! Sending the parts of the canonical file, one behind the other: a run of bytes that is held elsewhere without room of its own, any
+//! other part made in the room of one.
+
+ghost use Rattle.std.specs.Prelude.{◌≡◌, ◌+◌, ◌*◌, ◌%◌, ◌^◌, ◌<◌, ◌≤◌, [], length, map, flat_map, false, OnOk, OnErr};
+ghost use Rattle.std.specs.List.{AllByRecursion};
+ghost use Rattle.dwg_base.specs.Devices.{AppendsFront, Counts, Sends};
+ghost use Rattle.dwg_bits.specs.WholeBytes.{whole_bytes};
+ghost use Rattle.dwg_classes.specs.WrittenClasses.{AreWritable};
+ghost use Rattle.dwg_grammar.specs.ModularCodes.{ms};
+ghost use Rattle.dwg_object.specs.Frames.{frame_bytes, framed_body};
+ghost use Rattle.dwg_object.specs.Objects.{value_of};
+ghost use Rattle.dwg_objmap.specs.Writing.{Ascend, map_bytes, map_behind};
+ghost use Rattle.dwg_sections.specs.FileHeader.{IsFileHeader, header_bytes};
+ghost use Rattle.dwg_sections.specs.Framed.{framed_bytes};
+ghost use Rattle.dwg_file.specs.Canonical.{class_content, frames_bytes, others_bytes};
+ghost use Rattle.dwg_file.specs.Contents.{other_value};
+ghost use Rattle.dwg_file.specs.Gathering.{Gives};
+ghost use Rattle.dwg_file.specs.Plans.{CanBeSent, IsPut};
+
+use crate::gathering::Gathering;
+use crate::parts::Other;
+use dwg_base::{Sink, WriteFault, bounded_bytes};
+use dwg_bits::BitSink;
+use dwg_check::{FRAME_START, check};
+use dwg_classes::{Class, write_classes};
+use dwg_codes::write_ms;
+use dwg_object::{Object, write_frame};
+use dwg_objmap::{PageWriter, Pair};
+use dwg_sections::{FileHeader, Framed, framed_pieces, write_file_header};
+
+/// The bytes of a sink that holds whole bytes.
+fn bytes_of(sink: &BitSink) -> &[u8]
+    requires { length sink.now.written % 8 ≡ 0 }
+    ensures { result.now ≡ whole_bytes sink.now.written }
+{
+    bounded_bytes(sink.as_bytes())
+}
+
+/// Gives pieces, one behind the other.
+fn give_all<W: Sink>(
+    pieces: &[&[u8]],
+    gathering: &mut Gathering,
+    sink: &mut W,
+) -> Result<(), WriteFault>
+    ensures gives { Gives (W.taken sink.old) (W.taken sink.new) gathering.old gathering.new (flat_map (λ bytes. bytes) (map (λ piece. piece.now) pieces.now)) result }
+    ensures counts { Counts (W.faults sink.old) (W.faults sink.new) result }
+{
+    'along: for index in 0..pieces.len() {
+        match gathering.give(pieces[index], sink) {
+            Ok(()) => {}
+            Err(WriteFault) => return Err(WriteFault),
+        }
+    }
+    Ok(())
+}
+
+/// Gives a framed section around its content.
+pub(crate) fn give_framed<W: Sink>(
+    which: Framed,
+    content: &[u8],
+    gathering: &mut Gathering,
+    sink: &mut W,
+) -> Result<(), WriteFault>
+    requires { length content.now < 2 ^ 32 }
+    ensures gives { Gives (W.taken sink.old) (W.taken sink.new) gathering.old gathering.new (framed_bytes which content.now) result }
+    ensures counts { Counts (W.faults sink.old) (W.faults sink.new) result }
+{
+    let around = framed_pieces(which, content);
+    let pieces = [
+        around.begin.as_slice(),
+        around.size.as_slice(),
+        content,
+        around.word.as_slice(),
+        around.end.as_slice(),
+    ];
+    give_all(&pieces, gathering, sink)
+}
+
+/// Gives the file header, which is made in the room of a part.
+pub(crate) fn give_header<W: Sink>(
+    header: &FileHeader,
+    part: &mut BitSink,
+    gathering: &mut Gathering,
+    sink: &mut W,
+) -> Result<(), WriteFault>
+    requires header { IsFileHeader header.now }
+    requires room { 344 + 72 * length header.now.locators ≤ part.old.spare + length part.old.written }
+    ensures gives { Gives (W.taken sink.old) (W.taken sink.new) gathering.old gathering.new (header_bytes header.now) result }
+    ensures counts { Counts (W.faults sink.old) (W.faults sink.new) result }
+    ensures room { part.old.spare + length part.old.written ≤ part.new.spare + length part.new.written }
+{
+    part.clear();
+    write_file_header(header, part);
+    gathering.give(bytes_of(part), sink)
+}
+
+/// Gives the section of the classes, whose content is made in the room of a part.
+pub(crate) fn give_classes<W: Sink>(
+    classes: &[Class],
+    part: &mut BitSink,
+    gathering: &mut Gathering,
+    sink: &mut W,
+) -> Result<(), WriteFault>
+    requires writable { AreWritable classes.now }
+    requires few { length (class_content classes.now) < 2 ^ 32 }
+    requires room { 8 * length (class_content classes.now) ≤ part.old.spare + length part.old.written }
+    ensures gives { Gives (W.taken sink.old) (W.taken sink.new) gathering.old gathering.new (framed_bytes Framed.Classes (class_content classes.now)) result }
+    ensures counts { Counts (W.faults sink.old) (W.faults sink.new) result }
+    ensures room { part.old.spare + length part.old.written ≤ part.new.spare + length part.new.written }
+{
+    part.clear();
+    write_classes(classes, part);
+    give_framed(Framed::Classes, bytes_of(part), gathering, sink)
+}
+
+/// Gives the frame of a Raw object around its body; its length is made in the room of a part.
+fn give_raw_frame<W: Sink>(
+    body: &[u8],
+    part: &mut BitSink,
+    gathering: &mut Gathering,
+    sink: &mut W,
+) -> Result<(), WriteFault>
+    requires few { length body.now < 2 ^ 29 }
+    requires room { 8 * length (ms.short (length body.now)) ≤ part.old.spare + length part.old.written }
+    ensures gives { Gives (W.taken sink.old) (W.taken sink.new) gathering.old gathering.new (framed_body (ms.short (length body.now)) body.now) result }
+    ensures counts { Counts (W.faults sink.old) (W.faults sink.new) result }
+    ensures room { part.old.spare + length part.old.written ≤ part.new.spare + length part.new.written }
+{
+    part.clear();
+    write_ms(body.len() as u64, part);
+    let size = bytes_of(part);
+    let word = check(check(FRAME_START, size), body).to_le_bytes();
+    let pieces = [size, body, word.as_slice()];
+    give_all(&pieces, gathering, sink)
+}
+
+/// Gives the frame of an object, which is made in the room of a part but for the body of a Raw one.
+fn give_frame<W: Sink>(
+    object: &Object<'_>,
+    part: &mut BitSink,
+    gathering: &mut Gathering,
+    sink: &mut W,
+) -> Result<(), WriteFault>
+    requires { CanBeSent (part.old.spare + length part.old.written) (value_of object.now) }
+    ensures gives { Gives (W.taken sink.old) (W.taken sink.new) gathering.old gathering.new (frame_bytes (value_of object.now)) result }
+    ensures counts { Counts (W.faults sink.old) (W.faults sink.new) result }
+    ensures room { part.old.spare + length part.old.written ≤ part.new.spare + length part.new.written }
+{
+    if let Object::Raw(raw) = object {
+        return give_raw_frame(raw.bytes.as_slice(), part, gathering, sink);
+    }
+    part.clear();
+    write_frame(object, part);
+    gathering.give(bytes_of(part), sink)
+}
+
+/// Gives the frames of objects, one behind the other.
+pub(crate) fn give_frames<W: Sink>(
+    objects: &[Object<'_>],
+    part: &mut BitSink,
+    gathering: &mut Gathering,
+    sink: &mut W,
+) -> Result<(), WriteFault>
+    requires { AllByRecursion (CanBeSent (part.old.spare + length part.old.written)) (map value_of objects.now) }
+    ensures gives { Gives (W.taken sink.old) (W.taken sink.new) gathering.old gathering.new (frames_bytes (map value_of objects.now)) result }
+    ensures counts { Counts (W.faults sink.old) (W.faults sink.new) result }
+    ensures room { part.old.spare + length part.old.written ≤ part.new.spare + length part.new.written }
+{
+    'along: for object in objects {
+        match give_frame(object, part, gathering, sink) {
+            Ok(()) => {}
+            Err(WriteFault) => return Err(WriteFault),
+        }
+    }
+    Ok(())
+}
+
+/// Gives unknown sections, one behind the other.
+pub(crate) fn give_others<W: Sink>(
+    others: &[Other<'_>],
+    gathering: &mut Gathering,
+    sink: &mut W,
+) -> Result<(), WriteFault>
+    ensures gives { Gives (W.taken sink.old) (W.taken sink.new) gathering.old gathering.new (others_bytes (map other_value others.now)) result }
+    ensures counts { Counts (W.faults sink.old) (W.faults sink.new) result }
+{
+    'along: for other in others {
+        match gathering.give(other.bytes.as_slice(), sink) {
+            Ok(()) => {}
+            Err(WriteFault) => return Err(WriteFault),
+        }
+    }
+    Ok(())
+}
+
+/// Puts pairs into the map, one after the other.
+fn put_pairs<W: Sink>(
+    pairs: &[Pair],
+    writer: &mut PageWriter,
+    sink: &mut W,
+) -> Result<(), WriteFault>
+    requires ascending { Ascend writer.old.last.handle pairs.now }
+    requires open { writer.old.ended ≡ false }
+    ensures put { OnOk result (IsPut (W.taken sink.old) (W.taken sink.new) writer.new [] (map_behind writer.old pairs.now)) }
+    ensures cut { OnErr result (AppendsFront (W.taken sink.old) (W.taken sink.new) (map_behind writer.old pairs.now)) }
+    ensures counts { Counts (W.faults sink.old) (W.faults sink.new) result }
+    ensures still_open { OnOk result (writer.new.ended ≡ false) }
+{
+    'along: for pair in pairs {
+        match writer.put(*pair, sink) {
+            Ok(()) => {}
+            Err(WriteFault) => return Err(WriteFault),
+        }
+    }
+    Ok(())
+}
+
+/// Sends the map of pairs, page by page.
+pub(crate) fn send_map<W: Sink>(
+    pairs: &[Pair],
+    writer: &mut PageWriter,
+    sink: &mut W,
+) -> Result<(), WriteFault>
+    requires { Ascend 0 pairs.now }
+    ensures bytes { Sends (W.taken sink.old) (W.taken sink.new) (map_bytes pairs.now) result }
+    ensures counts { Counts (W.faults sink.old) (W.faults sink.new) result }
+{
+    writer.restart();
+    match put_pairs(pairs, writer, sink) {
+        Ok(()) => {}
+        Err(WriteFault) => return Err(WriteFault),
+    }
+    writer.end(sink)
+}
