@@ -1,6 +1,6 @@
 //! A body that is read, and that may be written again.
 
-ghost use Rattle.std.specs.Prelude.{◌≡◌, ◌*◌, ◌^◌, ◌<◌, length, IfSome};
+ghost use Rattle.std.specs.Prelude.{◌^◌, ◌<◌, length, IfSome};
 
 use dwg_base::Handle;
 use dwg_bits::BitCursor;

@@ -5,7 +5,6 @@ mod file;
 mod forms;
 mod inputs;
 mod kinds;
-mod lists;
 mod objects;
 mod objmap;
 mod slots;

@@ -8,6 +8,7 @@ mod codes;
 mod handles;
 mod laws;
 mod lines;
+mod lists;
 mod modular;
 mod pieces;
 mod sections;

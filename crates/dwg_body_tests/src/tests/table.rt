@@ -1,6 +1,6 @@
 //! Tables of bodies.
 
-ghost use Rattle.std.specs.Prelude.{◌≡◌, ◌*◌, ◌^◌, ◌<◌, length};
+ghost use Rattle.std.specs.Prelude.{◌*◌, ◌^◌, ◌<◌, length};
 
 use crate::reading::read_body;
 use crate::tests::fields::Fields;

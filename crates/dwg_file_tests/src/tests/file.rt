@@ -30,7 +30,7 @@ use std::test::Fail;
 ///   needed;
 /// - the plain and the typed objects from above, spelled longer than is needed, with ones behind references;
 /// - the begin of a file whose two unknown sections begin with it and have 17,000,000 bytes each;
-/// - the header of a file of 1,100 dictionaries.
+/// - the header of a file of 1,100 dictionaries; and of one that has an unknown section too, the first 9,000 bytes of it.
 const FILES: &str = "\
     smallest | - | -\n\
     one object | - | \
@@ -91,7 +91,10 @@ const FILES: &str = "\
       D762A835C062BBEFD4000201D0\n\
     header of a long map | \
       41433130313500000000000000920000000000000003000000004600000026000000016C0000002600000002C4480000A8080000FE0695A04E2899821AE55E41 \
-      E05F9D3A4D00\n";
+      E05F9D3A4D00\n\
+    header of a long map and a section | \
+      41433130313500000000000000000000000000000004000000004F0000002600000001750000002600000002C4480000A8080000090000000028230000D52195 \
+      A04E2899821AE55E41E05F9D3A4D00\n";
 
 /// The bytes of a file by its text.
 fn file_by(alloc: Global, text: &str) -> Option<Vec<u8>> {
@@ -158,12 +161,24 @@ fn long_file(alloc: Global) -> Option<Vec<u8>> {
     Some(file)
 }
 
+/// The file of these dictionaries and of an unknown section, in which zeros stand behind the classes.
+fn long_file_with_section(alloc: Global) -> Option<Vec<u8>> {
+    let mut file = listed(alloc, "header of a long map and a section")?;
+    let smallest = listed(alloc, "smallest")?;
+    file.extend_from_slice(smallest.get(70..146)?).ok()?;
+    file.extend_from_slice(&[0; 28]).ok()?;
+    push_dictionaries(alloc, &mut file)?;
+    file.extend_from_slice(&long_map(alloc)?).ok()?;
+    Some(file)
+}
+
 /// The bytes of a file of that name.
 fn named(alloc: Global, name: &str) -> Option<Vec<u8>> {
     match name {
         "one object and more" => longer_file(alloc),
         "two large sections" => large_file(alloc),
         "long" => long_file(alloc),
+        "long with a section" => long_file_with_section(alloc),
         _ => listed(alloc, name),
     }
 }
@@ -254,10 +269,39 @@ fn tell_front_sent(alloc: Global, told: &mut String, plan: &mut Plan<'_, '_>) ->
     told::bytes(told, sink.bytes())
 }
 
-/// Adds what is asked of a plan: `front`, what the failing sink holds of it, or whether it sends the file of a name.
+/// Whether a call of a sink fails that takes at most a thousand bytes a call of the file that a plan sends, if the sink holds a front of
+/// it then, and all of it exactly where no call failed.
+fn fails_at(alloc: Global, plan: &mut Plan<'_, '_>, file: &[u8], call: u64) -> Option<bool> {
+    let mut fails = Items::new(alloc);
+    fails.push(call).ok()?;
+    let mut sink = MemSink::new(alloc, file.len(), 1_000, fails).ok()?;
+    let whole = send(plan, &mut sink);
+    if !file.starts_with(sink.bytes()) || whole != (sink.bytes().len() == file.len()) {
+        return None;
+    }
+    Some(!whole)
+}
+
+/// Adds how many calls there are of that sink, if after a fault in each of them the plan sends the whole file.
+fn tell_faults(alloc: Global, told: &mut String, plan: &mut Plan<'_, '_>) -> Option<()> {
+    let file = sent(alloc, plan)?;
+    for before in 0..1_000u64 {
+        if !fails_at(alloc, plan, &file, before + 1)? {
+            return told::number(told, before);
+        }
+        if sent(alloc, plan)?.as_slice() != file.as_slice() {
+            return None;
+        }
+    }
+    None
+}
+
+/// Adds what is asked of a plan: `front`, what the failing sink holds of it; `faults`, how often it can fail; or whether it sends
+/// the file of a name.
 fn tell_plan(alloc: Global, told: &mut String, plan: &mut Plan<'_, '_>, ask: &str) -> Option<()> {
     match ask {
         "front" => tell_front_sent(alloc, told, plan),
+        "faults" => tell_faults(alloc, told, plan),
         _ => tell_sent(alloc, told, plan, ask),
     }
 }
@@ -296,7 +340,9 @@ fn tell_bytes(alloc: Global, told: &mut String, bytes: &[u8], ask: &str) -> Opti
 /// What is asked of the drawing that a file spells, by its name:
 /// - `FILE | NAME => same`: whether its canonical file is that of another name; or its size, where it is too large;
 /// - `FILE | parts => LEAD MARK PAGE VARIABLES classes .. others .. objects ..`: its parts;
-/// - `FILE | front => BYTES`: what a sink holds of its canonical file whose third write of ten bytes fails.
+/// - `FILE | front => BYTES`: what a sink holds of its canonical file whose third write of ten bytes fails;
+/// - `FILE | faults => CALLS`: how many calls a sink takes that takes at most a thousand bytes a call, if each of them can fail and the
+///   whole file is sent then.
 struct Drawings;
 
 impl Telling for Drawings {
@@ -355,6 +401,18 @@ fn a_file_that_is_too_large_is_told_with_its_size(rt: HostRuntime) -> Result<(),
 #[test]
 fn a_failing_sink_holds_a_front(rt: HostRuntime) -> Result<(), Fail> {
     let cases = "one object | front => 4143313031350000000000000092000000000000\n";
+    hold::<Drawings>(&rt, rt.alloc(), cases);
+    Ok(())
+}
+
+#[test]
+fn a_file_is_sent_whole_after_a_fault_in_each_call(rt: HostRuntime) -> Result<(), Fail> {
+    // One piece before the map, and a page with pairs and one without, in three pieces and in two; four pieces of 4,096 bytes before the map
+    // and one of fewer, in five calls each and in three, three pages, in five, three and two, and the unknown section in two pieces, each in
+    // five.
+    let cases = "\
+        one object | faults => 6\n\
+        long with a section | faults => 43\n";
     hold::<Drawings>(&rt, rt.alloc(), cases);
     Ok(())
 }

@@ -2,6 +2,7 @@
 
 ghost use Rattle.std.specs.Prelude.{◌≡◌, ◌^◌, ◌<◌, IfSome};
 ghost use Rattle.dwg_objmap.specs.MapLines.{HasPage};
+ghost use Rattle.dwg_objmap.specs.Writing.{FRESH};
 
 use crate::tests::inputs::{number, placed, small};
 use crate::tests::table::{Telling, hold};
@@ -130,14 +131,11 @@ fn pair(handle: u64, place: u64) -> Option<Pair>
     }
 }
 
-/// Writes the map of the handles from 1 to `count`, and says whether the sink took it whole.
-fn write_map(alloc: Global, count: u64, sink: &mut MemSink) -> Option<bool>
-    requires { count < 2_000 }
+/// Writes the map of the handles from 1 to `count` by a writer that was given no pair yet, and says whether the sink took it whole.
+fn fill_map(writer: &mut PageWriter, count: u64, sink: &mut MemSink) -> Option<bool>
+    requires few { count < 2_000 }
+    requires fresh { writer.old ≡ FRESH }
 {
-    let mut writer = match PageWriter::new(alloc) {
-        Ok(writer) => writer,
-        Err(_) => return None,
-    };
     'along: for handle in 0..count {
         let next = pair(handle + 1, frame_place(handle + 1))?;
         match writer.put(next, sink) {
@@ -146,6 +144,14 @@ fn write_map(alloc: Global, count: u64, sink: &mut MemSink) -> Option<bool>
         }
     }
     Some(writer.end(sink).is_ok())
+}
+
+/// Writes that map by a writer of its own.
+fn write_map(alloc: Global, count: u64, sink: &mut MemSink) -> Option<bool>
+    requires { count < 2_000 }
+{
+    let mut writer = PageWriter::new(alloc).ok()?;
+    fill_map(&mut writer, count, sink)
 }
 
 /// A sink with room for so many bytes, which takes them in pieces.
@@ -270,6 +276,55 @@ fn a_map_that_is_not_taken_whole_is_a_fault(rt: HostRuntime) -> Result<(), Fail>
         2033 => 2033\n\
         2215 => 2215\n";
     hold::<Rooms>(&rt, rt.alloc(), cases);
+    Ok(())
+}
+
+/// `ROOM => LENGTH SAME BYTES`: how many bytes of that map a sink of so much room takes; whether the same writer, restarted, writes
+/// that map; and what it writes, restarted behind its end, where it is ended without a pair.
+struct Restarts;
+
+/// Adds whether a writer that was given no pair yet writes that map.
+fn tell_same(alloc: Global, told: &mut String, writer: &mut PageWriter) -> Option<()>
+    requires { writer.old ≡ FRESH }
+{
+    let mut sink = sink(alloc, 4_000)?;
+    let whole = fill_map(writer, 1_100, &mut sink)?;
+    let map = long_map(alloc)?;
+    let same = whole && sink.bytes() == map.as_slice();
+    told::word(told, if same { "same" } else { "other" })
+}
+
+/// Adds what a writer that was given no pair yet writes where it is ended at once.
+fn tell_end(alloc: Global, told: &mut String, writer: &mut PageWriter) -> Option<()>
+    requires { writer.old ≡ FRESH }
+{
+    let mut sink = sink(alloc, 5)?;
+    writer.end(&mut sink).ok()?;
+    told::bytes(told, sink.bytes())
+}
+
+impl Telling for Restarts {
+    fn tell(alloc: Global, told: &mut String, input: &str) -> Option<()> {
+        let mut writer = PageWriter::new(alloc).ok()?;
+        let mut short = sink(alloc, usize::from(small(input)?))?;
+        fill_map(&mut writer, 1_100, &mut short)?;
+        told::number(told, short.bytes().len() as u64)?;
+        writer.restart();
+        tell_same(alloc, told, &mut writer)?;
+        writer.restart();
+        tell_end(alloc, told, &mut writer)
+    }
+}
+
+#[test]
+fn a_writer_begins_anew_after_a_fault_and_after_its_end(rt: HostRuntime) -> Result<(), Fail> {
+    let cases = "\
+        0 => 0 same 000201D0\n\
+        2032 => 2032 same 000201D0\n\
+        2033 => 2033 same 000201D0\n\
+        2215 => 2215 same 000201D0\n\
+        4000 => 2216 same 000201D0\n";
+    hold::<Restarts>(&rt, rt.alloc(), cases);
     Ok(())
 }
 

@@ -1,6 +1,6 @@
 //! Bit codes, read and written at each of the bit positions 0 to 15.
 
-ghost use Rattle.std.specs.Prelude.{◌<◌, ◌^◌};
+ghost use Rattle.std.specs.Prelude.{◌<◌};
 
 use crate::tests::lines::{Line, Tale, all_hold};
 use crate::tests::sinks::{cursor_of, cursor_over, has_room};

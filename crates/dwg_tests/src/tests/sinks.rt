@@ -1,6 +1,6 @@
 //! Cursors and sinks whose conditions are tested.
 
-ghost use Rattle.std.specs.Prelude.{◌≡◌, ◌≤◌, [], IfSome};
+ghost use Rattle.std.specs.Prelude.{◌≡◌, ◌≤◌, []};
 ghost use Rattle.std.specs.Bool.{OnTrue};
 
 use crate::tests::told::Told;

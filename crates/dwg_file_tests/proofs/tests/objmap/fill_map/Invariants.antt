@@ -1,5 +1,5 @@
 use Rattle.std.proofs.Common.{◌≡◌, false}
-use Rattle.dwg_file_tests.proofs.tests.objmap.write_map.Given as goal
+use Rattle.dwg_file_tests.proofs.tests.objmap.fill_map.Given as goal
 
 -- the writer is open, and its last handle is the last one that was put
 abbrev pub invariant-along : goal.invariant-along
