@@ -3,3 +3,5 @@ pub mod SendingLemmas
 pub mod Sending
 pub mod Giving
 pub mod RangeSearch
+pub mod FirstItem
+pub mod OneOfAll

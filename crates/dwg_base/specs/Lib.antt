@@ -6,3 +6,5 @@ pub mod Devices
 pub mod Memory
 -- Why an input is refused: the first failing line of the table of refusals, with its place.
 pub mod Refusals
+-- The first item of a number in a list whose items have numbers.
+pub mod FirstItem

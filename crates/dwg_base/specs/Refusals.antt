@@ -66,12 +66,19 @@ part_word_of line =
 -- the reasons of the lines 1 to 37, in the order of the table
 abbrev pub REASONS : List (List ℕ)
 REASONS =
+    -- 1 to 8: the file header
     codes "short" ∷ codes "version" ∷ codes "count" ∷ codes "short" ∷ codes "check" ∷ codes "sentinel" ∷ codes "repeated" ∷ codes "missing"
+    -- 9 to 13: the header variables
     ∷ codes "short" ∷ codes "begin" ∷ codes "length" ∷ codes "check" ∷ codes "end"
+    -- 14 to 20: the classes
     ∷ codes "short" ∷ codes "begin" ∷ codes "length" ∷ codes "check" ∷ codes "end" ∷ codes "spelling" ∷ codes "number"
+    -- 21 to 26: the object map
     ∷ codes "short" ∷ codes "size" ∷ codes "check" ∷ codes "pair" ∷ codes "null" ∷ codes "duplicate"
+    -- 27 to 32: the objects
     ∷ codes "place" ∷ codes "length" ∷ codes "overlap" ∷ codes "check" ∷ codes "head" ∷ codes "handle"
+    -- 33: unknown sections
     ∷ codes "short"
+    -- 34 to 37: the certificate
     ∷ codes "short" ∷ codes "begin" ∷ codes "length" ∷ codes "entry" ∷ []
 
 -- why a line of the table refuses

@@ -1,6 +1,6 @@
 //! Runs of bytes.
 
-ghost use Rattle.std.specs.Prelude.{◌≡◌, ℕ, List, IfOk};
+ghost use Rattle.std.specs.Prelude.{◌≡◌, ℕ, ◌+◌, ◌≤◌, ◌++◌, List, length, vec_capacity, IfOk};
 
 use crate::device::NoMemory;
 use std::alloc::Global;
@@ -41,5 +41,17 @@ impl ByteRun {
         ensures { result.now ≡ self.now }
     {
         self.bytes.as_slice()
+    }
+}
+
+/// Puts bytes behind others, where there is room for them. It takes no memory.
+pub fn append_bytes(bytes: &mut Vec<u8>, more: &[u8])
+    requires room { length bytes.old.items + length more.now ≤ vec_capacity bytes.old }
+    ensures both { bytes.new.items ≡ bytes.old.items ++ more.now }
+    ensures capacity { vec_capacity bytes.old ≤ vec_capacity bytes.new }
+{
+    match bytes.extend_from_slice(more) {
+        Ok(()) => {}
+        Err(_) => unreachable!(),
     }
 }

@@ -11,7 +11,7 @@ mod memory;
 mod refusal;
 mod slices;
 
-pub use bytes::ByteRun;
+pub use bytes::{ByteRun, append_bytes};
 pub use device::{Failed, NoMemory, Sink, Source, WriteFault, put_all};
 pub use handle::Handle;
 pub use intake::{Intake, LIMIT, read_all};

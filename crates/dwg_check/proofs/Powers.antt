@@ -9,7 +9,7 @@ use Rattle.std.proofs.lemmas.Grind.{get_or_after_one}
 use Rattle.std.proofs.lemmas.Simd.{map-map}
 use Rattle.std.proofs.Math.Pow.{pow-lt}
 use Rattle.dwg_check.specs.CheckWord.{turn, check_word}
-use Rattle.dwg_check.proofs.CheckWordLaws.{shifts_xor, check_word_none, check_word_append, check_word_zeros, check_word_fits}
+use Rattle.dwg_check.proofs.CheckWordLaws.{halves_xor, check_word_none, check_word_append, check_word_zeros, check_word_fits}
 use Rattle.dwg_check.proofs.AppliedRows.{applied}
 use Rattle.dwg_check.specs.declared.zeros.TheConstants.{POWERS}
 use Rattle.dwg_check.proofs.Linear.{IsLinear, row_of, linear_applied}
@@ -30,7 +30,7 @@ after_more m n word =
 -- zero bytes are linear
 pub after_linear : (n : ℕ) → IsLinear (after n)
 after_linear n a b =
-    check_word_zeros n (bit_xor a b) ∙ shifts_xor (8 * n) a b
+    check_word_zeros n (bit_xor a b) ∙ halves_xor (8 * n) a b
     ∙ sym (ap₂ bit_xor (check_word_zeros n a) (check_word_zeros n b))
 
 -- a row that is applied to itself

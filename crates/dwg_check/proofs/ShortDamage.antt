@@ -9,8 +9,8 @@ use Rattle.dwg_base.specs.Bytes.{AreBytes}
 use Rattle.dwg_base.proofs.ByteLists.{byte_below}
 use Rattle.dwg_check.specs.CheckWord.{POLYNOMIAL, turn, check_word}
 use Rattle.dwg_check.specs.ShortDamage.{ShortDamageShows, SealedIsZero, DamageUnderSealShows}
-use Rattle.dwg_check.proofs.CheckWordLaws.{shift, shifts, shifts_xor, turn_fits, check_word_fits, check_word_append, check_word_cons, check_word_zeros, check_word_xor}
-use Rattle.dwg_check.proofs.ByteStep.{byte_shifts, shifts_up}
+use Rattle.dwg_check.proofs.CheckWordLaws.{half, halves, halves_xor, turn_fits, check_word_fits, check_word_append, check_word_cons, check_word_zeros, check_word_xor}
+use Rattle.dwg_check.proofs.ByteStep.{byte_halves, halves_up}
 use Rattle.dwg_check.proofs.PrefixWords.{xor_back}
 
 -- two words whose xor is 0 are one
@@ -21,29 +21,29 @@ xor_apart a b none = sym (xor_back a b) ∙ ap (bit_xor b) none ∙ xor_zero_r b
 xor_kept : (a b : ℕ) → a ≡ bit_xor a b → b ≡ 0
 xor_kept a b same = sym (xor_back b a) ∙ ap (bit_xor a) (xor_comm b a ∙ sym same) ∙ xor_self a
 
--- the polynomial has the highest bit, which no half of a word has
-shift_none : (word : ℕ) → word < 2 ^ 16 → shift word ≡ 0 → word ≡ 0
-unfolding shift turn
-shift_none word h =
+-- the polynomial has the highest bit, which no word divided by two has
+half_none : (word : ℕ) → word < 2 ^ 16 → half word ≡ 0 → word ≡ 0
+unfolding half turn
+half_none word h =
     cond_both (word % 2 == 0) (word / 2) (bit_xor (word / 2) POLYNOMIAL) (λ shifted. shifted ≡ 0 → word ≡ 0)
     (λ even none. let low : word % 2 ≡ 0 = eqb-true (word % 2) 0 even in omega arith)
-    (λ odd none. let half : word / 2 ≡ POLYNOMIAL = xor_apart (word / 2) POLYNOMIAL none in absurd (omega arith))
+    (λ odd none. let lower : word / 2 ≡ POLYNOMIAL = xor_apart (word / 2) POLYNOMIAL none in absurd (omega arith))
 
--- a word that shifts bring to 0 is 0
-pub shifts_none : (n word : ℕ) → word < 2 ^ 16 → shifts n word ≡ 0 → word ≡ 0
-unfolding shifts shift
-shifts_none zero word h none = none
-shifts_none (suc n) word h none = shift_none word h (shifts_none n (shift word) (turn_fits word 0 h) none)
+-- a word that halving brings to 0 is 0
+pub halves_none : (n word : ℕ) → word < 2 ^ 16 → halves n word ≡ 0 → word ≡ 0
+unfolding halves half
+halves_none zero word h none = none
+halves_none (suc n) word h none = half_none word h (halves_none n (half word) (turn_fits word 0 h) none)
 
 -- 0 stays 0
-pub shifts_of_none : (n : ℕ) → shifts n 0 ≡ 0
-shifts_of_none n = ap (shifts n) (sym (xor_self 0)) ∙ shifts_xor n 0 0 ∙ xor_self (shifts n 0)
+pub halves_of_none : (n : ℕ) → halves n 0 ≡ 0
+halves_of_none n = ap (halves n) (sym (xor_self 0)) ∙ halves_xor n 0 0 ∙ xor_self (halves n 0)
 
--- words that shifts make one are one
-pub shifts_apart : (n a b : ℕ) → a < 2 ^ 16 → b < 2 ^ 16 → shifts n a ≡ shifts n b → a ≡ b
-shifts_apart n a b small small_too same =
-    xor_apart a b (shifts_none n (bit_xor a b) (xor_lt 16 a b small small_too)
-    (shifts_xor n a b ∙ ap (λ word. bit_xor word (shifts n b)) same ∙ xor_self (shifts n b)))
+-- words that halving makes one are one
+pub halves_apart : (n a b : ℕ) → a < 2 ^ 16 → b < 2 ^ 16 → halves n a ≡ halves n b → a ≡ b
+halves_apart n a b small small_too same =
+    xor_apart a b (halves_none n (bit_xor a b) (xor_lt 16 a b small small_too)
+    (halves_xor n a b ∙ ap (λ word. bit_xor word (halves n b)) same ∙ xor_self (halves n b)))
 
 -- the check word of bytes tells its start
 pub start_apart : (a b : ℕ) (bytes : List ℕ) → a < 2 ^ 16 → b < 2 ^ 16 → check_word a bytes ≡ check_word b bytes → a ≡ b
@@ -51,25 +51,25 @@ start_apart a b bytes small small_too same =
     let change : ℕ = bit_xor b a in
     let moved : check_word b bytes ≡ bit_xor (check_word a bytes) (check_word change (replicate (length bytes) 0)) =
     ap (λ word. check_word word bytes) (sym (xor_back b a)) ∙ check_word_xor a change bytes in
-    let none : shifts (8 * length bytes) change ≡ 0 =
+    let none : halves (8 * length bytes) change ≡ 0 =
     sym (check_word_zeros (length bytes) change) ∙ xor_kept (check_word a bytes) (check_word change (replicate (length bytes) 0)) (same ∙ moved) in
-    sym (xor_apart b a (shifts_none (8 * length bytes) change (xor_lt 16 b a small_too small) none))
+    sym (xor_apart b a (halves_none (8 * length bytes) change (xor_lt 16 b a small_too small) none))
 
--- the check word of one byte is eight shifts
-one_byte : (word byte : ℕ) → byte < 2 ^ 8 → check_word word (byte ∷ []) ≡ shifts 8 (bit_xor word byte)
+-- the check word of one byte is the word halved eight times
+one_byte : (word byte : ℕ) → byte < 2 ^ 8 → check_word word (byte ∷ []) ≡ halves 8 (bit_xor word byte)
 unfolding check_word
-one_byte word byte h = byte_shifts word byte h
+one_byte word byte h = byte_halves word byte h
 
 -- that of two is sixteen, of the word with both xored into it
 two_bytes : (word low high : ℕ) → low < 2 ^ 8 → high < 2 ^ 8
-    → check_word word (low ∷ high ∷ []) ≡ shifts 8 (shifts 8 (bit_xor word (high * 2 ^ 8 + low)))
+    → check_word word (low ∷ high ∷ []) ≡ halves 8 (halves 8 (bit_xor word (high * 2 ^ 8 + low)))
 two_bytes word low high h g =
     check_word_cons word low (high ∷ [])
     ∙ ap (λ w. check_word w (high ∷ [])) (one_byte word low h)
-    ∙ one_byte (shifts 8 (bit_xor word low)) high g
-    ∙ ap (λ b. shifts 8 (bit_xor (shifts 8 (bit_xor word low)) b)) (sym (shifts_up 8 high))
-    ∙ ap (shifts 8) (sym (shifts_xor 8 (bit_xor word low) (high * 2 ^ 8)))
-    ∙ ap (λ w. shifts 8 (shifts 8 w)) (xor_assoc word low (high * 2 ^ 8) ∙ ap (bit_xor word) (xor_comm low (high * 2 ^ 8) ∙ xor_shifted high 8 low h))
+    ∙ one_byte (halves 8 (bit_xor word low)) high g
+    ∙ ap (λ b. halves 8 (bit_xor (halves 8 (bit_xor word low)) b)) (sym (halves_up 8 high))
+    ∙ ap (halves 8) (sym (halves_xor 8 (bit_xor word low) (high * 2 ^ 8)))
+    ∙ ap (λ w. halves 8 (halves 8 w)) (xor_assoc word low (high * 2 ^ 8) ∙ ap (bit_xor word) (xor_comm low (high * 2 ^ 8) ∙ xor_shifted high 8 low h))
 
 -- a word that is xored into two words that differ leaves them apart
 xored_apart : (word a b : ℕ) → bit_xor word a ≡ bit_xor word b → a ≡ b
@@ -80,14 +80,14 @@ one_byte_apart : (word a b : ℕ) → word < 2 ^ 16 → a < 2 ^ 8 → b < 2 ^ 8 
 one_byte_apart word a b small h g same =
     let wide : a < 2 ^ 16 = omega arith in
     let wide_too : b < 2 ^ 16 = omega arith in
-    xored_apart word a b (shifts_apart 8 (bit_xor word a) (bit_xor word b) (xor_lt 16 word a small wide) (xor_lt 16 word b small wide_too)
+    xored_apart word a b (halves_apart 8 (bit_xor word a) (bit_xor word b) (xor_lt 16 word a small wide) (xor_lt 16 word b small wide_too)
     (sym (one_byte word a h) ∙ same ∙ one_byte word b g))
 
--- shifts keep a word in 16 bits
-shifts_fit : (n word : ℕ) → word < 2 ^ 16 → shifts n word < 2 ^ 16
-unfolding shifts shift
-shifts_fit zero word h = h
-shifts_fit (suc n) word h = shifts_fit n (shift word) (turn_fits word 0 h)
+-- halving keeps a word in 16 bits
+halves_fit : (n word : ℕ) → word < 2 ^ 16 → halves n word < 2 ^ 16
+unfolding halves half
+halves_fit zero word h = h
+halves_fit (suc n) word h = halves_fit n (half word) (turn_fits word 0 h)
 
 -- two bytes are told by their check word, as one number
 two_bytes_apart : (word low high other_low other_high : ℕ) → word < 2 ^ 16 → low < 2 ^ 8 → high < 2 ^ 8 → other_low < 2 ^ 8 → other_high < 2 ^ 8
@@ -97,8 +97,8 @@ two_bytes_apart word low high other_low other_high small h g k l same =
     let b : ℕ = bit_xor word (other_high * 2 ^ 8 + other_low) in
     let fits : a < 2 ^ 16 = xor_lt 16 word (high * 2 ^ 8 + low) small (omega arith) in
     let fits_too : b < 2 ^ 16 = xor_lt 16 word (other_high * 2 ^ 8 + other_low) small (omega arith) in
-    xored_apart word (high * 2 ^ 8 + low) (other_high * 2 ^ 8 + other_low) (shifts_apart 8 a b fits fits_too
-    (shifts_apart 8 (shifts 8 a) (shifts 8 b) (shifts_fit 8 a fits) (shifts_fit 8 b fits_too)
+    xored_apart word (high * 2 ^ 8 + low) (other_high * 2 ^ 8 + other_low) (halves_apart 8 a b fits fits_too
+    (halves_apart 8 (halves 8 a) (halves 8 b) (halves_fit 8 a fits) (halves_fit 8 b fits_too)
     (sym (two_bytes word low high h g) ∙ same ∙ two_bytes word other_low other_high k l)))
 
 -- no more than two bytes are told by their check word
@@ -155,15 +155,15 @@ sealed_word word (a ∷ []) small all long = absurd (omega arith)
 sealed_word word (a ∷ b ∷ c ∷ seal) small all long = absurd (omega arith)
 sealed_word word (a ∷ b ∷ []) small all long =
     let seal : List ℕ = a ∷ b ∷ [] in
-    let turned : check_word word seal ≡ shifts 8 (shifts 8 (bit_xor word (b * 2 ^ 8 + a))) = two_bytes word a b all.0 all.1.0 in
+    let turned : check_word word seal ≡ halves 8 (halves 8 (bit_xor word (b * 2 ^ 8 + a))) = two_bytes word a b all.0 all.1.0 in
     let number : b * 2 ^ 8 + a < 2 ^ 16 = low_high a b all.0 all.1.0 in
     let small_xor : bit_xor word (b * 2 ^ 8 + a) < 2 ^ 16 = xor_lt 16 word (b * 2 ^ 8 + a) small number in (
-      λ is. turned ∙ ap (λ n. shifts 8 (shifts 8 (bit_xor word n))) (as_number a b ∙ ap (from_le_bytes w16) is ∙ from_le_bytes-to_le_bytes_2 word small)
-          ∙ ap (λ n. shifts 8 (shifts 8 n)) (xor_self word) ∙ ap (shifts 8) (shifts_of_none 8) ∙ shifts_of_none 8,
+      λ is. turned ∙ ap (λ n. halves 8 (halves 8 (bit_xor word n))) (as_number a b ∙ ap (from_le_bytes w16) is ∙ from_le_bytes-to_le_bytes_2 word small)
+          ∙ ap (λ n. halves 8 (halves 8 n)) (xor_self word) ∙ ap (halves 8) (halves_of_none 8) ∙ halves_of_none 8,
       λ none.
           let same : word ≡ b * 2 ^ 8 + a =
-          xor_apart word (b * 2 ^ 8 + a) (shifts_none 8 (bit_xor word (b * 2 ^ 8 + a)) small_xor
-          (shifts_none 8 (shifts 8 (bit_xor word (b * 2 ^ 8 + a))) (shifts_fit 8 (bit_xor word (b * 2 ^ 8 + a)) small_xor) (sym turned ∙ none))) in
+          xor_apart word (b * 2 ^ 8 + a) (halves_none 8 (bit_xor word (b * 2 ^ 8 + a)) small_xor
+          (halves_none 8 (halves 8 (bit_xor word (b * 2 ^ 8 + a))) (halves_fit 8 (bit_xor word (b * 2 ^ 8 + a)) small_xor) (sym turned ∙ none))) in
           sym (le_bytes_2 seal word refl (byte_below seal all) (same ∙ as_number a b)),
     )
   where

@@ -1,20 +1,18 @@
 -- Finding a class by its number: what the first place of a test says of the list.
-use Rattle.std.proofs.Common.{◌≡◌, refl, sym, ap, subst, ℕ, ◌+◌, Bool, true, false, List, [], ◌∷◌, Option, Some, None, arith}
-use Rattle.std.specs.Prelude.{◌≢◌, ◌==◌, cond, IfSome, IfNone}
+use Rattle.std.proofs.Common.{◌≡◌, refl, sym, subst, ℕ, ◌+◌, Bool, true, false, List, [], ◌∷◌, Option, Some, None, arith}
+use Rattle.std.specs.Prelude.{◌==◌, cond, IfSome, IfNone}
 use Rattle.std.specs.List.{position, position_from}
-use Rattle.std.proofs.lemmas.Bool.Decides.{nat_tests, Decides-eqb}
+use Rattle.std.proofs.lemmas.Bool.Decides.{Decides-eqb}
 use Rattle.std.proofs.lemmas.Iterator.Adapters.{position_from-zero}
+use Rattle.dwg_base.specs.FirstItem.{HaveOther}
+use Rattle.dwg_base.proofs.FirstItem.{other_number, first_in_front, first_behind}
 use Rattle.dwg_classes.specs.declared.class.Class.{Class}
-use Rattle.dwg_classes.specs.FirstClass.{HaveOther, IsFirst}
+use Rattle.dwg_classes.specs.FirstClass.{number_of, IsFirst}
 
 -- what a place that is counted from another says: the first class of a number is so much further, or none has it
 abbrev IsFound : List Class → ℕ → ℕ → Option ℕ → Type 0
 IsFound classes number from (Some place) = (more : ℕ) × (place ≡ from + more) × IsFirst classes number more
-IsFound classes number from None = HaveOther number classes
-
--- a class whose test fails has another number
-other_number : (class : Class) (number : ℕ) → (class.number == number) ≡ false → class.number ≢ number
-other_number class number failed = λ same. absurd (grind (arith, nat_tests))
+IsFound classes number from None = HaveOther number_of number classes
 
 -- one class more in front, by what its test says
 one_in_front : (class : Class) (classes : List Class) (number from : ℕ) (test : Bool) (others : Option ℕ) → (class.number == number) ≡ test → IsFound classes number (from + 1) others
@@ -23,29 +21,23 @@ one_in_front class classes number from true others passed behind = (
   0,
   omega arith,
   record {
-    before = [];
     class = class;
-    behind = classes;
-    whole = refl;
+    before = [];
+    first = first_in_front number_of class classes number ((Decides-eqb class.number number).0 passed);
     far = refl;
-    has = (Decides-eqb class.number number).0 passed;
-    first = tt;
   },
 )
 one_in_front class classes number from false (Some place) failed (more, at, is) = (
   more + 1,
   omega (arith, at),
   record {
-    before = class ∷ is.before;
     class = is.class;
-    behind = is.behind;
-    whole = ap (λ (rest : List Class). class ∷ rest) is.whole;
+    before = class ∷ is.before;
+    first = first_behind number_of class is.class classes is.before number (other_number class.number number failed) is.first;
     far = omega (arith, is.far);
-    has = is.has;
-    first = (other_number class number failed, is.first);
   },
 )
-one_in_front class classes number from false None failed behind = (other_number class number failed, behind)
+one_in_front class classes number from false None failed behind = (other_number class.number number failed, behind)
 
 -- the first place from a place on
 found_from : (classes : List Class) (number from : ℕ) → IsFound classes number from (position_from (λ (class : Class). class.number == number) from classes)
@@ -67,6 +59,6 @@ found_some classes number (Some place) same =
     subst (IsFirst classes number) at found.2
 
 -- where none is found, no class has the number
-pub found_none : (classes : List Class) (number : ℕ) (found : Option ℕ) → found ≡ position (λ (class : Class). class.number == number) classes → IfNone found (HaveOther number classes)
+pub found_none : (classes : List Class) (number : ℕ) (found : Option ℕ) → found ≡ position (λ (class : Class). class.number == number) classes → IfNone found (HaveOther number_of number classes)
 found_none classes number None same = subst (IsFound classes number 0) (sym same) (found_first classes number)
 found_none classes number (Some place) same = tt

@@ -3,8 +3,9 @@ use Rattle.std.proofs.Common.{◌≡◌, refl, sym, ◌∙◌, ap, ℕ, true, fa
 use Rattle.std.specs.Prelude.{◌≢◌, ◌==◌, find}
 use Rattle.std.proofs.lemmas.Bool.Decides.{nat_tests}
 use Rattle.dwg_kinds.specs.declared.number.ClassHint.TheVariants.{Absent}
+use Rattle.dwg_base.specs.FirstItem.{HaveOther}
 use Rattle.dwg_classes.specs.declared.class.Class.{Class}
-use Rattle.dwg_classes.specs.FirstClass.{HaveOther, IsFirst}
+use Rattle.dwg_classes.specs.FirstClass.{number_of, IsFirst}
 use Rattle.dwg_classes.specs.Hints.{hint_of_class, hint_of_any, hint_at}
 
 -- the first class with a number
@@ -12,14 +13,14 @@ abbrev pub first_with : ℕ → List Class → Option Class
 first_with number classes = find (λ (class : Class). class.number == number) classes
 
 -- where no class has the number, none is found
-none_found : (classes : List Class) (number : ℕ) → HaveOther number classes → first_with number classes ≡ None
+none_found : (classes : List Class) (number : ℕ) → HaveOther number_of number classes → first_with number classes ≡ None
 none_found [] number others = refl
 none_found (class ∷ classes) number others =
     let test : (class.number == number) ≡ false = grind (arith, nat_tests, others.0) in
     rw test (none_found classes number others.1)
 
 -- behind classes with other numbers, the first that has it is found
-one_found : (before behind : List Class) (class : Class) (number : ℕ) → HaveOther number before → class.number ≡ number → first_with number (before ++ class ∷ behind) ≡ Some class
+one_found : (before behind : List Class) (class : Class) (number : ℕ) → HaveOther number_of number before → class.number ≡ number → first_with number (before ++ class ∷ behind) ≡ Some class
 one_found [] behind class number others has =
     let test : (class.number == number) ≡ true = grind (arith, nat_tests) in
     rw test refl
@@ -33,7 +34,7 @@ class_there [] behind class other = refl
 class_there (first ∷ before) behind class other = class_there before behind class other
 
 -- where no class has the number, its hint is that it is absent
-pub none_told : (classes : List Class) (number : ℕ) → HaveOther number classes → hint_at classes number ≡ Absent
+pub none_told : (classes : List Class) (number : ℕ) → HaveOther number_of number classes → hint_at classes number ≡ Absent
 unfolding hint_at
 none_told classes number others = ap hint_of_any (none_found classes number others)
 
@@ -41,13 +42,14 @@ none_told classes number others = ap hint_of_any (none_found classes number othe
 pub first_told : (classes : List Class) (number place : ℕ) (is : IsFirst classes number place) → hint_at classes number ≡ hint_of_class is.class
 unfolding hint_at
 first_told classes number place is =
-    ap (λ all. hint_of_any (first_with number all)) is.whole ∙ ap hint_of_any (one_found is.before is.behind is.class number is.first is.has)
+    let first = is.first in
+    ap (λ all. hint_of_any (first_with number all)) first.whole ∙ ap hint_of_any (one_found is.before first.behind is.class number first.others first.has)
 
 -- and so does what stands at its place
 pub place_told : (classes : List Class) (number place : ℕ) (class : Class) → IsFirst classes number place → class ≡ get_or classes place class → hint_of_class class ≡ hint_at classes number
 place_told classes number place class is here =
     let there : get_or classes place class ≡ is.class =
-    ap (λ all. get_or all place class) is.whole ∙ (ap (λ at. get_or (is.before ++ is.class ∷ is.behind) at class) (sym is.far) ∙ class_there is.before is.behind is.class class) in
+    ap (λ all. get_or all place class) is.first.whole ∙ (ap (λ at. get_or (is.before ++ is.class ∷ is.first.behind) at class) (sym is.far) ∙ class_there is.before is.first.behind is.class class) in
     ap hint_of_class (here ∙ there) ∙ sym (first_told classes number place is)
 
 -- no class says that it is absent

@@ -1,18 +1,15 @@
 -- The first class of a number in a list of classes. A rule of this project.
-use Rattle.std.specs.Prelude.{◌≡◌, ◌≢◌, ℕ, List, ◌∷◌, ◌++◌, length}
-use Rattle.std.specs.List.{AllByRecursion}
+use Rattle.std.specs.Prelude.{◌≡◌, ℕ, List, length}
+use Rattle.dwg_base.specs.FirstItem.{IsFirstOf}
 use Rattle.dwg_classes.specs.declared.class.Class.{Class}
 
--- no class has the number
-abbrev pub HaveOther : ℕ → List Class → Type 0
-HaveOther number classes = AllByRecursion (λ class. class.number ≢ number) classes
+-- the number of a class
+abbrev pub number_of : Class → ℕ
+number_of class = class.number
 
--- the class at a place has the number, and none before it has
+-- the first class of the number stands at this place
 pub record IsFirst (classes : List Class) (number place : ℕ) : Type 0 where
-  pub before : List Class
   pub class : Class
-  pub behind : List Class
-  pub whole : classes ≡ before ++ class ∷ behind
+  pub before : List Class
+  pub first : IsFirstOf number_of classes number class before
   pub far : length before ≡ place
-  pub has : class.number ≡ number
-  pub first : HaveOther number before

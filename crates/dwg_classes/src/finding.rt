@@ -1,7 +1,8 @@
 //! Classes by their numbers.
 
 ghost use Rattle.std.specs.Prelude.{◌≡◌, ◌==◌, position, IfSome, IfNone};
-ghost use Rattle.dwg_classes.specs.FirstClass.{HaveOther, IsFirst};
+ghost use Rattle.dwg_base.specs.FirstItem.{HaveOther};
+ghost use Rattle.dwg_classes.specs.FirstClass.{number_of, IsFirst};
 
 use crate::class::Class;
 
@@ -17,7 +18,7 @@ fn first_place(classes: &[Class], number: u16) -> Option<usize>
 pub fn find(classes: &[Class], number: u16) -> Option<usize>
     ensures place { result ≡ position (λ class. class.number == number) classes.now }
     ensures first { IfSome result (IsFirst classes.now number) }
-    ensures none { IfNone result (HaveOther number classes.now) }
+    ensures none { IfNone result (HaveOther number_of number classes.now) }
 {
     first_place(classes, number)
 }

@@ -1,8 +1,9 @@
 //! What the classes say of a type number.
 
 ghost use Rattle.std.specs.Prelude.{◌≡◌, ◌↔◌, ℕ};
+ghost use Rattle.dwg_base.specs.FirstItem.{HaveOther};
 ghost use Rattle.dwg_kinds.specs.declared.number.ClassHint.TheVariants.{Absent};
-ghost use Rattle.dwg_classes.specs.FirstClass.{HaveOther, IsFirst};
+ghost use Rattle.dwg_classes.specs.FirstClass.{number_of, IsFirst};
 ghost use Rattle.dwg_classes.specs.Hints.{hint_of_class, hint_at};
 
 use crate::class::Class;
@@ -42,7 +43,7 @@ pub(crate) fn hint_of(class: &Class) -> ClassHint
 /// has it (Open Design Specification, "Classes").
 pub fn hint(classes: &[Class], number: u16) -> ClassHint
     ensures told { result ≡ hint_at classes.now number }
-    ensures absent { (result ≡ Absent) ↔ HaveOther number classes.now }
+    ensures absent { (result ≡ Absent) ↔ HaveOther number_of number classes.now }
     ensures first { (place : ℕ) (is : IsFirst classes.now number place) → result ≡ hint_of_class is.class }
 {
     match find(classes, number) {

@@ -23,10 +23,10 @@ const LEAST_BITS: u64 = 29;
 const LEAST_NUMBER: u16 = 500;
 
 /// The line of the table of refusals on bits that spell no class.
-const SPELLING: u8 = 19;
+const SPELLING_LINE: u8 = 19;
 
 /// The line of the table of refusals on a number below 500.
-const NUMBER: u8 = 20;
+const NUMBER_LINE: u8 = 20;
 
 /// Reads a class, whatever its number. None exactly where no front of the rest spells one; the only refusal is want of memory,
 /// which is taken only for bytes that are there.
@@ -97,11 +97,11 @@ fn next_class(
     let first = cursor.at();
     let class = match read_class(alloc, cursor) {
         Ok(Some(class)) => class,
-        Ok(None) => return Err(refused(SPELLING, index, place, first)),
+        Ok(None) => return Err(refused(SPELLING_LINE, index, place, first)),
         Err(NoMemory) => return Err(Fault::NoMemory),
     };
     if class.number < LEAST_NUMBER {
-        return Err(refused(NUMBER, index, place, first));
+        return Err(refused(NUMBER_LINE, index, place, first));
     }
     Ok(class)
 }

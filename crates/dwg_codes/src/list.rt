@@ -2,6 +2,7 @@
 //! values go to the end while bits enough for one are left is a rule of this project).
 
 ghost use Rattle.std.specs.Prelude.{◌≡◌, ◌^◌, ◌<◌, ◌≤◌, Ok, None, length, IfOk, IfErr, IfSome};
+ghost use Rattle.std.specs.Option.{option_map};
 ghost use Rattle.dwg_bits.specs.Cursor.{rest};
 ghost use Rattle.dwg_bits.specs.Sink.{Extends};
 ghost use Rattle.dwg_grammar.specs.Combinators.{items};
@@ -26,6 +27,7 @@ where
     C::Value: Drop,
     requires { C.IsContext context.now }
     ensures reads { IfOk result (λ found. Reads (items (C.grammar context.now) count) found (rest cursor.old) (rest cursor.new)) }
+    ensures parsed { IfOk result (λ found. (items (C.grammar context.now) count).parse (rest cursor.old) ≡ option_map (λ values. (values, rest cursor.new)) found) }
     ensures value { IfOk result (λ found. IfSome found (items (C.grammar context.now) count).IsValue) }
     ensures unmoved { result ≡ Ok None → cursor.new.place ≡ cursor.old.place }
     ensures refused { IfErr result (λ _. cursor.new.place ≡ cursor.old.place) }
@@ -38,10 +40,7 @@ where
         let Some(item) = C::read(context, &mut ahead) else {
             return Ok(None);
         };
-        match found.push(item) {
-            Ok(()) => {}
-            Err(_) => return Err(NoMemory),
-        }
+        found.add(item)?;
     }
     *cursor = ahead;
     Ok(Some(found))
@@ -69,16 +68,13 @@ where
     ensures same_bytes { cursor.new.bytes.now ≡ cursor.old.bytes.now }
     ensures same_end { cursor.new.end ≡ cursor.old.end }
 {
-    let mut ahead = *cursor;
     let mut found = Items::new(alloc);
+    let mut ahead = *cursor;
     'along: while least <= ahead.left() {
         let Some(value) = C::read(context, &mut ahead) else {
             return Ok(None);
         };
-        match found.push(value) {
-            Ok(()) => {}
-            Err(_) => return Err(NoMemory),
-        }
+        found.add(value)?;
     }
     *cursor = ahead;
     Ok(Some(found))

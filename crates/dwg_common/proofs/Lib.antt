@@ -2,8 +2,8 @@ pub mod AppShort
 pub mod AppReading
 pub mod AppWriting
 pub mod ObjectParts
-pub mod EntityReading
+pub mod TwoRefsReading
 pub mod SizedParts
-pub mod MemberLaws
+pub mod MemberLemmas
 pub mod PointReading
 pub mod TextReading

@@ -21,8 +21,8 @@ use Rattle.dwg_grammar.specs.Bodies.{IsBody}
 use Rattle.dwg_common.specs.Entities.{graphic, entity_mode, entity_start, entity_look, entity_main, links, entity_refs, entity_of, main_of_entity, named_of_entity, entity_common}
 use Rattle.dwg_grammar.proofs.MadeBodies.{body_is_body}
 use Rattle.dwg_common.specs.NonEntities.{object_main, object_refs, object_common}
-use Rattle.dwg_grammar.specs.References.{one_ref, then_refs, IsReferencePart}
-use Rattle.dwg_grammar.proofs.ReferenceParts.{one_is_part, some_is_part, maybe_is_part, then_is_part, seen_is_part}
+use Rattle.dwg_grammar.specs.References.{two_refs, IsReferencePart}
+use Rattle.dwg_grammar.proofs.ReferenceParts.{one_is_part, two_is_part, some_is_part, maybe_is_part, then_is_part, seen_is_part}
 use Rattle.dwg_grammar.proofs.Shaped.{shaped_is_code}
 
 -- a value that is there by a test is there exactly where the test holds
@@ -67,8 +67,7 @@ look_is_code =
 -- the links are a part of the references
 pub links_is_part : (base : ℕ) → base < 2 ^ 63 → IsReferencePart base (links base)
 links_is_part base small =
-    seen_is_part base _ _ (then_refs (one_ref base) (one_ref base)) (then_is_part base (one_ref base) (one_ref base) (one_is_part base small) (one_is_part base small))
-    (λ parts. refl) (λ links. refl)
+    seen_is_part base _ _ (two_refs base) (two_is_part base small) (λ parts. refl) (λ links. refl)
 
 -- and so are all that an entity names
 pub entity_refs_is_part : (base : ℕ) (told : Start × Look) → base < 2 ^ 63 → IsReferencePart base (entity_refs base told)

@@ -11,7 +11,7 @@ use Rattle.dwg_common.specs.declared.entity.Start.{Start}
 use Rattle.dwg_common.specs.AppList.{app_list}
 use Rattle.dwg_grammar.specs.Bodies.{BodyGrammar}
 use Rattle.dwg_grammar.specs.MakingBodies.{body}
-use Rattle.dwg_grammar.specs.References.{ReferencePart, one_ref, some_refs, maybe_refs, then_refs, seen_refs}
+use Rattle.dwg_grammar.specs.References.{ReferencePart, one_ref, two_refs, some_refs, maybe_refs, then_refs, seen_refs}
 
 -- B, and where it is 1 RL size and so many bytes
 unfoldable pub graphic : Grammar Bool (Option (List ℕ))
@@ -48,7 +48,7 @@ entity_main base = seq (entity_start base) (λ start. entity_look)
 
 -- previous, next
 abbrev pub links : ℕ → ReferencePart Links
-links base = seen_refs (λ parts. record { previous = parts.0; next = parts.1 }) (λ links. (links.previous, links.next)) (then_refs (one_ref base) (one_ref base))
+links base = seen_refs (λ parts. record { previous = parts.0; next = parts.1 }) (λ links. (links.previous, links.next)) (two_refs base)
 
 -- owner where the mode is 0; reactors; xdict; previous and next where nolinks is 0; layer; linetype where its flag is 3; plotstyle where its flag is 3
 abbrev pub entity_refs : ℕ → Start × Look → ReferencePart Named

@@ -50,8 +50,6 @@ pub(crate) fn read_items(
     ensures same_bytes { cursor.new.bytes.now ≡ cursor.old.bytes.now }
     ensures same_end { cursor.new.end ≡ cursor.old.end }
 {
-    // The laws of references ask that their base is a handle's number.
-    let _base = base.value();
     let mut found = Items::new(alloc);
     'along: loop {
         let Some(size) = CodeBS::read(&(), cursor) else {

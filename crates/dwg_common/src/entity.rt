@@ -186,8 +186,6 @@ impl BodyCode for EntityCommon {
         refs: &mut BitCursor<'_>,
         base: Handle,
     ) -> Result<Option<EntityCommon>, NoMemory> {
-        // The laws of references ask that their base is a handle's number.
-        let _base = base.value();
         let mut ahead = *main;
         let mut refs_ahead = *refs;
         let Some(common) = read_entity(alloc, &mut ahead, &mut refs_ahead, base)? else {

@@ -34,8 +34,6 @@ fn read_styles(
     ensures same_bytes { cursor.new.bytes.now ≡ cursor.old.bytes.now }
     ensures same_end { cursor.new.end ≡ cursor.old.end }
 {
-    // The laws of references ask that their base is a handle's number.
-    let _base = base.value();
     let linetype = parse_when::<CodeH>(&base, look.linetype_flag == NAMED, cursor)?;
     let plotstyle = parse_when::<CodeH>(&base, look.plotstyle_flag == NAMED, cursor)?;
     Some((linetype, plotstyle))
@@ -54,8 +52,6 @@ pub(crate) fn read_named(
     ensures same_bytes { cursor.new.bytes.now ≡ cursor.old.bytes.now }
     ensures same_end { cursor.new.end ≡ cursor.old.end }
 {
-    // The laws of references ask that their base is a handle's number.
-    let _base = base.value();
     let Some(owner) = parse_when::<CodeH>(&base, start.mode == TO_OWNER, cursor) else {
         return Ok(None);
     };
@@ -153,8 +149,6 @@ pub(crate) fn names_bits(common: &EntityCommon, base: Handle) -> u64
     requires few { length ((entity_refs base (main_of_entity common.now)).grammar.short (named_of_entity common.now)) < 2 ^ 62 }
     ensures { result ≡ length ((entity_refs base (main_of_entity common.now)).grammar.short (named_of_entity common.now)) }
 {
-    // The laws of references ask that their base is a handle's number.
-    let _base = base.value();
     length_when::<CodeH>(&base, common.mode == TO_OWNER, &common.owner)
         + refs_bits(common.reactors.as_slice(), base)
         + CodeH::length(&base, &common.xdict)
@@ -171,8 +165,6 @@ pub(crate) fn write_names(common: &EntityCommon, base: Handle, sink: &mut BitSin
     requires room { length ((entity_refs base (main_of_entity common.now)).grammar.short (named_of_entity common.now)) ≤ sink.old.spare }
     ensures { Extends sink.old sink.new ((entity_refs base (main_of_entity common.now)).grammar.short (named_of_entity common.now)) }
 {
-    // The laws of references ask that their base is a handle's number.
-    let _base = base.value();
     write_when::<CodeH>(&base, common.mode == TO_OWNER, &common.owner, sink);
     write_refs(common.reactors.as_slice(), base, sink);
     CodeH::write(&base, &common.xdict, sink);

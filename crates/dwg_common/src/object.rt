@@ -77,8 +77,6 @@ impl BodyCode for ObjectCommon {
         refs: &mut BitCursor<'_>,
         base: Handle,
     ) -> Result<Option<ObjectCommon>, NoMemory> {
-        // The laws of bodies ask that their base is a handle's number.
-        let _base = base.value();
         let mut main_ahead = *main;
         let mut refs_ahead = *refs;
         let Some(common) = read_parts(alloc, &mut main_ahead, &mut refs_ahead, base)? else {

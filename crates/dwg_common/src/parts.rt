@@ -9,7 +9,7 @@ ghost use Rattle.dwg_grammar.specs.ReferenceCodes.{reference};
 
 use dwg_base::{ByteRun, Handle, Items, NoMemory};
 use dwg_bits::BitCursor;
-use dwg_codes::{BitCode, read_bytes, read_list, read_when};
+use dwg_codes::{BitCode, read_bytes, read_when};
 use dwg_handles::{Ref, read_ref, read_refs};
 use std::alloc::Global;
 
@@ -30,8 +30,6 @@ pub fn parse_ref(cursor: &mut BitCursor<'_>, base: Handle) -> Option<Ref>
     ensures same_bytes { cursor.new.bytes.now ≡ cursor.old.bytes.now }
     ensures same_end { cursor.new.end ≡ cursor.old.end }
 {
-    // The laws of references ask that their base is a handle's number.
-    let _base = base.value();
     read_ref(cursor, base)
 }
 
@@ -48,28 +46,7 @@ pub fn parse_refs(
     ensures same_bytes { cursor.new.bytes.now ≡ cursor.old.bytes.now }
     ensures same_end { cursor.new.end ≡ cursor.old.end }
 {
-    // The laws of references ask that their base is a handle's number.
-    let _base = base.value();
     read_refs(alloc, cursor, base, count)
-}
-
-/// Reads so many values of a code. None exactly where one of them isn't spelled; the only refusal is want of memory, which is
-/// taken only for values that are there.
-pub fn parse_list<C: BitCode>(
-    alloc: Global,
-    context: &C::Context,
-    count: u32,
-    cursor: &mut BitCursor<'_>,
-) -> Result<Option<Items<C::Value>>, NoMemory>
-where
-    C::Value: Drop,
-    requires { C.IsContext context.now }
-    ensures parsed { IfOk result (λ found. (items (C.grammar context.now) count).parse (rest cursor.old) ≡ option_map (λ values. (values, rest cursor.new)) found) }
-    ensures same_bytes { cursor.new.bytes.now ≡ cursor.old.bytes.now }
-    ensures same_end { cursor.new.end ≡ cursor.old.end }
-{
-    let found = read_list::<C>(alloc, context, count, cursor)?;
-    Ok(found)
 }
 
 /// Reads so many bytes. None exactly where fewer are left; the only refusal is want of memory, which is taken only for bytes

@@ -12,7 +12,7 @@ use dwg_codes::{read_text, text_length, write_text};
 use std::alloc::Global;
 
 /// How many bytes can't be told: their count is a BS.
-const TOO_MANY: usize = 1 << 16;
+const TOO_MANY_BYTES: usize = 1 << 16;
 
 /// Reads a TV, as it is parsed. The only refusal is want of memory, which is taken only for bytes that are there.
 #[tactic(auto, using(crate::proofs::TextReading::tv_parsed))]
@@ -29,7 +29,7 @@ pub fn parse_tv(alloc: Global, cursor: &mut BitCursor<'_>) -> Result<Option<Byte
 pub fn tv_fits(text: &[u8]) -> bool
     ensures { IsTrue result ↔ tv.IsValue text.now }
 {
-    text.len() < TOO_MANY
+    text.len() < TOO_MANY_BYTES
 }
 
 /// How many bits a TV is written by.

@@ -1,4 +1,4 @@
-pub mod DictionaryLaws
+pub mod DictionaryLemmas
 pub mod SeenReading
 pub mod ControlReading
 pub mod ItemReading

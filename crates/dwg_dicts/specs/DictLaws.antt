@@ -1,6 +1,6 @@
 -- Controls, dictionaries and records meet the laws of bodies.
 use Rattle.std.proofs.Common.{◌≡◌, refl, sym, ◌∙◌, ap, ap₂, ℕ, ◌^◌, ◌<◌, List, length}
-use Rattle.dwg_common.proofs.MemberLaws.{joined_counted, told_of_joined, names_of_joined, joined_again}
+use Rattle.dwg_common.proofs.MemberLemmas.{joined_counted, told_of_joined, names_of_joined, joined_again}
 use Rattle.dwg_grammar.specs.Codes.{bl, bs, rc, tv}
 use Rattle.dwg_grammar.specs.Combinators.{items, chain, counted}
 use Rattle.dwg_grammar.proofs.CombinatorLemmas.{any_letters_closed, seq_is_code}

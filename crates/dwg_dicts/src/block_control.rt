@@ -32,8 +32,6 @@ impl BodyCode for BlockControl {
         refs: &mut BitCursor<'_>,
         base: Handle,
     ) -> Result<Option<BlockControl>, NoMemory> {
-        // The laws of bodies ask that their base is a handle's number.
-        let _base = base.value();
         let mut ahead = *main;
         let mut refs_ahead = *refs;
         let Some(named) = read_entries_and_two(alloc, &mut ahead, &mut refs_ahead, base)? else {

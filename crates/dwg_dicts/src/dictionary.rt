@@ -83,8 +83,6 @@ impl BodyCode for Dictionary {
         refs: &mut BitCursor<'_>,
         base: Handle,
     ) -> Result<Option<Dictionary>, NoMemory> {
-        // The laws of bodies ask that their base is a handle's number.
-        let _base = base.value();
         let mut ahead = *main;
         let mut refs_ahead = *refs;
         let Some(dictionary) = read_dictionary(alloc, &mut ahead, &mut refs_ahead, base)? else {
@@ -95,7 +93,7 @@ impl BodyCode for Dictionary {
         Ok(Some(dictionary))
     }
 
-    #[tactic(auto, unfolding(crate::specs::Dictionaries::dictionary_body, dwg_grammar::specs::Combinators::chain), using(crate::proofs::DictionaryLaws::names_counted, crate::proofs::DictionaryLaws::targets_counted))]
+    #[tactic(auto, unfolding(crate::specs::Dictionaries::dictionary_body, dwg_grammar::specs::Combinators::chain), using(crate::proofs::DictionaryLemmas::names_counted, crate::proofs::DictionaryLemmas::targets_counted))]
     fn fits(&self, base: Handle) -> bool {
         // Each number of their types can be told.
         let _cloning = self.cloning;

@@ -26,8 +26,6 @@ impl BodyCode for StyleControl {
         refs: &mut BitCursor<'_>,
         base: Handle,
     ) -> Result<Option<StyleControl>, NoMemory> {
-        // The laws of bodies ask that their base is a handle's number.
-        let _base = base.value();
         let mut ahead = *main;
         let mut refs_ahead = *refs;
         let Some(entries) = read_entries(alloc, &mut ahead, &mut refs_ahead, base)? else {

@@ -52,8 +52,6 @@ fn read_targets(
     ensures same_bytes { cursor.new.bytes.now ≡ cursor.old.bytes.now }
     ensures same_end { cursor.new.end ≡ cursor.old.end }
 {
-    // The laws of references ask that their base is a handle's number.
-    let _base = base.value();
     read_refs_to_end(alloc, cursor, base)
 }
 
@@ -93,8 +91,6 @@ impl BodyCode for XRecord {
         refs: &mut BitCursor<'_>,
         base: Handle,
     ) -> Result<Option<XRecord>, NoMemory> {
-        // The laws of bodies ask that their base is a handle's number.
-        let _base = base.value();
         let mut ahead = *main;
         let mut refs_ahead = *refs;
         let Some(xrecord) = read_xrecord(alloc, &mut ahead, &mut refs_ahead, base)? else {

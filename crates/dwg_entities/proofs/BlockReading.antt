@@ -7,11 +7,11 @@ use Rattle.dwg_grammar.specs.Bodies.{ReadsBody}
 use Rattle.dwg_grammar.proofs.BodyReading.{parsed_unread}
 use Rattle.dwg_grammar.proofs.MainBodies.{main_read}
 use Rattle.dwg_entities.specs.BlockBody.{block_main, block_body}
-use Rattle.dwg_entities.specs.BlockEnds.{endblk_main, endblk_body, seqend_main, seqend_body}
+use Rattle.dwg_entities.specs.Closing.{endblk_main, endblk_body, seqend_main, seqend_body}
 use Rattle.dwg_entities.specs.BodiesLaws.{block_main_is_code}
 use Rattle.dwg_entities.specs.declared.block.Block.{Block}
-use Rattle.dwg_entities.specs.declared.ends.EndBlk.{EndBlk}
-use Rattle.dwg_entities.specs.declared.ends.SeqEnd.{SeqEnd}
+use Rattle.dwg_entities.specs.declared.closing.EndBlk.{EndBlk}
+use Rattle.dwg_entities.specs.declared.closing.SeqEnd.{SeqEnd}
 use Rattle.dwg_grammar.proofs.BodyReading.{parsed_value}
 
 -- a begin of a block

@@ -22,7 +22,7 @@ use Rattle.dwg_entities.specs.declared.text.Wording.{Wording}
 use Rattle.dwg_entities.specs.AttdefBody.{attdef_main, attdef_body}
 use Rattle.dwg_entities.specs.AttribBody.{attrib_main, attrib_body, attrib_of, label_of}
 use Rattle.dwg_entities.specs.BlockBody.{block_main, block_body}
-use Rattle.dwg_entities.specs.BlockEnds.{endblk_main, endblk_body, seqend_main, seqend_body}
+use Rattle.dwg_entities.specs.Closing.{endblk_main, endblk_body, seqend_main, seqend_body}
 use Rattle.dwg_entities.specs.FlagLaws.{worth_told}
 use Rattle.dwg_entities.specs.Flags.{unless}
 use Rattle.dwg_entities.specs.InsertBody.{insert_main, attributes, insert_refs, setting_of, named_of_insert, insert_of, insert_body}

@@ -13,7 +13,7 @@ pub mod InsertBody
 -- The begin of a block.
 pub mod BlockBody
 -- The end of a block, and the end of a sequence.
-pub mod BlockEnds
+pub mod Closing
 -- A flag is set exactly where its part is missing.
 pub mod FlagLaws
 -- The scale of an insert is a code.

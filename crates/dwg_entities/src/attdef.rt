@@ -62,8 +62,6 @@ impl BodyCode for Attdef {
         refs: &mut BitCursor<'_>,
         base: Handle,
     ) -> Result<Option<Attdef>, NoMemory> {
-        // The laws of bodies ask that their base is a handle's number.
-        let _base = base.value();
         let mut ahead = *main;
         let mut refs_ahead = *refs;
         let Some(attdef) = read_parts(alloc, &mut ahead, &mut refs_ahead, base)? else {

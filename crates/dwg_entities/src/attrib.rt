@@ -84,8 +84,6 @@ impl BodyCode for Attrib {
         refs: &mut BitCursor<'_>,
         base: Handle,
     ) -> Result<Option<Attrib>, NoMemory> {
-        // The laws of bodies ask that their base is a handle's number.
-        let _base = base.value();
         let mut ahead = *main;
         let mut refs_ahead = *refs;
         let Some(attrib) = read_parts(alloc, &mut ahead, &mut refs_ahead, base)? else {

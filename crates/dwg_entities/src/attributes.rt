@@ -20,8 +20,6 @@ fn read_attributes(cursor: &mut BitCursor<'_>, base: Handle) -> Option<Attribute
     ensures same_bytes { cursor.new.bytes.now ≡ cursor.old.bytes.now }
     ensures same_end { cursor.new.end ≡ cursor.old.end }
 {
-    // The laws of references ask that their base is a handle's number.
-    let _base = base.value();
     let first = parse_code::<CodeH>(&base, cursor)?;
     let last = parse_code::<CodeH>(&base, cursor)?;
     let seqend = parse_code::<CodeH>(&base, cursor)?;
@@ -70,7 +68,7 @@ impl BitCode for CodeAttributes {
 
     #[tactic(auto, using(crate::proofs::InsertReading::attributes_read, crate::proofs::InsertReading::attributes_unread, crate::proofs::InsertReading::attributes_value))]
     fn read(context: &Handle, cursor: &mut BitCursor<'_>) -> Option<Attributes> {
-        // The laws of references ask that their base is a handle's number.
+        // The laws of references ask that their base is a handle's number, which one behind a reference doesn't tell.
         let _base = context.value();
         let mut ahead = *cursor;
         let attributes = read_attributes(&mut ahead, *context)?;

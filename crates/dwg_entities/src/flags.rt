@@ -5,16 +5,17 @@ ghost use Rattle.std.specs.Option.{option_map};
 ghost use Rattle.dwg_bits.specs.Cursor.{rest};
 ghost use Rattle.dwg_bits.specs.Sink.{Extends};
 ghost use Rattle.dwg_grammar.specs.Codes.{bs, rd};
-ghost use Rattle.dwg_entities.specs.Flags.{is_set, unless, worth_unless};
+ghost use Rattle.dwg_grammar.specs.Flags.{has};
+ghost use Rattle.dwg_entities.specs.Flags.{unless, worth_unless};
 
 use dwg_bits::{BitCursor, BitSink};
 use dwg_codes::{BitCode, length_when, write_when};
 use dwg_common::parse_when;
 
 /// Whether the bit of this worth is set.
-pub(crate) fn is_set(flags: u8, worth: u8) -> bool
+pub(crate) fn has(flags: u8, worth: u8) -> bool
     requires { 0 < worth }
-    ensures { result ≡ is_set flags worth }
+    ensures { result ≡ has flags worth }
 {
     flags / worth % 2 == 1
 }
@@ -43,7 +44,7 @@ pub(crate) fn parse_unless<C: BitCode>(
     ensures same_bytes { cursor.new.bytes.now ≡ cursor.old.bytes.now }
     ensures same_end { cursor.new.end ≡ cursor.old.end }
 {
-    parse_when::<C>(context, !is_set(flags, worth), cursor)
+    parse_when::<C>(context, !has(flags, worth), cursor)
 }
 
 /// Whether a word is there exactly where the bit of this worth isn't set.
@@ -51,7 +52,7 @@ pub(crate) fn word_fits(flags: u8, worth: u8, word: Option<u64>) -> bool
     requires { 0 < worth }
     ensures { IsTrue result ↔ (unless flags worth rd).IsValue word }
 {
-    let missing = is_set(flags, worth);
+    let missing = has(flags, worth);
     match word {
         Some(_) => !missing,
         None => missing,
@@ -63,7 +64,7 @@ pub(crate) fn number_fits(flags: u8, worth: u8, number: Option<u16>) -> bool
     requires { 0 < worth }
     ensures { IsTrue result ↔ (unless flags worth bs).IsValue number }
 {
-    let missing = is_set(flags, worth);
+    let missing = has(flags, worth);
     match number {
         Some(_) => !missing,
         None => missing,
@@ -83,7 +84,7 @@ pub(crate) fn length_unless<C: BitCode>(
     ensures length { result ≡ length ((unless flags worth (C.grammar context.now)).short part.now) }
     ensures few { result < 2 ^ 32 }
 {
-    length_when::<C>(context, !is_set(flags, worth), part)
+    length_when::<C>(context, !has(flags, worth), part)
 }
 
 /// Writes a part that stands unless the bit of this worth is set.
@@ -100,5 +101,5 @@ pub(crate) fn write_unless<C: BitCode>(
     requires room { length ((unless flags worth (C.grammar context.now)).short part.now) ≤ sink.old.spare }
     ensures { Extends sink.old sink.new ((unless flags worth (C.grammar context.now)).short part.now) }
 {
-    write_when::<C>(context, !is_set(flags, worth), part, sink);
+    write_when::<C>(context, !has(flags, worth), part, sink);
 }

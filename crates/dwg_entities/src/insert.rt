@@ -101,8 +101,6 @@ fn read_names(
     ensures same_bytes { cursor.new.bytes.now ≡ cursor.old.bytes.now }
     ensures same_end { cursor.new.end ≡ cursor.old.end }
 {
-    // The laws of references ask that their base is a handle's number.
-    let _base = base.value();
     let block = parse_ref(cursor, base)?;
     let attributes = parse_when::<CodeAttributes>(&base, setting.attributes, cursor)?;
     Some((block, attributes))
@@ -146,8 +144,6 @@ impl BodyCode for Insert {
         refs: &mut BitCursor<'_>,
         base: Handle,
     ) -> Result<Option<Insert>, NoMemory> {
-        // The laws of bodies ask that their base is a handle's number.
-        let _base = base.value();
         let mut ahead = *main;
         let mut refs_ahead = *refs;
         let Some(insert) = read_insert(&mut ahead, &mut refs_ahead, base) else {
@@ -169,8 +165,6 @@ impl BodyCode for Insert {
 
     #[tactic(auto, unfolding(crate::specs::InsertBody::insert_body))]
     fn lengths(&self, base: Handle) -> Lengths {
-        // The laws of references ask that their base is a handle's number.
-        let _base = base.value();
         let there = self.attributes.is_some();
         Lengths {
             main: Code3BD::length(&(), &self.place)
@@ -194,8 +188,6 @@ impl BodyCode for Insert {
 
     #[tactic(auto, unfolding(crate::specs::InsertBody::insert_body))]
     fn write_refs(&self, base: Handle, sink: &mut BitSink) {
-        // The laws of references ask that their base is a handle's number.
-        let _base = base.value();
         let there = self.attributes.is_some();
         CodeH::write(&base, &self.block, sink);
         write_when::<CodeAttributes>(&base, there, &self.attributes, sink);

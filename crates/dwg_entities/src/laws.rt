@@ -5,7 +5,7 @@ ghost use Rattle.dwg_grammar.specs.Bodies.{IsFreeBody};
 ghost use Rattle.dwg_entities.specs.AttdefBody.{attdef_body};
 ghost use Rattle.dwg_entities.specs.AttribBody.{attrib_body};
 ghost use Rattle.dwg_entities.specs.BlockBody.{block_body};
-ghost use Rattle.dwg_entities.specs.BlockEnds.{endblk_body, seqend_body};
+ghost use Rattle.dwg_entities.specs.Closing.{endblk_body, seqend_body};
 ghost use Rattle.dwg_entities.specs.InsertBody.{insert_body};
 ghost use Rattle.dwg_entities.specs.TextBody.{text_body};
 

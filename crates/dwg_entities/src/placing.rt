@@ -8,7 +8,7 @@ ghost use Rattle.dwg_entities.specs.Flags.{unless};
 ghost use Rattle.dwg_grammar.specs.Points.{dd2};
 ghost use Rattle.dwg_entities.specs.TextBody.{text_placing};
 
-use crate::flags::{is_set, length_unless, parse_unless, word_fits, write_unless};
+use crate::flags::{has, length_unless, parse_unless, word_fits, write_unless};
 use crate::text::Placing;
 use dwg_bits::{BitCursor, BitSink};
 use dwg_codes::{BitCode, CodeBE, CodeBT, CodeRD, Point2};
@@ -44,7 +44,7 @@ pub(crate) fn read_placing(flags: u8, cursor: &mut BitCursor<'_>) -> Option<Plac
 fn alignment_fits(flags: u8, insertion: Point2, alignment: Option<Point2>) -> bool
     ensures { IsTrue result ↔ (unless flags 0x02 (dd2 insertion)).IsValue alignment }
 {
-    let missing = is_set(flags, NO_ALIGNMENT);
+    let missing = has(flags, NO_ALIGNMENT);
     match alignment {
         Some(_) => !missing,
         None => missing,

@@ -153,8 +153,6 @@ impl BodyCode for Text {
         refs: &mut BitCursor<'_>,
         base: Handle,
     ) -> Result<Option<Text>, NoMemory> {
-        // The laws of bodies ask that their base is a handle's number.
-        let _base = base.value();
         let mut ahead = *main;
         let mut refs_ahead = *refs;
         let Some(text) = read_parts(alloc, &mut ahead, &mut refs_ahead, base)? else {

@@ -11,7 +11,7 @@ use Rattle.dwg_grammar.proofs.ToEndLemmas.{spells_one, spells_all_append}
 use Rattle.dwg_grammar.specs.ReferenceCodes.{reference}
 use Rattle.dwg_grammar.proofs.ReferenceLemmas.{reference_is_code}
 use Rattle.dwg_grammar.proofs.Shaped.{shaped_is_code}
-use Rattle.dwg_grammar.specs.References.{ReferencePart, no_refs, one_ref, some_refs, maybe_refs, then_refs, seen_refs, IsReferencePart}
+use Rattle.dwg_grammar.specs.References.{ReferencePart, no_refs, one_ref, some_refs, maybe_refs, then_refs, two_refs, seen_refs, IsReferencePart}
 
 -- values that are spelled are spelled in two pieces
 pub split_all : {V : Type 0} (code : Grammar Bool V) (values others : List V) (letters : List Bool) → SpellsAll code (values ++ others) letters
@@ -76,6 +76,10 @@ then_is_part {R} {S} base first second is is_second = record {
       let parts = split_all (reference base) (first.list both.0) (second.list both.1) other others in
       (parts.0, parts.1, is.respelled both.0 spelled.0 parts.0 spelled.2 parts.2, is_second.respelled both.1 spelled.1 parts.1 spelled.3 parts.3, parts.4);
 }
+
+-- two references
+pub two_is_part : (base : ℕ) → base < 2 ^ 63 → IsReferencePart base (two_refs base)
+two_is_part base small = then_is_part base (one_ref base) (one_ref base) (one_is_part base small) (one_is_part base small)
 
 -- no references
 pub none_is_part : (base : ℕ) → IsReferencePart base no_refs

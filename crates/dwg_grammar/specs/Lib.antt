@@ -10,6 +10,8 @@ pub mod Codes
 pub mod ModularCodes
 -- What codes over bytes spell, said of all groups at once, and what numbers of whole bytes and texts over bits spell, said of all bytes at once.
 pub mod PlainSpellings
+-- Flags: bits of a number that are told by what they are worth.
+pub mod Flags
 -- References: what a reference is for and how its target is told, and the target.
 pub mod Reference
 -- References and own handles as bit codes.

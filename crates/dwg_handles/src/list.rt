@@ -35,8 +35,6 @@ pub fn read_refs(
     ensures same_bytes { cursor.new.bytes.now ≡ cursor.old.bytes.now }
     ensures same_end { cursor.new.end ≡ cursor.old.end }
 {
-    // The laws of references ask that their base is a handle's number.
-    let _base = base.value();
     read_list::<CodeH>(alloc, &base, count, cursor)
 }
 
@@ -56,8 +54,6 @@ pub fn read_refs_to_end(
     ensures same_bytes { cursor.new.bytes.now ≡ cursor.old.bytes.now }
     ensures same_end { cursor.new.end ≡ cursor.old.end }
 {
-    // The laws of references ask that their base is a handle's number.
-    let _base = base.value();
     read_to_end::<CodeH>(alloc, &base, LEAST, cursor)
 }
 
@@ -74,8 +70,6 @@ pub fn refs_bits(refs: &[Ref], base: Handle) -> u64
     requires few { length (short_all (reference base) refs.now) < 2 ^ 62 }
     ensures { result ≡ length (short_all (reference base) refs.now) }
 {
-    // The laws of references ask that their base is a handle's number.
-    let _base = base.value();
     list_length::<CodeH>(&base, refs)
 }
 
@@ -85,7 +79,5 @@ pub fn write_refs(refs: &[Ref], base: Handle, sink: &mut BitSink)
     requires room { length (short_all (reference base) refs.now) ≤ sink.old.spare }
     ensures { Extends sink.old sink.new (short_all (reference base) refs.now) }
 {
-    // The laws of references ask that their base is a handle's number.
-    let _base = base.value();
     write_list::<CodeH>(&base, refs, sink);
 }

@@ -88,8 +88,6 @@ pub fn ref_bits(value: Ref, base: Handle) -> u64
     ensures length { result ≡ length ((reference base).short value) }
     ensures few { result ≤ 72 }
 {
-    // The laws of references ask that their base is a handle's number.
-    let _base = base.value();
     CodeH::length(&base, &value)
 }
 
@@ -100,7 +98,5 @@ pub fn write_ref(value: Ref, base: Handle, sink: &mut BitSink)
     requires room { length ((reference base).short value) ≤ sink.old.spare }
     ensures { Extends sink.old sink.new ((reference base).short value) }
 {
-    // The laws of references ask that their base is a handle's number.
-    let _base = base.value();
     CodeH::write(&base, &value, sink);
 }

@@ -8,7 +8,7 @@ use Rattle.dwg_kinds.specs.declared.kind.Kind.TheVariants.{Text, Attrib, Attdef,
 use Rattle.dwg_kinds.specs.Kinds.{kind_name}
 
 -- all kinds
-abbrev KINDS : List Kind
+abbrev pub KINDS : List Kind
 KINDS =
     Text ∷ Attrib ∷ Attdef ∷ Block ∷ EndBlk ∷ SeqEnd ∷ Insert ∷ Arc ∷ Circle ∷ Line ∷ Point ∷ LwPolyline ∷ Dictionary ∷ BlockControl ∷ BlockHeader ∷ LayerControl ∷ Layer ∷ StyleControl ∷ Style
     ∷ LtypeControl ∷ Ltype ∷ AppIdControl ∷ AppId ∷ XRecord ∷ PlainEntity ∷ PlainObject ∷ Unknown ∷ []

@@ -11,10 +11,7 @@ use Rattle.dwg_kinds.specs.declared.field.Field.{Field}
 use Rattle.dwg_kinds.specs.declared.field.Field.TheVariants as field
 use Rattle.dwg_kinds.specs.Kinds.{place_of_kind, same_kind}
 use Rattle.dwg_kinds.specs.Needs.{field_number, field_name}
-
--- all kinds
-abbrev KINDS : List Kind
-KINDS = kind.Text ∷ kind.Attrib ∷ kind.Attdef ∷ kind.Block ∷ kind.EndBlk ∷ kind.SeqEnd ∷ kind.Insert ∷ kind.Arc ∷ kind.Circle ∷ kind.Line ∷ kind.Point ∷ kind.LwPolyline ∷ kind.Dictionary ∷ kind.BlockControl ∷ kind.BlockHeader ∷ kind.LayerControl ∷ kind.Layer ∷ kind.StyleControl ∷ kind.Style ∷ kind.LtypeControl ∷ kind.Ltype ∷ kind.AppIdControl ∷ kind.AppId ∷ kind.XRecord ∷ kind.PlainEntity ∷ kind.PlainObject ∷ kind.Unknown ∷ []
+use Rattle.dwg_kinds.proofs.KindNames.{KINDS}
 
 -- the first kind at a place
 abbrev placed : ℕ → Option Kind

@@ -1,54 +1,33 @@
 -- Finding a locator by its number: what the first that is found says of the list.
-use Rattle.std.proofs.Common.{◌≡◌, refl, sym, ap, subst, ℕ, zero, suc, ◌<◌, Bool, true, false, List, [], ◌∷◌, ◌++◌, length, Option, Some, None, arith}
+use Rattle.std.proofs.Common.{◌≡◌, refl, sym, ap, subst, ℕ, zero, suc, ◌<◌, Bool, true, false, List, [], ◌∷◌, length, Option, Some, None, arith}
 use Rattle.std.specs.Prelude.{◌≢◌, ◌==◌, cond, Contains, find, option_map, slice_index_or, IfSome, IfNone}
-use Rattle.std.proofs.lemmas.Bool.Decides.{nat_tests, Decides-eqb}
+use Rattle.std.proofs.lemmas.Bool.Decides.{Decides-eqb}
 use Rattle.std.proofs.lemmas.List.{length-map}
 use Rattle.std.proofs.lemmas.List.Elements.{Contains-append_right}
+use Rattle.dwg_base.specs.FirstItem.{HaveOther, IsFirstOf}
+use Rattle.dwg_base.proofs.FirstItem.{other_number, first_in_front, first_behind}
 use Rattle.dwg_sections.specs.declared.header.Locator.{Locator}
 use Rattle.dwg_sections.specs.FileHeader.{locator_numbers}
 use Rattle.dwg_sections.specs.HeaderLines.{place_of}
-use Rattle.dwg_sections.specs.FirstLocator.{HaveOther, IsFirstPlace}
+use Rattle.dwg_sections.specs.FirstLocator.{number_of, IsFirstPlace}
 use Rattle.dwg_sections.specs.HeaderLaws.{SectionsAreLocated}
 
 -- whether a locator has the number
 abbrev has_number : ℕ → Locator → Bool
 has_number number locator = locator.number == number
 
--- a locator is the first of the number
-record IsFirst (locators : List Locator) (number : ℕ) (locator : Locator) : Type 0 where
-  before : List Locator
-  behind : List Locator
-  whole : locators ≡ before ++ locator ∷ behind
-  has : locator.number ≡ number
-  first : HaveOther number before
-
 -- what is found says so, or that no locator has the number
 abbrev IsFound : List Locator → ℕ → Option Locator → Type 0
-IsFound locators number (Some locator) = IsFirst locators number locator
-IsFound locators number None = HaveOther number locators
-
--- a locator whose test fails has another number
-other_number : (locator : Locator) (number : ℕ) → (locator.number == number) ≡ false → locator.number ≢ number
-other_number locator number failed = λ same. absurd (grind (arith, nat_tests))
+IsFound locators number (Some locator) = (before : List Locator) × IsFirstOf number_of locators number locator before
+IsFound locators number None = HaveOther number_of number locators
 
 -- one locator more in front, by what its test says
 one_in_front : (locator : Locator) (locators : List Locator) (number : ℕ) (test : Bool) (others : Option Locator) → (locator.number == number) ≡ test → IsFound locators number others
     → IsFound (locator ∷ locators) number (cond test (Some locator) others)
-one_in_front locator locators number true others passed behind = record {
-  before = [];
-  behind = locators;
-  whole = refl;
-  has = (Decides-eqb locator.number number).0 passed;
-  first = tt;
-}
-one_in_front locator locators number false (Some found) failed is = record {
-  before = locator ∷ is.before;
-  behind = is.behind;
-  whole = ap (λ (rest : List Locator). locator ∷ rest) is.whole;
-  has = is.has;
-  first = (other_number locator number failed, is.first);
-}
-one_in_front locator locators number false None failed behind = (other_number locator number failed, behind)
+one_in_front locator locators number true others passed behind = ([], first_in_front number_of locator locators number ((Decides-eqb locator.number number).0 passed))
+one_in_front locator locators number false (Some found) failed (before, is) =
+    (locator ∷ before, first_behind number_of locator found locators before number (other_number locator.number number failed) is)
+one_in_front locator locators number false None failed behind = (other_number locator.number number failed, behind)
 
 -- what is found
 found_first : (locators : List Locator) (number : ℕ) → IsFound locators number (find (has_number number) locators)
@@ -60,19 +39,16 @@ found_first (locator ∷ locators) number =
 place_in : (locators : List Locator) (number : ℕ) (found : Option Locator) → IsFound locators number found
     → IfSome (option_map (λ (locator : Locator). locator.place) found) (IsFirstPlace locators number)
 place_in locators number None others = tt
-place_in locators number (Some locator) is = record {
-  before = is.before;
+place_in locators number (Some locator) (before, is) = record {
   locator = locator;
-  behind = is.behind;
-  whole = is.whole;
-  has = is.has;
+  before = before;
+  first = is;
   says = refl;
-  first = is.first;
 }
 
 -- and that there is none
 none_in : (locators : List Locator) (number : ℕ) (found : Option Locator) → IsFound locators number found
-    → IfNone (option_map (λ (locator : Locator). locator.place) found) (HaveOther number locators)
+    → IfNone (option_map (λ (locator : Locator). locator.place) found) (HaveOther number_of number locators)
 none_in locators number None others = others
 none_in locators number (Some locator) is = tt
 
@@ -82,29 +58,29 @@ place_found locators number found same =
     subst (λ place. IfSome place (IsFirstPlace locators number)) (sym same) (place_in locators number (find (has_number number) locators) (found_first locators number))
 
 -- where none is found, no locator has the number
-pub place_not_found : (locators : List Locator) (number : ℕ) (found : Option ℕ) → found ≡ place_of number locators → IfNone found (HaveOther number locators)
+pub place_not_found : (locators : List Locator) (number : ℕ) (found : Option ℕ) → found ≡ place_of number locators → IfNone found (HaveOther number_of number locators)
 place_not_found locators number found same =
-    subst (λ place. IfNone place (HaveOther number locators)) (sym same) (none_in locators number (find (has_number number) locators) (found_first locators number))
+    subst (λ place. IfNone place (HaveOther number_of number locators)) (sym same) (none_in locators number (find (has_number number) locators) (found_first locators number))
 
 -- a number that no locator has isn't among the numbers
-not_among : (locators : List Locator) (number i : ℕ) → HaveOther number locators → i < length locators → slice_index_or (locator_numbers locators) i number ≢ number
+not_among : (locators : List Locator) (number i : ℕ) → HaveOther number_of number locators → i < length locators → slice_index_or (locator_numbers locators) i number ≢ number
 not_among [] number i others inside = absurd (omega arith)
 not_among (locator ∷ locators) number zero others inside = others.0
 not_among (locator ∷ locators) number (suc i) others inside = not_among locators number i others.1 (omega arith)
 
 -- the first locator of a number stands in the list
-stands : (locators : List Locator) (number : ℕ) (locator : Locator) → IsFirst locators number locator → Contains locators locator
-stands locators number locator is =
+stands : (locators before : List Locator) (number : ℕ) (locator : Locator) → IsFirstOf number_of locators number locator before → Contains locators locator
+stands locators before number locator is =
     subst (λ (all : List Locator). Contains all locator) (sym is.whole)
-    (Contains-append_right is.before (locator ∷ is.behind) locator (0, omega arith, refl))
+    (Contains-append_right before (locator ∷ is.behind) locator (0, omega arith, refl))
 
 -- where a number is among those of the locators, what is found locates it
 located_by : (locators : List Locator) (number : ℕ) (found : Option Locator) → find (has_number number) locators ≡ found → IsFound locators number found → Contains (locator_numbers locators) number
     → (locator : Locator) × Contains locators locator × (locator.number ≡ number) × (place_of number locators ≡ Some locator.place)
 located_by locators number None same others there =
     absurd (not_among locators number there.0 others (omega (arith, there.1, length-map locators (λ (locator : Locator). locator.number))) there.2)
-located_by locators number (Some locator) same is there =
-    (locator, stands locators number locator is, is.has, ap (option_map (λ (one : Locator). one.place)) same)
+located_by locators number (Some locator) same (before, is) there =
+    (locator, stands locators before number locator is, is.has, ap (option_map (λ (one : Locator). one.place)) same)
 
 -- a header locates the sections
 pub sections_are_located : SectionsAreLocated

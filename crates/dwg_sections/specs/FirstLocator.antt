@@ -1,18 +1,15 @@
 -- The first locator of a number in a list of locators. A rule of this project.
-use Rattle.std.specs.Prelude.{◌≡◌, ◌≢◌, ℕ, List, ◌∷◌, ◌++◌}
-use Rattle.std.specs.List.{AllByRecursion}
+use Rattle.std.specs.Prelude.{◌≡◌, ℕ, List}
+use Rattle.dwg_base.specs.FirstItem.{IsFirstOf}
 use Rattle.dwg_sections.specs.declared.header.Locator.{Locator}
 
--- no locator has the number
-abbrev pub HaveOther : ℕ → List Locator → Type 0
-HaveOther number locators = AllByRecursion (λ locator. locator.number ≢ number) locators
+-- the number of a locator
+abbrev pub number_of : Locator → ℕ
+number_of locator = locator.number
 
--- a locator has the number and says this place, and none before it has the number
+-- the first locator of the number says this place
 pub record IsFirstPlace (locators : List Locator) (number place : ℕ) : Type 0 where
-  pub before : List Locator
   pub locator : Locator
-  pub behind : List Locator
-  pub whole : locators ≡ before ++ locator ∷ behind
-  pub has : locator.number ≡ number
+  pub before : List Locator
+  pub first : IsFirstOf number_of locators number locator before
   pub says : locator.place ≡ place
-  pub first : HaveOther number before

@@ -1,9 +1,10 @@
 //! The file header: its locators say where each section lies.
 
 ghost use Rattle.std.specs.Prelude.{◌≡◌, ◌+◌, ◌*◌, ◌≤◌, length, IfSome, IfNone, IfOk, IfErr, OnOk, None};
+ghost use Rattle.dwg_base.specs.FirstItem.{HaveOther};
 ghost use Rattle.dwg_base.specs.Refusals.{first_fault, Tells, IsFaultOfTable};
 ghost use Rattle.dwg_sections.specs.FileHeader.{BeginsWithHeader};
-ghost use Rattle.dwg_sections.specs.FirstLocator.{HaveOther, IsFirstPlace};
+ghost use Rattle.dwg_sections.specs.FirstLocator.{number_of, IsFirstPlace};
 ghost use Rattle.dwg_sections.specs.HeaderLines.{HEADER_LINES, bytes_at, rs_at, rl_at, locator_at, locators_at, locators_end, header_at, place_of};
 
 use crate::fields::{rl, rs};
@@ -46,7 +47,7 @@ impl FileHeader {
     pub fn place_of(&self, number: u8) -> Option<u32>
         ensures place { result ≡ place_of number self.now.locators }
         ensures found { IfSome result (IsFirstPlace self.now.locators number) }
-        ensures none { IfNone result (HaveOther number self.now.locators) }
+        ensures none { IfNone result (HaveOther number_of number self.now.locators) }
     {
         first_place(self.locators.as_slice(), number)
     }

@@ -11,7 +11,7 @@ use Rattle.dwg_grammar.specs.Grammar.{IsCode, AnyLetters}
 use Rattle.dwg_grammar.proofs.NumberLemmas.{rd_is_code}
 use Rattle.dwg_grammar.proofs.TruthCode.{b_is_code}
 use Rattle.dwg_grammar.proofs.Shaped.{shaped_is_code}
-use Rattle.dwg_shapes.specs.declared.line.Ends.{Ends}
+use Rattle.dwg_shapes.specs.declared.line.LineEnds.{LineEnds}
 use Rattle.dwg_shapes.specs.Lines.{heights, ends_by, AreEnds, is_flat, line_ends}
 
 -- the z words are a code by each z-zero
@@ -36,7 +36,7 @@ heights_value true start_z end_z fits =
 heights_value false start_z end_z fits = (fits.0, fits.1)
 
 -- and so have all words
-ends_by_value : (z_zero : Bool) (ends : Ends) → (ends_by z_zero).IsValue ends → AreEnds ends
+ends_by_value : (z_zero : Bool) (ends : LineEnds) → (ends_by z_zero).IsValue ends → AreEnds ends
 ends_by_value z_zero ends fits =
     let z = heights_value z_zero ends.start.z ends.end.z fits.1.1.1.1 in
     record {
@@ -66,7 +66,7 @@ heights_least start_z end_z false end true no_start no_end fits = absurd (grind 
 heights_least start_z end_z false end false no_start no_end fits = omega arith
 
 -- the bits of ends: those of the x and y words, and those of the z words
-length_of_ends : (z_zero : Bool) (ends : Ends)
+length_of_ends : (z_zero : Bool) (ends : LineEnds)
     → length ((ends_by z_zero).short ends) ≡ length (rd.short ends.start.x) + length ((dd ends.start.x).short ends.end.x) + length (rd.short ends.start.y)
     + length ((dd ends.start.y).short ends.end.y) + length ((heights z_zero).short (ends.start.z, ends.end.z))
 length_of_ends z_zero ends =

@@ -5,7 +5,7 @@ use Rattle.dwg_grammar.specs.Combinators.{always, seq, tagged, shaped}
 use Rattle.dwg_grammar.specs.Grammar.{Grammar}
 use Rattle.dwg_grammar.specs.Bodies.{BodyGrammar}
 use Rattle.dwg_grammar.specs.MakingBodies.{main_body}
-use Rattle.dwg_shapes.specs.declared.line.Ends.{Ends}
+use Rattle.dwg_shapes.specs.declared.line.LineEnds.{LineEnds}
 use Rattle.dwg_shapes.specs.declared.line.Line.{Line}
 
 -- where z-zero is 0, RD start.z; DD end.z, whose default is start.z; else both are 0
@@ -14,7 +14,7 @@ heights true = always (0, 0)
 heights false = seq rd (λ start_z. dd start_z)
 
 -- RD start.x; DD end.x, whose default is start.x; RD start.y; DD end.y, whose default is start.y; the z words
-abbrev pub ends_by : Bool → Grammar Bool Ends
+abbrev pub ends_by : Bool → Grammar Bool LineEnds
 ends_by z_zero =
     shaped (λ words. record {
       start = record { x = words.0; y = words.1.1.0; z = words.1.1.1.1.0 };
@@ -24,16 +24,16 @@ ends_by z_zero =
     (seq rd (λ start_x. seq (dd start_x) (λ end_x. seq rd (λ start_y. seq (dd start_y) (λ end_y. heights z_zero)))))
 
 -- the words of both ends lie in the range of their type
-pub record AreEnds (ends : Ends) : Type 0 where
+pub record AreEnds (ends : LineEnds) : Type 0 where
   pub start : IsPoint3 ends.start
   pub end : IsPoint3 ends.end
 
 -- both z words are 0
-abbrev pub is_flat : Ends → Bool
+abbrev pub is_flat : LineEnds → Bool
 is_flat ends = if ends.start.z == 0 then ends.end.z == 0 else false
 
 -- B z-zero; the ends
-abbrev pub line_ends : Grammar Bool Ends
+abbrev pub line_ends : Grammar Bool LineEnds
 line_ends = tagged b ends_by AreEnds is_flat
 
 -- the ends; BT thickness; BE extrusion

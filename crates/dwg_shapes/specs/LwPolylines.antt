@@ -1,8 +1,9 @@
 -- LWPOLYLINE (Open Design Specification, "LWPOLYLINE").
-use Rattle.std.specs.Prelude.{◌==◌, ◌/◌, ◌%◌, ℕ, Bool, List, length, Option, Some, None, is_some, option_map}
+use Rattle.std.specs.Prelude.{ℕ, Bool, List, length, Option, Some, None, is_some, option_map}
 use Rattle.std.specs.Option.{option_map_or}
 use Rattle.dwg_grammar.specs.Codes.{bs, bl, bd, bd3}
 use Rattle.dwg_grammar.specs.Combinators.{seq, when, items, chain, shaped}
+use Rattle.dwg_grammar.specs.Flags.{has}
 use Rattle.dwg_grammar.specs.Grammar.{Grammar}
 use Rattle.dwg_grammar.specs.declared.points.Point2.{Point2}
 use Rattle.dwg_grammar.specs.Bodies.{BodyGrammar}
@@ -13,10 +14,6 @@ use Rattle.dwg_shapes.specs.declared.lwpolyline.LwPolyline.{LwPolyline}
 use Rattle.dwg_shapes.specs.declared.lwpolyline.PolylineStart.{PolylineStart}
 use Rattle.dwg_shapes.specs.declared.lwpolyline.Width.{Width}
 use Rattle.dwg_grammar.specs.Points.{rd2, dd2}
-
--- the bit of a flag that is worth so much is set
-abbrev pub has : ℕ → ℕ → Bool
-has flag worth = flag / worth % 2 == 1
 
 -- BS flag; BD width where it has 4; BD elevation where it has 8; BD thickness where it has 2; 3BD normal where it has 1
 abbrev pub polyline_start : Grammar Bool PolylineStart

@@ -2,6 +2,7 @@
 use Rattle.std.proofs.Common.{◌≡◌, refl, ◌∙◌, ap, ap₂, ℕ, Option}
 use Rattle.dwg_grammar.specs.Codes.{bs, bl, bd, bt, bd3, be}
 use Rattle.dwg_grammar.specs.Combinators.{when, chain}
+use Rattle.dwg_grammar.specs.Flags.{has}
 use Rattle.dwg_grammar.proofs.CombinatorLemmas.{any_letters_closed, seq_is_code}
 use Rattle.dwg_grammar.specs.Grammar.{IsCode, AnyLetters}
 use Rattle.dwg_grammar.proofs.ListLemmas.{when_is_code}
@@ -15,7 +16,7 @@ use Rattle.dwg_shapes.specs.Arcs.{arc_main, arc_body}
 use Rattle.dwg_shapes.specs.Circles.{circle_main, circle_body}
 use Rattle.dwg_shapes.specs.EndLaws.{line_ends_is_code}
 use Rattle.dwg_shapes.specs.Lines.{line_ends, line_main, line_body}
-use Rattle.dwg_shapes.specs.LwPolylines.{has, polyline_start, polyline_counts, vertices, width_pair, items_where, polyline_lists, counts_of, lwpolyline_main, lwpolyline_body}
+use Rattle.dwg_shapes.specs.LwPolylines.{polyline_start, polyline_counts, vertices, width_pair, items_where, polyline_lists, counts_of, lwpolyline_main, lwpolyline_body}
 use Rattle.dwg_shapes.specs.Points.{point_main, point_body}
 use Rattle.dwg_shapes.specs.VertexLaws.{vertices_is_code, width_pair_is_code, items_where_is_code, count_told}
 

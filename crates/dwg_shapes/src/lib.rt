@@ -4,9 +4,9 @@
 
 mod arc;
 mod circle;
-mod ends;
 mod laws;
 mod line;
+mod line_ends;
 mod lists;
 mod lwpolyline;
 mod point;

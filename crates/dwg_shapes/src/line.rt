@@ -6,7 +6,7 @@ ghost use Rattle.dwg_bits.specs.Cursor.{rest};
 ghost use Rattle.dwg_shapes.specs.Lines.{AreEnds, line_body, line_main};
 ghost use Rattle.dwg_shapes.specs.ShapeLaws.{line_is_body};
 
-use crate::ends::{ends_bits, read_ends, write_ends};
+use crate::line_ends::{ends_bits, read_ends, write_ends};
 use dwg_base::{Handle, NoMemory};
 use dwg_bits::{BitCursor, BitSink};
 use dwg_codes::{BitCode, CodeBE, CodeBT, Point3};
@@ -28,7 +28,7 @@ pub struct Line {
 
 /// The ends of a line.
 #[derive(Clone, Copy)]
-pub(crate) struct Ends {
+pub(crate) struct LineEnds {
     /// Where it starts.
     pub(crate) start: Point3,
     /// Where it ends.
@@ -36,13 +36,13 @@ pub(crate) struct Ends {
 }
 
 /// The ends of a line.
-fn ends_of(line: &Line) -> Ends
+fn ends_of(line: &Line) -> LineEnds
     ensures is { result ≡ record { start = line.now.start; end = line.now.end } }
     ensures are { AreEnds result }
 {
     known_point(&line.start);
     known_point(&line.end);
-    Ends {
+    LineEnds {
         start: line.start,
         end: line.end,
     }

@@ -10,8 +10,8 @@ ghost use Rattle.dwg_shapes.specs.LwPolylines.{items_where};
 
 use dwg_base::{Items, NoMemory};
 use dwg_bits::{BitCursor, BitSink};
-use dwg_codes::{BitCode, list_length, write_list};
-use dwg_common::{TOO_MANY, parse_list};
+use dwg_codes::{BitCode, list_length, read_list, write_list};
+use dwg_common::TOO_MANY;
 use std::alloc::Global;
 
 /// Reads so many values where there is a count, as they are parsed, and no bit where there is none. The only refusal is want
@@ -32,7 +32,7 @@ where
     let Some(many) = count else {
         return Ok(Some(None));
     };
-    let Some(values) = parse_list::<C>(alloc, context, many, cursor)? else {
+    let Some(values) = read_list::<C>(alloc, context, many, cursor)? else {
         return Ok(None);
     };
     Ok(Some(Some(values)))

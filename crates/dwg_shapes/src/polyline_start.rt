@@ -6,7 +6,8 @@ ghost use Rattle.dwg_bits.specs.Cursor.{rest};
 ghost use Rattle.dwg_bits.specs.Sink.{Extends};
 ghost use Rattle.dwg_grammar.specs.Codes.{bd, bd3};
 ghost use Rattle.dwg_grammar.specs.Combinators.{when};
-ghost use Rattle.dwg_shapes.specs.LwPolylines.{has, polyline_start};
+ghost use Rattle.dwg_grammar.specs.Flags.{has};
+ghost use Rattle.dwg_shapes.specs.LwPolylines.{polyline_start};
 
 use crate::lwpolyline::PolylineStart;
 use dwg_bits::{BitCursor, BitSink};

@@ -1,9 +1,8 @@
-pub mod MemberLaws
+pub mod MemberLemmas
 pub mod MemberLoops
 pub mod NameReading
 pub mod PartReading
 pub mod LtypeParts
 pub mod MarkReading
 pub mod MarkParts
-pub mod HeaderReading
 pub mod SumOfLengths

@@ -5,7 +5,7 @@ use Rattle.dwg_grammar.specs.Combinators.{seq, counted, shaped}
 use Rattle.dwg_grammar.specs.Grammar.{Grammar}
 use Rattle.dwg_grammar.specs.Bodies.{BodyGrammar}
 use Rattle.dwg_grammar.specs.MakingBodies.{body}
-use Rattle.dwg_grammar.specs.References.{ReferencePart, one_ref, some_refs, maybe_refs, then_refs, seen_refs}
+use Rattle.dwg_grammar.specs.References.{ReferencePart, one_ref, two_refs, some_refs, maybe_refs, then_refs, seen_refs}
 use Rattle.dwg_grammar.specs.Reference.{Reference}
 use Rattle.dwg_tables.specs.declared.block_header.BlockContent.{BlockContent}
 use Rattle.dwg_tables.specs.declared.block_header.BlockFlags.{BlockFlags}
@@ -42,7 +42,7 @@ has_ends flags = not flags.is_xref && not flags.overlaid
 
 -- first, last
 abbrev pub block_ends : ℕ → ReferencePart Ends
-block_ends base = seen_refs (λ parts. record { first = parts.0; last = parts.1 }) (λ ends. (ends.first, ends.last)) (then_refs (one_ref base) (one_ref base))
+block_ends base = seen_refs (λ parts. record { first = parts.0; last = parts.1 }) (λ ends. (ends.first, ends.last)) (two_refs base)
 
 -- xref; block; where it is neither is_xref nor overlaid first and last; endblk; the target of each mark; layout
 abbrev pub block_refs : ℕ → BlockFlags → BlockContent → ReferencePart BlockNames

@@ -10,8 +10,8 @@ use Rattle.dwg_grammar.proofs.TableLemmas.{bl_is_code, bd3_is_code, tv_is_code}
 use Rattle.dwg_grammar.proofs.TruthCode.{b_is_code}
 use Rattle.dwg_grammar.specs.Bodies.{IsBody}
 use Rattle.dwg_grammar.proofs.MadeBodies.{body_is_body}
-use Rattle.dwg_grammar.specs.References.{IsReferencePart}
-use Rattle.dwg_grammar.proofs.ReferenceParts.{one_is_part, some_is_part, maybe_is_part, then_is_part, seen_is_part}
+use Rattle.dwg_grammar.specs.References.{two_refs, IsReferencePart}
+use Rattle.dwg_grammar.proofs.ReferenceParts.{one_is_part, two_is_part, some_is_part, maybe_is_part, then_is_part, seen_is_part}
 use Rattle.dwg_grammar.proofs.Shaped.{shaped_is_code}
 use Rattle.dwg_grammar.specs.Reference.{Reference}
 use Rattle.dwg_tables.specs.declared.block_header.BlockContent.{BlockContent}
@@ -24,7 +24,7 @@ use Rattle.dwg_tables.specs.BlockHeaderBody.{block_flags, block_content, block_m
 use Rattle.dwg_tables.specs.Entries.{entry_main, title_of}
 use Rattle.dwg_tables.specs.InsertMarks.{mark_counts}
 use Rattle.dwg_tables.specs.InsertMarkLaws.{mark_counts_is_code}
-use Rattle.dwg_common.proofs.MemberLaws.{told_of_joined, names_of_joined, joined_again}
+use Rattle.dwg_common.proofs.MemberLemmas.{told_of_joined, names_of_joined, joined_again}
 use Rattle.dwg_tables.specs.TableLaws.{entry_main_is_code}
 
 -- the flags of a header are a code
@@ -53,8 +53,7 @@ content_is_code =
 -- its entities are a part of the references
 pub ends_is_part : (base : ℕ) → base < 2 ^ 63 → IsReferencePart base (block_ends base)
 ends_is_part base small =
-    let one = one_is_part base small in
-    seen_is_part base _ _ _ (then_is_part base _ _ one one) (λ parts. refl) (λ ends. refl)
+    seen_is_part base _ _ (two_refs base) (two_is_part base small) (λ parts. refl) (λ ends. refl)
 
 -- and so is all that it names
 pub block_refs_is_part : (base : ℕ) (flags : BlockFlags) (content : BlockContent) → base < 2 ^ 63 → IsReferencePart base (block_refs base flags content)

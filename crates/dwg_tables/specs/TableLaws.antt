@@ -22,7 +22,7 @@ use Rattle.dwg_tables.specs.AppIdBody.{app_id_main, app_id_of, app_id_body}
 use Rattle.dwg_tables.specs.Entries.{entry_main}
 use Rattle.dwg_tables.specs.LayerBody.{layer_main, layer_refs, layer_of, layer_body}
 use Rattle.dwg_tables.specs.LtypeBody.{stroke, stroke_of, dash_of, style_of, ltype_main, ltype_refs, pattern_of, named_of_ltype, ltype_of, ltype_body}
-use Rattle.dwg_common.proofs.MemberLaws.{told_of_joined, names_of_joined, joined_again}
+use Rattle.dwg_common.proofs.MemberLemmas.{told_of_joined, names_of_joined, joined_again}
 use Rattle.dwg_tables.specs.StyleBody.{style_form, style_main, style_of as text_style_of, style_body}
 
 -- what the main bits of an entry tell is a code

@@ -38,8 +38,6 @@ pub(crate) fn read_block_names(
     ensures same_bytes { cursor.new.bytes.now ≡ cursor.old.bytes.now }
     ensures same_end { cursor.new.end ≡ cursor.old.end }
 {
-    // The laws of references ask that their base is a handle's number.
-    let _base = base.value();
     let Some(xref) = parse_code::<CodeH>(&base, cursor) else {
         return Ok(None);
     };
@@ -98,8 +96,6 @@ pub(crate) fn block_names_bits(header: &BlockHeader, flags: BlockFlags, base: Ha
     requires few { length ((block_refs base flags (content_of header.now)).grammar.short (names_of header.now)) < 2 ^ 62 }
     ensures { result ≡ length ((block_refs base flags (content_of header.now)).grammar.short (names_of header.now)) }
 {
-    // The laws of references ask that their base is a handle's number.
-    let _base = base.value();
     CodeH::length(&base, &header.entry.xref)
         + CodeH::length(&base, &header.block)
         + length_when::<CodeEnds>(&base, has_ends(flags), &header.ends)
@@ -119,8 +115,6 @@ pub(crate) fn write_block_names(
     requires room { length ((block_refs base flags (content_of header.now)).grammar.short (names_of header.now)) ≤ sink.old.spare }
     ensures { Extends sink.old sink.new ((block_refs base flags (content_of header.now)).grammar.short (names_of header.now)) }
 {
-    // The laws of references ask that their base is a handle's number.
-    let _base = base.value();
     CodeH::write(&base, &header.entry.xref, sink);
     CodeH::write(&base, &header.block, sink);
     write_when::<CodeEnds>(&base, has_ends(flags), &header.ends, sink);

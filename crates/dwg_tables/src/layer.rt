@@ -98,8 +98,6 @@ impl BodyCode for Layer {
         refs: &mut BitCursor<'_>,
         base: Handle,
     ) -> Result<Option<Layer>, NoMemory> {
-        // The laws of bodies ask that their base is a handle's number.
-        let _base = base.value();
         let mut ahead = *main;
         let mut refs_ahead = *refs;
         let Some(body) = read_parts(alloc, &mut ahead, &mut refs_ahead, base)? else {

@@ -155,7 +155,7 @@ fn read_parts(
 }
 
 /// Whether the style of each dash can be told from the linetype of the handle `base`.
-#[tactic(auto, unfolding(dwg_grammar::specs::Combinators::chain), using(crate::proofs::MemberLaws::as_many))]
+#[tactic(auto, unfolding(dwg_grammar::specs::Combinators::chain), using(crate::proofs::MemberLemmas::as_many))]
 fn styles_fit(dashes: &[Dash], base: Handle) -> bool
     ensures { IsTrue result ↔ (items (reference base) (length (map stroke_of dashes.now))).IsValue (map style_of dashes.now) }
 {
@@ -169,8 +169,6 @@ fn styles_bits(dashes: &[Dash], base: Handle) -> u64
     requires few { length ((items (reference base) (length (map stroke_of dashes.now))).short (map style_of dashes.now)) < 2 ^ 62 }
     ensures { result ≡ length ((items (reference base) (length (map stroke_of dashes.now))).short (map style_of dashes.now)) }
 {
-    // The laws of references ask that their base is a handle's number.
-    let _base = base.value();
     parts_bits::<CodeH, Dash>(&base, dashes)
 }
 
@@ -181,8 +179,6 @@ fn write_styles(dashes: &[Dash], base: Handle, sink: &mut BitSink)
     requires room { length ((items (reference base) (length (map stroke_of dashes.now))).short (map style_of dashes.now)) ≤ sink.old.spare }
     ensures { Extends sink.old sink.new ((items (reference base) (length (map stroke_of dashes.now))).short (map style_of dashes.now)) }
 {
-    // The laws of references ask that their base is a handle's number.
-    let _base = base.value();
     write_parts::<CodeH, Dash>(&base, dashes, sink);
 }
 
@@ -195,8 +191,6 @@ impl BodyCode for Ltype {
         refs: &mut BitCursor<'_>,
         base: Handle,
     ) -> Result<Option<Ltype>, NoMemory> {
-        // The laws of bodies ask that their base is a handle's number.
-        let _base = base.value();
         let mut ahead = *main;
         let mut refs_ahead = *refs;
         let Some(body) = read_parts(alloc, &mut ahead, &mut refs_ahead, base)? else {
@@ -220,8 +214,6 @@ impl BodyCode for Ltype {
 
     #[tactic(auto, unfolding(crate::specs::LtypeBody::ltype_body, dwg_grammar::specs::ReferenceCodes::reference))]
     fn lengths(&self, base: Handle) -> Lengths {
-        // The laws of references ask that their base is a handle's number.
-        let _base = base.value();
         Lengths {
             main: pattern_bits(self),
             refs: ref_bits(self.entry.xref, base) + styles_bits(self.dashes.as_slice(), base),
@@ -235,8 +227,6 @@ impl BodyCode for Ltype {
 
     #[tactic(auto, unfolding(crate::specs::LtypeBody::ltype_body, dwg_grammar::specs::ReferenceCodes::reference))]
     fn write_refs(&self, base: Handle, sink: &mut BitSink) {
-        // The laws of references ask that their base is a handle's number.
-        let _base = base.value();
         write_ref(self.entry.xref, base, sink);
         write_styles(self.dashes.as_slice(), base, sink);
     }

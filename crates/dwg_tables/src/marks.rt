@@ -19,7 +19,7 @@ use dwg_handles::{CodeH, Ref};
 use std::alloc::Global;
 
 /// The count that no mark has, which ends the list.
-const MARK: u8 = 0;
+const END_OF_MARKS: u8 = 0;
 
 impl Part<u8> for InsertMark {
     ghost part = { count_of };
@@ -64,7 +64,7 @@ pub(crate) fn read_counts(
         let Some(count) = parse_code::<CodeRC>(&(), cursor) else {
             return Ok(None);
         };
-        if count == MARK {
+        if count == END_OF_MARKS {
             return Ok(Some(counts));
         }
         match counts.push(count) {
@@ -102,10 +102,10 @@ pub(crate) fn counts_bits(marks: &[InsertMark]) -> u64
     requires few { length (mark_counts.short (map count_of marks.now)) < 2 ^ 62 }
     ensures { result ≡ length (mark_counts.short (map count_of marks.now)) }
 {
-    parts_bits::<CodeRC, InsertMark>(&(), marks) + CodeRC::length(&(), &MARK)
+    parts_bits::<CodeRC, InsertMark>(&(), marks) + CodeRC::length(&(), &END_OF_MARKS)
 }
 
-/// Writes the counts of marks, and the mark behind them.
+/// Writes the counts of marks, and the one that ends them.
 #[tactic(auto, using(crate::proofs::MarkParts::counts_told, crate::proofs::MarkParts::counts_length))]
 pub(crate) fn write_counts(marks: &[InsertMark], sink: &mut BitSink)
     requires value { mark_counts.IsValue (map count_of marks.now) }
@@ -113,11 +113,11 @@ pub(crate) fn write_counts(marks: &[InsertMark], sink: &mut BitSink)
     ensures { Extends sink.old sink.new (mark_counts.short (map count_of marks.now)) }
 {
     write_parts::<CodeRC, InsertMark>(&(), marks, sink);
-    CodeRC::write(&(), &MARK, sink);
+    CodeRC::write(&(), &END_OF_MARKS, sink);
 }
 
 /// Whether the insert of each mark can be told from the header of the handle `base`.
-#[tactic(auto, unfolding(dwg_grammar::specs::Combinators::chain), using(crate::proofs::MemberLaws::as_many))]
+#[tactic(auto, unfolding(dwg_grammar::specs::Combinators::chain), using(crate::proofs::MemberLemmas::as_many))]
 pub(crate) fn targets_fit(marks: &Items<InsertMark>, base: Handle) -> bool
     ensures { IsTrue result ↔ (items (reference base) (length (map count_of marks.now))).IsValue (map target_of marks.now) }
 {
@@ -131,8 +131,6 @@ pub(crate) fn targets_bits(marks: &[InsertMark], base: Handle) -> u64
     requires few { length ((items (reference base) (length (map count_of marks.now))).short (map target_of marks.now)) < 2 ^ 62 }
     ensures { result ≡ length ((items (reference base) (length (map count_of marks.now))).short (map target_of marks.now)) }
 {
-    // The laws of references ask that their base is a handle's number.
-    let _base = base.value();
     parts_bits::<CodeH, InsertMark>(&base, marks)
 }
 
@@ -143,7 +141,5 @@ pub(crate) fn write_targets(marks: &[InsertMark], base: Handle, sink: &mut BitSi
     requires room { length ((items (reference base) (length (map count_of marks.now))).short (map target_of marks.now)) ≤ sink.old.spare }
     ensures { Extends sink.old sink.new ((items (reference base) (length (map count_of marks.now))).short (map target_of marks.now)) }
 {
-    // The laws of references ask that their base is a handle's number.
-    let _base = base.value();
     write_parts::<CodeH, InsertMark>(&base, marks, sink);
 }

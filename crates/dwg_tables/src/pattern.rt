@@ -14,15 +14,15 @@ use crate::members::{parts_bits, write_parts};
 use crate::title::{read_title, title_bits, title_fits, write_title};
 use dwg_base::{ByteRun, Items, NoMemory};
 use dwg_bits::{BitCursor, BitSink};
-use dwg_codes::{BitCode, CodeBD, CodeRC, bytes_length, write_bytes};
-use dwg_common::{parse_bytes, parse_code, parse_list, parse_tv, tv_bits, tv_fits, write_tv};
+use dwg_codes::{BitCode, CodeBD, CodeRC, bytes_length, read_list, write_bytes};
+use dwg_common::{parse_bytes, parse_code, parse_tv, tv_bits, tv_fits, write_tv};
 use std::alloc::Global;
 
 /// How many bytes the texts of the dashes of a linetype have.
 const TEXTS: u32 = 256;
 
 /// How many dashes can't be told: their count is an RC.
-const TOO_MANY: usize = 1 << 8;
+const TOO_MANY_DASHES: usize = 1 << 8;
 
 /// Reads a count of dashes and what their main bits tell, as they are parsed. The only refusal is want of memory, which is
 /// taken only for dashes that are there.
@@ -37,7 +37,7 @@ fn read_strokes(
     let Some(count) = parse_code::<CodeRC>(&(), cursor) else {
         return Ok(None);
     };
-    let Some(strokes) = parse_list::<CodeStroke>(alloc, &(), u32::from(count), cursor)? else {
+    let Some(strokes) = read_list::<CodeStroke>(alloc, &(), u32::from(count), cursor)? else {
         return Ok(None);
     };
     Ok(Some(strokes))
@@ -119,7 +119,7 @@ fn strokes_fit(dashes: &[Dash]) -> bool
     ensures { IsTrue result ↔ (counted rc stroke).IsValue (map stroke_of dashes.now) }
 {
     known_strokes(dashes);
-    dashes.len() < TOO_MANY
+    dashes.len() < TOO_MANY_DASHES
 }
 
 /// Whether there are 256 bytes.

@@ -25,7 +25,7 @@ pub along-preserved : goal.along-preserved
 along-preserved g c =
     let so_far = c.along.invariant in
     record {
-      so_far = one_more (g.C.BitCode.grammar c.args.context.now) _ _ _ _ _ _ c.in-Ok.ensures.ok so_far.so_far c.in-Some.ensures.reads;
+      so_far = one_more (g.C.BitCode.grammar c.args.context.now) _ _ _ _ _ _ c.in_ok-add.ensures so_far.so_far c.in-Some.ensures.reads;
       bytes = c.in-Some.ensures.same_bytes ∙ so_far.bytes;
       end = c.in-Some.ensures.same_end ∙ so_far.end;
     }

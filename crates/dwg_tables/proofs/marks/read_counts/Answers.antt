@@ -6,13 +6,13 @@ use Rattle.dwg_tables.proofs.marks.read_counts.Goals as goal
 pub returns-in_default-clause-parsed : goal.returns-in_default-clause-parsed
 returns-in_default-clause-parsed c = one_missing c.along.counts c.parse_code.result _ _ _ c.in_default.is c.parse_code.ensures.parsed c.along.invariant.so_far
 
-pub returns-then-count-eq-MARK-clause-parsed : goal.returns-then-count-eq-MARK-clause-parsed
-returns-then-count-eq-MARK-clause-parsed c =
-    all_begun c.along.counts c.parse_code.result c.in-Some.count _ _ _ c.if-count-eq-MARK.true c.in-Some.is c.parse_code.ensures.parsed c.along.invariant.so_far
+pub returns-then-count-eq-END_OF_MARKS-clause-parsed : goal.returns-then-count-eq-END_OF_MARKS-clause-parsed
+returns-then-count-eq-END_OF_MARKS-clause-parsed c =
+    all_begun c.along.counts c.parse_code.result c.in-Some.count _ _ _ c.if-count-eq-END_OF_MARKS.true c.in-Some.is c.parse_code.ensures.parsed c.along.invariant.so_far
 
 pub along-preserved : goal.along-preserved
 along-preserved c = record {
-  so_far = one_begun c.along.counts _ c.parse_code.result c.in-Some.count _ _ _ c.if-count-eq-MARK.false c.in-Ok.ensures.ok c.in-Some.is c.parse_code.ensures.parsed
+  so_far = one_begun c.along.counts _ c.parse_code.result c.in-Some.count _ _ _ c.if-count-eq-END_OF_MARKS.false c.in-Ok.ensures.ok c.in-Some.is c.parse_code.ensures.parsed
       c.along.invariant.so_far;
   bytes = c.parse_code.ensures.same_bytes ∙ c.along.invariant.bytes;
   end = c.parse_code.ensures.same_end ∙ c.along.invariant.end;

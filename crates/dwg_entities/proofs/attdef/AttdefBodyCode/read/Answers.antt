@@ -1,4 +1,3 @@
-use Rattle.std.proofs.Common.{arith}
 use Rattle.dwg_grammar.proofs.BodyReading.{body_read, body_value, body_missing}
 use Rattle.dwg_entities.specs.BodiesLaws.{attdef_is_body}
 use Rattle.dwg_entities.specs.AttdefBody.{attdef_body}
@@ -7,14 +6,14 @@ use Rattle.dwg_entities.proofs.attdef.AttdefBodyCode.read.Goals as goal
 pub returns-in_default-clause-reads : goal.returns-in_default-clause-reads
 returns-in_default-clause-reads c =
     body_missing c.args.base (attdef_body c.args.base) c.in_ok-attdef.field-0 _ _ _ _
-    (attdef_is_body c.args.base (omega (arith, c.value-base.ensures.value, c.value-base.ensures.bound))) c.in_default.is c.in_ok-attdef.ensures.parsed
+    (attdef_is_body c.args.base (search)) c.in_default.is c.in_ok-attdef.ensures.parsed
 
 pub returns-clause-reads : goal.returns-clause-reads
 returns-clause-reads c =
     body_read c.args.base (attdef_body c.args.base) c.in_ok-attdef.field-0 c.in-Some.attdef _ _ _ _
-    (attdef_is_body c.args.base (omega (arith, c.value-base.ensures.value, c.value-base.ensures.bound))) c.in-Some.is c.in_ok-attdef.ensures.parsed
+    (attdef_is_body c.args.base (search)) c.in-Some.is c.in_ok-attdef.ensures.parsed
 
 pub returns-clause-value : goal.returns-clause-value
 returns-clause-value c =
     body_value c.args.base (attdef_body c.args.base) c.in_ok-attdef.field-0 c.in-Some.attdef _ _ _ _
-    (attdef_is_body c.args.base (omega (arith, c.value-base.ensures.value, c.value-base.ensures.bound))) c.in-Some.is c.in_ok-attdef.ensures.parsed
+    (attdef_is_body c.args.base (search)) c.in-Some.is c.in_ok-attdef.ensures.parsed

@@ -6,7 +6,7 @@ ghost use Rattle.dwg_bits.specs.Cursor.{rest};
 ghost use Rattle.dwg_bits.specs.Sink.{Extends};
 ghost use Rattle.dwg_shapes.specs.Lines.{heights, ends_by, AreEnds, is_flat, line_ends};
 
-use crate::line::Ends;
+use crate::line::LineEnds;
 use dwg_bits::{BitCursor, BitSink};
 use dwg_codes::{BitCode, CodeB, CodeDD, CodeRD, Point3};
 use dwg_common::parse_code;
@@ -26,7 +26,7 @@ fn read_heights(z_zero: bool, cursor: &mut BitCursor<'_>) -> Option<(u64, u64)>
 }
 
 /// Reads the ends behind z-zero, as they are parsed.
-fn read_ends_by(z_zero: bool, cursor: &mut BitCursor<'_>) -> Option<Ends>
+fn read_ends_by(z_zero: bool, cursor: &mut BitCursor<'_>) -> Option<LineEnds>
     ensures parsed { (ends_by z_zero).parse (rest cursor.old) ≡ option_map (λ ends. (ends, rest cursor.new)) result }
     ensures same_bytes { cursor.new.bytes.now ≡ cursor.old.bytes.now }
     ensures same_end { cursor.new.end ≡ cursor.old.end }
@@ -36,7 +36,7 @@ fn read_ends_by(z_zero: bool, cursor: &mut BitCursor<'_>) -> Option<Ends>
     let start_y = parse_code::<CodeRD>(&(), cursor)?;
     let end_y = parse_code::<CodeDD>(&start_y, cursor)?;
     let z = read_heights(z_zero, cursor)?;
-    Some(Ends {
+    Some(LineEnds {
         start: Point3 {
             x: start_x,
             y: start_y,
@@ -51,7 +51,7 @@ fn read_ends_by(z_zero: bool, cursor: &mut BitCursor<'_>) -> Option<Ends>
 }
 
 /// Reads the ends of a line, as they are parsed.
-pub(crate) fn read_ends(cursor: &mut BitCursor<'_>) -> Option<Ends>
+pub(crate) fn read_ends(cursor: &mut BitCursor<'_>) -> Option<LineEnds>
     ensures parsed { line_ends.parse (rest cursor.old) ≡ option_map (λ ends. (ends, rest cursor.new)) result }
     ensures same_bytes { cursor.new.bytes.now ≡ cursor.old.bytes.now }
     ensures same_end { cursor.new.end ≡ cursor.old.end }
@@ -62,7 +62,7 @@ pub(crate) fn read_ends(cursor: &mut BitCursor<'_>) -> Option<Ends>
 
 /// Whether both z words are 0; then they aren't written.
 #[tactic(auto, using(crate::proofs::EndLaws::flat_value, crate::proofs::EndLaws::steep_value))]
-fn is_flat(ends: Ends) -> bool
+fn is_flat(ends: LineEnds) -> bool
     requires { AreEnds ends }
     ensures is { result ≡ is_flat ends }
     ensures value { (ends_by result).IsValue ends }
@@ -86,7 +86,7 @@ fn heights_bits(z_zero: bool, start_z: u64, end_z: u64) -> u64
 }
 
 /// How many bits the ends of a line are written by.
-pub(crate) fn ends_bits(ends: Ends) -> u64
+pub(crate) fn ends_bits(ends: LineEnds) -> u64
     requires { AreEnds ends }
     ensures length { result ≡ length (line_ends.short ends) }
     ensures few { result < 2 ^ 36 }
@@ -114,7 +114,7 @@ fn write_heights(z_zero: bool, start_z: u64, end_z: u64, sink: &mut BitSink)
 }
 
 /// Writes the ends of a line.
-pub(crate) fn write_ends(ends: Ends, sink: &mut BitSink)
+pub(crate) fn write_ends(ends: LineEnds, sink: &mut BitSink)
     requires value { AreEnds ends }
     requires room { length (line_ends.short ends) ≤ sink.old.spare }
     ensures { Extends sink.old sink.new (line_ends.short ends) }

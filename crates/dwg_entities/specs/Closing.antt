@@ -1,11 +1,11 @@
--- The end of a block, and the end of a sequence (Open Design Specification, "ENDBLK" and "SEQEND").
+-- What closes others: the end of a block, and the end of a sequence (Open Design Specification, "ENDBLK" and "SEQEND").
 use Rattle.std.specs.Prelude.{ℕ, Bool}
 use Rattle.dwg_grammar.specs.Combinators.{always}
 use Rattle.dwg_grammar.specs.Grammar.{Grammar}
 use Rattle.dwg_grammar.specs.Bodies.{BodyGrammar}
 use Rattle.dwg_grammar.specs.MakingBodies.{main_body}
-use Rattle.dwg_entities.specs.declared.ends.EndBlk.{EndBlk}
-use Rattle.dwg_entities.specs.declared.ends.SeqEnd.{SeqEnd}
+use Rattle.dwg_entities.specs.declared.closing.EndBlk.{EndBlk}
+use Rattle.dwg_entities.specs.declared.closing.SeqEnd.{SeqEnd}
 
 -- no bits
 abbrev pub endblk_main : Grammar Bool EndBlk

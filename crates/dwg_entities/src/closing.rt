@@ -1,6 +1,6 @@
-//! The end of a block, and the end of a sequence of entities: entities that have nothing beside the common part.
+//! What closes others: the end of a block and the end of a sequence, entities that have nothing beside the common part.
 
-ghost use Rattle.dwg_entities.specs.BlockEnds.{endblk_body, seqend_body};
+ghost use Rattle.dwg_entities.specs.Closing.{endblk_body, seqend_body};
 ghost use Rattle.dwg_entities.specs.BodiesLaws.{endblk_is_body, seqend_is_body};
 
 use dwg_base::{Handle, NoMemory};
@@ -29,20 +29,20 @@ impl BodyCode for EndBlk {
         Ok(Some(EndBlk))
     }
 
-    #[tactic(auto, unfolding(crate::specs::BlockEnds::endblk_body))]
+    #[tactic(auto, unfolding(crate::specs::Closing::endblk_body))]
     fn fits(&self, _base: Handle) -> bool {
         true
     }
 
-    #[tactic(auto, unfolding(crate::specs::BlockEnds::endblk_body))]
+    #[tactic(auto, unfolding(crate::specs::Closing::endblk_body))]
     fn lengths(&self, _base: Handle) -> Lengths {
         Lengths { main: 0, refs: 0 }
     }
 
-    #[tactic(auto, unfolding(crate::specs::BlockEnds::endblk_body), using(dwg_bits::proofs::SinkLemmas::extends_by_none))]
+    #[tactic(auto, unfolding(crate::specs::Closing::endblk_body), using(dwg_bits::proofs::SinkLemmas::extends_by_none))]
     fn write_main(&self, _base: Handle, _sink: &mut BitSink) {}
 
-    #[tactic(auto, unfolding(crate::specs::BlockEnds::endblk_body), using(dwg_bits::proofs::SinkLemmas::extends_by_none))]
+    #[tactic(auto, unfolding(crate::specs::Closing::endblk_body), using(dwg_bits::proofs::SinkLemmas::extends_by_none))]
     fn write_refs(&self, _base: Handle, _sink: &mut BitSink) {}
 
     ghost laws = { λ base small. endblk_is_body base small };
@@ -61,20 +61,20 @@ impl BodyCode for SeqEnd {
         Ok(Some(SeqEnd))
     }
 
-    #[tactic(auto, unfolding(crate::specs::BlockEnds::seqend_body))]
+    #[tactic(auto, unfolding(crate::specs::Closing::seqend_body))]
     fn fits(&self, _base: Handle) -> bool {
         true
     }
 
-    #[tactic(auto, unfolding(crate::specs::BlockEnds::seqend_body))]
+    #[tactic(auto, unfolding(crate::specs::Closing::seqend_body))]
     fn lengths(&self, _base: Handle) -> Lengths {
         Lengths { main: 0, refs: 0 }
     }
 
-    #[tactic(auto, unfolding(crate::specs::BlockEnds::seqend_body), using(dwg_bits::proofs::SinkLemmas::extends_by_none))]
+    #[tactic(auto, unfolding(crate::specs::Closing::seqend_body), using(dwg_bits::proofs::SinkLemmas::extends_by_none))]
     fn write_main(&self, _base: Handle, _sink: &mut BitSink) {}
 
-    #[tactic(auto, unfolding(crate::specs::BlockEnds::seqend_body), using(dwg_bits::proofs::SinkLemmas::extends_by_none))]
+    #[tactic(auto, unfolding(crate::specs::Closing::seqend_body), using(dwg_bits::proofs::SinkLemmas::extends_by_none))]
     fn write_refs(&self, _base: Handle, _sink: &mut BitSink) {}
 
     ghost laws = { λ base small. seqend_is_body base small };

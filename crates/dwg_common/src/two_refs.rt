@@ -1,0 +1,70 @@
+//! Two references, one behind the other, as a code (Open Design Specification, "Handle references").
+
+ghost use Rattle.std.specs.Prelude.{◌≡◌, ◌^◌, ◌<◌, ◌↔◌, IsTrue};
+ghost use Rattle.std.specs.Option.{option_map};
+ghost use Rattle.dwg_bits.specs.Cursor.{rest};
+ghost use Rattle.dwg_grammar.specs.References.{two_refs};
+ghost use Rattle.dwg_grammar.proofs.ReferenceParts.{two_is_part};
+
+use crate::parts::parse_code;
+use dwg_base::Handle;
+use dwg_bits::{BitCursor, BitSink};
+use dwg_codes::BitCode;
+use dwg_handles::{CodeH, Ref, ref_bits};
+
+/// Reads two references of the object of the handle `base`, as they are parsed.
+fn read_two(cursor: &mut BitCursor<'_>, base: Handle) -> Option<(Ref, Ref)>
+    ensures parsed { (two_refs base).grammar.parse (rest cursor.old) ≡ option_map (λ both. (both, rest cursor.new)) result }
+    ensures same_bytes { cursor.new.bytes.now ≡ cursor.old.bytes.now }
+    ensures same_end { cursor.new.end ≡ cursor.old.end }
+{
+    let first = parse_code::<CodeH>(&base, cursor)?;
+    let second = parse_code::<CodeH>(&base, cursor)?;
+    Some((first, second))
+}
+
+/// Whether both references can be told from the object of the handle `base`.
+#[tactic(auto, unfolding(dwg_grammar::specs::ReferenceCodes::reference))]
+pub fn two_refs_fit(both: (Ref, Ref), base: Handle) -> bool
+    ensures { IsTrue result ↔ (two_refs base).grammar.IsValue both }
+{
+    if !both.0.fits(base) {
+        return false;
+    }
+    both.1.fits(base)
+}
+
+/// Two references of the object of a handle, one behind the other.
+pub struct CodeTwoRefs;
+
+impl BitCode for CodeTwoRefs {
+    type Context = Handle;
+
+    type Value = (Ref, Ref);
+
+    ghost grammar = { λ base. (two_refs base).grammar };
+
+    ghost IsContext = { λ base. base < 2 ^ 63 };
+
+    #[tactic(auto, using(crate::proofs::TwoRefsReading::two_refs_read, crate::proofs::TwoRefsReading::two_refs_unread, crate::proofs::TwoRefsReading::two_refs_value))]
+    fn read(context: &Handle, cursor: &mut BitCursor<'_>) -> Option<(Ref, Ref)> {
+        // The laws of references ask that their base is a handle's number, which one behind a reference doesn't tell.
+        let _base = context.value();
+        let mut ahead = *cursor;
+        let both = read_two(&mut ahead, *context)?;
+        *cursor = ahead;
+        Some(both)
+    }
+
+    #[tactic(auto, unfolding(dwg_grammar::specs::ReferenceCodes::reference))]
+    fn length(context: &Handle, value: &(Ref, Ref)) -> u64 {
+        ref_bits(value.0, *context) + ref_bits(value.1, *context)
+    }
+
+    fn write(context: &Handle, value: &(Ref, Ref), sink: &mut BitSink) {
+        CodeH::write(context, &value.0, sink);
+        CodeH::write(context, &value.1, sink);
+    }
+
+    ghost laws = { λ base small. (two_is_part base small).is_code };
+}
