@@ -7,7 +7,7 @@ use Rattle.dwg_base.specs.Bytes.{AreBytes}
 use Rattle.dwg_base.specs.Refusals.{Tried}
 use Rattle.dwg_bits.specs.Bits.{bits}
 use Rattle.dwg_object.specs.declared.span.Span.{Span}
-use Rattle.dwg_object.specs.Forms.{HasHead}
+use Rattle.dwg_object.specs.Heads.{HasHead}
 use Rattle.dwg_object.specs.FrameCauses.{IsFramed}
 use Rattle.dwg_object.specs.FrameLines.{frame_refusal, span_body, tried_span, tried_frame}
 use Rattle.dwg_object.proofs.FrameLaws.{tried_frame_means}

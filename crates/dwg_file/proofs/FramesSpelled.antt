@@ -8,9 +8,10 @@ use Rattle.std.proofs.lemmas.List.Kept.{AllPairs-cons}
 use Rattle.dwg_bits.specs.Bits.{bits}
 use Rattle.dwg_classes.specs.declared.class.Class.{Class}
 use Rattle.dwg_object.specs.Objects.{HeadParts, ObjectValue, handle_of}
-use Rattle.dwg_object.specs.Forms.{FormOf, HasHead}
+use Rattle.dwg_object.specs.Forms.{FormOf}
+use Rattle.dwg_object.specs.Heads.{HasHead}
 use Rattle.dwg_object.proofs.FormLaws.{forms_same, head_of_form}
-use Rattle.dwg_object.proofs.HeadLaws.{heads_same}
+use Rattle.dwg_object.proofs.HeadLemmas.{heads_same}
 use Rattle.dwg_object.proofs.FrameLaws.{span_of_frame}
 use Rattle.dwg_object.specs.FrameLines.{span_body}
 use Rattle.dwg_objmap.specs.declared.pair.Pair.{Pair}

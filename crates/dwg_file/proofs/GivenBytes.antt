@@ -5,7 +5,7 @@ use Rattle.std.specs.Prelude.{Option, Result, Ok, Err}
 use Rattle.std.specs.Io.KnownBytes.{Appends}
 use Rattle.dwg_base.specs.Devices.{AppendsFront, Sends}
 use Rattle.dwg_base.proofs.SendingLemmas.{front_of_both}
-use Rattle.dwg_file.specs.Gathering.{IsGiven, IsCut, Gives}
+use Rattle.dwg_file.specs.Gathering.{IsGiven, GivesFront, Gives}
 
 -- bytes that are put behind what waits and wait too are given
 pub waits : (now : Option (List ℕ)) (waited bytes waiting : List ℕ) → waiting ≡ waited ++ bytes → IsGiven now now waited waiting bytes
@@ -20,19 +20,19 @@ goes_out old new waited bytes all left both sent none = record {
 }
 
 -- they are cut off where a front of both is sent
-pub is_cut : (old new : Option (List ℕ)) (waited bytes all : List ℕ) → all ≡ waited ++ bytes → AppendsFront old new all → IsCut old new waited bytes
-is_cut old new waited bytes all both sent = subst (AppendsFront old new) both sent
+pub front_given : (old new : Option (List ℕ)) (waited bytes all : List ℕ) → all ≡ waited ++ bytes → AppendsFront old new all → GivesFront old new waited bytes
+front_given old new waited bytes all both sent = subst (AppendsFront old new) both sent
 
 -- where none wait, bytes that are sent as they are, are given, or cut off
 pub sends_gives : {T E : Type 0} (old new : Option (List ℕ)) (waited waiting bytes : List ℕ) (result : Result T E) → waited ≡ [] → waiting ≡ [] → Sends old new bytes result
     → Gives old new waited waiting bytes result
 sends_gives old new waited waiting bytes (Ok value) none still sent = goes_out old new waited bytes bytes waiting (ap (λ front. front ++ bytes) (sym none)) sent still
-sends_gives old new waited waiting bytes (Err fault) none still sent = is_cut old new waited bytes bytes (ap (λ front. front ++ bytes) (sym none)) sent
+sends_gives old new waited waiting bytes (Err fault) none still sent = front_given old new waited bytes bytes (ap (λ front. front ++ bytes) (sym none)) sent
 
 -- what waits is sent, or cut off
 pub flushes : {T E : Type 0} (old new : Option (List ℕ)) (waited waiting : List ℕ) (result : Result T E) → waiting ≡ [] → Sends old new waited result → Gives old new waited waiting [] result
 flushes old new waited waiting (Ok value) none sent = goes_out old new waited [] waited waiting (sym (append-nil waited)) sent none
-flushes old new waited waiting (Err fault) none sent = is_cut old new waited [] waited (sym (append-nil waited)) sent
+flushes old new waited waiting (Err fault) none sent = front_given old new waited [] waited (sym (append-nil waited)) sent
 
 -- what is given and then more is both
 pub given_both : (a b c : Option (List ℕ)) (waited between waiting first second whole : List ℕ) → first ++ second ≡ whole → IsGiven a b waited between first → IsGiven b c between waiting second
@@ -46,12 +46,12 @@ given_both a b c waited between waiting first second whole same one two = record
 }
 
 -- bytes that are cut off are cut off with what was to be given behind them
-pub cut_before : (a b : Option (List ℕ)) (waited first second whole : List ℕ) → first ++ second ≡ whole → IsCut a b waited first → IsCut a b waited whole
+pub cut_before : (a b : Option (List ℕ)) (waited first second whole : List ℕ) → first ++ second ≡ whole → GivesFront a b waited first → GivesFront a b waited whole
 cut_before a b waited first second whole same one =
     subst (AppendsFront a b) (append_assoc waited first second ∙ ap (λ all. waited ++ all) same) (front_of_both a b (waited ++ first) second one)
 
 -- and with what was given before them
-pub cut_behind : (a b c : Option (List ℕ)) (waited between first second whole : List ℕ) → first ++ second ≡ whole → IsGiven a b waited between first → IsCut b c between second → IsCut a c waited whole
+pub cut_behind : (a b c : Option (List ℕ)) (waited between first second whole : List ℕ) → first ++ second ≡ whole → IsGiven a b waited between first → GivesFront b c between second → GivesFront a c waited whole
 cut_behind a b c waited between first second whole same one (front, (rest, is), took) = (
   one.sent ++ front,
   (
@@ -69,7 +69,7 @@ gives_both a b c waited between waiting first second whole (Ok value) same one t
 gives_both a b c waited between waiting first second whole (Err fault) same one two = cut_behind a b c waited between first second whole same one two
 
 -- what is cut off where none waited is sent in part
-pub cut_sends : (old new : Option (List ℕ)) (waited bytes : List ℕ) → waited ≡ [] → IsCut old new waited bytes → AppendsFront old new bytes
+pub cut_sends : (old new : Option (List ℕ)) (waited bytes : List ℕ) → waited ≡ [] → GivesFront old new waited bytes → AppendsFront old new bytes
 cut_sends old new waited bytes none cut = subst (AppendsFront old new) (ap (λ front. front ++ bytes) none) cut
 
 -- what is given where none waited and none wait at the end is sent

@@ -8,7 +8,7 @@ use Rattle.dwg_base.specs.Refusals.{Tried, first_fault}
 use Rattle.dwg_classes.specs.declared.class.Class.{Class}
 use Rattle.dwg_bits.specs.Bits.{bits}
 use Rattle.dwg_object.specs.Objects.{HeadParts, ObjectValue, handle_of}
-use Rattle.dwg_object.specs.Forms.{HasHead}
+use Rattle.dwg_object.specs.Heads.{HasHead}
 use Rattle.dwg_object.proofs.FormLaws.{form_at, form_is_at}
 use Rattle.dwg_object.specs.FrameLines.{span_body}
 use Rattle.dwg_objmap.specs.declared.pair.Pair.{Pair}

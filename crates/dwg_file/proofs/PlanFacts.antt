@@ -17,7 +17,7 @@ use Rattle.dwg_file.specs.Contents.{Contents}
 use Rattle.dwg_file.specs.Canonical.{class_content, frames_bytes, placed, objects_place}
 use Rattle.dwg_file.proofs.CanonicalLaws.{canonical_ascends}
 use Rattle.dwg_file.proofs.CanonicalParts.{content_is_classes}
-use Rattle.dwg_file.specs.Plans.{CanBeFramed, CanBeSent, FitsIn, IsPlan, room_of_frame}
+use Rattle.dwg_file.specs.Plans.{CanBeFramed, CanBeSent, FitsIn, HasRoom, IsPlan, room_of_frame}
 use Rattle.dwg_sections.specs.declared.header.FileHeader.{FileHeader}
 use Rattle.dwg_file.specs.Valid.{IsValid}
 
@@ -93,18 +93,21 @@ pub all_with_more : (room more : ℕ) (objects : List ObjectValue) → room ≤ 
 all_with_more room more [] within can = tt
 all_with_more room more (object ∷ objects) within can = (sent_with_more room more object within can.0, all_with_more room more objects within can.1)
 
+-- and room for each part is there with more
+pub has_with_more : (room more : ℕ) (drawing : Contents) → room ≤ more → HasRoom room drawing → HasRoom more drawing
+has_with_more room more drawing within has = record {
+  header = omega (arith, within, has.header);
+  classes = omega (arith, within, has.classes);
+  objects = all_with_more room more drawing.objects within has.objects;
+}
+
 -- a plan with some room is one with more
 pub plan_with_more : (drawing : Contents) (pairs : List Pair) (size : ℕ) (header : FileHeader) (room more : ℕ) → room ≤ more → IsPlan drawing pairs size header room
     → IsPlan drawing pairs size header more
-plan_with_more drawing pairs size header room more within plan = record {
-  valid = plan.valid;
-  small = plan.small;
-  are_placed = plan.are_placed;
-  is_size = plan.is_size;
-  is_header = plan.is_header;
-  has = record {
-    header = omega (arith, within, plan.has.header);
-    classes = omega (arith, within, plan.has.classes);
-    objects = all_with_more room more drawing.objects within plan.has.objects;
-  };
-}
+plan_with_more drawing pairs size header room more within plan =
+    let ready = plan.ready in
+    record {
+      ready = record { valid = ready.valid; small = ready.small; is_header = ready.is_header; has = has_with_more room more drawing within ready.has };
+      are_placed = plan.are_placed;
+      is_size = plan.is_size;
+    }

@@ -4,7 +4,7 @@ use Rattle.std.specs.Prelude.{map, flat_map}
 use Rattle.std.specs.List.{AllByRecursion}
 use Rattle.std.proofs.lemmas.List.{append-nil, drop_more, drop_all}
 use Rattle.std.specs.Prelude.{Option}
-use Rattle.dwg_file.specs.Gathering.{IsGiven, IsCut}
+use Rattle.dwg_file.specs.Gathering.{IsGiven, GivesFront}
 use Rattle.dwg_file.proofs.GivenBytes.{waits, given_both, cut_before, cut_behind}
 
 -- what is left from a place on is the item there and what is left behind it
@@ -26,11 +26,6 @@ module _ {X V : Type 0} (value : X → V) (piece : V → List ℕ) where
   one_counted all i item from place more inside here long counted =
       let left = drop (i + 1) all in
       omega (arith, counted, ap (λ rest. length (pieces rest)) (left_at all i item inside here), length-append (piece (value item)) (pieces left))
-
-  -- what is counted with one more is no more than all
-  pub count_within : (all : List X) (i : ℕ) (item : X) (from place more : ℕ) → i < length all → item ≡ get_or all i item → more ≡ length (piece (value item))
-      → AreCounted all (drop i all) from place → place + more ≤ from + length (pieces all)
-  count_within all i item from place more inside here long counted = let one = one_counted all i item from place more inside here long counted in omega arith
 
   -- where none is left, all are counted
   pub all_counted : (all : List X) (i : ℕ) (from place : ℕ) → length all ≤ i → AreCounted all (drop i all) from place → place ≡ from + length (pieces all)
@@ -59,7 +54,7 @@ module _ {X V : Type 0} (value : X → V) (piece : V → List ℕ) where
 
   -- where one is cut off, all are
   pub one_cut : (all : List X) (i : ℕ) (item : X) (old mid new : Option (List ℕ)) (waited between : List ℕ) → i < length all → item ≡ get_or all i item
-      → IsCut mid new between (piece (value item)) → AreGiven all (drop i all) old mid waited between → IsCut old new waited (pieces all)
+      → GivesFront mid new between (piece (value item)) → AreGiven all (drop i all) old mid waited between → GivesFront old new waited (pieces all)
   one_cut all i item old mid new waited between inside here cut so_far =
       cut_behind old mid new waited between so_far.done (pieces (drop i all)) (pieces all) so_far.whole so_far.given
       (cut_before mid new between (piece (value item)) (pieces (drop (i + 1) all)) (pieces (drop i all)) (ap pieces (sym (left_at all i item inside here))) cut)

@@ -10,51 +10,56 @@ use Rattle.dwg_sections.specs.declared.framed.Framed.TheVariants.{Variables, Cla
 use Rattle.dwg_sections.specs.declared.header.FileHeader.{FileHeader}
 use Rattle.dwg_sections.specs.FileHeader.{header_bytes}
 use Rattle.dwg_sections.specs.Framed.{framed_bytes}
+use Rattle.dwg_object.specs.Objects.{ObjectValue}
 use Rattle.dwg_file.specs.Contents.{Contents}
 use Rattle.dwg_file.specs.Canonical.{PREVIEW, class_content, frames_bytes, others_bytes, variables_place, others_place, map_of, header_of, canonical}
 use Rattle.dwg_file.proofs.CanonicalHeader.{length_of_located}
-use Rattle.dwg_file.specs.Gathering.{IsGiven, IsCut, Gives}
+use Rattle.dwg_file.specs.Gathering.{IsGiven, GivesFront, Gives}
 use Rattle.dwg_file.proofs.GivenBytes.{given_both, gives_both, cut_before, cut_behind}
-use Rattle.dwg_file.specs.Plans.{front_bytes}
+use Rattle.dwg_file.specs.Plans.{front_bytes, sections_bytes}
 
 -- there is room for the header
 pub header_room : (drawing : Contents) (header : FileHeader) (room : ℕ) → header ≡ header_of drawing → 8 * variables_place drawing ≤ room → 344 + 72 * length header.locators ≤ room
 header_room drawing header room same within =
     omega (arith, within, ap (λ (one : FileHeader). length one.locators) same, length_of_located drawing.others (others_place drawing))
 
--- the pieces of the front, by the parts of a drawing
-pub front_pieces : (drawing : Contents) (header : FileHeader) (variables : List ℕ) (classes : List Class) → header ≡ header_of drawing → variables ≡ drawing.variables → classes ≡ drawing.classes
-    → header_bytes header ++ framed_bytes Variables variables ++ framed_bytes Classes (class_content classes) ++ PREVIEW ≡ front_bytes drawing
+-- the sections, by the parts of a drawing
+pub sections_pieces : (drawing : Contents) (variables : List ℕ) (classes : List Class) → variables ≡ drawing.variables → classes ≡ drawing.classes
+    → framed_bytes Variables variables ++ framed_bytes Classes (class_content classes) ++ PREVIEW ≡ sections_bytes drawing
+sections_pieces drawing variables classes held declared =
+    ap₂ (λ all (some : List Class). framed_bytes Variables all ++ framed_bytes Classes (class_content some) ++ PREVIEW) held declared
+
+-- and the front
+pub front_pieces : (drawing : Contents) (header : FileHeader) (objects : List ObjectValue) → header ≡ header_of drawing → objects ≡ drawing.objects
+    → header_bytes header ++ sections_bytes drawing ++ frames_bytes objects ≡ front_bytes drawing
 unfolding front_bytes
-front_pieces drawing header variables classes heads held declared =
-    let joined : List ℕ → List ℕ → List ℕ = λ front back. front ++ back in
-    ap (λ front. front ++ PREVIEW)
-    (ap₂ joined (ap₂ joined (ap (λ (one : FileHeader). header_bytes one) heads) (ap (λ all. framed_bytes Variables all) held))
-    (ap (λ (all : List Class). framed_bytes Classes (class_content all)) declared))
+front_pieces drawing header objects heads all = ap₂ (λ (one : FileHeader) (some : List ObjectValue). header_bytes one ++ sections_bytes drawing ++ frames_bytes some) heads all
 
--- four pieces that are given one behind the other: where one is cut off, so are all
-pub first_cut : (a b : Option (List ℕ)) (waited h v c p whole : List ℕ) → h ++ v ++ c ++ p ≡ whole → IsCut a b waited h → IsCut a b waited whole
-first_cut a b waited h v c p whole same cut =
-    cut_before a b waited h (v ++ (c ++ p)) whole (sym (append_assoc h v (c ++ p)) ∙ sym (append_assoc (h ++ v) c p) ∙ same) cut
+-- three pieces that are given one behind the other: where one is cut off, so are all
+pub first_cut : (a b : Option (List ℕ)) (waited x y z whole : List ℕ) → x ++ y ++ z ≡ whole → GivesFront a b waited x → GivesFront a b waited whole
+first_cut a b waited x y z whole same cut = cut_before a b waited x (y ++ z) whole (sym (append_assoc x y z) ∙ same) cut
 
-pub second_cut : (a b d : Option (List ℕ)) (waited one h v c p whole : List ℕ) → h ++ v ++ c ++ p ≡ whole → IsGiven a b waited one h → IsCut b d one v → IsCut a d waited whole
-second_cut a b d waited one h v c p whole same given cut =
-    cut_before a d waited (h ++ v) (c ++ p) whole (sym (append_assoc (h ++ v) c p) ∙ same) (cut_behind a b d waited one h v (h ++ v) refl given cut)
+pub second_cut : (a b c : Option (List ℕ)) (waited one x y z whole : List ℕ) → x ++ y ++ z ≡ whole → IsGiven a b waited one x → GivesFront b c one y → GivesFront a c waited whole
+second_cut a b c waited one x y z whole same given cut = cut_before a c waited (x ++ y) z whole same (cut_behind a b c waited one x y (x ++ y) refl given cut)
 
-pub third_cut : (a b d e : Option (List ℕ)) (waited one two h v c p whole : List ℕ) → h ++ v ++ c ++ p ≡ whole → IsGiven a b waited one h → IsGiven b d one two v → IsCut d e two c → IsCut a e waited whole
-third_cut a b d e waited one two h v c p whole same given more cut =
-    cut_before a e waited (h ++ v ++ c) p whole same (cut_behind a d e waited two (h ++ v) c (h ++ v ++ c) refl (given_both a b d waited one two h v (h ++ v) refl given more) cut)
+pub third_cut : (a b c d : Option (List ℕ)) (waited one two x y z whole : List ℕ) → x ++ y ++ z ≡ whole → IsGiven a b waited one x → IsGiven b c one two y → GivesFront c d two z → GivesFront a d waited whole
+third_cut a b c d waited one two x y z whole same first second cut =
+    cut_behind a c d waited two (x ++ y) z whole same (given_both a b c waited one two x y (x ++ y) refl first second) cut
 
-pub four_given : {T E : Type 0} (a b d e f : Option (List ℕ)) (waited one two three waiting h v c p whole : List ℕ) (result : Result T E) → h ++ v ++ c ++ p ≡ whole
-    → IsGiven a b waited one h → IsGiven b d one two v → IsGiven d e two three c → Gives e f three waiting p result → Gives a f waited waiting whole result
-four_given a b d e f waited one two three waiting h v c p whole result same first second third last =
-    gives_both a e f waited three waiting (h ++ v ++ c) p whole result same
-    (given_both a d e waited two three (h ++ v) c (h ++ v ++ c) refl (given_both a b d waited one two h v (h ++ v) refl first second) third) last
+pub three_given : {T E : Type 0} (a b c d : Option (List ℕ)) (waited one two waiting x y z whole : List ℕ) (result : Result T E) → x ++ y ++ z ≡ whole → IsGiven a b waited one x
+    → IsGiven b c one two y → Gives c d two waiting z result → Gives a d waited waiting whole result
+three_given a b c d waited one two waiting x y z whole result same first second last =
+    gives_both a c d waited two waiting (x ++ y) z whole result same (given_both a b c waited one two x y (x ++ y) refl first second) last
 
 -- what stands before the map, the map, and what stands behind it are the canonical file
-pub canonical_thirds : (drawing : Contents) → front_bytes drawing ++ frames_bytes drawing.objects ++ map_of drawing ++ others_bytes drawing.others ≡ canonical drawing
+pub canonical_thirds : (drawing : Contents) → front_bytes drawing ++ map_of drawing ++ others_bytes drawing.others ≡ canonical drawing
 unfolding canonical front_bytes
-canonical_thirds drawing = refl
+canonical_thirds drawing =
+    let head = header_bytes (header_of drawing) in
+    let variables = framed_bytes Variables drawing.variables in
+    let classes = framed_bytes Classes (class_content drawing.classes) in
+    ap (λ front. front ++ frames_bytes drawing.objects ++ map_of drawing ++ others_bytes drawing.others)
+    (sym (append_assoc head (variables ++ classes) PREVIEW) ∙ ap (λ front. front ++ PREVIEW) (sym (append_assoc head variables classes)))
 
 -- three pieces that are sent one behind the other: where one is cut off, so are all
 pub first_short : (a b : Option (List ℕ)) (x y z whole : List ℕ) → x ++ y ++ z ≡ whole → AppendsFront a b x → AppendsFront a b whole

@@ -7,7 +7,7 @@ use Rattle.dwg_bits.specs.Bits.{bits}
 use Rattle.dwg_classes.specs.declared.class.Class.{Class}
 use Rattle.dwg_object.specs.declared.span.Span.{Span}
 use Rattle.dwg_object.specs.Objects.{HeadParts}
-use Rattle.dwg_object.specs.Forms.{HasHead}
+use Rattle.dwg_object.specs.Heads.{HasHead}
 use Rattle.dwg_object.specs.Frames.{SpanAt}
 use Rattle.dwg_object.specs.FrameCauses.{SpanRefused, IsFramed, CheckRefused, HeadRefused}
 use Rattle.dwg_object.specs.FrameLines.{frame_refusal, span_body}

@@ -18,9 +18,9 @@ abbrev pub IsGiven : Option (List ℕ) → Option (List ℕ) → List ℕ → Li
 IsGiven old new waited waiting bytes = Reaches old new (waited ++ bytes) waiting
 
 -- they are cut off: the sink took a front of both
-abbrev pub IsCut : Option (List ℕ) → Option (List ℕ) → List ℕ → List ℕ → Type 0
-IsCut old new waited bytes = AppendsFront old new (waited ++ bytes)
+abbrev pub GivesFront : Option (List ℕ) → Option (List ℕ) → List ℕ → List ℕ → Type 0
+GivesFront old new waited bytes = AppendsFront old new (waited ++ bytes)
 
 -- a call that gives bytes to a sink: they are given at Ok, and cut off at Err
 abbrev pub Gives : {T E : Type 0} → Option (List ℕ) → Option (List ℕ) → List ℕ → List ℕ → List ℕ → Result T E → Type 0
-Gives old new waited waiting bytes result = MatchResult result (λ _. IsGiven old new waited waiting bytes) (λ _. IsCut old new waited bytes)
+Gives old new waited waiting bytes result = MatchResult result (λ _. IsGiven old new waited waiting bytes) (λ _. GivesFront old new waited bytes)

@@ -16,7 +16,7 @@ use Rattle.dwg_sections.specs.declared.framed.Framed.TheVariants.{Variables, Cla
 use Rattle.dwg_sections.specs.FileHeader.{header_bytes}
 use Rattle.dwg_sections.specs.Framed.{framed_bytes}
 use Rattle.dwg_file.specs.declared.layout.Layout.{Layout}
-use Rattle.dwg_file.specs.Canonical.{PREVIEW, class_content, placed, variables_place, classes_place, preview_place, objects_place, map_place, others_place, header_of, size_of}
+use Rattle.dwg_file.specs.Canonical.{PREVIEW, class_content, frames_bytes, placed, variables_place, classes_place, preview_place, objects_place, map_place, others_place, header_of, size_of}
 use Rattle.dwg_file.specs.Contents.{Contents}
 use Rattle.dwg_file.specs.Valid.{IsValid}
 
@@ -62,16 +62,23 @@ pub record IsLayout (layout : Layout) (drawing : Contents) : Type 0 where
   pub others : layout.others ≡ others_place drawing
   pub size : layout.size ≡ size_of drawing
 
--- what is at hand to write a drawing: it is valid and isn't too large, its objects are placed, its header is made, and there is room for each part
-pub record IsPlan (drawing : Contents) (pairs : List Pair) (size : ℕ) (header : FileHeader) (room : ℕ) : Type 0 where
+-- a drawing whose canonical file can be sent: it is valid and isn't too large, this is its header, and there is room for each part
+pub record IsReady (drawing : Contents) (header : FileHeader) (room : ℕ) : Type 0 where
   pub valid : IsValid drawing
   pub small : size_of drawing ≤ MOST_BYTES
-  pub are_placed : pairs ≡ placed (objects_place drawing) drawing.objects
-  pub is_size : size ≡ size_of drawing
   pub is_header : header ≡ header_of drawing
   pub has : HasRoom room drawing
 
--- the parts of the canonical file before the frames
+-- what is at hand to write a drawing: all that sending takes, a pair for each object, and the size of the file
+pub record IsPlan (drawing : Contents) (pairs : List Pair) (size : ℕ) (header : FileHeader) (room : ℕ) : Type 0 where
+  pub ready : IsReady drawing header room
+  pub are_placed : pairs ≡ placed (objects_place drawing) drawing.objects
+  pub is_size : size ≡ size_of drawing
+
+-- the sections before the frames: header variables, classes, preview
+abbrev pub sections_bytes : Contents → List ℕ
+sections_bytes drawing = framed_bytes Variables drawing.variables ++ framed_bytes Classes (class_content drawing.classes) ++ PREVIEW
+
+-- the canonical file up to the map: the file header, these sections, the frames
 unfoldable pub front_bytes : Contents → List ℕ
-front_bytes drawing =
-    header_bytes (header_of drawing) ++ framed_bytes Variables drawing.variables ++ framed_bytes Classes (class_content drawing.classes) ++ PREVIEW
+front_bytes drawing = header_bytes (header_of drawing) ++ sections_bytes drawing ++ frames_bytes drawing.objects

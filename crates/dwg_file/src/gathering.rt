@@ -1,27 +1,16 @@
-//! Bytes on their way to a sink: small pieces are gathered and go out together, large ones go out as they are held.
+//! Bytes on their way to a sink: small pieces wait and go out together; the front of a large one fills up what waits, and what is
+//! left of it goes out as it is held.
 
 ghost use Rattle.std.specs.Prelude.{◌≡◌, ◌+◌, ◌<◌, ◌≤◌, ◌++◌, [], length, vec_capacity, IfOk};
 ghost use Rattle.dwg_base.specs.Devices.{Counts, Sends};
 ghost use Rattle.dwg_file.specs.Gathering.{Gives};
 
-use dwg_base::{NoMemory, Sink, WriteFault, put_all, with_room};
+use dwg_base::{NoMemory, Sink, WriteFault, append_bytes, put_all, with_room};
 use std::alloc::Global;
 use std::marker::Model;
 
 /// How many bytes go out together where bytes wait.
 const LEAST_PIECE: usize = 4096;
-
-/// Puts bytes behind others, where there is room for them.
-fn append(bytes: &mut Vec<u8>, more: &[u8])
-    requires room { length bytes.old.items + length more.now ≤ vec_capacity bytes.old }
-    ensures both { bytes.new.items ≡ bytes.old.items ++ more.now }
-    ensures capacity { vec_capacity bytes.old ≤ vec_capacity bytes.new }
-{
-    match bytes.extend_from_slice(more) {
-        Ok(()) => {}
-        Err(_) => unreachable!(),
-    }
-}
 
 /// Sends bytes in one piece, and lets go of them.
 fn send<W: Sink>(bytes: &mut Vec<u8>, sink: &mut W) -> Result<(), WriteFault>
@@ -85,17 +74,17 @@ impl Gathering {
     {
         let free = LEAST_PIECE - self.bytes.len();
         if bytes.len() < free {
-            append(&mut self.bytes, bytes);
+            append_bytes(&mut self.bytes, bytes);
             return Ok(());
         }
         let (front, rest) = bytes.split_at(free);
-        append(&mut self.bytes, front);
+        append_bytes(&mut self.bytes, front);
         match send(&mut self.bytes, sink) {
             Ok(()) => {}
             Err(WriteFault) => return Err(WriteFault),
         }
         if rest.len() < LEAST_PIECE {
-            append(&mut self.bytes, rest);
+            append_bytes(&mut self.bytes, rest);
             return Ok(());
         }
         put_all(sink, rest)

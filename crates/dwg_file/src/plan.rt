@@ -1,11 +1,11 @@
 //! Writing drawings: the canonical file is measured, and then sent part after part.
 
-ghost use Rattle.std.specs.Prelude.{◌≡◌, ℕ, ◌+◌, ◌*◌, ◌^◌, ◌<◌, ◌≤◌, ◌++◌, [], length, IfOk, OnOk, Err};
+ghost use Rattle.std.specs.Prelude.{◌≡◌, ℕ, ◌+◌, ◌*◌, ◌^◌, ◌<◌, ◌≤◌, [], length, IfOk, OnOk, Err};
 ghost use Rattle.dwg_base.specs.Devices.{MOST_BYTES, Counts, Sends};
-ghost use Rattle.dwg_file.specs.Canonical.{canonical, frames_bytes, header_of, others_bytes, size_of};
+ghost use Rattle.dwg_file.specs.Canonical.{canonical, others_bytes, size_of};
 ghost use Rattle.dwg_file.specs.Contents.{contents_of};
 ghost use Rattle.dwg_file.specs.Gathering.{Gives};
-ghost use Rattle.dwg_file.specs.Plans.{HasRoom, IsLayout, front_bytes};
+ghost use Rattle.dwg_file.specs.Plans.{HasRoom, IsLayout, IsReady, front_bytes, sections_bytes};
 ghost use Rattle.dwg_file.specs.Valid.{IsValid};
 
 use crate::drawing::Drawing;
@@ -42,26 +42,20 @@ const PREVIEW_BYTES: [u8; 37] = [
     0xC0, 0x62, 0xBB, 0xEF, 0xD4,
 ];
 
-/// Gives the parts of the canonical file before the frames.
-fn give_front<W: Sink>(
+/// Gives the sections before the frames: header variables, classes, and a preview without a picture.
+fn give_sections<W: Sink>(
     parts: &Parts<'_>,
-    header: &FileHeader,
     part: &mut BitSink,
     gathering: &mut Gathering,
     sink: &mut W,
 ) -> Result<(), WriteFault>
     requires valid { IsValid (contents_of parts.now) }
     requires small { size_of (contents_of parts.now) ≤ MOST_BYTES }
-    requires header { header.now ≡ header_of (contents_of parts.now) }
     requires room { HasRoom (part.old.spare + length part.old.written) (contents_of parts.now) }
-    ensures gives { Gives (W.taken sink.old) (W.taken sink.new) gathering.old gathering.new (front_bytes (contents_of parts.now)) result }
+    ensures gives { Gives (W.taken sink.old) (W.taken sink.new) gathering.old gathering.new (sections_bytes (contents_of parts.now)) result }
     ensures counts { Counts (W.faults sink.old) (W.faults sink.new) result }
     ensures room { part.old.spare + length part.old.written ≤ part.new.spare + length part.new.written }
 {
-    match give_header(header, part, gathering, sink) {
-        Ok(()) => {}
-        Err(WriteFault) => return Err(WriteFault),
-    }
     match give_framed(
         Framed::Variables,
         parts.variables.as_slice(),
@@ -86,17 +80,18 @@ fn send_front<W: Sink>(
     gathering: &mut Gathering,
     sink: &mut W,
 ) -> Result<(), WriteFault>
-    requires valid { IsValid (contents_of parts.now) }
-    requires small { size_of (contents_of parts.now) ≤ MOST_BYTES }
-    requires header { header.now ≡ header_of (contents_of parts.now) }
-    requires room { HasRoom (part.old.spare + length part.old.written) (contents_of parts.now) }
+    requires ready { IsReady (contents_of parts.now) header.now (part.old.spare + length part.old.written) }
     requires none { gathering.old ≡ [] }
-    ensures bytes { Sends (W.taken sink.old) (W.taken sink.new) (front_bytes (contents_of parts.now) ++ frames_bytes (contents_of parts.now).objects) result }
+    ensures bytes { Sends (W.taken sink.old) (W.taken sink.new) (front_bytes (contents_of parts.now)) result }
     ensures counts { Counts (W.faults sink.old) (W.faults sink.new) result }
     ensures room { part.old.spare + length part.old.written ≤ part.new.spare + length part.new.written }
     ensures none { OnOk result (gathering.new ≡ []) }
 {
-    match give_front(parts, header, part, gathering, sink) {
+    match give_header(header, part, gathering, sink) {
+        Ok(()) => {}
+        Err(WriteFault) => return Err(WriteFault),
+    }
+    match give_sections(parts, part, gathering, sink) {
         Ok(()) => {}
         Err(WriteFault) => return Err(WriteFault),
     }
@@ -191,8 +186,9 @@ fn plan_of<'d, 'a>(
 
 impl<'d, 'a> Plan<'d, 'a> {
     /// Measures the canonical file of a drawing. TooLarge exactly where that has more than `LIMIT` bytes, with their count; the
-    /// only other refusal is want of memory. All memory that writing needs is taken here: a pair for each object, the largest part
-    /// that isn't held elsewhere, a page of the map, and the least that goes out in one piece.
+    /// only other refusal is want of memory. All memory that writing needs is taken here: a pair for each object, a locator for
+    /// each section, the largest part that isn't held elsewhere, a page of the map and a pair in it, and the least that goes out in
+    /// one piece.
     pub fn prepare(alloc: Global, drawing: &'d Drawing<'a>) -> Result<Plan<'d, 'a>, PlanFault>
         ensures plan { IfOk result (λ plan. plan ≡ contents_of drawing.now) }
         ensures within { OnOk result (size_of (contents_of drawing.now) ≤ MOST_BYTES) }
@@ -223,9 +219,9 @@ impl<'d, 'a> Plan<'d, 'a> {
     /// Sends the canonical file, part after part. It takes no memory, and may be called again, after Ok and after a fault: it sends
     /// the whole file again. A fault comes only where the sink's count of faults rose; then it took a front of the file.
     ///
-    /// Before the map and behind it small pieces go out together, 4,096 bytes at a time but for the last; the map goes out page by
-    /// page. What is held elsewhere takes no room of its own, and what of it is left behind a piece goes out as it is held, if it
-    /// has as many bytes.
+    /// Before the map and behind it small pieces go out together, 4,096 bytes at a time but for the last; each page of the map goes
+    /// out in one piece, from where it is filled. What is held elsewhere takes no room of its own, and what of it is left behind a
+    /// piece goes out as it is held, if it has as many bytes.
     pub fn write_to<W: Sink>(&mut self, sink: &mut W) -> Result<(), WriteFault>
         ensures bytes { Sends (W.taken sink.old) (W.taken sink.new) (canonical self.old) result }
         ensures counts { Counts (W.faults sink.old) (W.faults sink.new) result }

@@ -1,5 +1,5 @@
-//! Sending the parts of the canonical file, one behind the other: a run of bytes that is held elsewhere without room of its own, any
-//! other part made in the room of one.
+//! Sending the parts of the canonical file, one behind the other: a run of bytes that is held elsewhere takes no room of its own, any
+//! other part is made in the room of one.
 
 ghost use Rattle.std.specs.Prelude.{◌≡◌, ◌+◌, ◌*◌, ◌%◌, ◌^◌, ◌<◌, ◌≤◌, [], length, map, flat_map, false, OnOk, OnErr};
 ghost use Rattle.std.specs.List.{AllByRecursion};

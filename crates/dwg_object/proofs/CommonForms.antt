@@ -17,8 +17,9 @@ use Rattle.dwg_kinds.specs.Kinds.{is_entity_kind}
 use Rattle.dwg_object.specs.declared.common.Common.{Common}
 use Rattle.dwg_object.specs.declared.common.Common.TheVariants.{Entity, Object}
 use Rattle.dwg_object.specs.Objects.{HeadParts, is_of_entity}
-use Rattle.dwg_object.specs.Forms.{head, HasHead, IsHead, CommonForm, HasCommonForm, kind_under, entity_inside, object_inside, common_part}
-use Rattle.dwg_object.proofs.HeadLaws.{head_is_code}
+use Rattle.dwg_object.specs.Forms.{CommonForm, HasCommonForm, kind_under, entity_inside, object_inside, common_part}
+use Rattle.dwg_object.specs.Heads.{head, HasHead, IsHead}
+use Rattle.dwg_object.proofs.HeadLemmas.{head_is_code}
 
 -- the common part of an object is a body
 pub common_is_body : (entity : Bool) (base : ℕ) → base < 2 ^ 63 → IsBody base (common_part entity base)
@@ -37,14 +38,14 @@ common_may_follow true base over = tt
 common_may_follow false base over = tt
 
 -- the bits of a body, cut behind its head and at its bit size
-pub record IsCutAt (letters : List Bool) (parts : HeadParts) (main references : List Bool) : Type 0 where
+pub record AreParted (letters : List Bool) (parts : HeadParts) (main references : List Bool) : Type 0 where
   pub front : List Bool
   pub spelled : head.Spells parts front
   pub whole : letters ≡ (front ++ main) ++ references
   pub size : length (front ++ main) ≡ parts.size
 
 -- a body that is cut has that head
-pub cut_head : (letters : List Bool) (parts : HeadParts) (main references : List Bool) → IsCutAt letters parts main references → HasHead letters parts
+pub cut_head : (letters : List Bool) (parts : HeadParts) (main references : List Bool) → AreParted letters parts main references → HasHead letters parts
 cut_head letters parts main references cut = record {
   front = cut.front;
   rest = main ++ references;
@@ -61,7 +62,7 @@ same_fronts {A} front back other other_back same long =
 
 -- it is cut in one way
 pub cut_same : (letters : List Bool) (parts other : HeadParts) (main references other_main other_references : List Bool)
-    → IsCutAt letters parts main references → IsCutAt letters other other_main other_references
+    → AreParted letters parts main references → AreParted letters other other_main other_references
     → (parts ≡ other) × (main ≡ other_main) × (references ≡ other_references)
 cut_same letters parts other main references other_main other_references is was =
     let joined : is.front ++ (main ++ references) ≡ was.front ++ (other_main ++ other_references) =
@@ -72,13 +73,13 @@ cut_same letters parts other main references other_main other_references is was 
     (heads.0, append_cancel_left is.front main other_main (pieces.0 ∙ ap (λ first. first ++ other_main) (sym heads.1)), pieces.1)
 
 -- the own handle of a head is that of a handle
-pub own_small : (letters : List Bool) (parts : HeadParts) (main references : List Bool) → IsCutAt letters parts main references → (0 < parts.own) × (parts.own < 2 ^ 63)
+pub own_small : (letters : List Bool) (parts : HeadParts) (main references : List Bool) → AreParted letters parts main references → (0 < parts.own) × (parts.own < 2 ^ 63)
 unfolding head
 own_small letters parts main references cut = let fits : IsHead parts = head_is_code.value cut.front parts cut.spelled in (fits.positive, fits.own)
 
 -- a body in that form is cut behind its head and at its bit size
 form_cut : (classes : List Class) (body : List ℕ) (number handle : ℕ) (common : Common) (own behind : List Bool) (is : CommonForm classes body number handle common own behind)
-    → IsCutAt (bits body) (record { number = number; size = is.size; own = handle }) (is.common_main ++ own) (is.common_refs ++ behind)
+    → AreParted (bits body) (record { number = number; size = is.size; own = handle }) (is.common_main ++ own) (is.common_refs ++ behind)
 form_cut classes body number handle common own behind is = record { front = is.head_bits; spelled = is.head_spelled; whole = is.whole; size = is.filled }
 
 -- so it has a head
@@ -100,7 +101,7 @@ BeginsWithCommon classes number handle common main own references behind =
 
 -- in any cutting of the body stand the parts of its form
 pub common_in_cut : (classes : List Class) (body : List ℕ) (parts : HeadParts) (main references : List Bool) (number handle : ℕ) (common : Common) (own behind : List Bool)
-    → IsCutAt (bits body) parts main references → CommonForm classes body number handle common own behind
+    → AreParted (bits body) parts main references → CommonForm classes body number handle common own behind
     → (number ≡ parts.number) × (handle ≡ parts.own) × BeginsWithCommon classes parts.number parts.own common main own references behind
 common_in_cut classes body parts main references number handle common own behind cut is =
     let same = cut_same (bits body) _ parts (is.common_main ++ own) (is.common_refs ++ behind) main references (form_cut classes body number handle common own behind is) cut in
@@ -120,7 +121,7 @@ common_in_cut classes body parts main references number handle common own behind
 
 -- and a cutting in which they stand is that form
 pub common_of_cut : (classes : List Class) (body : List ℕ) (parts : HeadParts) (main references : List Bool) (common : Common) (own behind : List Bool)
-    → IsCutAt (bits body) parts main references → BeginsWithCommon classes parts.number parts.own common main own references behind
+    → AreParted (bits body) parts main references → BeginsWithCommon classes parts.number parts.own common main own references behind
     → CommonForm classes body parts.number parts.own common own behind
 common_of_cut classes body parts main references common own behind cut begins = record {
   size = parts.size;
@@ -168,7 +169,7 @@ size_of_common classes body parts has_head has =
 
 -- a body is cut where its bit size is so
 pub cut_of_size : (letters : List Bool) (parts : HeadParts) (has : HasHead letters parts) → IsSizeWithin letters has.front parts.size
-    → IsCutAt letters parts (take (parts.size - length has.front) has.rest) (drop (parts.size - length has.front) has.rest)
+    → AreParted letters parts (take (parts.size - length has.front) has.rest) (drop (parts.size - length has.front) has.rest)
 cut_of_size letters parts has size =
     let many : ℕ = parts.size - length has.front in
     let enough : many ≤ length has.rest = omega (arith, size.within, size.behind, ap length has.whole, length-append has.front has.rest) in
@@ -216,7 +217,7 @@ common_decided classes number handle main references small = by_parse ((common_p
 pub common_form_decided : (classes : List Class) (body : List ℕ) (parts : HeadParts) → HasHead (bits body) parts → HasCommonForm classes body ⊎ (HasCommonForm classes body → ⊥)
 common_form_decided classes body parts has = by_test (size_or_not (bits body) has.front parts.size)
   where
-    by_part : (main references : List Bool) → IsCutAt (bits body) parts main references
+    by_part : (main references : List Bool) → AreParted (bits body) parts main references
         → HasCommonPart classes parts.number parts.own main references ⊎ (HasCommonPart classes parts.number parts.own main references → ⊥)
         → HasCommonForm classes body ⊎ (HasCommonForm classes body → ⊥)
     by_part main references cut (inl part) = inl (record {

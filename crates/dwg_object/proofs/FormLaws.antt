@@ -19,14 +19,15 @@ use Rattle.dwg_object.specs.declared.common.Common.{Common}
 use Rattle.dwg_object.specs.declared.body.Body.{Body}
 use Rattle.dwg_object.proofs.CommonForms.{head_of_common}
 use Rattle.dwg_object.specs.Objects.{HeadParts, ObjectValue, TypedValue, PlainValue, RawValue, number_of, handle_of}
-use Rattle.dwg_object.specs.Forms.{head, HasHead, BeginsWithHead, TypedForm, HasTypedForm, PlainForm, HasPlainForm, FormOf}
+use Rattle.dwg_object.specs.Forms.{TypedForm, HasTypedForm, PlainForm, HasPlainForm, FormOf}
+use Rattle.dwg_object.specs.Heads.{head, HasHead, BeginsWithHead}
 use Rattle.dwg_object.specs.Written.{own_main, own_refs, object_bits, body_bytes, PartsFit, IsValidObject}
 use Rattle.dwg_object.specs.Frames.{frame_bytes}
 use Rattle.dwg_object.proofs.LengthLemmas.{bytes_joined, length_is_bytes}
-use Rattle.dwg_object.proofs.HeadLaws.{head_begins, begins_head, begins_same, heads_same, head_fits, head_parsed, head_unparsed}
+use Rattle.dwg_object.proofs.HeadLemmas.{head_begins, begins_head, begins_same, heads_same, head_fits, head_parsed, head_unparsed}
 use Rattle.dwg_object.proofs.PlainLemmas.{plain_forms_same, plain_decided}
 use Rattle.dwg_object.proofs.PlainWritten.{plain_short, plain_valid, plain_form_written}
-use Rattle.dwg_object.proofs.TypedLaws.{typed_forms_same, typed_decided}
+use Rattle.dwg_object.proofs.TypedLemmas.{typed_forms_same, typed_decided}
 use Rattle.dwg_object.proofs.TypedWritten.{typed_short, typed_valid, typed_form_written}
 use Rattle.dwg_object.specs.FormLaws.{FormsAreOne, FormsAreValid, FormsHaveHeads, HeadsHaveForms, ValidObjectsAreForms, WrittenFramesAreBytes, WrittenFramesStand}
 

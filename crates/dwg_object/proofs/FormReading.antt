@@ -17,7 +17,7 @@ use Rattle.dwg_kinds.specs.declared.kind.Kind.{Kind}
 use Rattle.dwg_kinds.specs.declared.kind.Kind.TheVariants.{Unknown}
 use Rattle.dwg_object.specs.declared.body.Body.{Body}
 use Rattle.dwg_object.specs.declared.common.Common.{Common}
-use Rattle.dwg_object.proofs.CommonForms.{IsCutAt, same_fronts, common_in_cut, common_of_cut, size_of_common}
+use Rattle.dwg_object.proofs.CommonForms.{AreParted, same_fronts, common_in_cut, common_of_cut, size_of_common}
 use Rattle.dwg_object.specs.declared.object.Object.{Object}
 use Rattle.dwg_object.specs.Forms.{CommonForm, HasCommonForm, HasTypedForm, PlainForm, HasPlainForm, FormOf, kind_under, common_part}
 use Rattle.dwg_object.specs.Heads.{IsHeadAt}
@@ -26,11 +26,11 @@ use Rattle.dwg_object.specs.OwnBodies.{own_body}
 use Rattle.dwg_object.proofs.OwnLaws.{own_is_body}
 use Rattle.dwg_object.proofs.PlainLemmas.{plain_of_cut, plain_cut, common_of_plain}
 use Rattle.dwg_object.specs.OwnBits.{AreOwn, HasOwn}
-use Rattle.dwg_object.proofs.TypedLaws.{typed_own, common_of_typed}
+use Rattle.dwg_object.proofs.TypedLemmas.{typed_own, common_of_typed}
 
 -- a body is cut at the place behind its head and at its bit size
 pub cut_between : (body : List ℕ) (parts : HeadParts) (at end : ℕ) → IsHeadAt (bits body) parts at → at ≤ parts.size → parts.size ≤ end → end ≡ 8 * length body
-    → IsCutAt (bits body) parts (bits_between body at parts.size) (bits_between body parts.size end)
+    → AreParted (bits body) parts (bits_between body at parts.size) (bits_between body parts.size end)
 cut_between body parts at end is behind within whole =
     let all : bits body ≡ bits_between body 0 at ++ bits_between body at end =
     sym (bits_between_all body end whole) ∙ sym (bits_between_joined body 0 at end (omega arith) (omega (arith, behind, within))) in
@@ -55,12 +55,12 @@ cut_between body parts at end is behind within whole =
 -- so it is for cursors that stand there
 pub cut_of_cursors : (body : List ℕ) (parts : HeadParts) (at size end : ℕ) (main references : BitCursor) → IsHeadAt (bits body) parts at → at ≤ size → size ≤ end → size ≡ parts.size → end ≡ 8 * length body
     → main.bytes.now ≡ body → main.place ≡ at → main.end ≡ size → references.bytes.now ≡ body → references.place ≡ size → references.end ≡ end
-    → IsCutAt (bits body) parts (rest main) (rest references)
+    → AreParted (bits body) parts (rest main) (rest references)
 cut_of_cursors body parts at size end main references is behind within sized whole main_bytes main_place main_end bytes place to =
     let cut = cut_between body parts at end is (omega (arith, behind, sized)) (omega (arith, within, sized)) whole in
     let same_main : rest main ≡ bits_between body at parts.size = between_same main.bytes.now body main.place at main.end parts.size main_bytes main_place (main_end ∙ sized) in
     let same : rest references ≡ bits_between body parts.size end = between_same references.bytes.now body references.place parts.size references.end end bytes (place ∙ sized) to in
-    subst (λ (m : List Bool). IsCutAt (bits body) parts m (rest references)) (sym same_main) (subst (λ (r : List Bool). IsCutAt (bits body) parts (bits_between body at parts.size) r) (sym same) cut)
+    subst (λ (m : List Bool). AreParted (bits body) parts m (rest references)) (sym same_main) (subst (λ (r : List Bool). AreParted (bits body) parts (bits_between body at parts.size) r) (sym same) cut)
   where
     between_same : (bytes others : List ℕ) (from other_from to other_to : ℕ) → bytes ≡ others → from ≡ other_from → to ≡ other_to → bits_between bytes from to ≡ bits_between others other_from other_to
     between_same bytes others from other_from to other_to a b c = ap (λ (all : List ℕ). bits_between all from to) a ∙ ap₂ (bits_between others) b c
@@ -77,7 +77,7 @@ size_unread classes body parts at is outside form =
     outside (omega (arith, is.far, size.behind)) (omega (arith, size.within, length_of_bits body))
 
 -- nor is one in which no common part is spelled
-pub common_unread : (classes : List Class) (body : List ℕ) (parts : HeadParts) (entity : Bool) (main references main_left references_left : List Bool) → IsCutAt (bits body) parts main references
+pub common_unread : (classes : List Class) (body : List ℕ) (parts : HeadParts) (entity : Bool) (main references main_left references_left : List Bool) → AreParted (bits body) parts main references
     → entity ≡ is_entity_kind (kind_under classes parts.number) → ReadsBody (common_part entity parts.own) None main main_left references references_left
     → HasCommonForm classes body → ⊥
 common_unread classes body parts entity main references main_left references_left cut same (none, left, also) form =
@@ -86,7 +86,7 @@ common_unread classes body parts entity main references main_left references_lef
     (subst (λ (e : Bool). BeginsWithBody (common_part e parts.own) form.common main form.own references form.behind) (sym same) begins)
 
 -- where one is spelled, it is cut so
-pub common_read : (classes : List Class) (body : List ℕ) (parts : HeadParts) (entity : Bool) (main references own behind : List Bool) (common : Common) → IsCutAt (bits body) parts main references
+pub common_read : (classes : List Class) (body : List ℕ) (parts : HeadParts) (entity : Bool) (main references own behind : List Bool) (common : Common) → AreParted (bits body) parts main references
     → entity ≡ is_entity_kind (kind_under classes parts.number) → ReadsBody (common_part entity parts.own) (Some common) main own references behind
     → CommonForm classes body parts.number parts.own common own behind
 common_read classes body parts entity main references own behind common cut same begins =

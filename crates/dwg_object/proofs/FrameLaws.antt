@@ -12,12 +12,12 @@ use Rattle.dwg_check.proofs.CheckWordLaws.{check_word_fits}
 use Rattle.dwg_grammar.proofs.NumberLemmas.{bytes_of_16, number_of_16}
 use Rattle.dwg_object.specs.declared.span.Span.{Span}
 use Rattle.dwg_object.specs.Objects.{HeadParts}
-use Rattle.dwg_object.specs.Forms.{HasHead, BeginsWithHead}
+use Rattle.dwg_object.specs.Heads.{HasHead, BeginsWithHead}
 use Rattle.dwg_object.specs.Frames.{FrameAt, FrameHolds, SpanAt}
 use Rattle.dwg_object.specs.FrameLines.{frame_refusal, span_of, bytes_from, span_body, has_check_word, head_at, head_tried, frame_checked, tried_span, tried_frame}
 use Rattle.dwg_object.specs.FrameCauses.{IsFramed, TellsSpan, TellsFrame}
 use Rattle.dwg_object.proofs.StandingLemmas.{take_stands, stands_first, stands_next, stands_same, stands_bytes}
-use Rattle.dwg_object.proofs.HeadLaws.{TellsHead, head_told, head_only, head_begins, begins_head}
+use Rattle.dwg_object.proofs.HeadLemmas.{TellsHead, head_told, head_only, head_begins, begins_head}
 use Rattle.dwg_object.proofs.SpanLaws.{lengths_same, span_size, span_told, tried_span_means}
 use Rattle.dwg_object.specs.FrameLaws.{FramesAreHeld, FramesAreOne, FramesAreTold}
 

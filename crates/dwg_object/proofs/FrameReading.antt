@@ -10,14 +10,15 @@ use Rattle.dwg_grammar.proofs.ModularLemmas.{ms_is_code, ms_below}
 use Rattle.dwg_object.specs.declared.frame.Found.{Found}
 use Rattle.dwg_object.specs.declared.object.Object.{Object}
 use Rattle.dwg_object.specs.declared.span.Span.{Span}
-use Rattle.dwg_object.specs.Forms.{HasHead, BeginsWithHead, FormOf}
+use Rattle.dwg_object.specs.Forms.{FormOf}
+use Rattle.dwg_object.specs.Heads.{HasHead, BeginsWithHead}
 use Rattle.dwg_object.proofs.FormLaws.{head_of_form}
 use Rattle.dwg_object.specs.FoundFrames.{IsTried, AnswersFrame}
 use Rattle.dwg_object.specs.FrameCauses.{IsFramed}
 use Rattle.dwg_object.proofs.FrameLaws.{body_of_span, framed_at, checked_head}
 use Rattle.dwg_object.specs.FrameLines.{frame_refusal, span_body, has_check_word, head_at, head_tried, frame_checked, tried_span, tried_frame}
 use Rattle.dwg_object.specs.Frames.{FrameAt, SpanAt}
-use Rattle.dwg_object.proofs.HeadLaws.{begins_head}
+use Rattle.dwg_object.proofs.HeadLemmas.{begins_head}
 use Rattle.dwg_object.specs.Objects.{ObjectValue, value_of}
 use Rattle.dwg_object.proofs.SpanLaws.{span_within, tried_span_means}
 

@@ -1,5 +1,5 @@
 -- Writing a frame: its length, its body and its check word.
-use Rattle.std.proofs.Common.{◌≡◌, sym, ◌∙◌, ap, subst, ℕ, ◌+◌, ◌*◌, ◌/◌, ◌%◌, ◌<◌, ◌^◌, Bool, false, List, ◌++◌, length, drop, arith}
+use Rattle.std.proofs.Common.{◌≡◌, sym, ◌∙◌, ap, subst, ℕ, ◌+◌, ◌*◌, ◌/◌, ◌%◌, ◌<◌, ◌≤◌, ◌^◌, Bool, false, List, ◌++◌, length, drop, arith}
 use Rattle.std.specs.Prelude.{replicate}
 use Rattle.std.specs.Int.{w16, to_le_bytes}
 use Rattle.std.proofs.lemmas.List.{length-append, drop_at}
@@ -13,7 +13,7 @@ use Rattle.dwg_bits.proofs.WholeBytes.{whole_joined, whole_of_bits, length_of_wh
 use Rattle.dwg_check.specs.CheckWord.{FRAME_START, check_word}
 use Rattle.dwg_grammar.specs.ModularCodes.{ms}
 use Rattle.dwg_object.specs.declared.common.Common.{Common}
-use Rattle.dwg_object.specs.Forms.{head}
+use Rattle.dwg_object.specs.Heads.{head}
 use Rattle.dwg_object.specs.Frames.{frame_bytes, sized}
 use Rattle.dwg_object.proofs.FormLaws.{length_of_frame}
 use Rattle.dwg_object.proofs.LengthLemmas.{bytes_joined, length_is_bytes}
@@ -82,6 +82,11 @@ written_behind old new bytes from whole far are grew =
 pub sized_room : (bytes : List ℕ) → 8 * length (sized bytes) ≡ length (bits (ms.short (length bytes))) + 8 * length bytes
 sized_room bytes = omega (arith, length-append (ms.short (length bytes)) bytes, length_of_bits (ms.short (length bytes)))
 
+-- so behind their length there is room for them
+pub room_behind_size : (first second : Written) (count : ℕ) (bytes : List ℕ) → count ≡ length bytes → 8 * length (sized bytes) ≤ first.spare → Extends first second (bits (ms.short count))
+    → 8 * length bytes ≤ second.spare
+room_behind_size first second count bytes same room by_size = omega (arith, room, sized_room bytes, by_size.spare, ap (λ (n : ℕ). length (bits (ms.short n))) same)
+
 -- they are what is written of their length and of them, one behind the other
 pub sized_written : (first second third : Written) (count : ℕ) (bytes : List ℕ) → count ≡ length bytes → Extends first second (bits (ms.short count)) → Extends second third (bits bytes)
     → Extends first third (bits (sized bytes))
@@ -142,11 +147,19 @@ pub object_small : (number handle : ℕ) (common : Common) (own own_refs : List 
     → length (object_bits number handle common own own_refs) < 2 ^ 32
 object_small number handle common own own_refs small = let padded = bytes_padded (object_bits number handle common own own_refs) in omega (arith, padded.enough, small)
 
--- filled up they are those of its bytes
-pub object_room : (number handle : ℕ) (common : Common) (own own_refs : List Bool)
-    → length (object_bits number handle common own own_refs ++ padding (object_bits number handle common own own_refs)) ≡ 8 * length (object_bytes number handle common own own_refs)
-object_room number handle common own own_refs =
-    sym (ap length (bits_padded (object_bits number handle common own own_refs))) ∙ length_of_bits (object_bytes number handle common own own_refs)
+-- before the references, of these, and filled up behind them, they are those of its bytes
+pub object_whole : (number handle : ℕ) (common : Common) (own own_refs : List Bool)
+    → length (front_bits number handle common own) + length (refs_bits handle common own_refs) + length (padding (object_bits number handle common own own_refs))
+    ≡ 8 * length (object_bytes number handle common own own_refs)
+object_whole number handle common own own_refs =
+    let letters : List Bool = object_bits number handle common own own_refs in
+    omega (
+      arith,
+      ap length (bits_padded letters),
+      length_of_bits (object_bytes number handle common own own_refs),
+      length-append letters (padding letters),
+      object_long number handle common own own_refs,
+    )
 
 -- behind whole bytes, bytes end at a whole byte
 pub aligned_behind : (old new : Written) (bytes : List ℕ) → length old.written % 8 ≡ 0 → Extends old new (bits bytes) → length new.written % 8 ≡ 0

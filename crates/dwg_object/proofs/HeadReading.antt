@@ -12,9 +12,8 @@ use Rattle.dwg_grammar.proofs.TableLemmas.{bs_is_code}
 use Rattle.dwg_grammar.specs.ReferenceCodes.{own_handle}
 use Rattle.dwg_codes.proofs.SeqReading.{seq_read, first_unread, second_unread}
 use Rattle.dwg_object.specs.Objects.{HeadParts}
-use Rattle.dwg_object.specs.Forms.{head, HasHead}
-use Rattle.dwg_object.specs.Heads.{IsHeadAt, own_of}
-use Rattle.dwg_object.proofs.HeadLaws.{own_told}
+use Rattle.dwg_object.specs.Heads.{head, HasHead, IsHeadAt, own_of}
+use Rattle.dwg_object.proofs.HeadLemmas.{own_told}
 
 -- a bit size and an own handle
 abbrev size_and_own : Grammar Bool (ℕ × ℕ)

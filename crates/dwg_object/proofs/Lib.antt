@@ -1,14 +1,14 @@
 pub mod CommonForms
 pub mod FormLaws
 pub mod FrameLaws
-pub mod HeadLaws
+pub mod HeadLemmas
 pub mod LengthLemmas
 pub mod OwnLaws
 pub mod PlainLemmas
 pub mod PlainWritten
 pub mod SpanLaws
 pub mod StandingLemmas
-pub mod TypedLaws
+pub mod TypedLemmas
 pub mod TypedWritten
 pub mod WrittenLemmas
 pub mod SpanReading

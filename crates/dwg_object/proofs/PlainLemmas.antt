@@ -14,7 +14,8 @@ use Rattle.dwg_kinds.specs.declared.kind.Kind.{Kind}
 use Rattle.dwg_kinds.specs.declared.kind.Kind.TheVariants as kinds
 use Rattle.dwg_object.specs.declared.common.Common.{Common}
 use Rattle.dwg_object.specs.Objects.{HeadParts}
-use Rattle.dwg_object.specs.Forms.{HasHead, CommonForm, HasCommonForm, PlainForm, HasPlainForm, kind_under}
+use Rattle.dwg_object.specs.Forms.{CommonForm, HasCommonForm, PlainForm, HasPlainForm, kind_under}
+use Rattle.dwg_object.specs.Heads.{HasHead}
 use Rattle.dwg_object.proofs.CommonForms.{common_form_decided, common_forms_same, fits_of_common}
 
 -- what stands behind the references of the common part is cut into the references of a Plain form

@@ -19,7 +19,7 @@ use Rattle.dwg_object.specs.Objects.{PlainValue, is_of_entity}
 use Rattle.dwg_object.specs.OwnBodies.{own_body}
 use Rattle.dwg_object.proofs.OwnLaws.{own_is_body}
 use Rattle.dwg_object.proofs.PlainLemmas.{refs_cut}
-use Rattle.dwg_object.proofs.TypedLaws.{typed_of_same}
+use Rattle.dwg_object.proofs.TypedLemmas.{typed_of_same}
 use Rattle.dwg_object.specs.Written.{object_bits, body_bytes, IsValidPlain}
 use Rattle.dwg_object.proofs.WrittenLemmas.{AreWritten, object_short, common_fits, common_form_written}
 

@@ -4,7 +4,8 @@ use Rattle.dwg_base.specs.Bytes.{AreBytes, StandsAt}
 use Rattle.dwg_bits.specs.Bits.{bits}
 use Rattle.dwg_classes.specs.declared.class.Class.{Class}
 use Rattle.dwg_object.specs.Objects.{HeadParts, ObjectValue, number_of, handle_of}
-use Rattle.dwg_object.specs.Forms.{HasHead, FormOf}
+use Rattle.dwg_object.specs.Forms.{FormOf}
+use Rattle.dwg_object.specs.Heads.{HasHead}
 use Rattle.dwg_object.specs.Written.{body_bytes, IsValidObject}
 use Rattle.dwg_object.specs.Frames.{FrameAt, frame_bytes}
 

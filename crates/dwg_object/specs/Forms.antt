@@ -1,11 +1,8 @@
--- The head of an object, and the forms in which its body is read (Open Design Specification, "R13 to R2000 file layout, object data"). Which form an object has is a rule of this project.
-use Rattle.std.specs.Prelude.{◌≡◌, ◌≢◌, ℕ, ◌^◌, ◌<◌, Bool, true, false, List, ◌++◌, length, Option, Some, None}
+-- The forms in which the body of an object is read (Open Design Specification, "R13 to R2000 file layout, object data"). Which form an object has is a rule of this project.
+use Rattle.std.specs.Prelude.{◌≡◌, ◌≢◌, ℕ, ◌<◌, Bool, true, false, List, ◌++◌, length, Option, Some, None}
 use Rattle.dwg_bits.specs.Bits.{bits}
 use Rattle.dwg_classes.specs.declared.class.Class.{Class}
 use Rattle.dwg_classes.specs.Hints.{hint_at}
-use Rattle.dwg_grammar.specs.Codes.{bs, rl}
-use Rattle.dwg_grammar.specs.Combinators.{seq, image}
-use Rattle.dwg_grammar.specs.Grammar.{Grammar}
 use Rattle.dwg_grammar.specs.ToEnd.{SpellsAll}
 use Rattle.dwg_common.specs.declared.entity.EntityCommon.{EntityCommon}
 use Rattle.dwg_common.specs.declared.object.ObjectCommon.{ObjectCommon}
@@ -14,43 +11,16 @@ use Rattle.dwg_common.specs.Entities.{entity_common}
 use Rattle.dwg_grammar.specs.MakingBodies.{variant}
 use Rattle.dwg_common.specs.NonEntities.{object_common}
 use Rattle.dwg_grammar.specs.Reference.{Reference}
-use Rattle.dwg_grammar.specs.ReferenceCodes.{reference, own_handle}
+use Rattle.dwg_grammar.specs.ReferenceCodes.{reference}
 use Rattle.dwg_kinds.specs.Kinds.{kind_at, is_entity_kind}
 use Rattle.dwg_kinds.specs.declared.kind.Kind.{Kind}
 use Rattle.dwg_kinds.specs.declared.kind.Kind.TheVariants.{Unknown}
 use Rattle.dwg_object.specs.declared.common.Common.{Common}
 use Rattle.dwg_object.specs.declared.body.Body.{Body}
 use Rattle.dwg_object.specs.declared.common.Common.TheVariants.{Entity, Object}
-use Rattle.dwg_object.specs.Objects.{HeadParts, ObjectValue, TypedValue, PlainValue, RawValue}
+use Rattle.dwg_object.specs.Heads.{BeginsWithHead, head}
+use Rattle.dwg_object.specs.Objects.{ObjectValue, TypedValue, PlainValue, RawValue}
 use Rattle.dwg_object.specs.OwnBodies.{own_body}
-
--- the parts of a head lie in their ranges
-pub record IsHead (parts : HeadParts) : Type 0 where
-  pub number : parts.number < 2 ^ 16
-  pub size : parts.size < 2 ^ 32
-  pub positive : 0 < parts.own
-  pub own : parts.own < 2 ^ 63
-
--- BS type number, RL bit size, H own handle
-unfoldable pub head : Grammar Bool HeadParts
-head =
-    image IsHead (λ parts. record { number = parts.0; size = parts.1.0; own = parts.1.1 }) (λ parts. (parts.number, (parts.size, parts.own)))
-    (seq bs (λ number. seq rl (λ size. own_handle)))
-
--- the bits begin with this head
-pub record HasHead (letters : List Bool) (parts : HeadParts) : Type 0 where
-  pub front : List Bool
-  pub rest : List Bool
-  pub spelled : head.Spells parts front
-  pub whole : letters ≡ front ++ rest
-
--- the bits begin with a head of this number and this own handle
-pub record BeginsWithHead (letters : List Bool) (number own : ℕ) : Type 0 where
-  pub size : ℕ
-  pub front : List Bool
-  pub rest : List Bool
-  pub spelled : head.Spells (record { number = number; size = size; own = own }) front
-  pub whole : letters ≡ front ++ rest
 
 -- the kind of a number under the classes of a drawing
 abbrev pub kind_under : List Class → ℕ → Kind

@@ -7,7 +7,7 @@ use Rattle.dwg_bits.specs.Bits.{bits}
 use Rattle.dwg_grammar.specs.ModularCodes.{ms}
 use Rattle.dwg_object.specs.declared.span.Span.{Span}
 use Rattle.dwg_object.specs.Objects.{HeadParts}
-use Rattle.dwg_object.specs.Forms.{HasHead}
+use Rattle.dwg_object.specs.Heads.{HasHead}
 use Rattle.dwg_object.specs.Frames.{FrameAt, SpanAt}
 use Rattle.dwg_object.specs.FrameLines.{frame_refusal, span_body}
 

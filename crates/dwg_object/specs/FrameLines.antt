@@ -8,7 +8,7 @@ use Rattle.dwg_check.specs.CheckWord.{FRAME_START, check_word}
 use Rattle.dwg_grammar.specs.ModularCodes.{ms}
 use Rattle.dwg_object.specs.declared.span.Span.{Span}
 use Rattle.dwg_object.specs.Objects.{HeadParts}
-use Rattle.dwg_object.specs.Forms.{head}
+use Rattle.dwg_object.specs.Heads.{head}
 
 -- the refusal of a pair's frame by a line: at the pair's place
 abbrev pub frame_refusal : ℕ → ℕ → ℕ → Refusal

@@ -6,7 +6,7 @@ use Rattle.dwg_bits.specs.Bits.{bits}
 use Rattle.dwg_check.specs.CheckWord.{FRAME_START, check_word}
 use Rattle.dwg_grammar.specs.ModularCodes.{ms}
 use Rattle.dwg_object.specs.declared.span.Span.{Span}
-use Rattle.dwg_object.specs.Forms.{BeginsWithHead}
+use Rattle.dwg_object.specs.Heads.{BeginsWithHead}
 use Rattle.dwg_object.specs.Objects.{ObjectValue}
 use Rattle.dwg_object.specs.Written.{body_bytes}
 

@@ -2,7 +2,9 @@
 pub mod OwnBodies
 -- Objects, whoever holds their bits and bytes.
 pub mod Objects
--- The head of an object, and the forms in which its body is read.
+-- The head of an object: where it ends, its own handle, and that bits begin with one at the most.
+pub mod Heads
+-- The forms in which the body of an object is read.
 pub mod Forms
 -- How objects are written, and which of them can be written and read again.
 pub mod Written
@@ -14,8 +16,6 @@ pub mod FrameLines
 pub mod FrameCauses
 -- What a call that reads a frame answers.
 pub mod FoundFrames
--- The head that bits begin with: where it ends, its own handle, and that there is one at the most.
-pub mod Heads
 -- The span that is tried at a place is the one that stands there.
 pub mod SpanLaws
 -- The frame that is tried at a place is the one that stands there, and there is one at the most.

@@ -16,14 +16,14 @@ use Rattle.dwg_dicts.specs.declared.xrecord.XRecord.{XRecord}
 use Rattle.dwg_entities.specs.AttdefBody.{attdef_body}
 use Rattle.dwg_entities.specs.AttribBody.{attrib_body}
 use Rattle.dwg_entities.specs.BlockBody.{block_body}
-use Rattle.dwg_entities.specs.BlockEnds.{endblk_body, seqend_body}
+use Rattle.dwg_entities.specs.Closing.{endblk_body, seqend_body}
 use Rattle.dwg_entities.specs.InsertBody.{insert_body}
 use Rattle.dwg_entities.specs.TextBody.{text_body}
 use Rattle.dwg_entities.specs.declared.attdef.Attdef.{Attdef}
 use Rattle.dwg_entities.specs.declared.attrib.Attrib.{Attrib}
 use Rattle.dwg_entities.specs.declared.block.Block.{Block}
-use Rattle.dwg_entities.specs.declared.ends.EndBlk.{EndBlk}
-use Rattle.dwg_entities.specs.declared.ends.SeqEnd.{SeqEnd}
+use Rattle.dwg_entities.specs.declared.closing.EndBlk.{EndBlk}
+use Rattle.dwg_entities.specs.declared.closing.SeqEnd.{SeqEnd}
 use Rattle.dwg_entities.specs.declared.insert.Insert.{Insert}
 use Rattle.dwg_entities.specs.declared.text.Text.{Text}
 use Rattle.dwg_kinds.specs.declared.kind.Kind.TheVariants as kinds

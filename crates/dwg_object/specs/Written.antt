@@ -14,7 +14,8 @@ use Rattle.dwg_object.specs.declared.common.Common.{Common}
 use Rattle.dwg_object.specs.declared.body.Body.{Body}
 use Rattle.dwg_object.specs.Objects.{HeadParts, ObjectValue, TypedValue, PlainValue, RawValue, is_of_entity}
 use Rattle.dwg_object.specs.OwnBodies.{body_kind, own_body}
-use Rattle.dwg_object.specs.Forms.{head, BeginsWithHead, HasTypedForm, HasPlainForm, kind_under, common_part}
+use Rattle.dwg_object.specs.Forms.{HasTypedForm, HasPlainForm, kind_under, common_part}
+use Rattle.dwg_object.specs.Heads.{head, BeginsWithHead}
 
 -- the bits of a common part as they are written: before the references, and among them
 abbrev pub common_main : ℕ → Common → List Bool

@@ -5,8 +5,7 @@ ghost use Rattle.dwg_bits.specs.Bits.{bits};
 ghost use Rattle.dwg_bits.specs.Cursor.{rest};
 ghost use Rattle.dwg_grammar.specs.Grammar.{Reads};
 ghost use Rattle.dwg_bits.specs.Sink.{Extends};
-ghost use Rattle.dwg_object.specs.Forms.{BeginsWithHead, HasHead, head};
-ghost use Rattle.dwg_object.specs.Heads.{IsHeadAt, own_of};
+ghost use Rattle.dwg_object.specs.Heads.{BeginsWithHead, HasHead, head, IsHeadAt, own_of};
 ghost use Rattle.dwg_object.specs.Objects.{HeadParts, parts_of};
 
 use dwg_base::Handle;
@@ -89,7 +88,7 @@ pub(crate) fn head_length(number: u16, own: Handle) -> u64
 }
 
 /// Writes a head.
-#[tactic(auto, unfolding(crate::specs::Forms::head))]
+#[tactic(auto, unfolding(crate::specs::Heads::head))]
 pub(crate) fn write_head(number: u16, size: u32, own: Handle, sink: &mut BitSink)
     requires positive { 0 < own }
     requires room { length (head.short (record { number = number; size = size; own = own })) ≤ sink.old.spare }

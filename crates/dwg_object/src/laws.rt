@@ -1,10 +1,9 @@
 //! Laws of heads, frames and forms, as the contract of a function without code.
 
 ghost use Rattle.dwg_grammar.specs.Grammar.{IsLawful};
-ghost use Rattle.dwg_object.specs.Forms.{head};
+ghost use Rattle.dwg_object.specs.Heads.{head, HeadsAreOne};
 ghost use Rattle.dwg_object.specs.FormLaws.{FormsAreOne, HeadsHaveForms, FormsHaveHeads, FormsAreValid, ValidObjectsAreForms, WrittenFramesStand, WrittenFramesAreBytes};
 ghost use Rattle.dwg_object.specs.FrameLaws.{FramesAreOne, FramesAreTold, FramesAreHeld};
-ghost use Rattle.dwg_object.specs.Heads.{HeadsAreOne};
 ghost use Rattle.dwg_object.specs.OwnLaws.{OwnBodiesAreLawful, OwnBodiesAreOfTheirKind};
 ghost use Rattle.dwg_object.specs.SpanLaws.{SpansAreTold};
 

@@ -9,8 +9,8 @@ ghost use Rattle.dwg_grammar.specs.Reference.{Reference};
 ghost use Rattle.dwg_grammar.specs.ReferenceCodes.{reference};
 ghost use Rattle.dwg_kinds.specs.declared.kind.Kind.TheVariants as kinds;
 ghost use Rattle.dwg_object.specs.declared.reading.Rest.{Rest};
-ghost use Rattle.dwg_object.specs.Forms.{BeginsWithHead, CommonForm, FormOf, HasCommonForm, HasPlainForm, HasTypedForm, kind_under};
-ghost use Rattle.dwg_object.specs.Heads.{IsHeadAt};
+ghost use Rattle.dwg_object.specs.Forms.{CommonForm, FormOf, HasCommonForm, HasPlainForm, HasTypedForm, kind_under};
+ghost use Rattle.dwg_object.specs.Heads.{BeginsWithHead, IsHeadAt};
 ghost use Rattle.dwg_object.specs.Objects.{IsBorrowedObject, PlainValue, parts_of, value_of};
 ghost use Rattle.dwg_object.specs.OwnBits.{HasOwn};
 

@@ -9,7 +9,7 @@ ghost use Rattle.dwg_check.specs.CheckWord.{FRAME_START, check_word};
 ghost use Rattle.dwg_object.specs.Forms.{common_part};
 ghost use Rattle.dwg_object.specs.Frames.{frame_bytes, sized};
 ghost use Rattle.dwg_object.specs.Objects.{is_of_entity, value_of};
-ghost use Rattle.dwg_object.specs.Written.{PartsFit, body_bytes, front_bits, object_bits, object_bytes, refs_bits};
+ghost use Rattle.dwg_object.specs.Written.{PartsFit, body_bytes, front_bits, object_bytes, refs_bits};
 
 use crate::common::Common;
 use crate::head::{head_length, write_head};
@@ -21,16 +21,16 @@ use dwg_bits::BitSink;
 use dwg_check::{FRAME_START, check};
 use dwg_codes::{ms_bytes, write_ms};
 
-/// How many bits an object is written by.
+/// What an object is written by.
 #[derive(Clone, Copy)]
 struct ObjectLengths {
-    /// Before the references.
+    /// How many bits stand before the references.
     front: u64,
-    /// Of the references.
-    refs: u64,
+    /// How many bytes there are in all.
+    bytes: u64,
 }
 
-/// How many bits an object is written by, fewer than 2^32.
+/// What an object is written by.
 fn object_lengths<O: OwnPart>(
     number: u16,
     handle: Handle,
@@ -40,16 +40,18 @@ fn object_lengths<O: OwnPart>(
     requires positive { 0 < handle }
     requires common { (common_part (is_of_entity common.now) handle).Fits common.now }
     requires own { O.OwnFits handle own.now }
-    requires few { length (object_bits number handle common.now (O.main handle own.now) (O.refs handle own.now)) < 2 ^ 32 }
+    requires few { length (object_bytes number handle common.now (O.main handle own.now) (O.refs handle own.now)) < 2 ^ 29 }
     ensures front { result.front ≡ length (front_bits number handle common.now (O.main handle own.now)) }
-    ensures refs { result.refs ≡ length (refs_bits handle common.now (O.refs handle own.now)) }
-    ensures few { result.front + result.refs < 2 ^ 32 }
+    ensures few { result.front < 2 ^ 32 }
+    ensures bytes { result.bytes ≡ length (object_bytes number handle common.now (O.main handle own.now) (O.refs handle own.now)) }
 {
     let shared = common.lengths(handle);
     let owned = own.own_lengths(handle);
+    let front = head_length(number, handle) + shared.main + owned.main;
+    let refs = shared.refs + owned.refs;
     ObjectLengths {
-        front: head_length(number, handle) + shared.main + owned.main,
-        refs: shared.refs + owned.refs,
+        front,
+        bytes: (front + refs).div_ceil(8),
     }
 }
 
@@ -95,34 +97,11 @@ fn parts_length<O: OwnPart>(number: u16, handle: Handle, common: &Common, own: &
     ensures length { result ≡ length (object_bytes number handle common.now (O.main handle own.now) (O.refs handle own.now)) }
     ensures bytes { AreBytes (object_bytes number handle common.now (O.main handle own.now) (O.refs handle own.now)) }
 {
-    let lengths = object_lengths(number, handle, common, own);
-    (lengths.front + lengths.refs).div_ceil(8)
+    object_lengths(number, handle, common, own).bytes
 }
 
-/// Writes an object at a whole byte, with zero bits up to a whole byte, and so many bits before the references.
-fn write_parts<O: OwnPart>(
-    number: u16,
-    handle: Handle,
-    common: &Common,
-    own: &O,
-    size: u32,
-    sink: &mut BitSink,
-)
-    requires positive { 0 < handle }
-    requires common { (common_part (is_of_entity common.now) handle).Fits common.now }
-    requires own { O.OwnFits handle own.now }
-    requires few { length (object_bytes number handle common.now (O.main handle own.now) (O.refs handle own.now)) < 2 ^ 29 }
-    requires size { size ≡ length (front_bits number handle common.now (O.main handle own.now)) }
-    requires aligned { length sink.old.written % 8 ≡ 0 }
-    requires room { 8 * length (object_bytes number handle common.now (O.main handle own.now) (O.refs handle own.now)) ≤ sink.old.spare }
-    ensures { Extends sink.old sink.new (bits (object_bytes number handle common.now (O.main handle own.now) (O.refs handle own.now))) }
-{
-    write_front(number, handle, common, own, size, sink);
-    write_references(handle, common, own, sink);
-    sink.pad();
-}
-
-/// Writes an object at a whole byte, behind its length in the fewest units. It is measured once.
+/// Writes an object at a whole byte, behind its length in the fewest units and with zero bits up to a whole byte. It is measured
+/// once.
 fn write_sized_parts<O: OwnPart>(
     number: u16,
     handle: Handle,
@@ -140,8 +119,10 @@ fn write_sized_parts<O: OwnPart>(
     ensures bytes { AreBytes (object_bytes number handle common.now (O.main handle own.now) (O.refs handle own.now)) }
 {
     let lengths = object_lengths(number, handle, common, own);
-    write_ms((lengths.front + lengths.refs).div_ceil(8), sink);
-    write_parts(number, handle, common, own, lengths.front as u32, sink);
+    write_ms(lengths.bytes, sink);
+    write_front(number, handle, common, own, lengths.front as u32, sink);
+    write_references(handle, common, own, sink);
+    sink.pad();
 }
 
 /// Writes bytes at a whole byte, behind their length in the fewest units.

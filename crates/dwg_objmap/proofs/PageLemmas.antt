@@ -10,7 +10,7 @@ use Rattle.dwg_check.specs.CheckWord.{FRAME_START, check_word}
 use Rattle.dwg_objmap.specs.declared.pair.Pair.{Pair}
 use Rattle.dwg_objmap.specs.Pairs.{ORIGIN}
 use Rattle.dwg_objmap.specs.Pages.{PageAt, AreHandles, handles_of}
-use Rattle.dwg_objmap.specs.MapLines.{map_refusal, word_at, sized_at, body_at, page_end, pairs_behind, page_behind, HasPage, HasCheckWord, RefusesPage}
+use Rattle.dwg_objmap.specs.MapLines.{map_refusal, word_at, sized_at, body_at, page_end, pairs_behind, page_behind, HasPage, HasPageWord, RefusesPage}
 use Rattle.dwg_objmap.proofs.PagePlaces.{body_is_bytes, PageStands, page_stands, length_of_body, size_below, page_there}
 use Rattle.dwg_objmap.proofs.PairChains.{pair_has_bytes, TellsPairs, PairsSoFar}
 use Rattle.dwg_objmap.proofs.PairsTried.{pairs_told, pairs_all, pairs_fail}
@@ -55,7 +55,7 @@ page_small seen place index bytes there small =
     tried_by seen place index bytes false false true (is_right bytes place) (grind (arith, nat_tests)) (grind (arith, nat_tests)) (grind (arith, nat_tests)) refl
 
 -- the page's check word is wrong
-pub page_wrong : (seen : List Pair) (place index : ℕ) (bytes : List ℕ) → HasPage bytes place → (HasCheckWord bytes place → ⊥)
+pub page_wrong : (seen : List Pair) (place index : ℕ) (bytes : List ℕ) → HasPage bytes place → (HasPageWord bytes place → ⊥)
     → page_behind seen place index bytes ≡ Err (map_refusal 23 index (place + word_at bytes place))
 page_wrong seen place index bytes has wrong =
     let two = has.0 in
@@ -63,11 +63,11 @@ page_wrong seen place index bytes has wrong =
     tried_by seen place index bytes false false false false (grind (arith, nat_tests)) (grind (arith, nat_tests)) (grind (arith, nat_tests)) (by_test (is_right bytes place) refl)
   where
     by_test : (test : Bool) → is_right bytes place ≡ test → is_right bytes place ≡ false
-    by_test true right = let same : HasCheckWord bytes place = grind (arith, nat_tests) in absurd (wrong same)
+    by_test true right = let same : HasPageWord bytes place = grind (arith, nat_tests) in absurd (wrong same)
     by_test false other = other
 
 -- a page with its right check word is tried pair by pair
-pub page_right : (seen : List Pair) (place index : ℕ) (bytes : List ℕ) → HasPage bytes place → HasCheckWord bytes place
+pub page_right : (seen : List Pair) (place index : ℕ) (bytes : List ℕ) → HasPage bytes place → HasPageWord bytes place
     → page_behind seen place index bytes ≡ pairs_behind (length (body_at bytes place)) index seen ORIGIN (place + 2) (body_at bytes place)
 page_right seen place index bytes has right =
     let two = has.0 in
@@ -87,7 +87,7 @@ TellsPage seen place index bytes (Ok all) = PageAll seen place bytes all
 TellsPage seen place index bytes (Err refusal) = RefusesPage seen place index bytes refusal
 
 -- what trying a page's pairs tells is what trying the page tells
-of_pairs : (seen : List Pair) (place index : ℕ) (bytes : List ℕ) (result : Tried (List Pair)) → AreBytes bytes → HasPage bytes place → HasCheckWord bytes place
+of_pairs : (seen : List Pair) (place index : ℕ) (bytes : List ℕ) (result : Tried (List Pair)) → AreBytes bytes → HasPage bytes place → HasPageWord bytes place
     → TellsPairs seen (place + 2) index (body_at bytes place) result → TellsPage seen place index bytes result
 of_pairs seen place index bytes (Ok all) text has right told = record {
   pairs = told.pairs;
@@ -115,13 +115,13 @@ page_told seen place index bytes text handles = by_short (nat_lt (length bytes) 
 
     by_check : HasPage bytes place → (test : Bool) → is_right bytes place ≡ test → Told (page_behind seen place index bytes)
     by_check has true same =
-        let right : HasCheckWord bytes place = grind (arith, nat_tests) in
+        let right : HasPageWord bytes place = grind (arith, nat_tests) in
         subst Told (sym (page_right seen place index bytes has right))
         (of_pairs seen place index bytes _ text has right
         (pairs_told (length (body_at bytes place)) seen [] (place + 2) index [] (body_at bytes place) (body_at bytes place) seen ORIGIN (place + 2) (body_is_bytes bytes place text) (omega arith)
         none_so_far))
     by_check has false other =
-        let wrong : HasCheckWord bytes place → ⊥ = λ right. grind (arith, nat_tests) in
+        let wrong : HasPageWord bytes place → ⊥ = λ right. grind (arith, nat_tests) in
         subst Told (sym (page_wrong seen place index bytes has wrong)) (inr (inr (inr (inl (refl, has, wrong)))))
 
     by_cut : place + 2 ≤ length bytes → 2 ≤ word_at bytes place → (test : Bool) → nat_lt (length bytes) (page_end bytes place) ≡ test → Told (page_behind seen place index bytes)

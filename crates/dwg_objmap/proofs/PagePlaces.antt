@@ -8,7 +8,7 @@ use Rattle.dwg_base.proofs.ByteLists.{byte_below}
 use Rattle.dwg_check.specs.CheckWord.{FRAME_START, check_word}
 use Rattle.dwg_check.proofs.CheckWordLaws.{check_word_fits}
 use Rattle.dwg_objmap.specs.Pages.{sized_pairs, page_bytes}
-use Rattle.dwg_objmap.specs.MapLines.{word_at, sized_at, body_at, page_end, HasPage, HasCheckWord}
+use Rattle.dwg_objmap.specs.MapLines.{word_at, sized_at, body_at, page_end, HasPage, HasPageWord}
 
 -- the first two bytes as a number
 front_word : List ℕ → ℕ
@@ -59,7 +59,7 @@ body_is_bytes bytes place all = bytes_behind 2 (sized_at bytes place) (bytes_bef
 pub record PageStands (bytes : List ℕ) (place : ℕ) (body : List ℕ) : Type 0 where
   pub size : word_at bytes place ≡ 2 + length body
   pub pairs : body_at bytes place ≡ body
-  pub has_check_word : HasCheckWord bytes place
+  pub has_check_word : HasPageWord bytes place
   pub within : page_end bytes place ≤ length bytes
 
 -- the size and the pairs are as long as the size says
@@ -117,7 +117,7 @@ pub size_below : (bytes : List ℕ) (place : ℕ) → AreBytes bytes → word_at
 size_below bytes place all = omega (arith, word_front bytes place, word_below (drop place bytes) (bytes_behind place bytes all))
 
 -- where a page lies in bytes with its right check word, it stands there
-pub page_there : (bytes : List ℕ) (place : ℕ) → AreBytes bytes → HasPage bytes place → HasCheckWord bytes place → StandsAt bytes place (page_bytes (body_at bytes place))
+pub page_there : (bytes : List ℕ) (place : ℕ) → AreBytes bytes → HasPage bytes place → HasPageWord bytes place → StandsAt bytes place (page_bytes (body_at bytes place))
 page_there bytes place all has right = record {
   before = take place bytes;
   behind = drop 2 (drop size rest);

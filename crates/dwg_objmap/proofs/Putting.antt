@@ -1,69 +1,71 @@
 -- What a writer does, said of the open page that contracts see.
-use Rattle.std.proofs.Common.{◌≡◌, sym, ◌∙◌, ap, ap₂, subst, ℕ, ◌+◌, ◌<◌, Bool, true, false, List, [], ◌++◌, length, arith}
+use Rattle.std.proofs.Common.{◌≡◌, sym, ◌∙◌, ap, ap₂, subst, ℕ, ◌+◌, ◌<◌, ◌≤◌, Bool, true, false, List, [], ◌++◌, length, drop, arith}
+use Rattle.std.proofs.KnownBytes.{Appends-nil}
+use Rattle.std.proofs.lemmas.List.{drop-append-le}
 use Rattle.std.specs.Prelude.{Option, Result}
 use Rattle.std.specs.Io.KnownBytes.{Appends}
 use Rattle.dwg_base.specs.Devices.{AppendsFront, Sends}
 use Rattle.dwg_base.proofs.SendingLemmas.{sends_both, front_of_both}
-use Rattle.dwg_bits.specs.Sink.{Written}
-use Rattle.dwg_bits.specs.WholeBytes.{whole_bytes}
-use Rattle.dwg_bits.proofs.WholeBytes.{length_of_whole}
 use Rattle.dwg_objmap.specs.declared.pair.Pair.{Pair}
-use Rattle.dwg_objmap.specs.Pairs.{ORIGIN, pair_behind}
+use Rattle.dwg_objmap.specs.Pairs.{IsPair, ORIGIN, pair_behind}
 use Rattle.dwg_objmap.specs.Pages.{page_bytes}
-use Rattle.dwg_objmap.specs.Writing.{OpenPage, FRESH, has_room, added, given, filled, closing_body, closing}
+use Rattle.dwg_objmap.specs.Writing.{MOST_PAGE, OpenPage, told_behind, has_room, added, given, filled, closing_body, closing}
 use Rattle.dwg_objmap.proofs.FillingLemmas.{filled_on, filled_new, given_none, given_page}
-use Rattle.dwg_objmap.specs.OpenPages.{page_of, IsOpen}
-
--- a page that is open is sent whole
-pub page_is_short : (inner : Written) (last : Pair) (body : List ℕ) → IsOpen inner last → body ≡ whole_bytes inner.written → 2 + length body < 65536
-page_is_short inner last body is same = omega (arith, is.size, length_of_whole inner.written is.whole, ap length same)
-
--- a new sink is a fresh page
-pub fresh_page : (first second : Written) (last : Pair) → first.written ≡ [] → second.written ≡ first.written → last ≡ ORIGIN → page_of second last false ≡ FRESH
-unfolding whole_bytes
-fresh_page first second last none same origin = ap₂ (λ bits (from : Pair). record { body = whole_bytes bits; last = from; ended = false }) (same ∙ none) origin
+use Rattle.dwg_objmap.proofs.PageFilling.{short_few}
+use Rattle.dwg_objmap.proofs.PairChains.{origin_is_pair}
+use Rattle.dwg_objmap.specs.OpenPages.{page_of}
 
 -- where there is room, no bytes go out
-pub none_given : (inner : Written) (last pair : Pair) (ended room : Bool) (page : OpenPage) → page_of inner last ended ≡ page → room ≡ has_room (page_of inner last true) pair → room ≡ true
-    → given page pair ≡ []
-none_given inner last pair ended room page is told there =
-    given_none page pair (subst (λ (open_page : OpenPage). has_room open_page pair ≡ true) is (sym told ∙ there))
+pub none_given : (bytes : List ℕ) (last pair : Pair) (ended room : Bool) (page : OpenPage) (known : Option (List ℕ)) → page_of bytes last ended ≡ page → room ≡ has_room (page_of bytes last true) pair
+    → room ≡ true → Appends known known (given page pair)
+none_given bytes last pair ended room page known is told there =
+    subst (Appends known known) (sym (given_none page pair (subst (λ (open_page : OpenPage). has_room open_page pair ≡ true) is (sym told ∙ there)))) (Appends-nil known)
 
 -- where there is none, the page goes out
-pub page_given : (inner : Written) (last pair : Pair) (ended room : Bool) (page : OpenPage) (body : List ℕ) → page_of inner last ended ≡ page → room ≡ has_room (page_of inner last true) pair
-    → room ≡ false → body ≡ whole_bytes inner.written → page_bytes body ≡ given page pair
-page_given inner last pair ended room page body is told none same =
-    ap page_bytes (same ∙ ap (λ (open_page : OpenPage). open_page.body) is) ∙ sym (given_page page pair (subst (λ (open_page : OpenPage). has_room open_page pair ≡ false) is (sym told ∙ none)))
+pub page_given : (bytes : List ℕ) (last pair : Pair) (ended room : Bool) (page : OpenPage) → page_of bytes last ended ≡ page → room ≡ has_room (page_of bytes last true) pair → room ≡ false
+    → page_bytes (drop 2 bytes) ≡ given page pair
+page_given bytes last pair ended room page is told none =
+    ap page_bytes (ap (λ (open_page : OpenPage). open_page.body) is) ∙ sym (given_page page pair (subst (λ (open_page : OpenPage). has_room open_page pair ≡ false) is (sym told ∙ none)))
+
+-- a page of its size alone has room for a pair
+pub first_fits : (bytes : List ℕ) (before pair : Pair) → length bytes ≡ 2 → before ≡ ORIGIN → IsPair pair → 0 < pair.handle
+    → length bytes + length ((pair_behind before).short pair) ≤ MOST_PAGE
+first_fits bytes before pair two told fits above =
+    omega (arith, two, (short_few ORIGIN pair origin_is_pair fits above).1, ap (λ (from : Pair). length ((pair_behind from).short pair)) told)
 
 -- the page with the pair
-pub page_put : (inner new : Written) (last pair : Pair) (ended room : Bool) (page : OpenPage) → page_of inner last ended ≡ page → page.ended ≡ false → room ≡ has_room (page_of inner last true) pair
-    → room ≡ true → whole_bytes new.written ≡ whole_bytes inner.written ++ added (page_of inner last true) pair → page_of new pair ended ≡ filled page pair
-page_put inner new last pair ended room page is not_ended told there more =
-    let more_body : whole_bytes new.written ≡ page.body ++ added page pair = subst (λ (open_page : OpenPage). whole_bytes new.written ≡ open_page.body ++ added open_page pair) is more in
+pub page_put : (bytes new : List ℕ) (last before pair : Pair) (ended room : Bool) (page : OpenPage) → page_of bytes last ended ≡ page → page.ended ≡ false → 2 ≤ length bytes
+    → room ≡ has_room (page_of bytes last true) pair → room ≡ true → before ≡ told_behind (drop 2 bytes) last → new ≡ bytes ++ (pair_behind before).short pair → page_of new pair ended ≡ filled page pair
+page_put bytes new last before pair ended room page is not_ended least told there from more =
+    let body : drop 2 new ≡ drop 2 bytes ++ added (page_of bytes last true) pair =
+    ap (drop 2) more ∙ drop-append-le 2 bytes ((pair_behind before).short pair) least ∙ ap (λ (start : Pair). drop 2 bytes ++ (pair_behind start).short pair) from in
+    let more_body : drop 2 new ≡ page.body ++ added page pair = subst (λ (open_page : OpenPage). drop 2 new ≡ open_page.body ++ added open_page pair) is body in
     let still : ended ≡ false = ap (λ (open_page : OpenPage). open_page.ended) is ∙ not_ended in
     ap₂ (λ (body : List ℕ) (end : Bool). record { body = body; last = pair; ended = end }) more_body still
     ∙ sym (filled_on page pair (subst (λ (open_page : OpenPage). has_room open_page pair ≡ true) is (sym told ∙ there)))
 
 -- the new page with the pair
-pub page_begun : (inner new : Written) (last pair : Pair) (ended room : Bool) (page : OpenPage) → page_of inner last ended ≡ page → page.ended ≡ false → room ≡ has_room (page_of inner last true) pair
-    → room ≡ false → whole_bytes new.written ≡ (pair_behind ORIGIN).short pair → page_of new pair ended ≡ filled page pair
-page_begun inner new last pair ended room page is not_ended told none first =
+pub page_begun : (bytes empty new : List ℕ) (last before pair : Pair) (ended room : Bool) (page : OpenPage) → page_of bytes last ended ≡ page → page.ended ≡ false
+    → room ≡ has_room (page_of bytes last true) pair → room ≡ false → length empty ≡ 2 → drop 2 empty ≡ [] → before ≡ ORIGIN → new ≡ empty ++ (pair_behind before).short pair
+    → page_of new pair ended ≡ filled page pair
+page_begun bytes empty new last before pair ended room page is not_ended told none two cleared from first =
+    let body : drop 2 new ≡ (pair_behind ORIGIN).short pair =
+    ap (drop 2) first ∙ drop-append-le 2 empty ((pair_behind before).short pair) (omega (arith, two)) ∙ ap₂ (λ (front : List ℕ) (start : Pair). front ++ (pair_behind start).short pair) cleared from in
     let still : ended ≡ false = ap (λ (open_page : OpenPage). open_page.ended) is ∙ not_ended in
-    ap₂ (λ (body : List ℕ) (end : Bool). record { body = body; last = pair; ended = end }) first still
+    ap₂ (λ (body : List ℕ) (end : Bool). record { body = body; last = pair; ended = end }) body still
     ∙ sym (filled_new page pair (subst (λ (open_page : OpenPage). has_room open_page pair ≡ false) is (sym told ∙ none)))
 
 -- the last page and the page that ends the map are what closes it
-pub map_closed : {T E : Type 0} (a b c : Option (List ℕ)) (inner : Written) (last : Pair) (ended : Bool) (page : OpenPage) (body : List ℕ) (result : Result T E) → page_of inner last ended ≡ page
-    → body ≡ whole_bytes inner.written → Appends a b (closing_body body) → Sends b c (page_bytes []) result → Sends a c (closing page) result
+pub map_closed : {T E : Type 0} (a b c : Option (List ℕ)) (bytes empty : List ℕ) (last : Pair) (ended : Bool) (page : OpenPage) (result : Result T E) → page_of bytes last ended ≡ page
+    → drop 2 empty ≡ [] → Appends a b (closing_body (drop 2 bytes)) → Sends b c (page_bytes (drop 2 empty)) result → Sends a c (closing page) result
 unfolding closing
-map_closed a b c inner last ended page body result is same sent end =
-    subst (λ whole. Sends a c whole result) (ap (λ pairs. closing_body pairs ++ page_bytes []) (same ∙ ap (λ (open_page : OpenPage). open_page.body) is))
-    (sends_both a b c (closing_body body) (page_bytes []) result sent end)
+map_closed a b c bytes empty last ended page result is none sent end =
+    subst (λ whole. Sends a c whole result) (ap₂ (λ (pairs no : List ℕ). closing_body pairs ++ page_bytes no) (ap (λ (open_page : OpenPage). open_page.body) is) none)
+    (sends_both a b c (closing_body (drop 2 bytes)) (page_bytes (drop 2 empty)) result sent end)
 
 -- a front of the last page is a front of what closes the map
-pub close_cut : (a b : Option (List ℕ)) (inner : Written) (last : Pair) (ended : Bool) (page : OpenPage) (body : List ℕ) → page_of inner last ended ≡ page → body ≡ whole_bytes inner.written
-    → AppendsFront a b (closing_body body) → AppendsFront a b (closing page)
+pub close_cut : (a b : Option (List ℕ)) (bytes : List ℕ) (last : Pair) (ended : Bool) (page : OpenPage) → page_of bytes last ended ≡ page → AppendsFront a b (closing_body (drop 2 bytes))
+    → AppendsFront a b (closing page)
 unfolding closing
-close_cut a b inner last ended page body is same front =
-    subst (AppendsFront a b) (ap (λ pairs. closing_body pairs ++ page_bytes []) (same ∙ ap (λ (open_page : OpenPage). open_page.body) is))
-    (front_of_both a b (closing_body body) (page_bytes []) front)
+close_cut a b bytes last ended page is front =
+    subst (AppendsFront a b) (ap (λ (open_page : OpenPage). closing_body open_page.body ++ page_bytes []) is) (front_of_both a b (closing_body (drop 2 bytes)) (page_bytes []) front)

@@ -10,7 +10,7 @@ use Rattle.dwg_objmap.specs.Reading.{GoesOn}
 use Rattle.dwg_base.specs.declared.refusal.Refusal.{Refusal}
 use Rattle.dwg_objmap.specs.declared.pair.Pair.{Pair}
 use Rattle.dwg_objmap.specs.Pairs.{pair_behind}
-use Rattle.dwg_objmap.specs.MapLines.{map_refusal, has_handle, pairs_behind, page_behind, word_at, HasPage, HasCheckWord}
+use Rattle.dwg_objmap.specs.MapLines.{map_refusal, has_handle, pairs_behind, page_behind, word_at, HasPage, HasPageWord}
 use Rattle.dwg_objmap.proofs.PairChains.{pairs_end, no_pair, null_pair, pair_again, one_pair}
 use Rattle.dwg_objmap.proofs.PageLemmas.{page_wrong}
 
@@ -59,7 +59,7 @@ pub not_so : (P : Type 0) (test : Bool) → (P → IsTrue test) → test ≡ fal
 not_so P test holds fails so = let both : false ≡ true = subst IsTrue fails (holds so) in absurd (cc)
 
 -- a wrong check word refuses the page
-pub refused_word : (seen : List Pair) (place index size : ℕ) (bytes : List ℕ) (refusal : Refusal) → HasPage bytes place → (HasCheckWord bytes place → ⊥) → size ≡ word_at bytes place
+pub refused_word : (seen : List Pair) (place index size : ℕ) (bytes : List ℕ) (refusal : Refusal) → HasPage bytes place → (HasPageWord bytes place → ⊥) → size ≡ word_at bytes place
     → refusal ≡ map_refusal 23 index (place + size) → page_behind seen place index bytes ≡ Err refusal
 refused_word seen place index size bytes refusal has wrong is told =
     page_wrong seen place index bytes has wrong ∙ ap Err (ap (λ n. map_refusal 23 index (place + n)) (sym is) ∙ sym told)

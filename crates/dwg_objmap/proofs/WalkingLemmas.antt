@@ -12,7 +12,7 @@ use Rattle.dwg_objmap.specs.declared.pair.Pair.{Pair}
 use Rattle.dwg_objmap.specs.Pairs.{IsPair, ORIGIN, pair_behind}
 use Rattle.dwg_objmap.proofs.PairLemmas.{pair_is_code}
 use Rattle.dwg_objmap.specs.Pages.{PairsSpell, PageAt}
-use Rattle.dwg_objmap.specs.MapLines.{word_at, body_at, page_end, last_of, HasPage, HasCheckWord}
+use Rattle.dwg_objmap.specs.MapLines.{word_at, body_at, page_end, last_of, HasPage, HasPageWord}
 use Rattle.dwg_objmap.proofs.PairChains.{SpellBehind, origin_is_pair, spelled_is_pair, last_is_pair, pair_has_bytes}
 use Rattle.dwg_objmap.proofs.PairsTried.{none_parsed}
 use Rattle.dwg_objmap.proofs.PageLemmas.{page_lies, page_next}
@@ -182,7 +182,7 @@ longest_is_unique body pairs others longest other =
 
 -- a page that stands at a place gives its own pairs
 pub page_gives : (bytes : List ℕ) (place next : ℕ) (pairs : List Pair) → PageAt bytes place pairs next
-    → HasPage bytes place × HasCheckWord bytes place × (next ≡ page_end bytes place) × (pairs_in_front (body_at bytes place) ≡ pairs)
+    → HasPage bytes place × HasPageWord bytes place × (next ≡ page_end bytes place) × (pairs_in_front (body_at bytes place) ≡ pairs)
 page_gives bytes place next pairs page =
     let parts = page_lies bytes place pairs next page in (
       (omega (arith, parts.size), parts.within),

@@ -110,8 +110,8 @@ abbrev pub HasPage : List ℕ → ℕ → Type 0
 HasPage bytes place = (2 ≤ word_at bytes place) × (page_end bytes place ≤ length bytes)
 
 -- the check word of the page at a place is right
-abbrev pub HasCheckWord : List ℕ → ℕ → Type 0
-HasCheckWord bytes place = word_at bytes (place + word_at bytes place) ≡ check_word FRAME_START (sized_at bytes place)
+abbrev pub HasPageWord : List ℕ → ℕ → Type 0
+HasPageWord bytes place = word_at bytes (place + word_at bytes place) ≡ check_word FRAME_START (sized_at bytes place)
 
 -- the refusal is that of the page at a place, behind the pairs seen before it: the page is short, its size is below 2, its check word is wrong, or a pair fails
 abbrev pub RefusesPage : List Pair → ℕ → ℕ → List ℕ → Refusal → Type 0
@@ -119,8 +119,8 @@ RefusesPage seen place index bytes refusal =
     ((refusal ≡ map_refusal 21 index place) × (length bytes < place + 2))
     ⊎ ((refusal ≡ map_refusal 21 index place) × (place + 2 ≤ length bytes) × (2 ≤ word_at bytes place) × (length bytes < page_end bytes place))
     ⊎ ((refusal ≡ map_refusal 22 index place) × (place + 2 ≤ length bytes) × (word_at bytes place < 2))
-    ⊎ ((refusal ≡ map_refusal 23 index (place + word_at bytes place)) × HasPage bytes place × (HasCheckWord bytes place → ⊥))
-    ⊎ (HasPage bytes place × HasCheckWord bytes place × FailsAtPair seen (place + 2) index (body_at bytes place) refusal)
+    ⊎ ((refusal ≡ map_refusal 23 index (place + word_at bytes place)) × HasPage bytes place × (HasPageWord bytes place → ⊥))
+    ⊎ (HasPage bytes place × HasPageWord bytes place × FailsAtPair seen (place + 2) index (body_at bytes place) refusal)
 
 -- the refusal is that of the map from a place: behind pages that have pairs, whose handles are positive and distinct, the next page is refused
 pub record RefusesMap (place : ℕ) (bytes : List ℕ) (refusal : Refusal) : Type 0 where

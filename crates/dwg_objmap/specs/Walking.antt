@@ -5,7 +5,7 @@ use Rattle.dwg_check.specs.CheckWord.{FRAME_START, check_word}
 use Rattle.dwg_objmap.specs.declared.pair.Pair.{Pair}
 use Rattle.dwg_objmap.specs.Pairs.{ORIGIN, pair_behind}
 use Rattle.dwg_objmap.specs.Pages.{PairsSpell, PageAt}
-use Rattle.dwg_objmap.specs.MapLines.{word_at, sized_at, body_at, page_end, HasPage, HasCheckWord}
+use Rattle.dwg_objmap.specs.MapLines.{word_at, sized_at, body_at, page_end, HasPage, HasPageWord}
 
 -- the pairs are the longest list that a front of the bytes spells
 pub record AreLongest (body : List ℕ) (pairs : List Pair) : Type 0 where
@@ -53,7 +53,7 @@ WholeIsInFront = (body : List ℕ) (pairs : List Pair) → PairsSpell pairs body
 abbrev pub PageGivesItsPairs : Type 0
 PageGivesItsPairs =
     (bytes : List ℕ) (place next : ℕ) (pairs : List Pair) → PageAt bytes place pairs next
-    → HasPage bytes place × HasCheckWord bytes place × (next ≡ page_end bytes place) × (pairs_in_front (body_at bytes place) ≡ pairs)
+    → HasPage bytes place × HasPageWord bytes place × (next ≡ page_end bytes place) × (pairs_in_front (body_at bytes place) ≡ pairs)
 
 -- a page has a size exactly where it lies in the input, and then it is the word at its begin
 abbrev pub SizeIsThere : Type 0

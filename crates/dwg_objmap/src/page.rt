@@ -1,7 +1,7 @@
 //! Pages of the map, and where their parts stand.
 
 ghost use Rattle.std.specs.Prelude.{◌≡◌, ◌+◌, ◌<◌, ◌≤◌, ◌↔◌, length, IsTrue};
-ghost use Rattle.dwg_objmap.specs.MapLines.{word_at, sized_at, body_at, HasPage, HasCheckWord};
+ghost use Rattle.dwg_objmap.specs.MapLines.{word_at, sized_at, body_at, HasPage, HasPageWord};
 ghost use Rattle.dwg_objmap.specs.Walking.{page_holds_at};
 
 use crate::pair::Pair;
@@ -39,7 +39,7 @@ fn sized(bytes: &[u8], place: usize, size: usize) -> &[u8]
 pub(crate) fn is_right(bytes: &[u8], place: usize, size: usize) -> bool
     requires within { place + size + 2 ≤ length bytes.now }
     requires size { size ≡ word_at bytes.now place }
-    ensures right { IsTrue result ↔ HasCheckWord bytes.now place }
+    ensures right { IsTrue result ↔ HasPageWord bytes.now place }
     ensures test { result ≡ page_holds_at bytes.now place }
 {
     word_at(bytes, place + size) == u64::from(check(FRAME_START, sized(bytes, place, size)))

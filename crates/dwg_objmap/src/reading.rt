@@ -5,7 +5,7 @@ ghost use Rattle.dwg_base.specs.Refusals.{Answers, IfRefused, IsFaultOfTable};
 ghost use Rattle.dwg_objmap.specs.declared.pair.Pair.{Pair};
 ghost use Rattle.dwg_objmap.specs.Pairs.{ORIGIN};
 ghost use Rattle.dwg_objmap.specs.Pages.{PageAt, AreHandles, handles_of, MapOf};
-ghost use Rattle.dwg_objmap.specs.MapLines.{map_refusal, word_at, page_end, pairs_behind, page_behind, pages_behind, tried_page, tried_map, HasPage, HasCheckWord, RefusesPage, RefusesMap};
+ghost use Rattle.dwg_objmap.specs.MapLines.{map_refusal, word_at, page_end, pairs_behind, page_behind, pages_behind, tried_page, tried_map, HasPage, HasPageWord, RefusesPage, RefusesMap};
 ghost use Rattle.dwg_objmap.specs.Reading.{GoesOn, AnswersPage};
 
 use crate::gathered::Gathered;
@@ -16,6 +16,20 @@ use std::alloc::Global;
 
 /// The size of the page that ends the map: no more than its own two bytes.
 const END_SIZE: u64 = 2;
+
+// The lines of the table on a page: it is short, its size, its check word.
+const PAGE_SHORT_LINE: u8 = 21;
+
+const SIZE_LINE: u8 = 22;
+
+const CHECK_LINE: u8 = 23;
+
+// And on a pair in it: it isn't spelled, its handle is null, an earlier pair has it.
+const PAIR_LINE: u8 = 24;
+
+const NULL_LINE: u8 = 25;
+
+const DUPLICATE_LINE: u8 = 26;
 
 /// The refusal of a page, or of a pair in it, by a line of the table.
 fn refusal(line: u8, index: u64, place: u64) -> Refusal
@@ -28,21 +42,21 @@ fn refusal(line: u8, index: u64, place: u64) -> Refusal
 fn refusal_of_page(bytes: &[u8], place: u64, index: u64) -> Option<Refusal>
     ensures refused { IfSome result (λ refusal. (seen : List Pair) → page_behind seen place index bytes.now ≡ Err refusal) }
     ensures lies { IfNone result (HasPage bytes.now place) }
-    ensures right { IfNone result (HasCheckWord bytes.now place) }
+    ensures right { IfNone result (HasPageWord bytes.now place) }
 {
     let length = bytes.len() as u64;
     if length.saturating_sub(place) < 2 {
-        return Some(refusal(21, index, place));
+        return Some(refusal(PAGE_SHORT_LINE, index, place));
     }
     let size = word_at(bytes, place as usize);
     if size < 2 {
-        return Some(refusal(22, index, place));
+        return Some(refusal(SIZE_LINE, index, place));
     }
     if length - place - 2 < size {
-        return Some(refusal(21, index, place));
+        return Some(refusal(PAGE_SHORT_LINE, index, place));
     }
     if !is_right(bytes, place as usize, size as usize) {
-        return Some(refusal(23, index, place + size));
+        return Some(refusal(CHECK_LINE, index, place + size));
     }
     None
 }
@@ -68,10 +82,10 @@ fn read_next(
     ensures used { IfOk result (λ step. step.used ≤ length rest.now) }
 {
     let Some((pair, used)) = read_pair(last, rest) else {
-        return Err(Fault::Refused(refusal(24, index, place)));
+        return Err(Fault::Refused(refusal(PAIR_LINE, index, place)));
     };
     if pair.handle.value() == 0 {
-        return Err(Fault::Refused(refusal(25, index, place)));
+        return Err(Fault::Refused(refusal(NULL_LINE, index, place)));
     }
     match gathered.add(&pair) {
         Ok(Some(gathered)) => Ok(Step {
@@ -79,7 +93,7 @@ fn read_next(
             pair,
             used,
         }),
-        Ok(None) => Err(Fault::Refused(refusal(26, index, place))),
+        Ok(None) => Err(Fault::Refused(refusal(DUPLICATE_LINE, index, place))),
         Err(NoMemory) => Err(Fault::NoMemory),
     }
 }

@@ -1,7 +1,7 @@
 //! Pages of the map as recovery reads them: each by itself, whatever is wrong with its pairs or its check word.
 
 ghost use Rattle.std.specs.Prelude.{◌≡◌, ◌↔◌, IsTrue, IfOk, IfSome, IfNone};
-ghost use Rattle.dwg_objmap.specs.MapLines.{body_at, HasPage, HasCheckWord};
+ghost use Rattle.dwg_objmap.specs.MapLines.{body_at, HasPage, HasPageWord};
 ghost use Rattle.dwg_objmap.specs.Walking.{AreLongest, pairs_in_front, page_holds_at, size_of_page};
 
 use crate::page::{body, is_right, word_at};
@@ -33,7 +33,7 @@ pub fn page_size(bytes: &[u8], place: u64) -> Option<u16>
 /// Whether the check word of a page that lies in the input is right (Open Design Specification, "Object map").
 pub fn page_holds(bytes: &[u8], place: u64) -> bool
     requires { HasPage bytes.now place }
-    ensures right { IsTrue result ↔ HasCheckWord bytes.now place }
+    ensures right { IsTrue result ↔ HasPageWord bytes.now place }
     ensures test { result ≡ page_holds_at bytes.now place }
 {
     let size = word_at(bytes, place as usize);

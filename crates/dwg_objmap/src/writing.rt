@@ -1,19 +1,17 @@
 //! Writing the map: which pairs go into which page, and the pages one behind the other.
 
-ghost use Rattle.std.specs.Prelude.{◌≡◌, ◌+◌, ◌-◌, ◌*◌, ◌%◌, ◌^◌, ◌<◌, ◌≤◌, ◌++◌, [], length, true, false, IfOk, OnOk, OnErr};
+ghost use Rattle.std.specs.Prelude.{◌≡◌, ◌+◌, ◌-◌, ◌*◌, ◌^◌, ◌<◌, ◌≤◌, ◌++◌, [], drop, length, true, false, vec_capacity, IfOk, OnOk, OnErr};
 ghost use Rattle.std.specs.Int.{w16, to_be_bytes};
-ghost use Rattle.dwg_check.specs.CheckWord.{FRAME_START, check_word};
 ghost use Rattle.dwg_bits.specs.Bits.{bits};
 ghost use Rattle.dwg_bits.specs.Sink.{Extends};
-ghost use Rattle.dwg_bits.specs.WholeBytes.{whole_bytes};
 ghost use Rattle.dwg_base.specs.Devices.{Counts, Sends};
-ghost use Rattle.dwg_objmap.specs.Pairs.{IsPair, ORIGIN, move_between, pair_behind};
-ghost use Rattle.dwg_objmap.specs.Pages.{sized_pairs, page_bytes};
-ghost use Rattle.dwg_objmap.specs.Writing.{MOST_PAGE, FRESH, told_behind, has_room, added, given, filled, closing_body, closing};
-ghost use Rattle.dwg_objmap.specs.OpenPages.{page_of, IsOpen};
+ghost use Rattle.dwg_objmap.specs.Pairs.{IsPair, move_between, pair_behind};
+ghost use Rattle.dwg_objmap.specs.Pages.{page_bytes};
+ghost use Rattle.dwg_objmap.specs.Writing.{MOST_PAGE, FRESH, told_behind, has_room, given, filled, closing_body, closing};
+ghost use Rattle.dwg_objmap.specs.OpenPages.{page_of, IsPage, HasPairRoom};
 
 use crate::pair::{Pair, origin};
-use dwg_base::{NoMemory, Sink, WriteFault, bounded_bytes, put_all};
+use dwg_base::{NoMemory, Sink, WriteFault, append_bytes, bounded_bytes, put_all, with_room};
 use dwg_bits::BitSink;
 use dwg_check::{FRAME_START, check};
 use dwg_codes::{mc_bytes, signed_mc_bytes, write_mc, write_signed_mc};
@@ -22,6 +20,15 @@ use std::marker::Model;
 
 /// The largest size of a page that is written: its own two bytes and its pairs.
 pub(crate) const MOST_PAGE: u64 = 2032;
+
+/// How many bytes the size of a page has.
+const SIZE_BYTES: usize = 2;
+
+/// How many bytes the check word of a page has.
+const WORD_BYTES: usize = 2;
+
+/// No pair is written by more bytes.
+const MOST_PAIR: u64 = 20;
 
 /// The step from a place to another.
 fn move_between(from: u64, to: u64) -> i64
@@ -48,152 +55,172 @@ pub(crate) fn pair_bytes(before: &Pair, pair: &Pair) -> u64
 
 /// Writes a pair behind another.
 #[tactic(auto, using(crate::proofs::PairLemmas::move_small, crate::proofs::PairWriting::length_of_pair, crate::proofs::PairWriting::pair_extends))]
-fn write_pair(before: &Pair, pair: &Pair, page: &mut BitSink)
+fn write_pair(before: &Pair, pair: &Pair, sink: &mut BitSink)
     requires before { IsPair before.now }
     requires pair { IsPair pair.now }
     requires above { before.now.handle ≤ pair.now.handle }
-    requires room { 8 * length ((pair_behind before.now).short pair.now) ≤ page.old.spare }
-    ensures { Extends page.old page.new (bits ((pair_behind before.now).short pair.now)) }
+    requires room { 8 * length ((pair_behind before.now).short pair.now) ≤ sink.old.spare }
+    ensures { Extends sink.old sink.new (bits ((pair_behind before.now).short pair.now)) }
 {
-    write_mc(pair.handle.value() - before.handle.value(), page);
-    write_signed_mc(move_between(before.place, pair.place), page);
+    write_mc(pair.handle.value() - before.handle.value(), sink);
+    write_signed_mc(move_between(before.place, pair.place), sink);
 }
 
 /// From which pair the next one of the page is told.
-fn told_from(page: &BitSink, last: &Pair) -> Pair
-    requires { IsOpen page.now last.now }
-    ensures { result ≡ told_behind (whole_bytes page.now.written) last.now }
+fn told_from(page: &[u8], last: &Pair) -> Pair
+    requires { SIZE_BYTES ≤ length page.now }
+    ensures { result ≡ told_behind (drop SIZE_BYTES page.now) last.now }
 {
-    if page.length() == 0 {
+    if page.len() == SIZE_BYTES {
         return origin();
     }
     *last
 }
 
 /// Whether the page's size with a pair is no more than a page may have.
-fn has_room(page: &BitSink, last: &Pair, pair: &Pair) -> bool
-    requires open { IsOpen page.now last.now }
+fn has_room(page: &[u8], last: &Pair, pair: &Pair) -> bool
+    requires size { SIZE_BYTES ≤ length page.now }
+    requires most { length page.now ≤ MOST_PAGE }
+    requires last { IsPair last.now }
     requires pair { IsPair pair.now }
     requires above { last.now.handle < pair.now.handle }
     ensures { result ≡ has_room (page_of page.now last.now true) pair.now }
 {
-    2 + page.length() / 8 + pair_bytes(&told_from(page, last), pair) <= MOST_PAGE
+    page.len() as u64 + pair_bytes(&told_from(page, last), pair) <= MOST_PAGE
 }
 
-/// Puts a pair into the page.
-fn add(page: &mut BitSink, last: &Pair, pair: &Pair)
-    requires open { IsOpen page.old last.now }
+/// Puts a pair behind the bytes of a page that have room for it. It is made in the room of a pair.
+fn add(page: &mut Vec<u8>, spelled: &mut BitSink, before: &Pair, pair: &Pair)
+    requires before { IsPair before.now }
     requires pair { IsPair pair.now }
-    requires above { last.now.handle < pair.now.handle }
-    requires room { has_room (page_of page.old last.now true) pair.now ≡ true }
-    ensures body { whole_bytes page.new.written ≡ whole_bytes page.old.written ++ added (page_of page.old last.now true) pair.now }
-    ensures open { IsOpen page.new pair.now }
+    requires above { before.now.handle < pair.now.handle }
+    requires room { HasPairRoom spelled.old }
+    requires fits { length page.old.items + length ((pair_behind before.now).short pair.now) ≤ vec_capacity page.old }
+    ensures both { page.new.items ≡ page.old.items ++ (pair_behind before.now).short pair.now }
+    ensures capacity { vec_capacity page.old ≤ vec_capacity page.new }
+    ensures room { HasPairRoom spelled.new }
 {
-    let before = told_from(page, last);
-    write_pair(&before, pair, page);
+    spelled.clear();
+    write_pair(before, pair, spelled);
+    append_bytes(page, bounded_bytes(spelled.as_bytes()));
 }
 
-/// Begins the page anew with a pair.
-fn start(page: &mut BitSink, pair: &Pair)
-    requires room { 8 * 2030 ≤ page.old.spare + length page.old.written }
-    requires pair { IsPair pair.now }
-    ensures body { whole_bytes page.new.written ≡ (pair_behind ORIGIN).short pair.now }
-    ensures open { IsOpen page.new pair.now }
+/// Tells the size of a page in its first two bytes.
+fn tell_size(page: &mut Vec<u8>)
+    requires size { SIZE_BYTES ≤ length page.old.items }
+    requires few { length page.old.items < 2 ^ 16 }
+    ensures told { page.new.items ≡ to_be_bytes w16 (length page.old.items) ++ drop SIZE_BYTES page.old.items }
+    ensures capacity { vec_capacity page.new ≡ vec_capacity page.old }
 {
-    page.clear();
-    write_pair(&origin(), pair, page);
+    let size = (page.len() as u16).to_be_bytes();
+    page[0] = size[0];
+    page[1] = size[1];
 }
 
-/// The pairs of the page, as bytes.
-fn body(page: &BitSink) -> &[u8]
-    requires { length page.now.written % 8 ≡ 0 }
-    ensures { result.now ≡ whole_bytes page.now.written }
+/// Closes a page: tells its size, and puts its check word behind its pairs.
+fn close(page: &mut Vec<u8>)
+    requires size { SIZE_BYTES ≤ length page.old.items }
+    requires few { length page.old.items < 2 ^ 16 }
+    requires room { length page.old.items + WORD_BYTES ≤ vec_capacity page.old }
+    ensures closed { page.new.items ≡ page_bytes (drop SIZE_BYTES page.old.items) }
+    ensures capacity { vec_capacity page.old ≤ vec_capacity page.new }
 {
-    bounded_bytes(page.as_bytes())
+    tell_size(page);
+    let word = check(FRAME_START, page.as_slice()).to_be_bytes();
+    append_bytes(page, &word);
 }
 
-/// The size of a page of these pairs, as its two bytes.
-fn size_of_page(body: &[u8]) -> [u8; 2]
-    requires { 2 + length body.now < 2 ^ 16 }
-    ensures { result ≡ to_be_bytes w16 (2 + length body.now) }
-{
-    (2 + body.len() as u16).to_be_bytes()
-}
-
-/// The check word of a page of these pairs, as its two bytes.
-#[tactic(auto, using(crate::proofs::PageFilling::word_in_pieces))]
-fn word_of_page(body: &[u8]) -> [u8; 2]
-    requires { 2 + length body.now < 2 ^ 16 }
-    ensures { result ≡ to_be_bytes w16 (check_word FRAME_START (sized_pairs body.now)) }
-{
-    check(check(FRAME_START, &size_of_page(body)), body).to_be_bytes()
-}
-
-/// Sends a page: its size, its pairs, and its check word.
-fn send_page<W: Sink>(body: &[u8], sink: &mut W) -> Result<(), WriteFault>
-    requires { 2 + length body.now < 2 ^ 16 }
-    ensures bytes { Sends (W.taken sink.old) (W.taken sink.new) (page_bytes body.now) result }
+/// Sends a page in one piece, and takes its pairs out of it.
+fn send_page<W: Sink>(page: &mut Vec<u8>, sink: &mut W) -> Result<(), WriteFault>
+    requires { IsPage page.old.items (vec_capacity page.old) }
+    ensures bytes { Sends (W.taken sink.old) (W.taken sink.new) (page_bytes (drop SIZE_BYTES page.old.items)) result }
     ensures counts { Counts (W.faults sink.old) (W.faults sink.new) result }
+    ensures size { length page.new.items ≡ SIZE_BYTES }
+    ensures none { drop SIZE_BYTES page.new.items ≡ [] }
+    ensures capacity { vec_capacity page.old ≤ vec_capacity page.new }
 {
-    match put_all(sink, &size_of_page(body)) {
-        Ok(()) => {}
-        Err(WriteFault) => return Err(WriteFault),
-    }
-    match put_all(sink, body) {
-        Ok(()) => {}
-        Err(WriteFault) => return Err(WriteFault),
-    }
-    put_all(sink, &word_of_page(body))
+    close(page);
+    let sent = put_all(sink, page.as_slice());
+    page.truncate(SIZE_BYTES);
+    sent
 }
 
-/// Sends the page, if it has pairs.
-fn send_filled<W: Sink>(body: &[u8], sink: &mut W) -> Result<(), WriteFault>
-    requires { 2 + length body.now < 2 ^ 16 }
-    ensures bytes { Sends (W.taken sink.old) (W.taken sink.new) (closing_body body.now) result }
+/// Sends a page and takes its pairs out of it, if it has any.
+fn send_filled<W: Sink>(page: &mut Vec<u8>, sink: &mut W) -> Result<(), WriteFault>
+    requires { IsPage page.old.items (vec_capacity page.old) }
+    ensures bytes { Sends (W.taken sink.old) (W.taken sink.new) (closing_body (drop SIZE_BYTES page.old.items)) result }
     ensures counts { Counts (W.faults sink.old) (W.faults sink.new) result }
+    ensures size { length page.new.items ≡ SIZE_BYTES }
+    ensures none { drop SIZE_BYTES page.new.items ≡ [] }
+    ensures capacity { vec_capacity page.old ≤ vec_capacity page.new }
 {
-    if body.is_empty() {
+    if page.len() == SIZE_BYTES {
         return Ok(());
     }
-    send_page(body, sink)
+    send_page(page, sink)
+}
+
+/// A page without pairs, with room for as many as a page may have and for its check word. The only refusal is want of memory.
+fn empty_page(alloc: Global) -> Result<Vec<u8>, NoMemory>
+    ensures page { IfOk result (λ page. IsPage page.items (vec_capacity page)) }
+    ensures none { IfOk result (λ page. drop SIZE_BYTES page.items ≡ []) }
+{
+    let mut page = with_room(alloc, MOST_PAGE as usize + WORD_BYTES)?;
+    append_bytes(&mut page, &[0; SIZE_BYTES]);
+    Ok(page)
+}
+
+/// Room for the bits of a pair. The only refusal is want of memory.
+fn pair_room(alloc: Global) -> Result<BitSink, NoMemory>
+    ensures { IfOk result (λ spelled. HasPairRoom spelled) }
+{
+    let mut spelled = BitSink::new(alloc);
+    if !spelled.reserve(8 * MOST_PAIR) {
+        return Err(NoMemory);
+    }
+    Ok(spelled)
 }
 
 /// Writes the map of pairs that come in ascending order of handle (Open Design Specification, "Object map").
 ///
 /// A pair goes into the page that is being filled where that page's size with it is at most 2032, and else begins the next
-/// page. Contracts see the page that is being filled, the last pair, and whether the map has ended. After a fault, and after
-/// its end, a writer isn't used before [`restart`](PageWriter::restart).
+/// page. A page goes out in one piece, from where it is filled. Contracts see the page that is being filled, the last pair, and
+/// whether the map has ended. After a fault, and after its end, a writer isn't used before [`restart`](PageWriter::restart).
 #[derive(Drop)]
 pub struct PageWriter {
-    page: BitSink,
+    // The page that is being filled, as it goes out: two bytes for its size, and then its pairs.
+    page: Vec<u8>,
+    // Where a pair is made before it goes into the page.
+    spelled: BitSink,
     last: Pair,
     ended: bool,
 }
 
 impl Model for PageWriter {
+    ghost use Rattle.std.specs.Prelude.{vec_capacity};
     ghost use Rattle.dwg_objmap.specs.Writing.{OpenPage};
 
     ghost Value = { OpenPage };
 
-    ghost use Rattle.dwg_objmap.specs.OpenPages.{page_of, IsOpen};
+    ghost use Rattle.dwg_objmap.specs.Pairs.{IsPair};
+    ghost use Rattle.dwg_objmap.specs.OpenPages.{page_of, IsPage, HasPairRoom};
 
-    ghost view = { λ writer. page_of writer.page writer.last writer.ended };
+    ghost view = { λ writer. page_of writer.page.items writer.last writer.ended };
 
-    ghost invariant = { λ writer. IsOpen writer.page writer.last };
+    ghost invariant = { λ writer. IsPage writer.page.items (vec_capacity writer.page) × HasPairRoom writer.spelled × IsPair writer.last };
 }
 
 impl PageWriter {
-    /// A writer that was given no pair yet. It takes the memory of a page here, and none later; the only refusal is want of
-    /// that memory.
+    /// A writer that was given no pair yet. It takes the memory of a page and of a pair here, and none later; the only refusal is
+    /// want of that memory.
     pub fn new(alloc: Global) -> Result<PageWriter, NoMemory>
         ensures { IfOk result (λ writer. writer ≡ FRESH) }
     {
-        let mut page = BitSink::new(alloc);
-        if !page.reserve(8 * (MOST_PAGE - 2)) {
-            return Err(NoMemory);
-        }
+        let page = empty_page(alloc)?;
+        let spelled = pair_room(alloc)?;
         Ok(PageWriter {
             page,
+            spelled,
             last: origin(),
             ended: false,
         })
@@ -203,7 +230,7 @@ impl PageWriter {
     pub fn restart(&mut self)
         ensures { self.new ≡ FRESH }
     {
-        self.page.clear();
+        self.page.truncate(SIZE_BYTES);
         self.last = origin();
         self.ended = false;
     }
@@ -221,20 +248,20 @@ impl PageWriter {
         ensures still_open { OnOk result (self.new.ended ≡ false) }
         ensures failed { OnErr result (self.new.ended ≡ true) }
     {
-        let _handle = pair.handle.value();
-        if has_room(&self.page, &self.last, &pair) {
-            add(&mut self.page, &self.last, &pair);
+        if has_room(self.page.as_slice(), &self.last, &pair) {
+            let before = told_from(self.page.as_slice(), &self.last);
+            add(&mut self.page, &mut self.spelled, &before, &pair);
             self.last = pair;
             return Ok(());
         }
-        match send_page(body(&self.page), sink) {
+        match send_page(&mut self.page, sink) {
             Ok(()) => {}
             Err(WriteFault) => {
                 self.ended = true;
                 return Err(WriteFault);
             }
         }
-        start(&mut self.page, &pair);
+        add(&mut self.page, &mut self.spelled, &origin(), &pair);
         self.last = pair;
         Ok(())
     }
@@ -248,10 +275,10 @@ impl PageWriter {
         ensures ended { self.new.ended ≡ true }
     {
         self.ended = true;
-        match send_filled(body(&self.page), sink) {
+        match send_filled(&mut self.page, sink) {
             Ok(()) => {}
             Err(WriteFault) => return Err(WriteFault),
         }
-        send_page(&[], sink)
+        send_page(&mut self.page, sink)
     }
 }

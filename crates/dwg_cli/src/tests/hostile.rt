@@ -68,14 +68,11 @@ impl Numbered for FailingRead {
 }
 
 /// How many bytes of the file of one object are written in so many pieces of ten bytes at the most: 199 of them stand before the map, and go
-/// out together; then a page goes out by its size, its pair and its check word, and the last by its size and its check word.
+/// out together; then a page of one pair goes out, and the page that ends the map.
 fn bytes_before(pieces: usize) -> Option<usize> {
     match pieces {
         20 => Some(199),
-        21 => Some(201),
-        22 => Some(204),
-        23 => Some(206),
-        24 => Some(208),
+        21 => Some(206),
         _ => pieces.checked_mul(10),
     }
 }
@@ -125,7 +122,7 @@ fn every_failing_read_is_told(rt: HostRuntime) -> Result<(), Fail> {
 
 #[test]
 fn every_failing_write_is_told(rt: HostRuntime) -> Result<(), Fail> {
-    every_number::<FailingWrite>(rt.alloc(), 1, 26)
+    every_number::<FailingWrite>(rt.alloc(), 1, 23)
 }
 
 /// How `rewrite` of no input ends where the first write of notes fails.

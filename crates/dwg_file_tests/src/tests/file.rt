@@ -306,11 +306,34 @@ fn tell_plan(alloc: Global, told: &mut String, plan: &mut Plan<'_, '_>, ask: &st
     }
 }
 
+/// Adds all parts of the drawing that bytes spell.
+fn tell_read(alloc: Global, told: &mut String, bytes: &[u8]) -> Option<()> {
+    if bytes.len() as u64 > LIMIT {
+        return None;
+    }
+    match read_drawing(alloc, bytes) {
+        Ok(drawing) => tell_parts(told, drawing.parts()),
+        Err(_) => None,
+    }
+}
+
+/// Adds whether what is sent of a drawing is read as the same parts.
+fn tell_again(alloc: Global, told: &mut String, parts: &Parts<'_>, file: &[u8]) -> Option<()> {
+    let mut before = String::new(alloc);
+    tell_parts(&mut before, parts)?;
+    let mut after = String::new(alloc);
+    tell_read(alloc, &mut after, file)?;
+    tell_same(told, before.as_bytes(), after.as_bytes())
+}
+
 /// Adds what is asked of the plan of a drawing, or the size of a drawing that is too large.
 fn tell_planned(alloc: Global, told: &mut String, drawing: &Drawing<'_>, ask: &str) -> Option<()> {
     match Plan::prepare(alloc, drawing) {
         Ok(plan) => {
             let mut plan = plan;
+            if ask == "again" {
+                return tell_again(alloc, told, drawing.parts(), &sent(alloc, &mut plan)?);
+            }
             tell_plan(alloc, told, &mut plan, ask)
         }
         Err(PlanFault::TooLarge { size }) => told::number(told, size),
@@ -340,6 +363,7 @@ fn tell_bytes(alloc: Global, told: &mut String, bytes: &[u8], ask: &str) -> Opti
 /// What is asked of the drawing that a file spells, by its name:
 /// - `FILE | NAME => same`: whether its canonical file is that of another name; or its size, where it is too large;
 /// - `FILE | parts => LEAD MARK PAGE VARIABLES classes .. others .. objects ..`: its parts;
+/// - `FILE | again => same`: whether its canonical file is read as the same parts;
 /// - `FILE | front => BYTES`: what a sink holds of its canonical file whose third write of ten bytes fails;
 /// - `FILE | faults => CALLS`: how many calls a sink takes that takes at most a thousand bytes a call, if each of them can fail and the
 ///   whole file is sent then.
@@ -370,7 +394,8 @@ fn a_drawing_is_read_and_written(rt: HostRuntime) -> Result<(), Fail> {
         padded | padded => same\n\
         padded with ones | padded => same\n\
         one object and more | one object => same\n\
-        long | long => same\n";
+        long | long => same\n\
+        long with a section | again => same\n";
     hold::<Drawings>(&rt, rt.alloc(), cases);
     Ok(())
 }
@@ -407,12 +432,12 @@ fn a_failing_sink_holds_a_front(rt: HostRuntime) -> Result<(), Fail> {
 
 #[test]
 fn a_file_is_sent_whole_after_a_fault_in_each_call(rt: HostRuntime) -> Result<(), Fail> {
-    // One piece before the map, and a page with pairs and one without, in three pieces and in two; four pieces of 4,096 bytes before the map
-    // and one of fewer, in five calls each and in three, three pages, in five, three and two, and the unknown section in two pieces, each in
+    // One piece before the map, and a page with pairs and one without, in a piece each; four pieces of 4,096 bytes before the map and one of
+    // fewer, in five calls each and in three, three pages, in three calls, one and one, and the unknown section in two pieces, each in
     // five.
     let cases = "\
-        one object | faults => 6\n\
-        long with a section | faults => 43\n";
+        one object | faults => 3\n\
+        long with a section | faults => 38\n";
     hold::<Drawings>(&rt, rt.alloc(), cases);
     Ok(())
 }

@@ -1,6 +1,6 @@
 use Rattle.std.proofs.Common.{sym, ◌∙◌, subst, arith, ◌<◌, ◌^◌, List, ℕ, length}
 use Rattle.dwg_object.proofs.FrameReading.{span_placed, refused_check, refused_head, found_frame, found_tried, framed_span}
-use Rattle.dwg_object.proofs.HeadLaws.{head_begins}
+use Rattle.dwg_object.proofs.HeadLemmas.{head_begins}
 use Rattle.dwg_object.proofs.frame.read_span.Goals as goal
 
 pub head_of-requires : goal.head_of-requires

@@ -1,5 +1,5 @@
 use Rattle.dwg_bits.specs.Bits.{bits}
-use Rattle.dwg_object.proofs.HeadLaws.{head_begins}
+use Rattle.dwg_object.proofs.HeadLemmas.{head_begins}
 use Rattle.dwg_object.proofs.head.own_handle.Goals as goal
 
 pub returns-in-None-clause-none : goal.returns-in-None-clause-none

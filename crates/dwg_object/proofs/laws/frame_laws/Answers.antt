@@ -1,7 +1,7 @@
 use Rattle.dwg_grammar.proofs.CodeLemmas.{lawful_of_code}
 use Rattle.dwg_grammar.specs.Grammar.{AnyLetters}
-use Rattle.dwg_object.specs.Forms.{head}
-use Rattle.dwg_object.proofs.HeadLaws.{head_is_code, begins_same}
+use Rattle.dwg_object.specs.Heads.{head}
+use Rattle.dwg_object.proofs.HeadLemmas.{head_is_code, begins_same}
 use Rattle.dwg_object.proofs.OwnLaws.{own_is_lawful, own_of_kind}
 use Rattle.dwg_object.proofs.SpanLaws.{tried_span_means}
 use Rattle.dwg_object.proofs.FrameLaws.{frames_same, tried_frame_means, held_frame}

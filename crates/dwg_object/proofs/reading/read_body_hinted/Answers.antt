@@ -1,4 +1,4 @@
-use Rattle.dwg_object.proofs.HeadLaws.{head_begins}
+use Rattle.dwg_object.proofs.HeadLemmas.{head_begins}
 use Rattle.dwg_object.proofs.reading.read_body_hinted.Goals as goal
 
 pub returns-in_default-clause-none : goal.returns-in_default-clause-none

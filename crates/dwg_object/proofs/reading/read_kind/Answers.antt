@@ -3,7 +3,7 @@ use Rattle.dwg_bits.specs.Cursor.{rest}
 use Rattle.dwg_kinds.specs.declared.kind.Kind.{Kind}
 use Rattle.dwg_object.specs.OwnBits.{AreOwn}
 use Rattle.dwg_object.proofs.FormReading.{raw_kept, common_has_none, own_read, own_unkept, own_unread}
-use Rattle.dwg_object.proofs.TypedLaws.{typed_of_own}
+use Rattle.dwg_object.proofs.TypedLemmas.{typed_of_own}
 use Rattle.dwg_object.proofs.reading.read_kind.Goals as goal
 use Rattle.dwg_object.proofs.reading.read_kind.Goals.{in_default-2-via-in-Some-2+else-is_read_out, in_default-2-via-in_default-2}
 

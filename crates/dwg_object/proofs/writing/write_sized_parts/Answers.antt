@@ -1,55 +1,45 @@
-use Rattle.std.proofs.Common.{◌≡◌, ap, ℕ, List, Bool, ◌++◌, length, arith}
+use Rattle.std.proofs.Common.{ap, ℕ, ◌+◌, List, Bool, ◌++◌, length, arith}
 use Rattle.dwg_bits.proofs.BitLaws.{length_of_bits}
+use Rattle.dwg_bits.proofs.SinkLemmas.{extends_by_both}
 use Rattle.dwg_bits.proofs.WholeBytes.{whole_are_bytes}
-use Rattle.dwg_bits.specs.Bits.{bits}
 use Rattle.dwg_bits.specs.Sink.{padding}
 use Rattle.dwg_grammar.specs.ModularCodes.{ms}
-use Rattle.dwg_object.specs.Written.{object_bits, object_bytes}
-use Rattle.dwg_object.proofs.FrameWriting.{object_small, object_counted, sized_room, sized_written, aligned_behind}
+use Rattle.dwg_object.specs.Written.{front_bits, refs_bits, object_bits, object_bytes}
+use Rattle.dwg_object.proofs.FrameWriting.{object_small, object_long, object_whole, object_written, fill_long, sized_room, sized_written, aligned_behind, room_behind_size}
 use Rattle.dwg_object.proofs.writing.write_sized_parts.Goals as goal
-
-pub object_lengths-lengths-requires-clause-few : goal.object_lengths-lengths-requires-clause-few
-object_lengths-lengths-requires-clause-few g c =
-    object_small c.args.number c.args.handle c.args.common.now (g.O.OwnPart.main c.args.handle c.args.own.now) (g.O.OwnPart.refs c.args.handle c.args.own.now) c.requires.few
 
 pub write_ms-requires-clause-room : goal.write_ms-requires-clause-room
 write_ms-requires-clause-room g c =
     let content = object_bytes c.args.number c.args.handle c.args.common.now (g.O.OwnPart.main c.args.handle c.args.own.now) (g.O.OwnPart.refs c.args.handle c.args.own.now) in
-    let lengths = c.object_lengths-lengths in
-    let count : c.div_ceil.result ≡ length content = omega (
-      arith,
-      c.div_ceil.ensures,
-      object_counted c.args.number c.args.handle c.args.common.now (g.O.OwnPart.main c.args.handle c.args.own.now) (g.O.OwnPart.refs c.args.handle c.args.own.now) lengths.result.front
-          lengths.result.refs lengths.ensures.front lengths.ensures.refs,
-    ) in
-    omega (arith, c.requires.room, sized_room content, length_of_bits (ms.short (length content)), ap (λ (n : ℕ). length (ms.short n)) count)
+    omega (arith, c.requires.room, sized_room content, length_of_bits (ms.short (length content)), ap (λ (n : ℕ). length (ms.short n)) c.object_lengths-lengths.ensures.bytes)
 
-pub write_parts-requires-clause-aligned : goal.write_parts-requires-clause-aligned
-write_parts-requires-clause-aligned g c = aligned_behind _ _ (ms.short c.div_ceil.result) c.requires.aligned c.write_ms.ensures
+pub write_front-requires-clause-room : goal.write_front-requires-clause-room
+write_front-requires-clause-room g c =
+    let left = room_behind_size _ _ _ (object_bytes c.args.number c.args.handle c.args.common.now (g.O.OwnPart.main c.args.handle c.args.own.now) (g.O.OwnPart.refs c.args.handle c.args.own.now)) c.object_lengths-lengths.ensures.bytes c.requires.room c.write_ms.ensures in
+    omega (arith, left, object_whole c.args.number c.args.handle c.args.common.now (g.O.OwnPart.main c.args.handle c.args.own.now) (g.O.OwnPart.refs c.args.handle c.args.own.now))
 
-pub write_parts-requires-clause-room : goal.write_parts-requires-clause-room
-write_parts-requires-clause-room g c =
-    let content = object_bytes c.args.number c.args.handle c.args.common.now (g.O.OwnPart.main c.args.handle c.args.own.now) (g.O.OwnPart.refs c.args.handle c.args.own.now) in
-    let lengths = c.object_lengths-lengths in
-    let count : c.div_ceil.result ≡ length content = omega (
-      arith,
-      c.div_ceil.ensures,
-      object_counted c.args.number c.args.handle c.args.common.now (g.O.OwnPart.main c.args.handle c.args.own.now) (g.O.OwnPart.refs c.args.handle c.args.own.now) lengths.result.front
-          lengths.result.refs lengths.ensures.front lengths.ensures.refs,
-    ) in
-    omega (arith, c.requires.room, sized_room content, c.write_ms.ensures.spare, ap (λ (n : ℕ). length (bits (ms.short n))) count)
+pub write_references-requires-clause-few : goal.write_references-requires-clause-few
+write_references-requires-clause-few g c = omega (arith, object_small c.args.number c.args.handle c.args.common.now (g.O.OwnPart.main c.args.handle c.args.own.now) (g.O.OwnPart.refs c.args.handle c.args.own.now) c.requires.few, object_long c.args.number c.args.handle c.args.common.now (g.O.OwnPart.main c.args.handle c.args.own.now) (g.O.OwnPart.refs c.args.handle c.args.own.now))
+
+pub write_references-requires-clause-room : goal.write_references-requires-clause-room
+write_references-requires-clause-room g c =
+    let left = room_behind_size _ _ _ (object_bytes c.args.number c.args.handle c.args.common.now (g.O.OwnPart.main c.args.handle c.args.own.now) (g.O.OwnPart.refs c.args.handle c.args.own.now)) c.object_lengths-lengths.ensures.bytes c.requires.room c.write_ms.ensures in
+    omega (arith, left, object_whole c.args.number c.args.handle c.args.common.now (g.O.OwnPart.main c.args.handle c.args.own.now) (g.O.OwnPart.refs c.args.handle c.args.own.now), c.write_front.ensures.spare)
+
+pub pad-requires : goal.pad-requires
+pad-requires g c =
+    let letters : List Bool = object_bits c.args.number c.args.handle c.args.common.now (g.O.OwnPart.main c.args.handle c.args.own.now) (g.O.OwnPart.refs c.args.handle c.args.own.now) in
+    let aligned = aligned_behind _ _ (ms.short c.object_lengths-lengths.result.bytes) c.requires.aligned c.write_ms.ensures in
+    let both = extends_by_both _ _ _ (front_bits c.args.number c.args.handle c.args.common.now (g.O.OwnPart.main c.args.handle c.args.own.now)) (refs_bits c.args.handle c.args.common.now (g.O.OwnPart.refs c.args.handle c.args.own.now)) c.write_front.ensures c.write_references.ensures in
+    let left = room_behind_size _ _ _ (object_bytes c.args.number c.args.handle c.args.common.now (g.O.OwnPart.main c.args.handle c.args.own.now) (g.O.OwnPart.refs c.args.handle c.args.own.now)) c.object_lengths-lengths.ensures.bytes c.requires.room c.write_ms.ensures in
+    omega (arith, left, object_whole c.args.number c.args.handle c.args.common.now (g.O.OwnPart.main c.args.handle c.args.own.now) (g.O.OwnPart.refs c.args.handle c.args.own.now), object_long c.args.number c.args.handle c.args.common.now (g.O.OwnPart.main c.args.handle c.args.own.now) (g.O.OwnPart.refs c.args.handle c.args.own.now), both.spare, fill_long _ _ letters aligned both)
 
 pub returns-clause-written : goal.returns-clause-written
 returns-clause-written g c =
+    let aligned = aligned_behind _ _ (ms.short c.object_lengths-lengths.result.bytes) c.requires.aligned c.write_ms.ensures in
     let content = object_bytes c.args.number c.args.handle c.args.common.now (g.O.OwnPart.main c.args.handle c.args.own.now) (g.O.OwnPart.refs c.args.handle c.args.own.now) in
-    let lengths = c.object_lengths-lengths in
-    let count : c.div_ceil.result ≡ length content = omega (
-      arith,
-      c.div_ceil.ensures,
-      object_counted c.args.number c.args.handle c.args.common.now (g.O.OwnPart.main c.args.handle c.args.own.now) (g.O.OwnPart.refs c.args.handle c.args.own.now) lengths.result.front
-          lengths.result.refs lengths.ensures.front lengths.ensures.refs,
-    ) in
-    sized_written _ _ _ c.div_ceil.result content count c.write_ms.ensures c.write_parts.ensures
+    sized_written _ _ _ c.object_lengths-lengths.result.bytes content c.object_lengths-lengths.ensures.bytes c.write_ms.ensures
+    (object_written _ _ _ _ c.args.number c.args.handle c.args.common.now (g.O.OwnPart.main c.args.handle c.args.own.now) (g.O.OwnPart.refs c.args.handle c.args.own.now) aligned c.write_front.ensures c.write_references.ensures c.pad.ensures)
 
 pub returns-clause-bytes : goal.returns-clause-bytes
 returns-clause-bytes g c =

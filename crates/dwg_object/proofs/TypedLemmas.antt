@@ -11,7 +11,8 @@ use Rattle.dwg_kinds.specs.declared.kind.Kind.{Kind}
 use Rattle.dwg_object.specs.declared.body.Body.{Body}
 use Rattle.dwg_object.specs.declared.common.Common.{Common}
 use Rattle.dwg_object.specs.Objects.{HeadParts}
-use Rattle.dwg_object.specs.Forms.{HasHead, CommonForm, HasCommonForm, TypedForm, HasTypedForm, kind_under}
+use Rattle.dwg_object.specs.Forms.{CommonForm, HasCommonForm, TypedForm, HasTypedForm, kind_under}
+use Rattle.dwg_object.specs.Heads.{HasHead}
 use Rattle.dwg_object.proofs.CommonForms.{common_form_decided, common_forms_same, fits_of_common}
 use Rattle.dwg_object.specs.OwnBodies.{own_body}
 use Rattle.dwg_object.proofs.OwnLaws.{own_is_body}

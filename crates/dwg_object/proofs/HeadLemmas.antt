@@ -11,8 +11,7 @@ use Rattle.dwg_grammar.proofs.TableLemmas.{bs_is_code}
 use Rattle.dwg_grammar.proofs.OwnLemmas.{own_is_code}
 use Rattle.dwg_grammar.specs.ReferenceCodes.{own_handle}
 use Rattle.dwg_object.specs.Objects.{HeadParts}
-use Rattle.dwg_object.specs.Forms.{IsHead, HasHead, BeginsWithHead, head}
-use Rattle.dwg_object.specs.Heads.{HeadsAreOne, own_of}
+use Rattle.dwg_object.specs.Heads.{IsHead, HasHead, BeginsWithHead, head, HeadsAreOne, own_of}
 
 -- heads are a code
 pub head_is_code : IsCode AnyLetters head
