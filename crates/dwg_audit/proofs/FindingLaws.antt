@@ -191,14 +191,16 @@ resolved_without objects x ascend none =
 -- a drawing without failures is sound
 sound_without : (objects : List ObjectValue) → Ascend (handles_of objects) → ((finding : Finding) → IsFinding objects finding → ⊥) → IsSound objects
 sound_without objects ascend none = record {
-  control = let count : ℕ = length (block_controls objects) in
-      settled (count == 1) (count ≡ 1) (Decides-eqb count 1)
-      (λ fails. none (record { handle = 0; rule = rules.Control; field = None; position = count; target = 0 }) (inl (record { fails = fails; says = refl })));
-  resolve = λ x inside typed. resolved_without objects x ascend (λ finding is. none finding (inr (x, inside, typed, inl is)));
-  claim = λ x inside typed. settled (is_exempt objects (spaces objects) x || is_claimed objects (spaces objects) x) (IsExempt objects x ⊎ IsClaimed objects x)
-      (Decides-or (is_exempt objects (spaces objects) x) (is_claimed objects (spaces objects) x) (exempt_decided objects x ascend) (claimed_decided objects x ascend))
-      (λ fails. none (record { handle = handle_of x; rule = rules.Claim; field = None; position = length (claims objects (handle_of x)); target = owner_of (spaces objects) x })
-      (inr (x, inside, typed, inr (inl (record { asked = λ exempt. fails (inl exempt); fails = λ claimed. fails (inr claimed); says = refl })))));
+  needs = record {
+    control = let count : ℕ = length (block_controls objects) in
+        settled (count == 1) (count ≡ 1) (Decides-eqb count 1)
+        (λ fails. none (record { handle = 0; rule = rules.Control; field = None; position = count; target = 0 }) (inl (record { fails = fails; says = refl })));
+    resolve = λ x inside typed. resolved_without objects x ascend (λ finding is. none finding (inr (x, inside, typed, inl is)));
+    claim = λ x inside typed. settled (is_exempt objects (spaces objects) x || is_claimed objects (spaces objects) x) (IsExempt objects x ⊎ IsClaimed objects x)
+        (Decides-or (is_exempt objects (spaces objects) x) (is_claimed objects (spaces objects) x) (exempt_decided objects x ascend) (claimed_decided objects x ascend))
+        (λ fails. none (record { handle = handle_of x; rule = rules.Claim; field = None; position = length (claims objects (handle_of x)); target = owner_of (spaces objects) x })
+        (inr (x, inside, typed, inr (inl (record { asked = λ exempt. fails (inl exempt); fails = λ claimed. fails (inr claimed); says = refl })))));
+  };
   chain = λ x inside header. settled (is_chained objects (spaces objects) x (ends_of x)) (HasMemberChain objects x) (chained_decided objects x ascend)
       (λ fails. none (record { handle = handle_of x; rule = rules.Chain; field = None; position = 0; target = option_map_or (λ (ends : EndHandles). ends.last) (ends_of x) 0 })
       (inr (x, inside, header_is_typed x header, inr (inr (inl (record { header = header; fails = fails; says = refl }))))));
@@ -217,9 +219,9 @@ met_where_resolved objects x slot resolves held = ⊎_elim
 -- an object of a sound drawing doesn't fail
 sound_object : (objects : List ObjectValue) (x : ObjectValue) (finding : Finding) → IsSound objects → Contains objects x → IsTrue (is_typed x) → IsFindingOf objects x finding → ⊥
 sound_object objects x finding sound inside typed is = ⊎_elim
-    (λ resolve. resolve.fails (met_where_resolved objects x resolve.slot (sound.resolve x inside typed) resolve.held))
+    (λ resolve. resolve.fails (met_where_resolved objects x resolve.slot (sound.needs.resolve x inside typed) resolve.held))
     (λ others. ⊎_elim
-    (λ claim. ⊎_elim claim.asked claim.fails (sound.claim x inside typed))
+    (λ claim. ⊎_elim claim.asked claim.fails (sound.needs.claim x inside typed))
     (λ further. ⊎_elim
     (λ chain. chain.fails (sound.chain x inside chain.header))
     (λ path. path.fails (sound.path x inside typed))
@@ -230,7 +232,7 @@ sound_object objects x finding sound inside typed is = ⊎_elim
 -- a sound drawing has no failures
 without_if_sound : (objects : List ObjectValue) (finding : Finding) → IsSound objects → IsFinding objects finding → ⊥
 without_if_sound objects finding sound is = ⊎_elim
-    (λ control. control.fails sound.control)
+    (λ control. control.fails sound.needs.control)
     (λ one. sound_object objects one.0 finding sound one.1 one.2 one.3)
     is
 

@@ -9,7 +9,7 @@ use Rattle.dwg_audit.specs.Failures.{IsFindingOf, rule_number, StandsBefore}
 use Rattle.dwg_audit.specs.Findings.{unless, control_findings, unmet, is_application_field, is_application, owner_slot, references, resolve_findings, claim_findings, chain_findings, path_findings, findings_of, findings}
 use Rattle.dwg_audit.proofs.FindingLaws.{unless_stands, control_stands, resolve_finding, resolve_stands, claim_stands, chain_stands, path_stands, object_stands}
 use Rattle.dwg_audit.proofs.SlotFields.{slots_without_owner}
-use Rattle.dwg_audit.proofs.Judging.{one_of_all}
+use Rattle.dwg_base.proofs.OneOfAll.{one_of_all}
 use Rattle.dwg_graph.specs.declared.owner.SpaceHandles.{SpaceHandles}
 use Rattle.dwg_graph.specs.declared.slot.Slot.{Slot}
 use Rattle.dwg_graph.specs.Graph.{is_typed}

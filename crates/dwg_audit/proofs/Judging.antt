@@ -1,11 +1,11 @@
 -- Findings of one object, in the order of rules, and of all objects, one after the other.
-use Rattle.std.proofs.Common.{◌≡◌, sym, ap, ◌∙◌, subst, ℕ, zero, suc, ◌<◌, ◌≤◌, false, List, [], ◌∷◌, ◌++◌, length, map, drop, Some}
+use Rattle.std.proofs.Common.{◌≡◌, sym, ap, ◌∙◌, ℕ, suc, ◌<◌, ◌≤◌, false, List, [], ◌++◌, length, map, drop, Some}
 use Rattle.std.specs.Prelude.{◌↔◌, IsTrue, Result, Ok, Err, IfOk, flat_map, if◌then◌else◌, Option, slice_index_or}
-use Rattle.std.specs.List.{AllByRecursion, slice_get}
+use Rattle.std.specs.List.{slice_get}
 use Rattle.std.specs.Option.{option_map}
 use Rattle.std.proofs.lemmas.List.{append_assoc, append-nil}
 use Rattle.std.proofs.Math.ListN.{drop_of_length-le}
-use Rattle.std.proofs.lemmas.Option.{same_Some, slice_get-map, slice_get-get_or}
+use Rattle.std.proofs.lemmas.Option.{slice_get-map, slice_get-get_or}
 use Rattle.dwg_audit.proofs.Choosing.{drop_at_place}
 use Rattle.dwg_base.specs.declared.device.NoMemory.{NoMemory}
 use Rattle.dwg_audit.specs.Findings.{control_findings, findings, resolve_findings, claim_findings, chain_findings, path_findings, findings_of}
@@ -39,12 +39,6 @@ unfolding findings_of
 found_nothing objects known x found untyped =
     sym (append-nil found)
     ∙ ap (λ t. found ++ (if t then resolve_findings objects known x ++ (claim_findings objects known x ++ (chain_findings objects known x ++ path_findings objects known x)) else [])) (sym untyped)
-
--- one of all objects has what all have
-pub one_of_all : (P : ObjectValue → Type 0) (objects : List ObjectValue) (place : ℕ) (x : ObjectValue) → AllByRecursion P objects → slice_get objects place ≡ Some x → P x
-one_of_all P [] place x all at = absurd (cc at)
-one_of_all P (first ∷ more) zero x all at = subst P (same_Some first x at) all.0
-one_of_all P (first ∷ more) (suc place) x all at = one_of_all P more place x all.1 at
 
 -- one object further
 pub one_further : {A B : Type 0} (f : A → List B) (all : List A) (place next : ℕ) (x : A) (before after whole : List B) → slice_get all place ≡ Some x → next ≡ suc place

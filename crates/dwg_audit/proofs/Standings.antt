@@ -52,8 +52,8 @@ stands objects tables place home owner rank all own chained reached ascend are i
     record {
       home = is_home ∙ number_of_object objects (home_place objects (spaces objects)) tables.homes.items place x are.homes at;
       owner = is_owner ∙ number_of_object objects (owner_place objects (spaces objects)) tables.lookups.owners.items place x are.lookups.owners at;
-      all = is_all ∙ count_of_object objects (λ (y : ObjectValue). length (claims objects (handle_of y))) tables.claims.all.items place x are.claims at;
-      own = is_own ∙ count_of_object objects (λ (y : ObjectValue). length (claims_held (owner_of (spaces objects) y) (claims objects (handle_of y)))) tables.claims.own.items place x are.own at;
+      all = is_all ∙ count_of_object objects (λ (y : ObjectValue). length (claims objects (handle_of y))) tables.claims.all.items place x are.claims.all at;
+      own = is_own ∙ count_of_object objects (λ (y : ObjectValue). length (claims_held (owner_of (spaces objects) y) (claims objects (handle_of y)))) tables.claims.own.items place x are.claims.own at;
       chained = is_chained_there ∙ same_truths (marked tables.chains.items place) (is_chained objects (spaces objects) x (ends_of x)) (HasMemberChain objects x)
           (both_ways (are.chains place within) (chain_placed objects place x ascend at)) (chained_decided objects x ascend);
       reached = is_reached ∙ ap (λ (r : Option ℕ). is_some r) is_rank

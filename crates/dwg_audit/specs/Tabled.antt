@@ -2,7 +2,7 @@
 use Rattle.std.specs.Prelude.{◌≡◌, ◌<◌, ◌↔◌, ℕ, List, length, IsTrue}
 use Rattle.dwg_audit.specs.declared.tables.Tables.{Tables}
 use Rattle.dwg_audit.specs.Lookups.{AreLookups}
-use Rattle.dwg_graph.specs.Claimed.{claim_counts, own_counts}
+use Rattle.dwg_graph.specs.Claimed.{AreBothCounted}
 use Rattle.dwg_graph.specs.Owners.{spaces}
 use Rattle.dwg_graph.specs.Placed.{owner_table, next_table, root_table, home_table, end_table}
 use Rattle.dwg_object.specs.Objects.{ObjectValue}
@@ -18,5 +18,4 @@ pub record AreTables (objects : List ObjectValue) (tables : Tables) : Type 0 whe
   pub chain_count : length tables.chains.items ≡ length objects
   pub chains : (home : ℕ) → home < length objects
       → IsTrue (marked tables.chains.items home) ↔ HasChainAt (home_table objects (spaces objects)) (next_table objects) home (ends_at (end_table objects) home)
-  pub claims : tables.claims.all.items ≡ claim_counts objects
-  pub own : tables.claims.own.items ≡ own_counts objects (spaces objects)
+  pub claims : AreBothCounted objects (spaces objects) tables.claims

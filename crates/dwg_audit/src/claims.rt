@@ -1,11 +1,11 @@
 //! How often each object is claimed, and how often by its owner.
 
-ghost use Rattle.std.specs.Prelude.{◌≡◌, ◌<◌, ◌^◌, length, map, replicate, IfOk};
+ghost use Rattle.std.specs.Prelude.{◌≡◌, ◌<◌, ◌^◌, length, map, IfOk};
 ghost use Rattle.dwg_audit.specs.Lookups.{IsSlotTable, slot_places};
-ghost use Rattle.dwg_graph.specs.Claimed.{IsOpen, Adds, leads_to, leads_down, claiming, reference_count, claim_counts, own_counts};
+ghost use Rattle.dwg_graph.specs.Claimed.{AddsBoth, AreBothCounted, AreBothOpen, reference_count};
 ghost use Rattle.dwg_graph.specs.Places.{Ascend, handles_of};
 ghost use Rattle.dwg_graph.specs.Slots.{slots};
-ghost use Rattle.dwg_object.specs.Objects.{handle_of, kind_of, value_of};
+ghost use Rattle.dwg_object.specs.Objects.{value_of};
 
 use crate::lookups::{SlotTable, place_at, places_at, slots_at};
 use dwg_base::NoMemory;
@@ -26,10 +26,8 @@ fn count_holder(
     requires ascend { Ascend (handles_of (map value_of objects.now)) }
     requires held_slots { held.now ≡ slots (value_of holder.now) }
     requires places { places.now ≡ slot_places (handles_of (map value_of objects.now)) (slots (value_of holder.now)) }
-    requires all { IsOpen (map value_of objects.now) (length (slots (value_of holder.now))) claimed.old.all.items }
-    requires own { IsOpen (map value_of objects.now) (length (slots (value_of holder.now))) claimed.old.own.items }
-    ensures all { Adds (map value_of objects.now) leads_to (claiming (kind_of (value_of holder.now)) (slots (value_of holder.now))) claimed.old.all.items claimed.new.all.items }
-    ensures own { Adds (map value_of objects.now) (leads_down known.now (handle_of (value_of holder.now))) (claiming (kind_of (value_of holder.now)) (slots (value_of holder.now))) claimed.old.own.items claimed.new.own.items }
+    requires room { AreBothOpen (map value_of objects.now) (length (slots (value_of holder.now))) claimed.old }
+    ensures { AddsBoth (map value_of objects.now) known.now (value_of holder.now) (slots (value_of holder.now)) claimed.old claimed.new }
 {
     'along: for i in 0..held.len() {
         count_slot(
@@ -43,30 +41,8 @@ fn count_holder(
     }
 }
 
-/// Counts the claims of all objects, from nothing.
-#[tactic(auto, using(dwg_graph::proofs::HolderLoops::counts_begin))]
-fn count_all(
-    objects: &[Object<'_>],
-    known: &Option<SpaceHandles>,
-    table: &SlotTable,
-    claimed: &mut Claimed,
-)
-    requires ascend { Ascend (handles_of (map value_of objects.now)) }
-    requires table { IsSlotTable (map value_of objects.now) table.now }
-    requires few { reference_count (map value_of objects.now) < 2 ^ 58 }
-    requires no_all { claimed.old.all.items ≡ replicate (length objects.now) 0 }
-    requires no_own { claimed.old.own.items ≡ replicate (length objects.now) 0 }
-    ensures all { claimed.new.all.items ≡ claim_counts (map value_of objects.now) }
-    ensures own { claimed.new.own.items ≡ own_counts (map value_of objects.now) known.now }
-{
-    'along: for place in 0..objects.len() {
-        let held = slots_at(objects, table, place);
-        let places = places_at(objects, table, place);
-        count_holder(objects, known, &objects[place], held, places, claimed);
-    }
-}
-
 /// How often each object is claimed, and how often by its owner. Want of memory is the only refusal.
+#[tactic(auto, using(dwg_graph::proofs::HolderLoops::none_counted))]
 pub(crate) fn count_claims(
     alloc: Global,
     objects: &[Object<'_>],
@@ -76,10 +52,13 @@ pub(crate) fn count_claims(
     requires ascend { Ascend (handles_of (map value_of objects.now)) }
     requires table { IsSlotTable (map value_of objects.now) table.now }
     requires few { reference_count (map value_of objects.now) < 2 ^ 58 }
-    ensures all { IfOk result (λ claimed. claimed.all.items ≡ claim_counts (map value_of objects.now)) }
-    ensures own { IfOk result (λ claimed. claimed.own.items ≡ own_counts (map value_of objects.now) known.now) }
+    ensures { IfOk result (AreBothCounted (map value_of objects.now) known.now) }
 {
     let mut claimed = Claimed::none(alloc, objects.len())?;
-    count_all(objects, known, table, &mut claimed);
+    'along: for place in 0..objects.len() {
+        let held = slots_at(objects, table, place);
+        let places = places_at(objects, table, place);
+        count_holder(objects, known, &objects[place], held, places, &mut claimed);
+    }
     Ok(claimed)
 }

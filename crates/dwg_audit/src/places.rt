@@ -13,7 +13,8 @@ use dwg_base::{NoMemory, push_item};
 use dwg_graph::{Slot, SpaceHandles, home_of, is_root};
 use dwg_kinds::{Field, number_of};
 use dwg_object::{Body, Object};
-use dwg_paths::Ends;
+use dwg_paths::ChainEnds;
+use dwg_tables::Ends;
 use std::alloc::Global;
 
 /// For each object whether it is a root. Want of memory is the only refusal.
@@ -70,18 +71,18 @@ fn place_of(field: Field, held: &[Slot], places: &[Option<usize>]) -> Option<usi
 }
 
 /// Where the ends of a block stand, none where both are null, by where both handles stand.
-fn placed_ends(ends: &dwg_tables::Ends, first: Option<usize>, last: Option<usize>) -> Option<Ends>
+fn placed_ends(ends: &Ends, first: Option<usize>, last: Option<usize>) -> Option<ChainEnds>
     ensures { (handles : List ℕ) → first ≡ place_in handles ends.now.first.target → last ≡ place_in handles ends.now.last.target → result ≡ option_map (end_places handles) (known_ends ends.now) }
 {
     if ends.first.target.value() == 0 && ends.last.target.value() == 0 {
         return None;
     }
-    Some(Ends { first, last })
+    Some(ChainEnds { first, last })
 }
 
 /// Where the ends of the block of an object stand, none of what isn't a Typed BLOCK HEADER. Its slots tell it.
 #[tactic(auto, unfolding(dwg_graph::specs::Graph::ends_of))]
-fn ends_at(object: &Object<'_>, held: &[Slot], places: &[Option<usize>]) -> Option<Ends>
+fn ends_at(object: &Object<'_>, held: &[Slot], places: &[Option<usize>]) -> Option<ChainEnds>
     requires held_slots { held.now ≡ slots (value_of object.now) }
     requires count { length places.now ≡ length held.now }
     ensures { (handles : List ℕ) → places.now ≡ slot_places handles held.now → result ≡ option_map (end_places handles) (ends_of (value_of object.now)) }
@@ -107,7 +108,7 @@ pub(crate) fn end_places(
     alloc: Global,
     objects: &[Object<'_>],
     table: &SlotTable,
-) -> Result<Vec<Option<Ends>>, NoMemory>
+) -> Result<Vec<Option<ChainEnds>>, NoMemory>
     requires table { IsSlotTable (map value_of objects.now) table.now }
     ensures { IfOk result (λ places. places.items ≡ end_table (map value_of objects.now)) }
 {

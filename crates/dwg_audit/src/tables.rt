@@ -61,14 +61,14 @@ fn ranked(
     alloc: Global,
     objects: &[Object<'_>],
     known: &Option<SpaceHandles>,
-    owners: &[Option<usize>],
+    lookups: &Lookups,
 ) -> Result<Vec<Option<usize>>, NoMemory>
-    requires owners { owners.now ≡ owner_table (map value_of objects.now) known.now }
+    requires lookups { AreLookups (map value_of objects.now) known.now lookups.now }
     ensures count { IfOk result (λ ranks. length ranks.items ≡ length objects.now) }
     ensures ranks { IfOk result (λ ranks. (place : ℕ) → place < length objects.now → RankIs (owner_table (map value_of objects.now) known.now) (root_table (map value_of objects.now) known.now) place (leads ranks.items place)) }
 {
     let roots = root_marks(alloc, objects, known)?;
-    ranks(alloc, owners, &roots)
+    ranks(alloc, &lookups.owners, &roots)
 }
 
 /// All that is known of objects, by where their references lead. Want of memory is the only refusal.
@@ -87,7 +87,7 @@ fn tabulate_by(
     let homes = homes(alloc, objects, &known, &lookups.owners)?;
     // Chains take the most memory while they are found: what they don't need comes after them.
     let chains = chained(alloc, objects, &homes, &lookups)?;
-    let ranks = ranked(alloc, objects, &known, &lookups.owners)?;
+    let ranks = ranked(alloc, objects, &known, &lookups)?;
     let claims = count_claims(alloc, objects, &known, &lookups.slots)?;
     Ok(Tables {
         known,

@@ -234,9 +234,7 @@ chain_given objects block ascend sound stands header some = go (ends_of block) r
 pub sound_is_accepted : (objects : List ObjectValue) → Ascend (handles_of objects) → IsSound objects → Accepts objects (certificate_of objects)
 sound_is_accepted objects ascend sound = record {
   handles = handles_are_given objects;
-  control = sound.control;
-  resolve = sound.resolve;
-  claim = sound.claim;
+  needs = sound.needs;
   ranked = λ x inside typed. ranked_given objects x ascend sound inside typed;
   root = λ x inside is. root_given objects x ascend inside is;
   owned = λ x rank inside is. owned_given objects x rank ascend inside is;

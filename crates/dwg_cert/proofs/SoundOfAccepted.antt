@@ -100,9 +100,7 @@ chain_of_accepted objects cert ascend is x inside header = ⊎_elim
 
 pub accepted_is_sound : AcceptedIsSound
 accepted_is_sound objects cert ascend is = record {
-  control = is.control;
-  resolve = is.resolve;
-  claim = is.claim;
+  needs = is.needs;
   chain = chain_of_accepted objects cert ascend is;
   path = path_of_accepted objects cert ascend is;
 }

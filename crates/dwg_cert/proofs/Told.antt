@@ -68,9 +68,11 @@ begun_in_place objects cert block (Some ends) are = are.first
 accepts_each : (objects : List ObjectValue) (cert : List Entry) → handles_in cert ≡ handles_of objects → length (block_controls objects) ≡ 1 → ((x : ObjectValue) → Contains objects x → IsRight objects cert x) → Accepts objects cert
 accepts_each objects cert are control each = record {
   handles = are;
-  control = control;
-  resolve = λ x inside typed. ((each x inside).held typed).resolve;
-  claim = λ x inside typed. ((each x inside).held typed).claim;
+  needs = record {
+    control = control;
+    resolve = λ x inside typed. ((each x inside).held typed).resolve;
+    claim = λ x inside typed. ((each x inside).held typed).claim;
+  };
   ranked = λ x inside typed. (each x inside).ranked.typed typed;
   root = λ x inside none. (each x inside).ranked.root none;
   owned = λ x rank inside is. (each x inside).ranked.owned rank is;
@@ -87,8 +89,8 @@ each_accepted objects cert is x inside = record {
       each_in_place objects cert x block (ends_of block) refl among
       (is.chain block stands (of_block (spaces objects) block x member).header (λ none. none_of_empty (members_of objects block) x none among));
   held = λ typed. record {
-    resolve = is.resolve x inside typed;
-    claim = is.claim x inside typed;
+    resolve = is.needs.resolve x inside typed;
+    claim = is.needs.claim x inside typed;
     begun = λ header. ⊎_elim
         (λ none. subst (λ (ends : Option EndHandles). IsBegun objects cert x ends) (sym (is.empty x inside header none)) none)
         (λ some. begun_in_place objects cert x (ends_of x) (is.chain x inside header some))
@@ -107,6 +109,6 @@ acceptance_is_told objects cert ascend =
           accepts_each objects cert are ((Decides-eqb (length (block_controls objects)) 1).0 others.0)
           (λ x inside. (right_told objects cert x ascend are).0 (each_of_all (is_right objects cert) objects x others.1 inside)),
       λ is. and_from (are_handles cert objects) (sole && all) ((handles_are cert objects).1 is.handles)
-          (and_from sole all ((Decides-eqb (length (block_controls objects)) 1).1 is.control)
+          (and_from sole all ((Decides-eqb (length (block_controls objects)) 1).1 is.needs.control)
           (all_of_each (is_right objects cert) objects (λ x inside. (right_told objects cert x ascend is.handles).1 (each_accepted objects cert is x inside)))),
     )

@@ -1,12 +1,12 @@
 -- When a certificate is one of a drawing's objects: its ranks lead to roots, and its places follow the chains of blocks. A rule of this project.
-use Rattle.std.specs.Prelude.{◌≡◌, ◌≢◌, ◌⊎◌, ◌<◌, ◌==◌, ℕ, suc, false, List, [], length, map, find, Option, Some, None, IsTrue, is_some, Contains}
+use Rattle.std.specs.Prelude.{◌≡◌, ◌≢◌, ◌<◌, ◌==◌, ℕ, suc, false, List, [], length, map, find, Option, Some, None, IsTrue, is_some, Contains}
 use Rattle.std.specs.List.{filter}
 use Rattle.std.specs.Option.{option_and_then}
 use Rattle.dwg_cert.specs.declared.entry.Entry.{Entry}
 use Rattle.dwg_graph.specs.Graph.{is_typed, is_raw, is_header, is_root, is_member, EndHandles, ends_of}
-use Rattle.dwg_graph.specs.Owners.{block_controls, spaces, owner_of, next_of}
+use Rattle.dwg_graph.specs.Owners.{spaces, owner_of, next_of}
 use Rattle.dwg_graph.specs.Places.{handles_of}
-use Rattle.dwg_graph.specs.Sound.{Resolves, IsExempt, IsClaimed}
+use Rattle.dwg_graph.specs.Sound.{MeetNeeds}
 use Rattle.dwg_object.specs.Objects.{ObjectValue, handle_of}
 
 -- the handles of entries
@@ -61,12 +61,8 @@ AreInPlaceBetween objects cert block (Some ends) = AreInPlace objects cert block
 pub record Accepts (objects : List ObjectValue) (cert : List Entry) : Type 0 where
   -- its handles are those of the objects
   pub handles : handles_in cert ≡ handles_of objects
-  -- there is exactly one Typed BLOCK CONTROL
-  pub control : length (block_controls objects) ≡ 1
-  -- the owner and each slot of each Typed object meet their needs
-  pub resolve : (x : ObjectValue) → Contains objects x → IsTrue (is_typed x) → Resolves objects x
-  -- each Typed object of which a claim is asked is claimed by its owner alone, or by none where its owner isn't Typed
-  pub claim : (x : ObjectValue) → Contains objects x → IsTrue (is_typed x) → IsExempt objects x ⊎ IsClaimed objects x
+  -- there is exactly one Typed BLOCK CONTROL, the owner and each slot of each Typed object meet their needs, and the claims are as they must be
+  pub needs : MeetNeeds objects
   -- each Typed object has a rank
   pub ranked : (x : ObjectValue) → Contains objects x → IsTrue (is_typed x) → IsTrue (is_some (rank_at cert (handle_of x)))
   -- an object of rank 0 is a root

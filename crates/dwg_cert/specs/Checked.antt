@@ -4,10 +4,11 @@ use Rattle.std.specs.List.{AllByRecursion, filter, slice_get, slice_index_or}
 use Rattle.dwg_cert.specs.Accepts.{handles_in, members_of}
 use Rattle.dwg_cert.specs.declared.ends.BlockEnds.{BlockEnds}
 use Rattle.dwg_cert.specs.declared.entry.Entry.{Entry}
-use Rattle.dwg_graph.specs.Claimed.{reference_count, claim_counts, own_counts}
+use Rattle.dwg_graph.specs.Claimed.{AreBothCounted, reference_count}
 use Rattle.dwg_graph.specs.Graph.{EndHandles, is_member}
 use Rattle.dwg_graph.specs.Owners.{spaces}
 use Rattle.dwg_graph.specs.Places.{Ascend, handles_of}
+use Rattle.dwg_graph.specs.declared.claims.Claimed.{Claimed}
 use Rattle.dwg_graph.specs.declared.owner.SpaceHandles.{SpaceHandles}
 use Rattle.dwg_object.specs.Objects.{ObjectValue}
 use Rattle.dwg_object.specs.Written.{IsWhole}
@@ -28,14 +29,13 @@ abbrev pub member_counts : List ObjectValue → List ℕ
 member_counts objects = map (λ block. length (members_of objects block)) objects
 
 -- the checker knows the spaces of the objects and their handles, and has counted members and claims; the certificate has an entry for each object
-pub record IsChecker (objects : List ObjectValue) (cert : List Entry) (known : Option SpaceHandles) (index counts all_claims own_claims : List ℕ) : Type 0 where
+pub record IsChecker (objects : List ObjectValue) (cert : List Entry) (known : Option SpaceHandles) (index counts : List ℕ) (claimed : Claimed) : Type 0 where
   pub can : CanBeChecked objects
   pub entries : handles_in cert ≡ handles_of objects
   pub knows : known ≡ spaces objects
   pub handles : index ≡ handles_of objects
   pub members : counts ≡ member_counts objects
-  pub all : all_claims ≡ claim_counts objects
-  pub own : own_claims ≡ own_counts objects (spaces objects)
+  pub claims : AreBothCounted objects (spaces objects) claimed
 
 -- the ends that a block has, as they are defined
 abbrev pub end_handles : BlockEnds → EndHandles

@@ -56,7 +56,7 @@ impl<'d, 'o> Model for Checker<'d, 'o> {
 
     ghost view = { λ c. record { objects = map value_of c.objects.now; cert = c.entries.now } };
 
-    ghost invariant = { λ c. IsChecker (map value_of c.objects.now) c.entries.now c.known c.index c.members.items c.claimed.all.items c.claimed.own.items };
+    ghost invariant = { λ c. IsChecker (map value_of c.objects.now) c.entries.now c.known c.index c.members.items c.claimed };
 }
 
 /// The entry at a place, if there is one.

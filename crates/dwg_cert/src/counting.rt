@@ -1,12 +1,12 @@
 //! What the checker counts before it looks at single objects: the members of blocks, and the claims.
 
-ghost use Rattle.std.specs.Prelude.{◌≡◌, ◌<◌, ◌+◌, ◌^◌, length, map, replicate, IfOk};
+ghost use Rattle.std.specs.Prelude.{◌≡◌, ◌<◌, ◌+◌, ◌^◌, length, map, IfOk};
 ghost use Rattle.dwg_cert.specs.Checked.{CanBeChecked, CountsMembers, member_counts};
-ghost use Rattle.dwg_graph.specs.Claimed.{Adds, IsOpen, claim_counts, claiming, leads_down, leads_to, own_counts};
+ghost use Rattle.dwg_graph.specs.Claimed.{AddsBoth, AreBothCounted, AreBothOpen};
 ghost use Rattle.dwg_graph.specs.Owners.{spaces};
 ghost use Rattle.dwg_graph.specs.Places.{Ascend, handles_of};
 ghost use Rattle.dwg_graph.specs.Slots.{slots};
-ghost use Rattle.dwg_object.specs.Objects.{handle_of, kind_of, value_of};
+ghost use Rattle.dwg_object.specs.Objects.{value_of};
 
 use crate::lookup::place_of;
 use dwg_base::NoMemory;
@@ -74,10 +74,8 @@ fn count_holder(
     requires ascend { Ascend (handles_of (map value_of objects.now)) }
     requires index { index.now ≡ handles_of (map value_of objects.now) }
     requires few { length (slots (value_of holder.now)) < 2 ^ 58 }
-    requires all { IsOpen (map value_of objects.now) (length (slots (value_of holder.now))) claimed.old.all.items }
-    requires own { IsOpen (map value_of objects.now) (length (slots (value_of holder.now))) claimed.old.own.items }
-    ensures all { Adds (map value_of objects.now) leads_to (claiming (kind_of (value_of holder.now)) (slots (value_of holder.now))) claimed.old.all.items claimed.new.all.items }
-    ensures own { Adds (map value_of objects.now) (leads_down known.now (handle_of (value_of holder.now))) (claiming (kind_of (value_of holder.now)) (slots (value_of holder.now))) claimed.old.own.items claimed.new.own.items }
+    requires room { AreBothOpen (map value_of objects.now) (length (slots (value_of holder.now))) claimed.old }
+    ensures { AddsBoth (map value_of objects.now) known.now (value_of holder.now) (slots (value_of holder.now)) claimed.old claimed.new }
 {
     'along: for i in 0..slot_count(holder) {
         let slot = slot_at(holder, i);
@@ -86,27 +84,8 @@ fn count_holder(
     }
 }
 
-/// Counts the claims of all objects, from nothing.
-#[tactic(auto, using(dwg_graph::proofs::HolderLoops::counts_begin))]
-fn count_all(
-    objects: &[Object<'_>],
-    known: &Option<SpaceHandles>,
-    index: &Index,
-    claimed: &mut Claimed,
-)
-    requires can { CanBeChecked (map value_of objects.now) }
-    requires index { index.now ≡ handles_of (map value_of objects.now) }
-    requires no_all { claimed.old.all.items ≡ replicate (length objects.now) 0 }
-    requires no_own { claimed.old.own.items ≡ replicate (length objects.now) 0 }
-    ensures all { claimed.new.all.items ≡ claim_counts (map value_of objects.now) }
-    ensures own { claimed.new.own.items ≡ own_counts (map value_of objects.now) known.now }
-{
-    'along: for place in 0..objects.len() {
-        count_holder(objects, known, index, &objects[place], claimed);
-    }
-}
-
 /// How often each object is claimed, and how often by its owner. The only refusal is want of memory.
+#[tactic(auto, using(dwg_graph::proofs::HolderLoops::none_counted))]
 pub(crate) fn count_claims(
     alloc: Global,
     objects: &[Object<'_>],
@@ -115,10 +94,11 @@ pub(crate) fn count_claims(
 ) -> Result<Claimed, NoMemory>
     requires can { CanBeChecked (map value_of objects.now) }
     requires index { index.now ≡ handles_of (map value_of objects.now) }
-    ensures all { IfOk result (λ claimed. claimed.all.items ≡ claim_counts (map value_of objects.now)) }
-    ensures own { IfOk result (λ claimed. claimed.own.items ≡ own_counts (map value_of objects.now) known.now) }
+    ensures { IfOk result (AreBothCounted (map value_of objects.now) known.now) }
 {
     let mut claimed = Claimed::none(alloc, objects.len())?;
-    count_all(objects, known, index, &mut claimed);
+    'along: for holder in objects {
+        count_holder(objects, known, index, holder, &mut claimed);
+    }
     Ok(claimed)
 }

@@ -40,7 +40,7 @@ unfolding claiming
 claiming_none kind slot is = rw is refl
 
 -- nothing is counted
-adds_nothing : (objects : List ObjectValue) (test : ObjectValue → Slot → Bool) (counts : List ℕ) → Adds objects test [] counts counts
+pub adds_nothing : (objects : List ObjectValue) (test : ObjectValue → Slot → Bool) (counts : List ℕ) → Adds objects test [] counts counts
 adds_nothing objects test counts = record {
   long = refl;
   each = λ place x stands. omega arith;

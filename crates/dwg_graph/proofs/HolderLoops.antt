@@ -1,5 +1,5 @@
 -- The holders are counted one behind the other, and all of them give the claims on each object.
-use Rattle.std.proofs.Common.{◌≡◌, refl, sym, ◌∙◌, ap, ◌<◌, ◌≤◌, ◌+◌, ◌^◌, ℕ, suc, List, [], ◌∷◌, ◌++◌, length, map, take, get_or, replicate, Option, Some, Bool, true, false, arith}
+use Rattle.std.proofs.Common.{◌≡◌, refl, sym, ◌∙◌, ap, subst, ◌<◌, ◌≤◌, ◌+◌, ◌^◌, ℕ, suc, List, [], ◌∷◌, ◌++◌, length, map, take, get_or, replicate, Option, Some, Bool, true, false, arith}
 use Rattle.std.specs.Prelude.{◌==◌, ◌&&◌, if◌then◌else◌}
 use Rattle.std.specs.List.{slice_get, filter, flat_map, sum_by, count_by}
 use Rattle.std.proofs.lemmas.List.{take_more, take_all, length-map, get_or-replicate, length-replicate}
@@ -7,15 +7,17 @@ use Rattle.std.proofs.lemmas.List.Concat.{length-flat_map}
 use Rattle.std.proofs.lemmas.List.Elements.{filter-append}
 use Rattle.std.proofs.lemmas.List.Sums.{sum_by-cons, sum_by_push, count_by-le-length, length-filter, sum_by_more_le_part}
 use Rattle.std.proofs.lemmas.Option.{slice_get_within, get_or_from_slice_get}
+use Rattle.dwg_graph.specs.declared.claims.Claimed.{Claimed}
 use Rattle.dwg_graph.specs.declared.owner.SpaceHandles.{SpaceHandles}
 use Rattle.dwg_graph.specs.declared.slot.Slot.{Slot}
-use Rattle.dwg_graph.specs.Claimed.{Adds, IsOpen, claiming, leads_to, leads_down, claims_held, claim_counts, own_counts, reference_count}
+use Rattle.dwg_graph.specs.Claimed.{Adds, AddsBoth, AreBothCounted, AreBothOpen, IsOpen, claiming, leads_to, leads_down, claims_held, reference_count}
 use Rattle.dwg_graph.specs.Counts.{by_holder}
 use Rattle.dwg_graph.specs.Graph.{Claim, claims, claims_of, claims_by, is_claim}
 use Rattle.dwg_graph.specs.Owners.{owner_of}
 use Rattle.dwg_graph.specs.Slots.{slots}
-use Rattle.dwg_graph.proofs.Counting.{stands_there}
-use Rattle.dwg_object.specs.Objects.{ObjectValue, handle_of, kind_of}
+use Rattle.dwg_graph.proofs.Counting.{stands_there, value_there}
+use Rattle.dwg_object.specs.Objects.{ObjectValue, handle_of, kind_of, value_of}
+use Rattle.dwg_object.specs.declared.object.Object as declared
 
 -- how many claims a holder has on an object
 pub all_of : ObjectValue → ObjectValue → ℕ
@@ -31,7 +33,7 @@ pub record AreCounts (objects front : List ObjectValue) (one : ObjectValue → O
   pub each : (place : ℕ) (x : ObjectValue) → slice_get objects place ≡ Some x → get_or counts place 0 ≡ sum_by (one x) front
 
 -- no holder is counted
-pub counts_begin : (objects : List ObjectValue) (one : ObjectValue → ObjectValue → ℕ) → AreCounts objects (take 0 objects) one (replicate (length objects) 0)
+counts_begin : (objects : List ObjectValue) (one : ObjectValue → ObjectValue → ℕ) → AreCounts objects (take 0 objects) one (replicate (length objects) 0)
 counts_begin objects one = record {
   long = length-replicate (length objects) 0;
   each = λ place x stands. get_or-replicate (length objects) place 0 0 (slice_get_within objects place x stands);
@@ -163,17 +165,6 @@ counts_more objects one test counted i holder before after at same are adds = re
       omega (arith, sum, adds.each place x stands, are.each place x stands, same x);
 }
 
-pub counts_more_all : (objects : List ObjectValue) (i : ℕ) (holder : ObjectValue) (before after : List ℕ) → slice_get objects i ≡ Some holder → AreCounts objects (take i objects) all_of before
-    → Adds objects leads_to (claiming (kind_of holder) (slots holder)) before after → AreCounts objects (take (i + 1) objects) all_of after
-counts_more_all objects i holder before after at are adds =
-    counts_more objects all_of leads_to (claiming (kind_of holder) (slots holder)) i holder before after at (λ x. all_counted x holder) are adds
-
-pub counts_more_own : (objects : List ObjectValue) (known : Option SpaceHandles) (i : ℕ) (holder : ObjectValue) (before after : List ℕ) → slice_get objects i ≡ Some holder
-    → AreCounts objects (take i objects) (own_of known) before → Adds objects (leads_down known (handle_of holder)) (claiming (kind_of holder) (slots holder)) before after
-    → AreCounts objects (take (i + 1) objects) (own_of known) after
-counts_more_own objects known i holder before after at are adds =
-    counts_more objects (own_of known) (leads_down known (handle_of holder)) (claiming (kind_of holder) (slots holder)) i holder before after at (λ x. own_counted known x holder) are adds
-
 -- there is room for a holder's slots
 counts_room : (objects : List ObjectValue) (one : ObjectValue → ObjectValue → ℕ) (i : ℕ) (holder : ObjectValue) (counts : List ℕ) → ((x y : ObjectValue) → one x y ≤ length (slots y))
     → slice_get objects i ≡ Some holder → reference_count objects < 2 ^ 58 → AreCounts objects (take i objects) one counts → IsOpen objects (length (slots holder)) counts
@@ -187,14 +178,6 @@ counts_room objects one i holder counts least at few are = record {
       let same : length (slots (get_or objects i holder)) ≡ length (slots holder) = ap (λ (x : ObjectValue). length (slots x)) (get_or_from_slice_get objects i holder holder at) in
       omega (arith, sum, same, few, are.each place there.0 there.1);
 }
-
-pub room_all : (objects : List ObjectValue) (i : ℕ) (holder : ObjectValue) (counts : List ℕ) → slice_get objects i ≡ Some holder → reference_count objects < 2 ^ 58
-    → AreCounts objects (take i objects) all_of counts → IsOpen objects (length (slots holder)) counts
-room_all objects i holder counts at few are = counts_room objects all_of i holder counts all_few at few are
-
-pub room_own : (objects : List ObjectValue) (known : Option SpaceHandles) (i : ℕ) (holder : ObjectValue) (counts : List ℕ) → slice_get objects i ≡ Some holder → reference_count objects < 2 ^ 58
-    → AreCounts objects (take i objects) (own_of known) counts → IsOpen objects (length (slots holder)) counts
-room_own objects known i holder counts at few are = counts_room objects (own_of known) i holder counts (own_few known) at few are
 
 -- a list of numbers, of which each is what is said of a thing
 pub tabled : {A : Type 0} (f : A → ℕ) (things : List A) (counts : List ℕ) → length counts ≡ length things
@@ -224,14 +207,57 @@ own_sum objects known x =
     let test : Claim → Bool = by_holder (owner_of known x) in
     sym (ap length (filter_flat test (claims_of (handle_of x)) objects) ∙ length-flat_map (λ holder. filter test (claims_of (handle_of x) holder)) objects)
 
--- where all holders are counted, the counts are those of the claims
-pub counts_all : (objects : List ObjectValue) (i : ℕ) (counts : List ℕ) → length objects ≤ i → AreCounts objects (take i objects) all_of counts → counts ≡ claim_counts objects
-counts_all objects i counts most are =
-    tabled (λ (x : ObjectValue). length (claims objects (handle_of x))) objects counts are.long
-    (λ place x stands. are.each place x stands ∙ (ap (sum_by (all_of x)) (take_all i objects most) ∙ all_sum objects x))
+-- both counts, of what these holders have
+pub record AreBothCounts (objects front : List ObjectValue) (known : Option SpaceHandles) (counts : Claimed) : Type 0 where
+  pub all : AreCounts objects front all_of counts.all.items
+  pub own : AreCounts objects front (own_of known) counts.own.items
 
-pub counts_own : (objects : List ObjectValue) (known : Option SpaceHandles) (i : ℕ) (counts : List ℕ) → length objects ≤ i → AreCounts objects (take i objects) (own_of known) counts
-    → counts ≡ own_counts objects known
-counts_own objects known i counts most are =
-    tabled (λ (x : ObjectValue). length (claims_held (owner_of known x) (claims objects (handle_of x)))) objects counts are.long
-    (λ place x stands. are.each place x stands ∙ (ap (sum_by (own_of known x)) (take_all i objects most) ∙ own_sum objects known x))
+-- no holder is counted
+pub none_counted : (objects : List declared.Object) (known : Option SpaceHandles) (counts : Claimed) → counts.all.items ≡ replicate (length objects) 0
+    → counts.own.items ≡ replicate (length objects) 0 → AreBothCounts (map value_of objects) (take 0 (map value_of objects)) known counts
+none_counted objects known counts all own =
+    let values : List ObjectValue = map value_of objects in
+    let count : length objects ≡ length values = sym (length-map objects value_of) in
+    record {
+      all = subst (AreCounts values (take 0 values) all_of) (sym (all ∙ ap (λ n. replicate n 0) count)) (counts_begin values all_of);
+      own = subst (AreCounts values (take 0 values) (own_of known)) (sym (own ∙ ap (λ n. replicate n 0) count)) (counts_begin values (own_of known));
+    }
+
+-- one more is
+pub one_counted : (objects : List declared.Object) (known : Option SpaceHandles) (place : ℕ) (holder : declared.Object) (before after : Claimed) → place < length objects
+    → holder ≡ get_or objects place holder → AreBothCounts (map value_of objects) (take place (map value_of objects)) known before
+    → AddsBoth (map value_of objects) known (value_of holder) (slots (value_of holder)) before after
+    → AreBothCounts (map value_of objects) (take (place + 1) (map value_of objects)) known after
+one_counted objects known place holder before after within is are adds =
+    let values : List ObjectValue = map value_of objects in
+    let x : ObjectValue = value_of holder in
+    let held = claiming (kind_of x) (slots x) in
+    let at = value_there objects place holder within is in
+    record {
+      all = counts_more values all_of leads_to held place x before.all.items after.all.items at (λ y. all_counted y x) are.all adds.all;
+      own = counts_more values (own_of known) (leads_down known (handle_of x)) held place x before.own.items after.own.items at (λ y. own_counted known y x) are.own adds.own;
+    }
+
+-- there is room for the slots of one more
+pub still_open : (objects : List declared.Object) (known : Option SpaceHandles) (place : ℕ) (holder : declared.Object) (counts : Claimed) → place < length objects → holder ≡ get_or objects place holder
+    → reference_count (map value_of objects) < 2 ^ 58 → AreBothCounts (map value_of objects) (take place (map value_of objects)) known counts
+    → AreBothOpen (map value_of objects) (length (slots (value_of holder))) counts
+still_open objects known place holder counts within is few are =
+    let at = value_there objects place holder within is in
+    record {
+      all = counts_room (map value_of objects) all_of place (value_of holder) counts.all.items all_few at few are.all;
+      own = counts_room (map value_of objects) (own_of known) place (value_of holder) counts.own.items (own_few known) at few are.own;
+    }
+
+-- all are, and the counts are those of the claims
+pub both_counted : (objects : List declared.Object) (known : Option SpaceHandles) (place : ℕ) (counts : Claimed) → length objects ≤ place
+    → AreBothCounts (map value_of objects) (take place (map value_of objects)) known counts → AreBothCounted (map value_of objects) known counts
+both_counted objects known place counts behind are =
+    let values : List ObjectValue = map value_of objects in
+    let most : length values ≤ place = omega (arith, length-map objects value_of, behind) in
+    record {
+      all = tabled (λ (x : ObjectValue). length (claims values (handle_of x))) values counts.all.items are.all.long
+          (λ i x stands. are.all.each i x stands ∙ (ap (sum_by (all_of x)) (take_all place values most) ∙ all_sum values x));
+      own = tabled (λ (x : ObjectValue). length (claims_held (owner_of known x) (claims values (handle_of x)))) values counts.own.items are.own.long
+          (λ i x stands. are.own.each i x stands ∙ (ap (sum_by (own_of known x)) (take_all place values most) ∙ own_sum values known x));
+    }

@@ -19,7 +19,7 @@ use Rattle.dwg_object.specs.Objects.{ObjectValue, handle_of, kind_of}
 use Rattle.dwg_paths.specs.ThingsAtPlaces.{TestsAgree}
 use Rattle.dwg_paths.proofs.PlaceLaws.{chain_seen, place_of_contained}
 use Rattle.dwg_paths.specs.Tables.{leads, lives_at, is_at, ends_at, HasChainAt}
-use Rattle.dwg_paths.specs.declared.tables.Ends.{Ends}
+use Rattle.dwg_paths.specs.declared.tables.ChainEnds.{ChainEnds}
 
 -- two tests for being one agree where each is so exactly where the other is
 same_tests : (a b c d : ℕ) → (a ≡ b → c ≡ d) → (c ≡ d → a ≡ b) → (a == b) ≡ (c == d)
@@ -194,7 +194,7 @@ none_lives objects known i x ascend at = (forth, back)
 pub chain_placed : (objects : List ObjectValue) (i : ℕ) (x : ObjectValue) → Ascend (handles_of objects) → slice_get objects i ≡ Some x
     → HasChainAt (home_table objects (spaces objects)) (next_table objects) i (ends_at (end_table objects) i) ↔ HasMemberChain objects x
 chain_placed objects i x ascend at =
-    subst (λ (e : Option Ends). HasChainAt (home_table objects (spaces objects)) (next_table objects) i e ↔ HasMemberChain objects x) (sym (ends_in_table objects i x at)) (go (ends_of x))
+    subst (λ (e : Option ChainEnds). HasChainAt (home_table objects (spaces objects)) (next_table objects) i e ↔ HasMemberChain objects x) (sym (ends_in_table objects i x at)) (go (ends_of x))
   where
     go : (ends : Option EndHandles) → HasChainAt (home_table objects (spaces objects)) (next_table objects) i (option_map (end_places (handles_of objects)) ends) ↔ HasChainBetween objects x ends
     go None = none_lives objects (spaces objects) i x ascend at

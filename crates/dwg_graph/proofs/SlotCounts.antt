@@ -21,7 +21,7 @@ use Rattle.dwg_dicts.specs.XRecords.{xrecord_body}
 use Rattle.dwg_entities.specs.AttdefBody.{attdef_body}
 use Rattle.dwg_entities.specs.AttribBody.{attrib_body}
 use Rattle.dwg_entities.specs.BlockBody.{block_body}
-use Rattle.dwg_entities.specs.BlockEnds.{endblk_body, seqend_body}
+use Rattle.dwg_entities.specs.Closing.{endblk_body, seqend_body}
 use Rattle.dwg_entities.specs.InsertBody.{insert_body}
 use Rattle.dwg_entities.specs.TextBody.{text_body}
 use Rattle.dwg_entities.specs.declared.insert.Attributes.{Attributes}

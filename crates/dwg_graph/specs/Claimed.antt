@@ -1,6 +1,7 @@
 -- How often objects are claimed, counted slot by slot. A rule of this project.
 use Rattle.std.specs.Prelude.{◌≡◌, ◌<◌, ◌==◌, ◌&&◌, ◌+◌, ◌^◌, ℕ, Bool, List, length, map, Option, Some}
 use Rattle.std.specs.List.{filter, sum_by, count_by, slice_get, slice_set, slice_index_or}
+use Rattle.dwg_graph.specs.declared.claims.Claimed.{Claimed}
 use Rattle.dwg_graph.specs.declared.owner.SpaceHandles.{SpaceHandles}
 use Rattle.dwg_graph.specs.declared.slot.Slot.{Slot}
 use Rattle.dwg_graph.specs.Counts.{by_holder}
@@ -8,7 +9,7 @@ use Rattle.dwg_graph.specs.Graph.{Claim, claims, claims_by}
 use Rattle.dwg_graph.specs.Owners.{owner_of}
 use Rattle.dwg_graph.specs.Slots.{slots}
 use Rattle.dwg_kinds.specs.declared.kind.Kind.{Kind}
-use Rattle.dwg_object.specs.Objects.{ObjectValue, handle_of}
+use Rattle.dwg_object.specs.Objects.{ObjectValue, handle_of, kind_of}
 
 -- how many references objects hold beside those to their owners
 unfoldable pub reference_count : List ObjectValue → ℕ
@@ -51,3 +52,18 @@ pub record IsOpen (objects : List ObjectValue) (more : ℕ) (counts : List ℕ) 
 pub record Adds (objects : List ObjectValue) (test : ObjectValue → Slot → Bool) (counted : List Slot) (before after : List ℕ) : Type 0 where
   pub long : length after ≡ length before
   pub each : (place : ℕ) (x : ObjectValue) → slice_get objects place ≡ Some x → slice_index_or after place 0 ≡ slice_index_or before place 0 + count_by (test x) counted
+
+-- the counts by any object and by the owner have room for so many more
+pub record AreBothOpen (objects : List ObjectValue) (more : ℕ) (counts : Claimed) : Type 0 where
+  pub all : IsOpen objects more counts.all.items
+  pub own : IsOpen objects more counts.own.items
+
+-- both grow by what slots of a holder claim
+pub record AddsBoth (objects : List ObjectValue) (known : Option SpaceHandles) (holder : ObjectValue) (counted : List Slot) (before after : Claimed) : Type 0 where
+  pub all : Adds objects leads_to (claiming (kind_of holder) counted) before.all.items after.all.items
+  pub own : Adds objects (leads_down known (handle_of holder)) (claiming (kind_of holder) counted) before.own.items after.own.items
+
+-- both are those of all claims on the objects
+pub record AreBothCounted (objects : List ObjectValue) (known : Option SpaceHandles) (counts : Claimed) : Type 0 where
+  pub all : counts.all.items ≡ claim_counts objects
+  pub own : counts.own.items ≡ own_counts objects known

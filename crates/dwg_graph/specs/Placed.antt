@@ -7,7 +7,7 @@ use Rattle.dwg_graph.specs.Graph.{is_root, is_member, EndHandles, ends_of}
 use Rattle.dwg_graph.specs.Owners.{owner_of, next_of}
 use Rattle.dwg_graph.specs.Places.{handles_of}
 use Rattle.dwg_object.specs.Objects.{ObjectValue}
-use Rattle.dwg_paths.specs.declared.tables.Ends.{Ends}
+use Rattle.dwg_paths.specs.declared.tables.ChainEnds.{ChainEnds}
 
 -- the place of a handle among handles
 unfoldable pub place_in : List ℕ → ℕ → Option ℕ
@@ -30,7 +30,7 @@ abbrev pub home_place : List ObjectValue → Option SpaceHandles → ObjectValue
 home_place objects known x = option_and_then (home_at objects known x) (owner_place objects known x)
 
 -- where the ends of a block stand among handles
-abbrev pub end_places : List ℕ → EndHandles → Ends
+abbrev pub end_places : List ℕ → EndHandles → ChainEnds
 end_places handles ends = record { first = place_in handles ends.first; last = place_in handles ends.last }
 
 -- the tables of all objects
@@ -46,5 +46,5 @@ root_table objects known = map (is_root known) objects
 abbrev pub home_table : List ObjectValue → Option SpaceHandles → List (Option ℕ)
 home_table objects known = map (home_place objects known) objects
 
-abbrev pub end_table : List ObjectValue → List (Option Ends)
+abbrev pub end_table : List ObjectValue → List (Option ChainEnds)
 end_table objects = map (λ x. option_map (end_places (handles_of objects)) (ends_of x)) objects

@@ -67,14 +67,19 @@ IsClaimed objects x =
     (IsOwnedBy objects x true × IsSoleClaim (owner_of (spaces objects) x) (claims objects (handle_of x)))
     ⊎ (IsOwnedBy objects x false × (claims objects (handle_of x) ≡ []))
 
--- the references of a drawing hold together
-pub record IsSound (objects : List ObjectValue) : Type 0 where
+-- objects have the table of blocks, the references and the claims that they need
+pub record MeetNeeds (objects : List ObjectValue) : Type 0 where
   -- there is exactly one Typed BLOCK CONTROL
   pub control : length (block_controls objects) ≡ 1
   -- the owner and each slot of each Typed object meet their needs
   pub resolve : (x : ObjectValue) → Contains objects x → IsTrue (is_typed x) → Resolves objects x
   -- each Typed object of which a claim is asked is claimed by its owner alone, or by none where its owner isn't Typed
   pub claim : (x : ObjectValue) → Contains objects x → IsTrue (is_typed x) → IsExempt objects x ⊎ IsClaimed objects x
+
+-- the references of a drawing hold together
+pub record IsSound (objects : List ObjectValue) : Type 0 where
+  -- there is exactly one Typed BLOCK CONTROL, the owner and each slot of each Typed object meet their needs, and the claims are as they must be
+  pub needs : MeetNeeds objects
   -- the members of each Typed BLOCK HEADER stand in a chain
   pub chain : (x : ObjectValue) → Contains objects x → IsTrue (is_header x) → HasMemberChain objects x
   -- the owners of each Typed object lead to a root

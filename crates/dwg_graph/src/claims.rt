@@ -3,7 +3,7 @@
 ghost use Rattle.std.specs.Prelude.{◌≡◌, ◌<◌, Some, ◌==◌, ◌+◌, ◌^◌, [], ◌∷◌, false, length, map, replicate, IfOk, if◌then◌else◌};
 ghost use Rattle.std.specs.List.{filter, slice_get, slice_index_or};
 ghost use Rattle.std.specs.Option.{option_and_then, option_map_or};
-ghost use Rattle.dwg_graph.specs.Claimed.{IsOpen, Adds, leads_to, leads_down, claiming, raised};
+ghost use Rattle.dwg_graph.specs.Claimed.{AddsBoth, AreBothOpen, raised};
 ghost use Rattle.dwg_graph.specs.Counts.{by_counts, by_holder};
 ghost use Rattle.dwg_graph.specs.Graph.{claims, is_typed};
 ghost use Rattle.dwg_graph.specs.Owners.{owner_of};
@@ -104,10 +104,8 @@ pub fn count_slot(
 )
     requires ascend { Ascend (handles_of (map value_of objects.now)) }
     requires place { place ≡ place_in (handles_of (map value_of objects.now)) slot.now.target }
-    requires all { IsOpen (map value_of objects.now) 1 claimed.old.all.items }
-    requires own { IsOpen (map value_of objects.now) 1 claimed.old.own.items }
-    ensures all { Adds (map value_of objects.now) leads_to (claiming (kind_of (value_of holder.now)) (slot.now ∷ [])) claimed.old.all.items claimed.new.all.items }
-    ensures own { Adds (map value_of objects.now) (leads_down known.now (handle_of (value_of holder.now))) (claiming (kind_of (value_of holder.now)) (slot.now ∷ [])) claimed.old.own.items claimed.new.own.items }
+    requires room { AreBothOpen (map value_of objects.now) 1 claimed.old }
+    ensures { AddsBoth (map value_of objects.now) known.now (value_of holder.now) (slot.now ∷ []) claimed.old claimed.new }
 {
     if !can_claim(holder.kind(), slot.field) {
         return;

@@ -22,7 +22,7 @@ pub struct SpaceHandles {
 }
 
 /// The handle behind another, null where there is none.
-fn behind(handle: Handle) -> Handle
+fn handle_behind(handle: Handle) -> Handle
     ensures { result ≡ handle_behind handle }
 {
     match Handle::new(handle.value() + 1) {
@@ -98,9 +98,9 @@ fn next_by(handle: Handle, common: &Common) -> Handle
     match common {
         Common::Entity(common) => match common.links {
             Some(links) => links.next.target,
-            None => behind(handle),
+            None => handle_behind(handle),
         },
-        Common::Object(_) => behind(handle),
+        Common::Object(_) => handle_behind(handle),
     }
 }
 
@@ -113,7 +113,7 @@ pub fn next_of(object: &Object<'_>) -> Handle
     match object {
         Object::Typed(typed) => next_by(typed.handle, &typed.common),
         Object::Plain(plain) => next_by(plain.handle, &plain.common),
-        Object::Raw(raw) => behind(raw.handle),
+        Object::Raw(raw) => handle_behind(raw.handle),
     }
 }
 

@@ -39,9 +39,9 @@ straight_of_chain {A} step last x (y ∷ rest) distinct follows ends once =
 members_told : {A : Type 0} (same : A → A → Bool) (all : List A) (member : A → Bool) → TellsApart all same → IsAmong all member → (listed : List A) → are_members same all member listed ≡ true → (x : A) → IsTrue (member x) ↔ Contains listed x
 members_told {A} same all member apart among listed are x =
     let parts = and_parts (list_all member listed) (list_all (λ y. list_any (same y) listed) (filter member all)) are in (
-      λ is. let met = one_of_any (same x) listed (each_of_all (λ y. list_any (same y) listed) (filter member all) x parts.1 (kept_of_passing member all x (among x is) is)) in
-          let one : x ≡ met.0 = (apart x met.0 (among x is) (among met.0 (each_of_all member listed met.0 parts.0 met.1))).0 met.2 in
-          subst (λ (z : A). Contains listed z) (sym one) met.1,
+      λ is. let found = one_of_any (same x) listed (each_of_all (λ y. list_any (same y) listed) (filter member all) x parts.1 (kept_of_passing member all x (among x is) is)) in
+          let one : x ≡ found.0 = (apart x found.0 (among x is) (among found.0 (each_of_all member listed found.0 parts.0 found.1))).0 found.2 in
+          subst (λ (z : A). Contains listed z) (sym one) found.1,
       λ inside. each_of_all member listed x parts.0 inside,
     )
 

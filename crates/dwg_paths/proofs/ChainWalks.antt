@@ -5,7 +5,7 @@ use Rattle.std.proofs.lemmas.Bool.{false≢true, cases_Bool}
 use Rattle.std.proofs.lemmas.Bool.Decides.{eqb_tells}
 use Rattle.std.proofs.lemmas.List.{length-set}
 use Rattle.std.proofs.lemmas.Option.{same_Some}
-use Rattle.dwg_paths.specs.declared.tables.Ends.{Ends}
+use Rattle.dwg_paths.specs.declared.tables.ChainEnds.{ChainEnds}
 use Rattle.dwg_paths.specs.Tables.{leads, marked, is_at, lives_at, ends_at, HasChainAt}
 use Rattle.dwg_paths.specs.ChainMarks.{IsJudged}
 use Rattle.dwg_paths.proofs.Marking.{same_or_other, marked_same, marked_other}
@@ -34,75 +34,75 @@ lives_apart homes home other place apart lives = ⊎_elim
     (cases_Bool (lives_at homes home place))
 
 -- a walk along the members of a home: only members were marked since it began, and a chain is what is left at the present place
-pub record IsFollowed (homes next : List (Option ℕ)) (home : ℕ) (ends : Ends) (start met : List Bool) (at : ℕ) : Type 0 where
-  pub places : length met ≡ length homes
-  pub others : (place : ℕ) → lives_at homes home place ≡ false → marked met place ≡ marked start place
-  pub left : HasChainAt homes next home (Some ends) ↔ HasRest (leads next) (lives_at homes home) (is_at ends.last) met at
+pub record IsFollowed (homes next : List (Option ℕ)) (home : ℕ) (ends : ChainEnds) (start seen : List Bool) (at : ℕ) : Type 0 where
+  pub places : length seen ≡ length homes
+  pub others : (place : ℕ) → lives_at homes home place ≡ false → marked seen place ≡ marked start place
+  pub left : HasChainAt homes next home (Some ends) ↔ HasRest (leads next) (lives_at homes home) (is_at ends.last) seen at
 
 -- the places that aren't members keep their marks
-pub follow_others : (homes next : List (Option ℕ)) (home : ℕ) (ends : Ends) (start met after : List Bool) (at : ℕ) → lives_at homes home at ≡ true → after ≡ set met at true → IsFollowed homes next home ends start met at → (place : ℕ) → lives_at homes home place ≡ false → marked after place ≡ marked start place
-follow_others homes next home ends start met after at lives is walk place away =
+pub follow_others : (homes next : List (Option ℕ)) (home : ℕ) (ends : ChainEnds) (start seen after : List Bool) (at : ℕ) → lives_at homes home at ≡ true → after ≡ set seen at true → IsFollowed homes next home ends start seen at → (place : ℕ) → lives_at homes home place ≡ false → marked after place ≡ marked start place
+follow_others homes next home ends start seen after at lives is walk place away =
     let apart : place ≡ at → ⊥ = λ e. false≢true (sym away ∙ ap (lives_at homes home) e ∙ lives) in
-    ap (λ (marks : List Bool). marked marks place) is ∙ marked_other met at place true apart ∙ walk.others place away
+    ap (λ (marks : List Bool). marked marks place) is ∙ marked_other seen at place true apart ∙ walk.others place away
 
 -- a walk goes on
-pub follow_goes : (homes next : List (Option ℕ)) (home : ℕ) (ends : Ends) (start met after : List Bool) (at further : ℕ) → (lives_at homes home at ≡ true) × (marked met at ≡ false) → is_at ends.last at ≡ false → leads next at ≡ Some further → after ≡ set met at true → IsFollowed homes next home ends start met at → IsFollowed homes next home ends start after further
-follow_goes homes next home ends start met after at further new more to is walk =
-    let inside : at < length met = omega (arith, lives_within homes home at new.0, walk.places) in
-    let goes = rest_goes (leads next) (lives_at homes home) (is_at ends.last) met at further inside new.0 new.1 more to in
-    let turn : IsFollowed homes next home ends start (set met at true) further = record {
-      places = length-set met at true ∙ walk.places;
-      others = follow_others homes next home ends start met (set met at true) at new.0 refl walk;
+pub follow_goes : (homes next : List (Option ℕ)) (home : ℕ) (ends : ChainEnds) (start seen after : List Bool) (at further : ℕ) → (lives_at homes home at ≡ true) × (marked seen at ≡ false) → is_at ends.last at ≡ false → leads next at ≡ Some further → after ≡ set seen at true → IsFollowed homes next home ends start seen at → IsFollowed homes next home ends start after further
+follow_goes homes next home ends start seen after at further new more to is walk =
+    let inside : at < length seen = omega (arith, lives_within homes home at new.0, walk.places) in
+    let goes = rest_goes (leads next) (lives_at homes home) (is_at ends.last) seen at further inside new.0 new.1 more to in
+    let turn : IsFollowed homes next home ends start (set seen at true) further = record {
+      places = length-set seen at true ∙ walk.places;
+      others = follow_others homes next home ends start seen (set seen at true) at new.0 refl walk;
       left = (λ chain. goes.0 (walk.left.0 chain), λ rest. walk.left.1 (goes.1 rest));
     } in
     subst (λ (marks : List Bool). IsFollowed homes next home ends start marks further) (sym is) turn
 
 -- a walk comes to the last place
-pub follow_ends : (homes next : List (Option ℕ)) (home : ℕ) (ends : Ends) (start met after : List Bool) (at : ℕ) → (lives_at homes home at ≡ true) × (marked met at ≡ false) → is_at ends.last at ≡ true → after ≡ set met at true → IsFollowed homes next home ends start met at → IsJudged homes next after home (Some ends) true
-follow_ends homes next home ends start met after at new end is walk =
-    let inside : at < length met = omega (arith, lives_within homes home at new.0, walk.places) in
-    let over = rest_ends (leads next) (lives_at homes home) (is_at ends.last) met at inside new.0 new.1 end (λ x here. at_one ends.last x at here end) in
-    let judged : IsJudged homes next (set met at true) home (Some ends) true =
+pub follow_ends : (homes next : List (Option ℕ)) (home : ℕ) (ends : ChainEnds) (start seen after : List Bool) (at : ℕ) → (lives_at homes home at ≡ true) × (marked seen at ≡ false) → is_at ends.last at ≡ true → after ≡ set seen at true → IsFollowed homes next home ends start seen at → IsJudged homes next after home (Some ends) true
+follow_ends homes next home ends start seen after at new end is walk =
+    let inside : at < length seen = omega (arith, lives_within homes home at new.0, walk.places) in
+    let over = rest_ends (leads next) (lives_at homes home) (is_at ends.last) seen at inside new.0 new.1 end (λ x here. at_one ends.last x at here end) in
+    let judged : IsJudged homes next (set seen at true) home (Some ends) true =
     (λ chain. (refl, over.0 (walk.left.0 chain)), λ both. walk.left.1 (over.1 both.1)) in
     subst (λ (marks : List Bool). IsJudged homes next marks home (Some ends) true) (sym is) judged
 
 -- a walk leads nowhere
-pub follow_nowhere : (homes next : List (Option ℕ)) (home : ℕ) (ends : Ends) (start met after : List Bool) (at : ℕ) → is_at ends.last at ≡ false → leads next at ≡ None → IsFollowed homes next home ends start met at → IsJudged homes next after home (Some ends) false
-follow_nowhere homes next home ends start met after at more nowhere walk = (
+pub follow_nowhere : (homes next : List (Option ℕ)) (home : ℕ) (ends : ChainEnds) (start seen after : List Bool) (at : ℕ) → is_at ends.last at ≡ false → leads next at ≡ None → IsFollowed homes next home ends start seen at → IsJudged homes next after home (Some ends) false
+follow_nowhere homes next home ends start seen after at more nowhere walk = (
   λ chain.
       let rest = walk.left.0 chain in
-      absurd (none_left (leads next) (lives_at homes home) (is_at ends.last) met at more nowhere rest.0 rest.1),
+      absurd (none_left (leads next) (lives_at homes home) (is_at ends.last) seen at more nowhere rest.0 rest.1),
   λ both. absurd (false≢true both.0),
 )
 
--- the homes so far are judged, and no member of another is met
-pub record AreJudged (homes next : List (Option ℕ)) (ends : List (Option Ends)) (met verdicts : List Bool) (count : ℕ) : Type 0 where
-  pub met_places : length met ≡ length homes
+-- the homes so far are judged, and no member of another is seen
+pub record AreJudged (homes next : List (Option ℕ)) (ends : List (Option ChainEnds)) (seen verdicts : List Bool) (count : ℕ) : Type 0 where
+  pub seen_places : length seen ≡ length homes
   pub verdict_places : length verdicts ≡ length homes
-  pub judged : (home : ℕ) → home < count → IsJudged homes next met home (ends_at ends home) (marked verdicts home)
-  pub unmet : (home place : ℕ) → count ≤ home → lives_at homes home place ≡ true → marked met place ≡ false
+  pub judged : (home : ℕ) → home < count → IsJudged homes next seen home (ends_at ends home) (marked verdicts home)
+  pub unseen : (home place : ℕ) → count ≤ home → lives_at homes home place ≡ true → marked seen place ≡ false
 
 -- a home that was judged stays so where its members keep their marks
-judged_still : (homes next : List (Option ℕ)) (met after : List Bool) (home : ℕ) (ends : Option Ends) (verdict : Bool) → ((place : ℕ) → lives_at homes home place ≡ true → marked after place ≡ marked met place) → IsJudged homes next met home ends verdict → IsJudged homes next after home ends verdict
-judged_still homes next met after home ends verdict same judged = (
+judged_still : (homes next : List (Option ℕ)) (seen after : List Bool) (home : ℕ) (ends : Option ChainEnds) (verdict : Bool) → ((place : ℕ) → lives_at homes home place ≡ true → marked after place ≡ marked seen place) → IsJudged homes next seen home ends verdict → IsJudged homes next after home ends verdict
+judged_still homes next seen after home ends verdict same judged = (
   λ chain. let both = judged.0 chain in (both.0, λ place lives. same place lives ∙ both.1 place lives),
   λ both. judged.1 (both.0, λ place lives. sym (same place lives) ∙ both.1 place lives),
 )
 
 -- one home more is judged
-pub judged_more : (homes next : List (Option ℕ)) (ends : List (Option Ends)) (met met_after verdicts verdicts_after : List Bool) (count : ℕ) (verdict : Bool) → count < length homes → length met_after ≡ length met → ((place : ℕ) → lives_at homes count place ≡ false → marked met_after place ≡ marked met place) → IsJudged homes next met_after count (ends_at ends count) verdict → verdicts_after ≡ set verdicts count verdict → AreJudged homes next ends met verdicts count → AreJudged homes next ends met_after verdicts_after (count + 1)
-judged_more homes next ends met met_after verdicts verdicts_after count verdict inside places others here is before =
-    let same : (home place : ℕ) → (home ≡ count → ⊥) → lives_at homes home place ≡ true → marked met_after place ≡ marked met place =
+pub judged_more : (homes next : List (Option ℕ)) (ends : List (Option ChainEnds)) (seen seen_after verdicts verdicts_after : List Bool) (count : ℕ) (verdict : Bool) → count < length homes → length seen_after ≡ length seen → ((place : ℕ) → lives_at homes count place ≡ false → marked seen_after place ≡ marked seen place) → IsJudged homes next seen_after count (ends_at ends count) verdict → verdicts_after ≡ set verdicts count verdict → AreJudged homes next ends seen verdicts count → AreJudged homes next ends seen_after verdicts_after (count + 1)
+judged_more homes next ends seen seen_after verdicts verdicts_after count verdict inside places others here is before =
+    let same : (home place : ℕ) → (home ≡ count → ⊥) → lives_at homes home place ≡ true → marked seen_after place ≡ marked seen place =
     λ home place apart lives. others place (lives_apart homes count home place (λ e. apart (sym e)) lives) in
-    let more : AreJudged homes next ends met_after (set verdicts count verdict) (count + 1) = record {
-      met_places = places ∙ before.met_places;
+    let more : AreJudged homes next ends seen_after (set verdicts count verdict) (count + 1) = record {
+      seen_places = places ∙ before.seen_places;
       verdict_places = length-set verdicts count verdict ∙ before.verdict_places;
       judged = λ home less. ⊎_elim
-          (λ e. subst (λ (n : ℕ). IsJudged homes next met_after n (ends_at ends n) (marked (set verdicts count verdict) n)) (sym e)
-          (subst (λ (b : Bool). IsJudged homes next met_after count (ends_at ends count) b) (sym (marked_same verdicts count verdict (omega (arith, inside, before.verdict_places)))) here))
-          (λ apart. subst (λ (b : Bool). IsJudged homes next met_after home (ends_at ends home) b) (sym (marked_other verdicts count home verdict apart))
-          (judged_still homes next met met_after home (ends_at ends home) (marked verdicts home) (λ place lives. same home place apart lives) (before.judged home (omega (arith, less, apart)))))
+          (λ e. subst (λ (n : ℕ). IsJudged homes next seen_after n (ends_at ends n) (marked (set verdicts count verdict) n)) (sym e)
+          (subst (λ (b : Bool). IsJudged homes next seen_after count (ends_at ends count) b) (sym (marked_same verdicts count verdict (omega (arith, inside, before.verdict_places)))) here))
+          (λ apart. subst (λ (b : Bool). IsJudged homes next seen_after home (ends_at ends home) b) (sym (marked_other verdicts count home verdict apart))
+          (judged_still homes next seen seen_after home (ends_at ends home) (marked verdicts home) (λ place lives. same home place apart lives) (before.judged home (omega (arith, less, apart)))))
           (same_or_other home count);
-      unmet = λ home place above lives. same home place (λ e. omega (arith, e, above)) lives ∙ before.unmet home place (omega (arith, above)) lives;
+      unseen = λ home place above lives. same home place (λ e. omega (arith, e, above)) lives ∙ before.unseen home place (omega (arith, above)) lives;
     } in
-    subst (λ (marks : List Bool). AreJudged homes next ends met_after marks (count + 1)) (sym is) more
+    subst (λ (marks : List Bool). AreJudged homes next ends seen_after marks (count + 1)) (sym is) more

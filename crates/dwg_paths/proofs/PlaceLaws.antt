@@ -107,25 +107,25 @@ places_of all (x ∷ xs) within =
     (here.0 ∷ further.0, (here.1, further.1))
 
 -- the thing at one of the places is one of the things
-thing_met : {B : Type 0} (all : List B) (places : List ℕ) (things : List B) (i : ℕ) → AreAt all places things → Contains places i → (x : B) × Contains things x × (slice_get all i ≡ Some x)
+thing_found : {B : Type 0} (all : List B) (places : List ℕ) (things : List B) (i : ℕ) → AreAt all places things → Contains places i → (x : B) × Contains things x × (slice_get all i ≡ Some x)
 unfolding AreAt
-thing_met all [] [] i are inside = absurd (contains_none i inside)
-thing_met all [] (x ∷ xs) i are inside = absurd are
-thing_met all (j ∷ js) [] i are inside = absurd are
-thing_met {B} all (j ∷ js) (x ∷ xs) i are inside = ⊎_elim
+thing_found all [] [] i are inside = absurd (contains_none i inside)
+thing_found all [] (x ∷ xs) i are inside = absurd are
+thing_found all (j ∷ js) [] i are inside = absurd are
+thing_found {B} all (j ∷ js) (x ∷ xs) i are inside = ⊎_elim
     (λ same. (x, contains_first x xs, subst (λ (k : ℕ). slice_get all k ≡ Some x) same are.0))
-    (λ behind. let further = thing_met all js xs i are.1 behind in (further.0, contains_behind x xs further.0 further.1, further.2))
+    (λ behind. let further = thing_found all js xs i are.1 behind in (further.0, contains_behind x xs further.0 further.1, further.2))
     (contains_cases j js i inside)
 
 -- one of the things stands at one of the places
-place_met : {B : Type 0} (all : List B) (places : List ℕ) (things : List B) (x : B) → AreAt all places things → Contains things x → (i : ℕ) × Contains places i × (slice_get all i ≡ Some x)
+place_found : {B : Type 0} (all : List B) (places : List ℕ) (things : List B) (x : B) → AreAt all places things → Contains things x → (i : ℕ) × Contains places i × (slice_get all i ≡ Some x)
 unfolding AreAt
-place_met all [] [] x are inside = absurd (contains_none x inside)
-place_met all [] (y ∷ ys) x are inside = absurd are
-place_met all (i ∷ is) [] x are inside = absurd are
-place_met {B} all (i ∷ is) (y ∷ ys) x are inside = ⊎_elim
+place_found all [] [] x are inside = absurd (contains_none x inside)
+place_found all [] (y ∷ ys) x are inside = absurd are
+place_found all (i ∷ is) [] x are inside = absurd are
+place_found {B} all (i ∷ is) (y ∷ ys) x are inside = ⊎_elim
     (λ same. (i, contains_first i is, are.0 ∙ ap Some same))
-    (λ behind. let further = place_met all is ys x are.1 behind in (further.0, contains_behind i is further.0 further.1, further.2))
+    (λ behind. let further = place_found all is ys x are.1 behind in (further.0, contains_behind i is further.0 further.1, further.2))
     (contains_cases y ys x inside)
 
 -- things at distinct places are distinct, where those of the whole list are
@@ -135,8 +135,8 @@ distinct_over all [] [] whole are distinct = tt
 distinct_over all [] (x ∷ xs) whole are distinct = absurd are
 distinct_over all (i ∷ is) [] whole are distinct = absurd are
 distinct_over all (i ∷ is) (x ∷ xs) whole are distinct = (
-  λ again. let met = place_met all is xs x are.1 again in
-      distinct.0 (subst (λ (k : ℕ). Contains is k) (one_place all met.0 i x whole met.2 are.0) met.1),
+  λ again. let found = place_found all is xs x are.1 again in
+      distinct.0 (subst (λ (k : ℕ). Contains is k) (one_place all found.0 i x whole found.2 are.0) found.1),
   distinct_over all is xs whole are.1 distinct.1,
 )
 
@@ -147,9 +147,9 @@ distinct_back all [] [] are distinct = tt
 distinct_back all [] (x ∷ xs) are distinct = absurd are
 distinct_back all (i ∷ is) [] are distinct = absurd are
 distinct_back {B} all (i ∷ is) (x ∷ xs) are distinct = (
-  λ again. let met = thing_met all is xs i are.1 again in
-      let same : met.0 ≡ x = cc (met.2, are.0) in
-      distinct.0 (subst (λ (z : B). Contains xs z) same met.1),
+  λ again. let found = thing_found all is xs i are.1 again in
+      let same : found.0 ≡ x = cc (found.2, are.0) in
+      distinct.0 (subst (λ (z : B). Contains xs z) same found.1),
   distinct_back all is xs are.1 distinct.1,
 )
 
@@ -203,19 +203,19 @@ follows_back all step_place step_thing (i ∷ j ∷ js) (x ∷ y ∷ ys) whole s
 whole_over : {B : Type 0} (all : List B) (member_place : ℕ → Bool) (member_thing : B → Bool) (places : List ℕ) (things : List B) → IsAmong all member_thing → TestsAgree all member_place member_thing → AreAt all places things → ((i : ℕ) → IsTrue (member_place i) ↔ Contains places i) → (x : B) → IsTrue (member_thing x) ↔ Contains things x
 whole_over {B} all member_place member_thing places things among agree are whole x = (
   λ is. let at = place_of_contained all x (among x is) in
-      let met = thing_met all places things at.0 are ((whole at.0).0 (agree at.0 x at.1 ∙ is)) in
-      let same : met.0 ≡ x = cc (met.2, at.1) in
-      subst (λ (z : B). Contains things z) same met.1,
-  λ inside. let met = place_met all places things x are inside in sym (agree met.0 x met.2) ∙ (whole met.0).1 met.1,
+      let found = thing_found all places things at.0 are ((whole at.0).0 (agree at.0 x at.1 ∙ is)) in
+      let same : found.0 ≡ x = cc (found.2, at.1) in
+      subst (λ (z : B). Contains things z) same found.1,
+  λ inside. let found = place_found all places things x are inside in sym (agree found.0 x found.2) ∙ (whole found.0).1 found.1,
 )
 
 -- the members among places are those listed, where the members among distinct things are the things listed
 whole_back : {B : Type 0} (all : List B) (member_place : ℕ → Bool) (member_thing : B → Bool) (places : List ℕ) (things : List B) → AreDistinct all → ((i : ℕ) → IsTrue (member_place i) → i < length all) → TestsAgree all member_place member_thing → AreAt all places things → ((x : B) → IsTrue (member_thing x) ↔ Contains things x) → (i : ℕ) → IsTrue (member_place i) ↔ Contains places i
 whole_back {B} all member_place member_thing places things distinct within agree are whole i = (
   λ is. let at = thing_within all i (within i is) in
-      let met = place_met all places things at.0 are ((whole at.0).0 (sym (agree i at.0 at.1) ∙ is)) in
-      subst (λ (k : ℕ). Contains places k) (one_place all met.0 i at.0 distinct met.2 at.1) met.1,
-  λ inside. let met = thing_met all places things i are inside in agree i met.0 met.2 ∙ (whole met.0).1 met.1,
+      let found = place_found all places things at.0 are ((whole at.0).0 (sym (agree i at.0 at.1) ∙ is)) in
+      subst (λ (k : ℕ). Contains places k) (one_place all found.0 i at.0 distinct found.2 at.1) found.1,
+  λ inside. let found = thing_found all places things i are inside in agree i found.0 found.2 ∙ (whole found.0).1 found.1,
 )
 
 -- the things at a chain of places are a chain

@@ -67,14 +67,14 @@ none_to : {A : Type 0} (step : A → Option A) (goal : A → Bool) (x y : A) (k 
 none_to step goal x y k none ahead r rank = let further = rank_ahead step goal x y k r ahead rank in none further.0 further.2
 
 -- what is known where the places on the way have no rank
-pub known_lost : (up : List (Option ℕ)) (goals seen : List Bool) (ranks : List (Option ℕ)) (from count other more : ℕ) → HasNoRank up goals from → AreKnown up goals seen ranks from count → AreKnown up goals seen ranks other more
-known_lost up goals seen ranks from count other more none known = record {
+pub known_pathless : (up : List (Option ℕ)) (goals seen : List Bool) (ranks : List (Option ℕ)) (from count other more : ℕ) → HasNoRank up goals from → AreKnown up goals seen ranks from count → AreKnown up goals seen ranks other more
+known_pathless up goals seen ranks from count other more none known = record {
   right = known.right;
   small = known.small;
-  lost = λ place met empty. ⊎_elim
+  pathless = λ place walked empty. ⊎_elim
       (λ already. inl already)
       (λ on. inl (none_on (leads up) (marked goals) from place on.0 none on.2))
-      (known.lost place met empty);
+      (known.pathless place walked empty);
 }
 
 -- what is known where no place is left on the way
@@ -82,10 +82,10 @@ pub known_none : (up : List (Option ℕ)) (goals seen : List Bool) (ranks : List
 known_none up goals seen ranks from other more known = record {
   right = known.right;
   small = known.small;
-  lost = λ place met empty. ⊎_elim
+  pathless = λ place walked empty. ⊎_elim
       (λ already. inl already)
       (λ on. absurd (omega (arith, on.1)))
-      (known.lost place met empty);
+      (known.pathless place walked empty);
 }
 
 -- what is known after one more place is seen on the way
@@ -93,24 +93,24 @@ pub known_seen : (up : List (Option ℕ)) (goals seen : List Bool) (ranks : List
 known_seen up goals seen ranks start count at inside fresh ahead known = record {
   right = known.right;
   small = λ place rank here. omega (arith, known.small place rank here, count_set seen at inside fresh, length-set seen at true);
-  lost = λ place met empty. ⊎_elim
+  pathless = λ place walked empty. ⊎_elim
       (λ same. inr (count, omega arith, subst (λ (p : ℕ). IsAhead (leads up) (marked goals) start count p) (sym same) ahead))
       (λ apart. ⊎_elim
       (λ already. inl already)
       (λ on. inr (on.0, omega (arith, on.1), on.2))
-      (known.lost place (sym (marked_other seen at place true apart) ∙ met) empty))
+      (known.pathless place (sym (marked_other seen at place true apart) ∙ walked) empty))
       (same_or_other place at);
 }
 
 -- a place that was seen, has been given no rank and lies ahead has none
-pub met_lost : (up : List (Option ℕ)) (goals seen : List Bool) (ranks : List (Option ℕ)) (start count at : ℕ) → marked seen at ≡ true → leads ranks at ≡ None → IsAhead (leads up) (marked goals) start count at → AreKnown up goals seen ranks start count → HasNoRank up goals start
-met_lost up goals seen ranks start count at met empty ahead known =
+pub seen_pathless : (up : List (Option ℕ)) (goals seen : List Bool) (ranks : List (Option ℕ)) (start count at : ℕ) → marked seen at ≡ true → leads ranks at ≡ None → IsAhead (leads up) (marked goals) start count at → AreKnown up goals seen ranks start count → HasNoRank up goals start
+seen_pathless up goals seen ranks start count at walked empty ahead known =
     let step = leads up in
     let goal = marked goals in
     ⊎_elim
     (λ already. none_to step goal start at count already ahead)
     (λ on. none_to step goal start at count (λ r rank. none_back step goal start at on.0 count r on.1 on.2 ahead rank) ahead)
-    (known.lost at met empty)
+    (known.pathless at walked empty)
 
 -- what lies ahead of x and isn't x lies ahead of the next
 ahead_past : {A : Type 0} (step : A → Option A) (goal : A → Bool) (x y : A) (k : ℕ) → IsAhead step goal x k y → (x ≡ y → ⊥) → (goal x ≡ false) × (z : A) × (step x ≡ Some z) × (j : ℕ) × (k ≡ suc j) × IsAhead step goal z j y
@@ -143,12 +143,12 @@ known_given up goals seen ranks at left rank from count inside has low known beh
       omega (arith, given, low))
       (λ apart. known.small place other (sym (leads_other ranks at place (Some rank) apart) ∙ here))
       (same_or_other place at);
-  lost = λ place met empty. ⊎_elim
+  pathless = λ place walked empty. ⊎_elim
       (λ same. absurd (none-some rank (sym empty ∙ ap (λ (p : ℕ). leads (set ranks at (Some rank)) p) same ∙ leads_same ranks at (Some rank) inside)))
       (λ apart. ⊎_elim
       (λ already. inl already)
       (λ on. behind place (λ same. apart (sym same)) on)
-      (known.lost place met (sym (leads_other ranks at place (Some rank) apart) ∙ empty)))
+      (known.pathless place walked (sym (leads_other ranks at place (Some rank) apart) ∙ empty)))
       (same_or_other place at);
 }
 
@@ -209,8 +209,8 @@ walk_begins up goals seen ranks start inside known = record {
 
 -- the start of a walk that came to a place that was seen was seen
 pub walk_ends : (up : List (Option ℕ)) (goals first seen : List Bool) (ranks : List (Option ℕ)) (start count at : ℕ) → IsWalk up goals first seen ranks start count at → marked seen at ≡ true → marked seen start ≡ true
-walk_ends up goals first seen ranks start zero at walk met = subst (λ (p : ℕ). marked seen p ≡ true) (sym (ahead_none (leads up) (marked goals) start at walk.ahead)) met
-walk_ends up goals first seen ranks start (suc count) at walk met = walk.begun (omega arith)
+walk_ends up goals first seen ranks start zero at walk walked = subst (λ (p : ℕ). marked seen p ≡ true) (sym (ahead_none (leads up) (marked goals) start at walk.ahead)) walked
+walk_ends up goals first seen ranks start (suc count) at walk walked = walk.begun (omega arith)
 
 -- what a walk knows of the present place once it is marked
 pub record IsSeen (up : List (Option ℕ)) (goals first seen : List Bool) (ranks : List (Option ℕ)) (start count at : ℕ) : Type 0 where
@@ -263,13 +263,13 @@ walk_goal up goals first seen ranks start count at goal walk =
 -- what is known where a walk leads nowhere
 pub walk_nowhere : (up : List (Option ℕ)) (goals first seen : List Bool) (ranks : List (Option ℕ)) (start count at : ℕ) → marked goals at ≡ false → leads up at ≡ None → IsSeen up goals first seen ranks start count at → AreKnown up goals seen ranks 0 0
 walk_nowhere up goals first seen ranks start count at away nowhere walk =
-    known_lost up goals seen ranks start (count + 1) 0 0
+    known_pathless up goals seen ranks start (count + 1) 0 0
     (none_to (leads up) (marked goals) start at count (λ r rank. none_ahead (leads up) (marked goals) at r away nowhere rank) walk.ahead) walk.known
 
 -- what is known where a walk comes to a place that was seen and has no rank
-pub walk_lost : (up : List (Option ℕ)) (goals first seen : List Bool) (ranks : List (Option ℕ)) (start count at : ℕ) → marked seen at ≡ true → leads ranks at ≡ None → IsWalk up goals first seen ranks start count at → AreKnown up goals seen ranks 0 0
-walk_lost up goals first seen ranks start count at met empty walk =
-    known_lost up goals seen ranks start count 0 0 (met_lost up goals seen ranks start count at met empty walk.ahead walk.known) walk.known
+pub walk_pathless : (up : List (Option ℕ)) (goals first seen : List Bool) (ranks : List (Option ℕ)) (start count at : ℕ) → marked seen at ≡ true → leads ranks at ≡ None → IsWalk up goals first seen ranks start count at → AreKnown up goals seen ranks 0 0
+walk_pathless up goals first seen ranks start count at walked empty walk =
+    known_pathless up goals seen ranks start count 0 0 (seen_pathless up goals seen ranks start count at walked empty walk.ahead walk.known) walk.known
 
 -- the rank of the start, where a walk comes to a place with a rank
 pub walk_ranked : (up : List (Option ℕ)) (goals first seen : List Bool) (ranks : List (Option ℕ)) (start count at rank : ℕ) → leads ranks at ≡ Some rank → IsWalk up goals first seen ranks start count at → HasRank (leads up) (marked goals) start (count + rank)

@@ -21,4 +21,4 @@ IsOnWay up goals from count place = (steps : ℕ) × (steps < count) × IsAhead 
 pub record AreKnown (up : List (Option ℕ)) (goals seen : List Bool) (ranks : List (Option ℕ)) (from count : ℕ) : Type 0 where
   pub right : (place rank : ℕ) → leads ranks place ≡ Some rank → HasRank (leads up) (marked goals) place rank
   pub small : (place rank : ℕ) → leads ranks place ≡ Some rank → rank + count_unmarked seen < length seen
-  pub lost : (place : ℕ) → marked seen place ≡ true → leads ranks place ≡ None → HasNoRank up goals place ⊎ IsOnWay up goals from count place
+  pub pathless : (place : ℕ) → marked seen place ≡ true → leads ranks place ≡ None → HasNoRank up goals place ⊎ IsOnWay up goals from count place

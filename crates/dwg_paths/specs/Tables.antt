@@ -3,7 +3,7 @@ use Rattle.std.specs.Prelude.{◌≡◌, ◌==◌, ◌<◌, ℕ, Bool, false, Li
 use Rattle.std.specs.List.{slice_get}
 use Rattle.std.specs.Option.{option_and_then, option_map_or}
 use Rattle.dwg_paths.specs.Paths.{HasRank, HasChain}
-use Rattle.dwg_paths.specs.declared.tables.Ends.{Ends}
+use Rattle.dwg_paths.specs.declared.tables.ChainEnds.{ChainEnds}
 
 -- where a place leads; a place behind the end of the table leads nowhere
 abbrev pub leads : List (Option ℕ) → ℕ → Option ℕ
@@ -22,7 +22,7 @@ abbrev pub lives_at : List (Option ℕ) → ℕ → ℕ → Bool
 lives_at homes home place = is_at (leads homes place) home
 
 -- a home has a chain of its members from one end to the other; without ends it has one exactly where it has no members
-abbrev pub HasChainAt : List (Option ℕ) → List (Option ℕ) → ℕ → Option Ends → Type 0
+abbrev pub HasChainAt : List (Option ℕ) → List (Option ℕ) → ℕ → Option ChainEnds → Type 0
 HasChainAt homes next home None = (place : ℕ) → lives_at homes home place ≡ false
 HasChainAt homes next home (Some ends) = HasChain (leads next) (lives_at homes home) (is_at ends.first) (is_at ends.last)
 
@@ -36,5 +36,5 @@ RankIs up goals place (Some rank) = HasRank (leads up) (marked goals) place rank
 RankIs up goals place None = (rank : ℕ) → HasRank (leads up) (marked goals) place rank → ⊥
 
 -- the ends that a table gives for a home
-abbrev pub ends_at : List (Option Ends) → ℕ → Option Ends
+abbrev pub ends_at : List (Option ChainEnds) → ℕ → Option ChainEnds
 ends_at ends home = option_and_then (λ those. those) (slice_get ends home)

@@ -10,4 +10,4 @@ mod tables;
 pub use chaining::chains;
 pub use laws::{chain_laws, number_laws, path_laws, place_laws};
 pub use ranking::ranks;
-pub use tables::Ends;
+pub use tables::ChainEnds;

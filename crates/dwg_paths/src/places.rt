@@ -4,7 +4,7 @@ ghost use Rattle.std.specs.Prelude.{◌≡◌, ◌<◌, ℕ, false, length, Some
 ghost use Rattle.std.specs.List.{slice_set};
 ghost use Rattle.dwg_paths.specs.Tables.{leads, marked, is_at, lives_at, ends_at};
 
-use crate::tables::Ends;
+use crate::tables::ChainEnds;
 use dwg_base::NoMemory;
 use std::alloc::Global;
 
@@ -76,7 +76,7 @@ pub(crate) fn is_at(at: Option<usize>, place: usize) -> bool
 }
 
 /// The ends that a table gives for a home.
-pub(crate) fn ends_at(table: &[Option<Ends>], home: usize) -> Option<Ends>
+pub(crate) fn ends_at(table: &[Option<ChainEnds>], home: usize) -> Option<ChainEnds>
     ensures { result ≡ ends_at table.now home }
 {
     match table.get(home) {

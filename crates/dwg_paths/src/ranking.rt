@@ -45,7 +45,7 @@ fn walk(
     ensures places { length seen.new.items ≡ length seen.old.items }
     ensures seen { marked seen.new.items start ≡ true }
     ensures kept { (place : ℕ) → marked seen.old.items place ≡ true → marked seen.new.items place ≡ true }
-    ensures lost { IfNone result (AreKnown up.now goals.now seen.new.items ranks.now 0 0) }
+    ensures pathless { IfNone result (AreKnown up.now goals.now seen.new.items ranks.now 0 0) }
     ensures known { IfSome result (λ way. AreKnown up.now goals.now seen.new.items ranks.now start way.places) }
     ensures rank { IfSome result (λ way. HasRank (leads up.now) (marked goals.now) start way.rank) }
     ensures small { IfSome result (λ way. way.rank + count_unmarked seen.new.items < length seen.new.items) }

@@ -2,7 +2,7 @@
 
 /// Where a chain begins and where it ends, as places; `None` where that is no place of the table.
 #[derive(Clone, Copy, Drop)]
-pub struct Ends {
+pub struct ChainEnds {
     /// The place of its first.
     pub first: Option<usize>,
     /// The place of its last.

@@ -1,6 +1,7 @@
 use Rattle.std.proofs.Common.{rules, ◌+◌, map, arith}
 use Rattle.std.proofs.lemmas.List.{length-map}
-use Rattle.dwg_audit.proofs.Judging.{value_at, one_of_all, one_further, findings_begin, all_found}
+use Rattle.dwg_base.proofs.OneOfAll.{one_of_all}
+use Rattle.dwg_audit.proofs.Judging.{value_at, one_further, findings_begin, all_found}
 use Rattle.dwg_audit.specs.Findings.{findings_of}
 use Rattle.dwg_graph.specs.Owners.{spaces}
 use Rattle.dwg_object.specs.Objects.{value_of}

@@ -1,6 +1,7 @@
-use Rattle.std.proofs.Common.{ap, ◌∙◌, map}
+use Rattle.std.proofs.Common.{subst, map, Option}
 use Rattle.dwg_cert.proofs.Entries.{handles_are}
-use Rattle.dwg_graph.specs.Claimed.{own_counts}
+use Rattle.dwg_graph.specs.declared.owner.SpaceHandles.{SpaceHandles}
+use Rattle.dwg_graph.specs.Claimed.{AreBothCounted}
 use Rattle.dwg_object.specs.Objects.{value_of}
 use Rattle.dwg_cert.proofs.accepting.accepts_entries.Goals as goal
 
@@ -13,6 +14,5 @@ invariant_of-checker c =
       knows = c.spaces-known.ensures;
       handles = c.in_ok-index.ensures;
       members = c.in_ok-members.ensures;
-      all = c.in_ok-claimed.ensures.all;
-      own = c.in_ok-claimed.ensures.own ∙ ap (own_counts objects) c.spaces-known.ensures;
+      claims = subst (λ (known : Option SpaceHandles). AreBothCounted objects known c.in_ok-claimed.claimed) c.spaces-known.ensures c.in_ok-claimed.ensures;
     }

@@ -4,8 +4,8 @@ use Rattle.dwg_paths.proofs.chaining.follow.Given as goal
 
 -- a chain is what is left at the present place
 abbrev pub invariant-along : goal.invariant-along
-invariant-along l = IsFollowed l.homes l.next l.home l.ends l.initial.met.items l.met.items l.at
+invariant-along l = IsFollowed l.homes l.next l.home l.ends l.initial.seen.items l.seen.items l.at
 
 -- each turn meets a place for the first time
 abbrev pub decreases-along : goal.decreases-along
-decreases-along l = count_unmarked l.met.items
+decreases-along l = count_unmarked l.seen.items

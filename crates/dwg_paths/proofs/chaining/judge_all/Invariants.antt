@@ -3,4 +3,4 @@ use Rattle.dwg_paths.proofs.chaining.judge_all.Given as goal
 
 -- the homes so far are judged
 abbrev pub invariant-along : goal.invariant-along
-invariant-along l = AreJudged l.homes l.next l.ends l.met.items l.verdicts.items l.home
+invariant-along l = AreJudged l.homes l.next l.ends l.seen.items l.verdicts.items l.home

@@ -1,6 +1,6 @@
 use Rattle.std.proofs.Common.{not, arith}
 use Rattle.std.proofs.lemmas.List.Sums.{count_by-le-length}
-use Rattle.dwg_paths.proofs.RankWalks.{walk_begins, walk_sees, walk_goes, walk_goal, walk_nowhere, walk_lost, walk_ranked, walk_ends}
+use Rattle.dwg_paths.proofs.RankWalks.{walk_begins, walk_sees, walk_goes, walk_goal, walk_nowhere, walk_pathless, walk_ranked, walk_ends}
 use Rattle.dwg_paths.proofs.ranking.walk.Goals as goal
 
 pub along-init : goal.along-init
@@ -36,8 +36,8 @@ pub returns-in-None-clause-kept : goal.returns-in-None-clause-kept
 returns-in-None-clause-kept c =
     (walk_sees c.args.up.now c.args.goals.now _ c.along.seen.items c.set_mark.new.table.items _ _ _ c.along.at c.requires.places (cc) c.set_mark.ensures c.along.invariant).kept
 
-pub returns-in-None-clause-lost : goal.returns-in-None-clause-lost
-returns-in-None-clause-lost c =
+pub returns-in-None-clause-pathless : goal.returns-in-None-clause-pathless
+returns-in-None-clause-pathless c =
     walk_nowhere c.args.up.now c.args.goals.now _ _ _ _ _ c.along.at (cc) (cc)
     (walk_sees c.args.up.now c.args.goals.now _ c.along.seen.items c.set_mark.new.table.items _ _ _ c.along.at c.requires.places (cc) c.set_mark.ensures c.along.invariant)
 
@@ -60,5 +60,5 @@ returns-in-Some-leads-clause-rank c = walk_ranked c.args.up.now c.args.goals.now
 pub returns-in-None-leads-clause-seen : goal.returns-in-None-leads-clause-seen
 returns-in-None-leads-clause-seen c = walk_ends _ _ _ _ _ _ _ _ c.along.invariant (cc)
 
-pub returns-in-None-leads-clause-lost : goal.returns-in-None-leads-clause-lost
-returns-in-None-leads-clause-lost c = walk_lost c.args.up.now c.args.goals.now _ c.along.seen.items c.args.ranks.now _ _ c.along.at (cc) (cc) c.along.invariant
+pub returns-in-None-leads-clause-pathless : goal.returns-in-None-leads-clause-pathless
+returns-in-None-leads-clause-pathless c = walk_pathless c.args.up.now c.args.goals.now _ c.along.seen.items c.args.ranks.now _ _ c.along.at (cc) (cc) c.along.invariant
