@@ -6,8 +6,8 @@ use Rattle.std.proofs.lemmas.Slice.Eq.{bytes_eq-Decides}
 use Rattle.dwg_answers.specs.declared.words.Command.{Command}
 use Rattle.dwg_answers.specs.declared.words.Command.TheVariants.{Drill}
 use Rattle.dwg_answers.specs.declared.words.Reading.{Reading}
-use Rattle.dwg_answers.specs.declared.words.Reading.TheVariants.{Sections, Classes, Show, Rewrite, Audit, Recover, Certify, Accept}
 use Rattle.dwg_answers.specs.Words.{number_of, make_of, drill_of, reading_of, reads, command_of}
+use Rattle.dwg_answers.proofs.CommandsRead.{reads_no}
 use Rattle.dwg_answers.proofs.MakeWords.{text_of}
 use Rattle.dwg_answers.proofs.Numerals.{number_of_decimal}
 
@@ -23,14 +23,7 @@ of_number None n is = absurd cc
 
 -- one word doesn't name it
 of_word : (reading : Option Reading) (n : ℕ) → option_map reads reading ≡ Some (Drill n) → ⊥
-of_word (Some Sections) n is = absurd cc
-of_word (Some Classes) n is = absurd cc
-of_word (Some Show) n is = absurd cc
-of_word (Some Rewrite) n is = absurd cc
-of_word (Some Audit) n is = absurd cc
-of_word (Some Recover) n is = absurd cc
-of_word (Some Certify) n is = absurd cc
-of_word (Some Accept) n is = absurd cc
+of_word (Some reading) n is = absurd (reads_no reading (Drill n) refl cc)
 of_word None n is = absurd cc
 
 -- nor do three

@@ -1,3 +1,4 @@
+pub mod CommandsRead
 pub mod Outcomes
 pub mod OutcomeLaws
 pub mod Faults
@@ -7,7 +8,7 @@ pub mod Numerals
 pub mod MakeWords
 pub mod DrillWords
 pub mod Drills
-pub mod SectionLaws
+pub mod SectionLemmas
 pub mod ShortDamage
 pub mod OwnCertificate
 pub mod CertificateReplies

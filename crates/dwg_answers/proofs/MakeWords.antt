@@ -6,8 +6,8 @@ use Rattle.std.proofs.lemmas.Slice.Eq.{bytes_eq-Decides}
 use Rattle.dwg_answers.specs.declared.words.Command.{Command}
 use Rattle.dwg_answers.specs.declared.words.Command.TheVariants.{Make}
 use Rattle.dwg_answers.specs.declared.words.Reading.{Reading}
-use Rattle.dwg_answers.specs.declared.words.Reading.TheVariants.{Sections, Classes, Show, Rewrite, Audit, Recover, Certify, Accept}
 use Rattle.dwg_answers.specs.Words.{number_of, make_of, drill_of, reading_of, reads, command_of}
+use Rattle.dwg_answers.proofs.CommandsRead.{reads_no}
 use Rattle.dwg_answers.proofs.Numerals.{number_of_decimal, spelled}
 
 -- they name it
@@ -25,14 +25,7 @@ of_numbers None other n seed is = absurd cc
 
 -- one word doesn't name it
 of_word : (reading : Option Reading) (n seed : ℕ) → option_map reads reading ≡ Some (Make n seed) → ⊥
-of_word (Some Sections) n seed is = absurd cc
-of_word (Some Classes) n seed is = absurd cc
-of_word (Some Show) n seed is = absurd cc
-of_word (Some Rewrite) n seed is = absurd cc
-of_word (Some Audit) n seed is = absurd cc
-of_word (Some Recover) n seed is = absurd cc
-of_word (Some Certify) n seed is = absurd cc
-of_word (Some Accept) n seed is = absurd cc
+of_word (Some reading) n seed is = absurd (reads_no reading (Make n seed) refl cc)
 of_word None n seed is = absurd cc
 
 -- nor do two

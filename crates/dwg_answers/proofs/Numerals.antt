@@ -111,9 +111,3 @@ spelled word (Some value) is = of_tests (is_numeral word) (nat_lt (digits_value 
     of_tests true true tested fitted is =
         let same : digits_value 10 word ≡ value = cc in
         decimal_of word tested (grind (arith, nat_tests, fitted)) ∙ ap decimal same
-
--- a word that spells no number is the text of no number below 2^32
-pub unspelled : (word : List ℕ) (result : Option ℕ) → result ≡ number_of word → result ≡ None → (value : ℕ) → value < 2 ^ 32 → word ≡ decimal value → ⊥
-unspelled word result is none value small same =
-    let found : Some value ≡ None = sym (number_of_decimal value small) ∙ ap number_of (sym same) ∙ sym is ∙ none in
-    absurd cc

@@ -34,6 +34,7 @@ use Rattle.dwg_answers.specs.Lines.{lines_of}
 use Rattle.dwg_answers.specs.Outcome.{noted, refused_or, printed, filed, written, audited, verdict_status, recovery_notes, recovery_status, recovered_answer, answer_within, outcome_within, outcome_of}
 use Rattle.dwg_answers.specs.OutcomeLaws.{IsInput, SpellsNone, said, Rewrites, TellsSound, NoDrawingIsRefused, ShowPrintsDrawing, RewriteWritesDrawing, RewriteTellsSize, AuditTellsSound, RecoverRewritesDrawing, RecoverWritesFrames}
 use Rattle.dwg_answers.specs.Words.{command_of, reading_of, reads}
+use Rattle.dwg_answers.proofs.CommandsRead.{reads_back}
 use Rattle.dwg_answers.proofs.Outcomes.{outcome_of_few, outcome_of_reading}
 
 -- what is known of the drawings that inputs spell
@@ -52,7 +53,7 @@ pub record FileLaws : Type 0 where
 -- the word of a command that reads is answered as the command answers an input within the limit
 pub of_input : (reading : Reading) (bytes : List ℕ) → IsInput bytes → outcome_of (Some (reads reading)) bytes ≡ outcome_within reading bytes
 of_input reading bytes input =
-    sym (outcome_of_reading (Some (reads reading)) reading bytes refl) ∙ sym (outcome_of_few reading bytes (outcome_within reading bytes) input.within refl)
+    sym (outcome_of_reading (Some (reads reading)) (reads reading) reading bytes refl (reads_back reading)) ∙ sym (outcome_of_few reading bytes (outcome_within reading bytes) input.within refl)
 
 -- each of these words names its command
 pub show_said : (bytes : List ℕ) → IsInput bytes → said (codes "show") bytes ≡ outcome_within Show bytes

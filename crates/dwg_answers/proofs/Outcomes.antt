@@ -1,5 +1,5 @@
 -- What the defined outcomes are, by their causes.
-use Rattle.std.proofs.Common.{◌≡◌, refl, ℕ, ◌+◌, ◌≤◌, ◌<◌, List, [], ◌∷◌, ◌++◌, length, Some, None, sym, ap, ◌∙◌, subst, arith, true, false, append-nil, length-append}
+use Rattle.std.proofs.Common.{◌≡◌, refl, ℕ, ◌+◌, ◌≤◌, ◌<◌, List, [], ◌∷◌, ◌++◌, length, Some, None, sym, ap, ◌∙◌, arith, true, false, append-nil, length-append}
 use Rattle.std.proofs.lemmas.Bool.Decides.{nat_tests}
 use Rattle.std.specs.Prelude.{Bool, Option, Result, Ok, Err, IfOk, nat_lt, if◌then◌else◌}
 use Rattle.std.specs.Io.KnownBytes.{Consumes, IsAtEnd}
@@ -14,7 +14,7 @@ use Rattle.dwg_cert.specs.WrittenForm.{certificate_bytes}
 use Rattle.dwg_cert.specs.declared.entry.Entry.{Entry}
 use Rattle.dwg_text.specs.Notes.{usage_note, unsound_note, too_long_note, too_large_note}
 use Rattle.dwg_answers.specs.declared.words.Command.{Command}
-use Rattle.dwg_answers.specs.declared.words.Command.TheVariants.{Make, Drill}
+use Rattle.dwg_answers.specs.declared.words.Command.TheVariants as commands
 use Rattle.dwg_answers.specs.declared.words.Reading.{Reading}
 use Rattle.dwg_answers.specs.declared.words.Reading.TheVariants.{Sections, Classes, Show, Rewrite, Audit, Recover, Certify, Accept}
 use Rattle.dwg_answers.specs.declared.status.Status.{Status}
@@ -26,11 +26,12 @@ use Rattle.dwg_file.specs.DrawingAt.{drawing_at}
 use Rattle.dwg_file.specs.Canonical.{size_of, canonical}
 use Rattle.dwg_answers.specs.CertifiedInput.{cert_in, drawing_bytes}
 use Rattle.dwg_answers.specs.Lines.{lines_of}
-use Rattle.dwg_answers.specs.Outcome.{noted, printed, refused_or, filed, certified, acceptance, accepted, made_answer, drill_answer, audited, verdict_status, recovery_notes, recovery_status, recovered_answer, answer_within, outcome_within, outcome_of_input, outcome_of}
+use Rattle.dwg_answers.specs.Outcome.{noted, printed, refused_or, filed, certified, acceptance, accepted, made_answer, drill_answer, audited, verdict_status, recovery_notes, recovery_status, recovered_answer, answer_within, outcome_within, outcome_of_input, outcome_read, outcome_of}
 use Rattle.dwg_recover.specs.Recovering.{RecoveredValue, recovered}
-use Rattle.dwg_answers.specs.Words.{IsReading, reads}
+use Rattle.dwg_answers.specs.Words.{reading_in}
 use Rattle.dwg_answers.specs.Requests.{asked}
 use Rattle.dwg_answers.specs.Run.{Feeds, IsDrained}
+use Rattle.dwg_answers.proofs.CommandsRead.{names_reading}
 
 -- a refusal, and an answer behind no refusal, come of an input that was read to its end
 refused_or_is_drained : (first : Option Refusal) (answer : Answer) → IsDrained answer.status → IsDrained (refused_or first answer).status
@@ -145,51 +146,46 @@ pub outcome_of_no_command : (named : Option Command) (bytes : List ℕ) → name
 unfolding outcome_of
 outcome_of_no_command named bytes none = rw none refl
 
--- words of a command that reads are answered as the command is
-pub outcome_of_reading : (named : Option Command) (reading : Reading) (bytes : List ℕ) → named ≡ Some (reads reading) → outcome_of_input reading bytes ≡ outcome_of named bytes
+-- words of a command that reads are answered by what it reads
+read_by : (command : Command) (reading : Reading) (bytes : List ℕ) → reading_in command ≡ Some reading → outcome_of_input reading bytes ≡ outcome_of (Some command) bytes
 unfolding outcome_of
-outcome_of_reading named reading bytes names = rw names (of_command reading)
-  where
-    of_command : (reading : Reading) → outcome_of_input reading bytes ≡ outcome_of (Some (reads reading)) bytes
-    of_command Sections = refl
-    of_command Classes = refl
-    of_command Show = refl
-    of_command Rewrite = refl
-    of_command Audit = refl
-    of_command Recover = refl
-    of_command Certify = refl
-    of_command Accept = refl
+read_by commands.Sections reading bytes is = ap (λ (some : Option Reading). outcome_read some bytes) (sym is)
+read_by commands.Classes reading bytes is = ap (λ (some : Option Reading). outcome_read some bytes) (sym is)
+read_by commands.Show reading bytes is = ap (λ (some : Option Reading). outcome_read some bytes) (sym is)
+read_by commands.Rewrite reading bytes is = ap (λ (some : Option Reading). outcome_read some bytes) (sym is)
+read_by commands.Audit reading bytes is = ap (λ (some : Option Reading). outcome_read some bytes) (sym is)
+read_by commands.Recover reading bytes is = ap (λ (some : Option Reading). outcome_read some bytes) (sym is)
+read_by commands.Certify reading bytes is = ap (λ (some : Option Reading). outcome_read some bytes) (sym is)
+read_by commands.Accept reading bytes is = ap (λ (some : Option Reading). outcome_read some bytes) (sym is)
+read_by (commands.Make n seed) reading bytes is = absurd cc
+read_by (commands.Drill n) reading bytes is = absurd cc
 
--- such words name a command that reads
-names_reading : (reading : Reading) → IsReading (Some (reads reading))
-names_reading Sections = tt
-names_reading Classes = tt
-names_reading Show = tt
-names_reading Rewrite = tt
-names_reading Audit = tt
-names_reading Recover = tt
-names_reading Certify = tt
-names_reading Accept = tt
+pub outcome_of_reading : (named : Option Command) (command : Command) (reading : Reading) (bytes : List ℕ) → named ≡ Some command → reading_in command ≡ Some reading
+    → outcome_of_input reading bytes ≡ outcome_of named bytes
+outcome_of_reading named command reading bytes names is = read_by command reading bytes is ∙ ap (λ (one : Option Command). outcome_of one bytes) (sym names)
 
 -- and those of the command that makes a drawing, whatever the input
-pub outcome_of_making : (named : Option Command) (n seed : ℕ) (bytes : List ℕ) → named ≡ Some (Make n seed) → made_answer n seed ≡ outcome_of named bytes
+pub outcome_of_making : (named : Option Command) (n seed : ℕ) (bytes : List ℕ) → named ≡ Some (commands.Make n seed) → made_answer n seed ≡ outcome_of named bytes
 unfolding outcome_of
 outcome_of_making named n seed bytes names = rw names refl
 
-pub outcome_of_drilling : (named : Option Command) (n : ℕ) (bytes : List ℕ) → named ≡ Some (Drill n) → drill_answer n ≡ outcome_of named bytes
+pub outcome_of_drilling : (named : Option Command) (n : ℕ) (bytes : List ℕ) → named ≡ Some (commands.Drill n) → drill_answer n ≡ outcome_of named bytes
 unfolding outcome_of
 outcome_of_drilling named n bytes names = rw names refl
 
 -- what a request asks of any input that its command gets, it asks of the words that name the command
-pub answered_by : {E : Type 0} (named : Option Command) (reading : Reading) (result : Result Request E) (left : Option (List ℕ)) → named ≡ Some (reads reading)
+pub answered_by : {E : Type 0} (named : Option Command) (command : Command) (reading : Reading) (result : Result Request E) (left : Option (List ℕ))
+    → named ≡ Some command → reading_in command ≡ Some reading
     → IfOk result (λ request. (bytes : List ℕ) → left ≡ Some bytes → asked request ≡ outcome_of_input reading bytes)
     → IfOk result (λ request. (bytes : List ℕ) → Feeds named left bytes → asked request ≡ outcome_of named bytes)
-answered_by {E} named reading (Ok request) left names answered = λ bytes feeds. answered bytes (feeds (subst IsReading (sym names) (names_reading reading))) ∙ outcome_of_reading named reading bytes names
-answered_by {E} named reading (Err stop) left names answered = tt
+answered_by {E} named command reading (Ok request) left names how answered = λ bytes feeds.
+    answered bytes (feeds (names_reading named command reading names how)) ∙ outcome_of_reading named command reading bytes names how
+answered_by {E} named command reading (Err stop) left names how answered = tt
 
 -- and so of the bytes that came
-pub came_by : {E : Type 0} (named : Option Command) (reading : Reading) (result : Result Request E) (left left' : Option (List ℕ)) → named ≡ Some (reads reading)
+pub came_by : {E : Type 0} (named : Option Command) (command : Command) (reading : Reading) (result : Result Request E) (left left' : Option (List ℕ))
+    → named ≡ Some command → reading_in command ≡ Some reading
     → IfOk result (λ request. Came left left' (λ came. (length came ≤ MOST_BYTES + 1) × (asked request ≡ outcome_of_input reading came)))
     → IfOk result (λ request. Came left left' (λ came. (length came ≤ MOST_BYTES + 1) × (asked request ≡ outcome_of named came)))
-came_by {E} named reading (Ok request) left left' names (came, gave, are, (few, is)) = (came, gave, are, (few, is ∙ outcome_of_reading named reading came names))
-came_by {E} named reading (Err stop) left left' names came = tt
+came_by {E} named command reading (Ok request) left left' names how (came, gave, are, (few, is)) = (came, gave, are, (few, is ∙ outcome_of_reading named command reading came names how))
+came_by {E} named command reading (Err stop) left left' names how came = tt

@@ -30,7 +30,7 @@ use Rattle.dwg_answers.specs.declared.words.Reading.TheVariants.{Sections, Class
 use Rattle.dwg_answers.specs.declared.status.Status.{Status}
 use Rattle.dwg_answers.specs.declared.status.Status.TheVariants.{Done, Found, Usage, Refused, TooLong, TooLarge}
 use Rattle.dwg_answers.specs.declared.answer.Answer.{Answer}
-use Rattle.dwg_answers.specs.Words.{command_of}
+use Rattle.dwg_answers.specs.Words.{command_of, reading_in}
 use Rattle.dwg_file.specs.Contents.{Contents}
 use Rattle.dwg_file.specs.DrawingAt.{classes_at, drawing_at}
 use Rattle.dwg_file.specs.Canonical.{size_of, canonical}
@@ -139,19 +139,17 @@ outcome_within reading bytes = refused_or (first_fault (lines_of reading) bytes)
 unfoldable pub outcome_of_input : Reading → List ℕ → Answer
 outcome_of_input reading bytes = if nat_lt MOST_BYTES (length bytes) then noted too_long_note TooLong else outcome_within reading bytes
 
--- what a command answers
+-- what a command that reads answers; where none does, that is the usage note
+abbrev pub outcome_read : Option Reading → List ℕ → Answer
+outcome_read None bytes = noted usage_note Usage
+outcome_read (Some reading) bytes = outcome_of_input reading bytes
+
+-- what a command answers: one that makes a drawing by its numbers, and every other by what it reads
 unfoldable pub outcome_of : Option Command → List ℕ → Answer
 outcome_of None bytes = noted usage_note Usage
-outcome_of (Some commands.Sections) bytes = outcome_of_input Sections bytes
-outcome_of (Some commands.Classes) bytes = outcome_of_input Classes bytes
-outcome_of (Some commands.Show) bytes = outcome_of_input Show bytes
-outcome_of (Some commands.Rewrite) bytes = outcome_of_input Rewrite bytes
-outcome_of (Some commands.Audit) bytes = outcome_of_input Audit bytes
-outcome_of (Some commands.Recover) bytes = outcome_of_input Recover bytes
-outcome_of (Some commands.Certify) bytes = outcome_of_input Certify bytes
-outcome_of (Some commands.Accept) bytes = outcome_of_input Accept bytes
 outcome_of (Some (commands.Make n seed)) bytes = made_answer n seed
 outcome_of (Some (commands.Drill n)) bytes = drill_answer n
+outcome_of (Some command) bytes = outcome_read (reading_in command) bytes
 
 -- what the program answers: output bytes, note bytes and status
 abbrev pub outcome : List (List ℕ) → List ℕ → Answer

@@ -64,8 +64,8 @@ pub record Delivers (answer : Answer) (output output' notes notes' : Option (Lis
   pub noted : Appends notes notes' answer.note
 
 -- the output took a front of the answer's, and the notes a front of its note, which is nothing unless the output is whole
-abbrev pub IsCut : Answer → Option (List ℕ) → Option (List ℕ) → Option (List ℕ) → Option (List ℕ) → Type 0
-IsCut answer output output' notes notes' =
+abbrev pub DeliversFront : Answer → Option (List ℕ) → Option (List ℕ) → Option (List ℕ) → Option (List ℕ) → Type 0
+DeliversFront answer output output' notes notes' =
     (AppendsFront output output' answer.output × Appends notes notes' [])
     ⊎ (Appends output output' answer.output × AppendsFront notes notes' answer.note)
 
@@ -112,5 +112,5 @@ Sent answer status before behind = NeverFall × (IsWhole ⊎ IsBroken)
 
     IsBroken : Type 0
     IsBroken =
-        IsStopped status × IsCut answer before.output behind.output before.notes behind.notes
+        IsStopped status × DeliversFront answer before.output behind.output before.notes behind.notes
         × (status ≡ WriteFault → Rose before.output_faults behind.output_faults ⊎ Rose before.note_faults behind.note_faults)

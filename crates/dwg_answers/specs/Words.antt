@@ -2,7 +2,7 @@
 use Rattle.std.specs.Prelude.{◌≡◌, ◌⊎◌, ⊤, ℕ, ◌^◌, ◌<◌, Bool, not, ◌&&◌, ◌||◌, ◌==◌, nat_lt, nat_le, List, [], ◌∷◌, length, Option, Some, None, String, map, codes, bytes_eq, string_bytes, slice_index, if◌then◌else◌}
 use Rattle.std.specs.Char.{is_ascii_digit}
 use Rattle.std.specs.List.{list_all}
-use Rattle.std.specs.Option.{option_map}
+use Rattle.std.specs.Option.{IsSome, option_map}
 use Rattle.std.specs.Str.Parse.{digits_value}
 use Rattle.dwg_answers.specs.declared.words.Command.{Command}
 use Rattle.dwg_answers.specs.declared.words.Command.TheVariants as commands
@@ -56,6 +56,19 @@ reads Recover = commands.Recover
 reads Certify = commands.Certify
 reads Accept = commands.Accept
 
+-- and the other way round: how a command reads, if it does
+abbrev pub reading_in : Command → Option Reading
+reading_in commands.Sections = Some Sections
+reading_in commands.Classes = Some Classes
+reading_in commands.Show = Some Show
+reading_in commands.Rewrite = Some Rewrite
+reading_in commands.Audit = Some Audit
+reading_in commands.Recover = Some Recover
+reading_in commands.Certify = Some Certify
+reading_in commands.Accept = Some Accept
+reading_in (commands.Make n seed) = None
+reading_in (commands.Drill n) = None
+
 -- the command that the words name, if they stand in a line of the command table
 unfoldable pub command_of : List (List ℕ) → Option Command
 command_of [] = None
@@ -67,16 +80,7 @@ command_of (word ∷ one ∷ other ∷ more ∷ rest) = None
 -- the words name a command that reads the input
 abbrev pub IsReading : Option Command → Type 0
 IsReading None = ⊥
-IsReading (Some commands.Sections) = ⊤
-IsReading (Some commands.Classes) = ⊤
-IsReading (Some commands.Show) = ⊤
-IsReading (Some commands.Rewrite) = ⊤
-IsReading (Some commands.Audit) = ⊤
-IsReading (Some commands.Recover) = ⊤
-IsReading (Some commands.Certify) = ⊤
-IsReading (Some commands.Accept) = ⊤
-IsReading (Some (commands.Make n seed)) = ⊥
-IsReading (Some (commands.Drill n)) = ⊥
+IsReading (Some command) = IsSome (reading_in command)
 
 -- the words can't be heeded: they name no command, or one that makes a drawing, with a size that no such drawing has
 abbrev pub IsUsage : Option Command → Type 0

@@ -8,7 +8,7 @@ ghost use Rattle.dwg_answers.specs.Requests.{asked, IsWithin};
 ghost use Rattle.dwg_answers.specs.Run.{Feeds, IsSettled, IsDrained, IsDrainedSource};
 
 use crate::status::Status;
-use crate::words::{Command, Reading, read_words};
+use crate::words::{Command, Reading, read_words, reading_in};
 use dwg_base::{ByteRun, Intake, LIMIT, Source, read_all};
 use std::alloc::Global;
 
@@ -97,13 +97,9 @@ pub fn request_for<R: Source>(
         None => Ok(Request::Usage),
         Some(Command::Make { n, seed }) => Ok(Request::Make { n, seed }),
         Some(Command::Drill { n }) => Ok(Request::Drill { n }),
-        Some(Command::Sections) => request_from(alloc, Reading::Sections, input),
-        Some(Command::Classes) => request_from(alloc, Reading::Classes, input),
-        Some(Command::Show) => request_from(alloc, Reading::Show, input),
-        Some(Command::Rewrite) => request_from(alloc, Reading::Rewrite, input),
-        Some(Command::Audit) => request_from(alloc, Reading::Audit, input),
-        Some(Command::Recover) => request_from(alloc, Reading::Recover, input),
-        Some(Command::Certify) => request_from(alloc, Reading::Certify, input),
-        Some(Command::Accept) => request_from(alloc, Reading::Accept, input),
+        Some(command) => match reading_in(command) {
+            Some(reading) => request_from(alloc, reading, input),
+            None => unreachable!(),
+        },
     }
 }

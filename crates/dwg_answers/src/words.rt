@@ -1,29 +1,29 @@
 //! The words of the command line.
 
-ghost use Rattle.std.specs.Prelude.{◌≡◌, ℕ, ◌<◌, ◌^◌, [], ◌∷◌, Some, None, codes, IfSome};
+ghost use Rattle.std.specs.Prelude.{◌≡◌, ℕ, ◌<◌, ◌^◌, [], ◌∷◌, Some, codes};
 ghost use Rattle.std.specs.Fmt.{decimal};
 ghost use Rattle.std.specs.List.{list_all};
 ghost use Rattle.std.specs.Char.{is_ascii_digit};
-ghost use Rattle.dwg_answers.specs.Words.{texts, is_numeral, number_of, make_of, drill_of, reading_of, reads, command_of};
+ghost use Rattle.dwg_answers.specs.Words.{texts, is_numeral, number_of, make_of, drill_of, reading_of, reading_in, reads, command_of};
 
-/// A command that reads the input: what it says of it is told at the `Command` of the same name.
+/// How a command reads the input: what it says of that is told at the `Command` of the same name.
 #[derive(Clone, Copy, Debug, PartialEq, Eq)]
 pub enum Reading {
-    /// `sections`.
+    /// The file header is read.
     Sections,
-    /// `classes`.
+    /// The file header and the classes are read.
     Classes,
-    /// `show`.
+    /// The drawing is read, to be shown.
     Show,
-    /// `rewrite`.
+    /// The drawing is read, to be written again.
     Rewrite,
-    /// `audit`.
+    /// The drawing is read, to be audited.
     Audit,
-    /// `recover`.
+    /// All that is left of a drawing is read.
     Recover,
-    /// `certify`.
+    /// The drawing is read, to be certified.
     Certify,
-    /// `accept`.
+    /// A certificate is read, and the drawing behind it.
     Accept,
 }
 
@@ -90,9 +90,7 @@ fn is_numeral(word: &[u8]) -> bool
 /// The number that a word spells. None exactly where it isn't one to ten decimal digits, has a zero before others, or is 2^32 or
 /// more.
 fn read_number(word: &str) -> Option<u32>
-    ensures computed { result ≡ number_of word.now }
-    ensures value { IfSome result (λ value. word.now ≡ decimal value) }
-    ensures none { result ≡ None → (value : ℕ) → value < 2 ^ 32 → word.now ≡ decimal value → ⊥ }
+    ensures { result ≡ number_of word.now }
 {
     if !is_numeral(word.as_bytes()) {
         return None;
@@ -148,6 +146,24 @@ fn command_by(reading: Reading) -> Command
         Reading::Recover => Command::Recover,
         Reading::Certify => Command::Certify,
         Reading::Accept => Command::Accept,
+    }
+}
+
+/// How a command reads. None exactly where it makes a drawing.
+pub(crate) fn reading_in(command: Command) -> Option<Reading>
+    ensures { result ≡ reading_in command }
+{
+    match command {
+        Command::Sections => Some(Reading::Sections),
+        Command::Classes => Some(Reading::Classes),
+        Command::Show => Some(Reading::Show),
+        Command::Rewrite => Some(Reading::Rewrite),
+        Command::Audit => Some(Reading::Audit),
+        Command::Recover => Some(Reading::Recover),
+        Command::Certify => Some(Reading::Certify),
+        Command::Accept => Some(Reading::Accept),
+        Command::Make { .. } => None,
+        Command::Drill { .. } => None,
     }
 }
 

@@ -3,7 +3,7 @@ use Rattle.std.proofs.Common.{◌≡◌, subst, sym, inl, inr}
 use Rattle.dwg_answers.specs.declared.status.Status.{Status}
 use Rattle.dwg_answers.specs.declared.status.Status.TheVariants.{Done, Found, Usage, Refused, ReadFault, WriteFault, NoMemory, TooLong, TooLarge}
 use Rattle.dwg_answers.specs.declared.answer.Answer.{Answer}
-use Rattle.dwg_answers.specs.Run.{IsSettled, IsStopped, IsCut, Sent, Sinks}
+use Rattle.dwg_answers.specs.Run.{IsSettled, IsStopped, DeliversFront, Sent, Sinks}
 
 -- a status that is settled isn't one at which the run stopped
 settled_goes_on : (status : Status) → IsSettled status → IsStopped status → ⊥
@@ -19,9 +19,9 @@ settled_goes_on (TooLarge size) settled stopped = stopped
 
 -- a run that stopped as it sent its answer left a front of what was told
 pub stopped_is_cut : (answer told : Answer) (status : Status) (before behind : Sinks) → answer ≡ told → IsSettled answer.status → Sent answer status before behind → IsStopped status
-    → IsCut told before.output behind.output before.notes behind.notes
+    → DeliversFront told before.output behind.output before.notes behind.notes
 stopped_is_cut answer told status before behind is settled sent stopped =
     elim sent.1 [
       | inl whole ↦ absurd (settled_goes_on status (subst IsSettled (sym whole.0) settled) stopped)
-      | inr broken ↦ subst (λ (one : Answer). IsCut one before.output behind.output before.notes behind.notes) is broken.1
+      | inr broken ↦ subst (λ (one : Answer). DeliversFront one before.output behind.output before.notes behind.notes) is broken.1
     ]

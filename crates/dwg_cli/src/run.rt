@@ -6,7 +6,7 @@ ghost use Rattle.dwg_base.specs.Devices.{Came, Rose, AppendsFront, MOST_BYTES};
 ghost use Rattle.dwg_text.specs.Notes as texts;
 ghost use Rattle.dwg_answers.specs.Words.{texts as words_of, command_of, IsReading, IsUsage};
 ghost use Rattle.dwg_answers.specs.Outcome.{outcome};
-ghost use Rattle.dwg_answers.specs.Run.{Feeds, AnswersTo, IsSettled, IsStopped, IsFailed, IsDrained, Delivers, IsCut, StopsAtFault};
+ghost use Rattle.dwg_answers.specs.Run.{Feeds, AnswersTo, IsSettled, IsStopped, IsFailed, IsDrained, Delivers, DeliversFront, StopsAtFault};
 
 use dwg_answers::{Status, Stop, answer_request, request_for};
 use dwg_base::{Sink, Source, put_all};
@@ -60,10 +60,10 @@ pub fn run<R: Source, W: Sink, N: Sink>(
 
     // A run that stopped wrote a front of what is defined, or stopped at a fault of its input.
     ensures stopped { IsStopped result → (bytes : List ℕ) → Feeds (command_of (words_of words.now)) (R.left input.old) bytes →
-        IsCut (outcome (words_of words.now) bytes) (W.taken output.old) (W.taken output.new) (N.taken notes.old) (N.taken notes.new)
+        DeliversFront (outcome (words_of words.now) bytes) (W.taken output.old) (W.taken output.new) (N.taken notes.old) (N.taken notes.new)
         ⊎ StopsAtFault (command_of (words_of words.now)) (R.faults input.old) (R.faults input.new) (W.taken output.old) (W.taken output.new) (N.taken notes.old) (N.taken notes.new) }
     ensures stopped_came { IsStopped result → Came (R.left input.old) (R.left input.new) (λ came.
-        IsCut (outcome (words_of words.now) came) (W.taken output.old) (W.taken output.new) (N.taken notes.old) (N.taken notes.new)
+        DeliversFront (outcome (words_of words.now) came) (W.taken output.old) (W.taken output.new) (N.taken notes.old) (N.taken notes.new)
         ⊎ StopsAtFault (command_of (words_of words.now)) (R.faults input.old) (R.faults input.new) (W.taken output.old) (W.taken output.new) (N.taken notes.old) (N.taken notes.new)) }
     ensures stopped_at_fault { IsStopped result → R.faults input.old < R.faults input.new →
         StopsAtFault (command_of (words_of words.now)) (R.faults input.old) (R.faults input.new) (W.taken output.old) (W.taken output.new) (N.taken notes.old) (N.taken notes.new) }

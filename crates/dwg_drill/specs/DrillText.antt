@@ -1,10 +1,10 @@
 -- The text of a drill. A rule of this project.
 use Rattle.std.specs.Prelude.{ℕ, List, ◌++◌, ◌-◌, codes, decimal, length, replicate, Option, Some, None, true}
 use Rattle.std.specs.Fmt.{digits}
-use Rattle.dwg_base.specs.Refusals.{part_word_of, reason_word_of}
 use Rattle.dwg_base.specs.declared.refusal.Refusal.{Refusal}
 use Rattle.dwg_drill.specs.declared.report.DrillReport.{DrillReport}
 use Rattle.dwg_text.specs.Lines.{line}
+use Rattle.dwg_text.specs.Notes.{refusal_words}
 
 -- a check word: four upper-case hexadecimal digits
 unfoldable pub check_text : ℕ → List ℕ
@@ -13,8 +13,7 @@ check_text word = replicate (4 - length (digits 16 true word)) 48 ++ digits 16 t
 -- the first fault of a changed file: which part, where, and why; a word where there is none
 unfoldable pub fault_text : Option Refusal → List ℕ
 fault_text None = codes "none"
-fault_text (Some refusal) =
-    part_word_of refusal.line ++ codes " " ++ decimal refusal.index ++ codes " at " ++ decimal refusal.place ++ codes ": " ++ reason_word_of refusal.line
+fault_text (Some refusal) = refusal_words refusal
 
 -- what a drill tells
 unfoldable pub drill_text : DrillReport → List ℕ

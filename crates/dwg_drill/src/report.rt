@@ -5,7 +5,8 @@ ghost use Rattle.dwg_base.specs.Refusals.{IsOfTable};
 ghost use Rattle.dwg_drill.specs.DrillText as texts;
 ghost use Rattle.dwg_text.specs.Lines.{line};
 
-use dwg_base::{ByteRun, NoMemory, Refusal, part_word, reason_word};
+use dwg_base::{ByteRun, NoMemory, Refusal};
+use dwg_text::push_refusal_words;
 use std::alloc::{AllocError, Global};
 
 /// What a drill found out: it makes a drawing, writes its canonical file, reads that again, audits it, and reads the file once more
@@ -56,13 +57,7 @@ fn push_fault(text: &mut String, fault: Option<Refusal>) -> Result<(), AllocErro
 {
     match fault {
         None => text.push_str("none"),
-        Some(refusal) => {
-            let index = refusal.index;
-            let place = refusal.place;
-            text.push_str(part_word(refusal.line))?;
-            write!(text, " {index} at {place}: ")?;
-            text.push_str(reason_word(refusal.line))
-        }
+        Some(refusal) => push_refusal_words(text, refusal),
     }
 }
 

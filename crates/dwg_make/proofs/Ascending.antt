@@ -8,7 +8,7 @@ use Rattle.std.proofs.lemmas.List.Kept.{AllPairs-cons}
 use Rattle.dwg_object.specs.Objects.{ObjectValue, handle_of}
 use Rattle.dwg_file.specs.Spelled.{AreAscending}
 use Rattle.dwg_make.specs.Fixed.{block_control, layer_control, style_control, ltype_control, appid_control, dictionary, xrecord, layer, style, appid, ltype, block_header, attribute_definition, line_of_block, attribute, insert, controls, dictionaries, table_entries, model_space, paper_space, tag_block, tag_insert, fixed_objects, by_block, by_layer, continuous, model_header, model_begin, model_end, paper_header, paper_begin, paper_end, tag_header, tag_begin, tag_end, attributes_end}
-use Rattle.dwg_make.specs.Further.{further_entity}
+use Rattle.dwg_make.specs.Further.{drawn_entity, further_entity}
 
 -- handles from a number on, each above the one before
 abbrev Ascend : ℕ → List ObjectValue → Type 0
@@ -43,7 +43,7 @@ front_ascends low (object ∷ objects) back passed behind = (grind (arith, nat_t
 
 -- the further entities
 further_ascends : (count seed from left : ℕ) → Ascend (0x30 + from) (map (further_entity count seed) (range_with_len from left))
-unfolding further_entity
+unfolding further_entity drawn_entity
 further_ascends count seed from zero = tt
 further_ascends count seed from (suc left) =
     let same : 0x30 + (from + 1) ≡ 0x30 + from + 1 = omega arith in

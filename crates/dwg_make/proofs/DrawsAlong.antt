@@ -5,8 +5,8 @@ use Rattle.std.specs.List.{range_with_len}
 use Rattle.std.proofs.lemmas.List.FromFn.{map-range_with_len_more}
 use Rattle.dwg_object.specs.Objects.{ObjectValue}
 use Rattle.dwg_make.specs.declared.random.Draw.{Draw}
-use Rattle.dwg_make.specs.Draws.{draw_from, drawn_entity}
-use Rattle.dwg_make.specs.Further.{further_entity}
+use Rattle.dwg_make.specs.Draws.{draw_from}
+use Rattle.dwg_make.specs.Further.{drawn_entity, further_entity}
 use Rattle.dwg_make.specs.Random.{state_at, next_state}
 
 -- states behind a state are states behind its seed
@@ -28,10 +28,10 @@ next_at seed done state next at behind =
 
 -- what is drawn from where an entity's random numbers begin is that entity
 drawn_is : (count seed done : ℕ) → drawn_entity count (done + 1) (draw_from (state_at seed (9 * done))) ≡ further_entity count seed (done + 1)
-unfolding drawn_entity draw_from further_entity
+unfolding further_entity
 drawn_is count seed done =
-    let before : done + 1 - 1 ≡ done = omega arith in
-    simp (state_at_add, before)
+    let before : done ≡ done + 1 - 1 = omega arith in
+    ap (λ (place : ℕ). drawn_entity count (done + 1) (draw_from (state_at seed (9 * place)))) before
 
 -- one entity more
 pub more_made : (count seed done state : ℕ) (draw : Draw) (value : ObjectValue) (start old new : List ObjectValue)

@@ -8,7 +8,7 @@ use Rattle.dwg_grammar.specs.Combinators.{items}
 use Rattle.dwg_entities.specs.AttdefBody.{attdef_body}
 use Rattle.dwg_entities.specs.AttribBody.{attrib_body}
 use Rattle.dwg_entities.specs.BlockBody.{block_body}
-use Rattle.dwg_entities.specs.BlockEnds.{endblk_body, seqend_body}
+use Rattle.dwg_entities.specs.Closing.{endblk_body, seqend_body}
 use Rattle.dwg_entities.specs.InsertBody.{insert_body}
 use Rattle.dwg_file.proofs.ObjectSize.{IsSmall}
 use Rattle.dwg_grammar.specs.ReferenceCodes.{reference}

@@ -1,5 +1,5 @@
 -- The further entities of a made drawing are valid and small.
-use Rattle.std.proofs.Common.{refl, ℕ, zero, suc, ◌+◌, ◌-◌, ◌^◌, ◌<◌, Bool, true, false, [], ◌++◌, Some, None, arith}
+use Rattle.std.proofs.Common.{refl, ℕ, zero, suc, ◌+◌, ◌-◌, ◌*◌, ◌^◌, ◌<◌, Bool, true, false, [], ◌++◌, Some, None, arith}
 use Rattle.std.specs.Prelude.{◌==◌, ◌%◌, codes, decimal, map, if◌then◌else◌}
 use Rattle.std.specs.List.{AllByRecursion, range_with_len}
 use Rattle.dwg_base.specs.Devices.{MOST_BYTES}
@@ -15,7 +15,8 @@ use Rattle.dwg_shapes.specs.Circles.{circle_body}
 use Rattle.dwg_shapes.specs.Lines.{line_body}
 use Rattle.dwg_shapes.specs.LwPolylines.{lwpolyline_body}
 use Rattle.dwg_shapes.specs.Points.{point_body}
-use Rattle.dwg_make.specs.Further.{further_number, further_body, further_handle, further_layer, further_choice, further_word, further_entity}
+use Rattle.dwg_make.specs.Draws.{STATES_OF_ENTITY, draw_from}
+use Rattle.dwg_make.specs.Further.{further_number, further_body, further_handle, further_layer, drawn_entity, further_entity}
 use Rattle.dwg_make.specs.Parts.{flat_point, point, links, model_entity}
 use Rattle.dwg_make.specs.Random.{next_state, state_at, word_of}
 use Rattle.dwg_make.proofs.CommonsMade.{unlinked}
@@ -109,13 +110,19 @@ layer_low : (test : Bool) → (if test then 0x10 else 0x17) < 2 ^ 32
 layer_low true = omega arith
 layer_low false = omega arith
 
+-- the entity of the draw from a state
+drawn_small : (count number state : ℕ) → state < 2 ^ 32 → number < 10 ^ 7 → IsSmall [] MOST_BYTES (drawn_entity count number (draw_from state))
+unfolding drawn_entity draw_from
+drawn_small count number state small few =
+    maybe_linked (number == count) (further_number (state_at state 1 % 6)) (further_handle number) (further_handle number - 1) (further_layer number) _ (omega arith)
+    (layer_low (number % 2 == 1))
+    (further_own (state_at state 1 % 6) number (λ k. word_of (state_at state k)) few (λ k. word_small _ (state_small state k small)))
+
 -- a further entity
 further_small : (count seed number : ℕ) → seed < 2 ^ 32 → number < 10 ^ 7 → IsSmall [] MOST_BYTES (further_entity count seed number)
 unfolding further_entity
 further_small count seed number small few =
-    maybe_linked (number == count) (further_number (further_choice seed number)) (further_handle number) (further_handle number - 1) (further_layer number) _ (omega arith)
-    (layer_low (number % 2 == 1))
-    (further_own (further_choice seed number) number (further_word seed number) few (λ k. word_small _ (state_small seed _ small)))
+    drawn_small count number (state_at seed (STATES_OF_ENTITY * (number - 1))) (state_small seed (STATES_OF_ENTITY * (number - 1)) small) few
 
 -- and so many from a number on
 pub all_further : (count seed from left : ℕ) → seed < 2 ^ 32 → from + left < 10 ^ 7 → AllByRecursion (IsSmall [] MOST_BYTES) (map (further_entity count seed) (range_with_len from left))

@@ -11,7 +11,8 @@ use Rattle.dwg_grammar.specs.ReferenceCodes.{own_handle}
 use Rattle.dwg_kinds.specs.Kinds.{is_entity_kind}
 use Rattle.dwg_object.specs.declared.common.Common.{Common}
 use Rattle.dwg_object.specs.declared.body.Body.{Body}
-use Rattle.dwg_object.specs.Forms.{head, kind_under, common_part}
+use Rattle.dwg_object.specs.Forms.{kind_under, common_part}
+use Rattle.dwg_object.specs.Heads.{head}
 use Rattle.dwg_object.specs.Objects.{HeadParts, TypedValue, is_of_entity}
 use Rattle.dwg_object.specs.OwnBodies.{body_kind, own_body}
 use Rattle.dwg_object.specs.Written.{common_main, common_refs, written_head, front_bits, refs_bits, object_bits, own_main, own_refs}

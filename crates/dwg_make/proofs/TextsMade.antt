@@ -8,7 +8,7 @@ use Rattle.dwg_entities.specs.declared.attrib.Attrib.{Attrib}
 use Rattle.dwg_entities.specs.AttdefBody.{attdef_body}
 use Rattle.dwg_entities.specs.AttribBody.{attrib_main, label_of, attrib_body}
 use Rattle.dwg_entities.specs.BlockBody.{block_body}
-use Rattle.dwg_entities.specs.BlockEnds.{endblk_body, seqend_body}
+use Rattle.dwg_entities.specs.Closing.{endblk_body, seqend_body}
 use Rattle.dwg_entities.specs.InsertBody.{insert_body}
 use Rattle.dwg_entities.specs.Scale.{scale_by, scale}
 use Rattle.dwg_entities.specs.TextBody.{flags_of, text_main, inscription_of, text_body}

@@ -1,11 +1,11 @@
--- What the random numbers of one entity give, and the entity that is made of it. A rule of this project.
-use Rattle.std.specs.Prelude.{ℕ, ◌%◌}
-use Rattle.dwg_object.specs.Objects.{ObjectValue}
-use Rattle.dwg_object.specs.declared.body.Body.{Body}
-use Rattle.dwg_make.specs.Further.{further_number, further_body, further_handle, further_links, further_layer}
-use Rattle.dwg_make.specs.Parts.{model_entity}
+-- What the random numbers of one entity give. A rule of this project.
+use Rattle.std.specs.Prelude.{ℕ, ◌-◌, ◌*◌, ◌%◌}
 use Rattle.dwg_make.specs.Random.{state_at, word_of}
 use Rattle.dwg_make.specs.declared.random.Draw.{Draw}
+
+-- how many random numbers an entity uses
+abbrev pub STATES_OF_ENTITY : ℕ
+STATES_OF_ENTITY = 9
 
 -- the draw of the nine states after a state
 unfoldable pub draw_from : ℕ → Draw
@@ -21,11 +21,6 @@ draw_from state = record {
   w9 = word_of (state_at state 9);
 }
 
--- the body of a draw, for the entity of a number
-abbrev pub drawn_body : ℕ → Draw → Body
-drawn_body number draw = further_body draw.choice number draw.w2 draw.w3 draw.w4 draw.w5 draw.w6 draw.w7 draw.w8 draw.w9
-
--- the entity of a number that a draw gives, where there are so many
-unfoldable pub drawn_entity : ℕ → ℕ → Draw → ObjectValue
-drawn_entity count number draw =
-    model_entity (further_number draw.choice) (further_handle number) (further_links count number) (further_layer number) (drawn_body number draw)
+-- the draw of the further entity of a number, from 1 on: the first uses the nine states after the seed, and each other the nine after those of the one before it
+abbrev pub draw_of : ℕ → ℕ → Draw
+draw_of seed number = draw_from (state_at seed (STATES_OF_ENTITY * (number - 1)))

@@ -1,16 +1,13 @@
 -- The entities of a made drawing that follow its fixed objects, drawn by random numbers. A rule of this project.
-use Rattle.std.specs.Prelude.{ℕ, zero, suc, ◌+◌, ◌-◌, ◌*◌, ◌%◌, ◌==◌, [], ◌∷◌, ◌++◌, Option, Some, None, codes, decimal, if◌then◌else◌}
+use Rattle.std.specs.Prelude.{ℕ, zero, suc, ◌+◌, ◌-◌, ◌%◌, ◌==◌, [], ◌∷◌, ◌++◌, Option, Some, None, codes, decimal, if◌then◌else◌}
 use Rattle.dwg_grammar.specs.Codes.{UPWARD}
 use Rattle.dwg_common.specs.declared.entity.Links.{Links}
 use Rattle.dwg_object.specs.Objects.{ObjectValue}
 use Rattle.dwg_object.specs.declared.body.Body.{Body}
 use Rattle.dwg_object.specs.declared.body.Body.TheVariants as bodies
+use Rattle.dwg_make.specs.Draws.{draw_of}
 use Rattle.dwg_make.specs.Parts.{flat_point, point, links, model_entity, plain_text}
-use Rattle.dwg_make.specs.Random.{state_at, word_of}
-
--- how many random numbers an entity uses
-abbrev pub STATES_OF_ENTITY : ℕ
-STATES_OF_ENTITY = 9
+use Rattle.dwg_make.specs.declared.random.Draw.{Draw}
 
 -- the type number and the body that a choice from 0 to 5 gives: LINE, POINT, CIRCLE, ARC, TEXT, LWPOLYLINE. The words are those of the second random number of the entity to the ninth
 abbrev pub further_number : ℕ → ℕ
@@ -56,22 +53,15 @@ further_links count number = if number == count then Some (links (further_handle
 abbrev pub further_layer : ℕ → ℕ
 further_layer number = if number % 2 == 1 then 0x10 else 0x17
 
--- the random number with number k, from 1 on, of the nine that the further entity of a number uses: the state of number 9 * (number - 1) + k
-abbrev pub further_state : ℕ → ℕ → ℕ → ℕ
-further_state seed number k = state_at seed (STATES_OF_ENTITY * (number - 1) + k)
+-- the body that a draw gives the entity of a number
+abbrev pub drawn_body : ℕ → Draw → Body
+drawn_body number draw = further_body draw.choice number draw.w2 draw.w3 draw.w4 draw.w5 draw.w6 draw.w7 draw.w8 draw.w9
 
--- the choice of its kind
-abbrev pub further_choice : ℕ → ℕ → ℕ
-further_choice seed number = further_state seed number 1 % 6
-
--- the word that its random number with number k gives
-abbrev pub further_word : ℕ → ℕ → ℕ → ℕ
-further_word seed number k = word_of (further_state seed number k)
+-- the entity of a number that a draw gives, where there are so many
+unfoldable pub drawn_entity : ℕ → ℕ → Draw → ObjectValue
+drawn_entity count number draw =
+    model_entity (further_number draw.choice) (further_handle number) (further_links count number) (further_layer number) (drawn_body number draw)
 
 -- the further entity of a number, where there are so many
 unfoldable pub further_entity : ℕ → ℕ → ℕ → ObjectValue
-further_entity count seed number =
-    model_entity (further_number (further_choice seed number)) (further_handle number) (further_links count number) (further_layer number)
-    (further_body (further_choice seed number) number
-    (further_word seed number 2) (further_word seed number 3) (further_word seed number 4) (further_word seed number 5)
-    (further_word seed number 6) (further_word seed number 7) (further_word seed number 8) (further_word seed number 9))
+further_entity count seed number = drawn_entity count number (draw_of seed number)

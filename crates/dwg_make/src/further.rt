@@ -3,9 +3,8 @@
 ghost use Rattle.std.specs.Prelude.{◌≡◌, ◌≤◌, ◌<◌, ◌++◌, map, codes, decimal, string_bytes, IfOk, OnOk};
 ghost use Rattle.std.specs.List.{range_with_len};
 ghost use Rattle.dwg_object.specs.Objects.{value_of};
-ghost use Rattle.dwg_make.specs.Draws.{drawn_body, drawn_entity};
 ghost use Rattle.dwg_object.specs.declared.body.Body.TheVariants as bodies;
-ghost use Rattle.dwg_make.specs.Further.{further_body, further_entity, further_layer, further_links, further_number};
+ghost use Rattle.dwg_make.specs.Further.{drawn_body, drawn_entity, further_body, further_entity, further_layer, further_links, further_number};
 ghost use Rattle.dwg_make.specs.Parts.{flat_point, plain_text};
 
 use crate::making::Making;
@@ -144,7 +143,7 @@ fn layer_of(number: u32) -> u64
 }
 
 /// The entity of a number that a draw gives, where there are so many. The only refusal is want of memory.
-#[tactic(auto, unfolding(crate::specs::Draws::drawn_entity))]
+#[tactic(auto, unfolding(crate::specs::Further::drawn_entity))]
 fn entity_of(
     alloc: Global,
     count: u32,

@@ -10,12 +10,13 @@ use Rattle.dwg_bits.specs.Bits.{bits}
 use Rattle.dwg_classes.specs.declared.class.Class.{Class}
 use Rattle.dwg_object.specs.declared.span.Span.{Span}
 use Rattle.dwg_object.proofs.FormLaws.{form_at, form_is_at, forms_same}
-use Rattle.dwg_object.specs.Forms.{BeginsWithHead, FormOf, HasHead}
+use Rattle.dwg_object.specs.Forms.{FormOf}
+use Rattle.dwg_object.specs.Heads.{BeginsWithHead, HasHead}
 use Rattle.dwg_object.specs.FrameLaws.{FramesAreHeld, FramesAreTold}
 use Rattle.dwg_object.proofs.FrameLaws.{span_of_frame}
 use Rattle.dwg_object.specs.FrameLines.{frame_checked, frame_refusal, has_check_word, head_at, head_tried, span_body, tried_frame, tried_span}
 use Rattle.dwg_object.specs.Frames.{FrameAt, FrameHolds}
-use Rattle.dwg_object.proofs.HeadLaws.{begins_head, head_begins}
+use Rattle.dwg_object.proofs.HeadLemmas.{begins_head, head_begins}
 use Rattle.dwg_object.specs.Objects.{HeadParts}
 use Rattle.dwg_objmap.specs.declared.pair.Pair.{Pair}
 use Rattle.dwg_recover.specs.declared.frame.Frame.{Frame}

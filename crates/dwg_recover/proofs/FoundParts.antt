@@ -16,7 +16,7 @@ use Rattle.dwg_file.proofs.ReadingLemmas.{SectionLaws}
 use Rattle.dwg_file.proofs.SectionPlaces.{sections_stand}
 use Rattle.dwg_file.specs.Spelled.{AreSectionsOf}
 use Rattle.dwg_objmap.specs.declared.pair.Pair.{Pair}
-use Rattle.dwg_objmap.specs.MapLines.{HasCheckWord, body_at}
+use Rattle.dwg_objmap.specs.MapLines.{HasPageWord, body_at}
 use Rattle.dwg_objmap.proofs.PagePlaces.{body_is_bytes}
 use Rattle.dwg_objmap.specs.Walking.{AreLongest, page_holds_at, pairs_in_front}
 use Rattle.dwg_objmap.proofs.WalkingLemmas.{longest_in_front, size_is}
@@ -102,11 +102,11 @@ pages_give_pairs bytes page are = (λ right. of_right right, λ wrong. of_wrong 
     given : Bool → List Pair
     given = λ holds. if holds then pairs_in_front (body_at bytes page) else []
 
-    of_right : HasCheckWord bytes page → AreLongest (body_at bytes page) (pairs_at bytes page)
+    of_right : HasPageWord bytes page → AreLongest (body_at bytes page) (pairs_at bytes page)
     of_right right =
         subst (λ (test : Bool). AreLongest (body_at bytes page) (given test)) (sym ((right_told bytes page).1 right)) (longest_in_front (body_at bytes page) (body_is_bytes bytes page are))
 
-    of_wrong : (test : Bool) → page_holds_at bytes page ≡ test → (HasCheckWord bytes page → ⊥) → given test ≡ []
+    of_wrong : (test : Bool) → page_holds_at bytes page ≡ test → (HasPageWord bytes page → ⊥) → given test ≡ []
     of_wrong true passed wrong = absurd (wrong ((right_told bytes page).0 passed))
     of_wrong false failed wrong = refl
 

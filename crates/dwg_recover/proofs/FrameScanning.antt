@@ -11,10 +11,11 @@ use Rattle.dwg_classes.specs.declared.class.Class.{Class}
 use Rattle.dwg_grammar.proofs.ModularLemmas.{ms_below, ms_is_code}
 use Rattle.dwg_object.specs.declared.span.Span.{Span}
 use Rattle.dwg_object.proofs.FormLaws.{form_at, form_is_at, forms_same}
-use Rattle.dwg_object.specs.Forms.{BeginsWithHead, FormOf, HasHead, head}
+use Rattle.dwg_object.specs.Forms.{FormOf}
+use Rattle.dwg_object.specs.Heads.{BeginsWithHead, HasHead, head}
 use Rattle.dwg_object.specs.FrameLines.{has_check_word, head_at, span_body, tried_span}
 use Rattle.dwg_object.specs.Frames.{SpanAt}
-use Rattle.dwg_object.proofs.HeadLaws.{begins_head, head_parsed}
+use Rattle.dwg_object.proofs.HeadLemmas.{begins_head, head_parsed}
 use Rattle.dwg_object.specs.Objects.{HeadParts, ObjectValue}
 use Rattle.dwg_recover.specs.declared.frame.Frame.{Frame}
 use Rattle.dwg_recover.specs.Frames.{has_common_part, is_free, is_new, keep_free, own_of_span, scanned, scanned_of, span_found}

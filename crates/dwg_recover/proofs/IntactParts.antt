@@ -24,12 +24,13 @@ use Rattle.dwg_file.specs.Spelled.{PairFrame}
 use Rattle.dwg_file.specs.Valid.{IsValid}
 use Rattle.dwg_file.proofs.WrittenFrames.{IsWritten}
 use Rattle.dwg_object.specs.declared.span.Span.{Span}
-use Rattle.dwg_object.specs.Forms.{BeginsWithHead, FormOf}
+use Rattle.dwg_object.specs.Forms.{FormOf}
+use Rattle.dwg_object.specs.Heads.{BeginsWithHead}
 use Rattle.dwg_object.proofs.FormLaws.{head_of_form, valid_fits, valid_handle, valid_is_form, written_frame}
 use Rattle.dwg_object.proofs.FrameLaws.{span_of_frame}
 use Rattle.dwg_object.specs.FrameLines.{bytes_from}
 use Rattle.dwg_object.specs.Frames.{FrameAt, FrameHolds, frame_bytes}
-use Rattle.dwg_object.proofs.HeadLaws.{begins_head}
+use Rattle.dwg_object.proofs.HeadLemmas.{begins_head}
 use Rattle.dwg_object.specs.Objects.{ObjectValue, handle_of}
 use Rattle.dwg_object.proofs.SpanLaws.{tried_span_means}
 use Rattle.dwg_object.proofs.StandingLemmas.{drop_stands, stands_drop, stands_within, take_stands}

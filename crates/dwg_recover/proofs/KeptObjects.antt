@@ -17,10 +17,11 @@ use Rattle.dwg_file.specs.SortedObjects.{sorted}
 use Rattle.dwg_file.proofs.SortedObjects.{distinct_objects, sorted_ascends, sorted_same}
 use Rattle.dwg_file.specs.Spelled.{AreAscending}
 use Rattle.dwg_object.specs.declared.span.Span.{Span}
-use Rattle.dwg_object.specs.Forms.{FormOf, HasHead}
+use Rattle.dwg_object.specs.Forms.{FormOf}
+use Rattle.dwg_object.specs.Heads.{HasHead}
 use Rattle.dwg_object.proofs.FormLaws.{form_at, form_is_at, head_of_form}
 use Rattle.dwg_object.specs.FrameLines.{has_check_word, head_at, span_body}
-use Rattle.dwg_object.proofs.HeadLaws.{TellsHead, head_fits, head_told, heads_same}
+use Rattle.dwg_object.proofs.HeadLemmas.{TellsHead, head_fits, head_told, heads_same}
 use Rattle.dwg_object.specs.Objects.{HeadParts, ObjectValue, handle_of}
 use Rattle.dwg_objmap.specs.Pages.{AreHandles}
 use Rattle.dwg_recover.specs.declared.frame.Frame.{Frame}

@@ -1,11 +1,25 @@
 -- Where the members of lists come from and stay: of joined, mapped, ordered and filtered lists.
-use Rattle.std.proofs.Common.{◌≡◌, refl, sym, ◌∙◌, ap, subst, ℕ, ◌+◌, Bool, true, false, List, [], ◌∷◌, ◌++◌, length, length-append, map, append_assoc, inl, inr, arith}
-use Rattle.std.specs.Prelude.{◌⊎◌, cond}
+use Rattle.std.proofs.Common.{◌≡◌, refl, sym, ◌∙◌, ap, subst, ℕ, zero, suc, ◌+◌, Bool, true, false, List, [], ◌∷◌, ◌++◌, length, length-append, map, append_assoc, inl, inr, arith}
+use Rattle.std.specs.Prelude.{◌⊎◌, ◌↔◌, Contains, cond}
 use Rattle.std.specs.List.{AllByRecursion, filter}
 use Rattle.std.specs.List.Sorted.{IsPermutation}
-use Rattle.std.proofs.lemmas.List.Elements.{All-from_recursion, recursion_from_All}
-use Rattle.std.proofs.lemmas.List.Sorted.{All-permutation, IsPermutation-sym}
+use Rattle.std.proofs.lemmas.List.Elements.{Contains-append_right}
+use Rattle.std.proofs.lemmas.List.Sorted.{Contains-permutation}
 use Rattle.dwg_recover.specs.ListMembers.{IsAt, IsOneOf, IsSplit}
+
+-- a member, by the cases of the list, is an element by its place, as `Contains` of the library says it
+one_is_element : {A : Type 0} (one : A) (all : List A) → IsOneOf one all → Contains all one
+one_is_element one [] is = absurd is
+one_is_element one (first ∷ all) (inl same) = (0, omega arith, sym same)
+one_is_element one (first ∷ all) (inr behind) = Contains-append_right (first ∷ []) all one (one_is_element one all behind)
+
+element_is_one : {A : Type 0} (one : A) (all : List A) → Contains all one → IsOneOf one all
+element_is_one one [] (place, less, is) = absurd (omega (arith, less))
+element_is_one one (first ∷ all) (zero, less, is) = inl (sym is)
+element_is_one one (first ∷ all) (suc place, less, is) = inr (element_is_one one all (place, omega (arith, less), is))
+
+pub one_or_element : {A : Type 0} (one : A) (all : List A) → IsOneOf one all ↔ Contains all one
+one_or_element one all = (one_is_element one all, element_is_one one all)
 
 -- of two lists that are joined, it is one of the first or of the second
 pub of_joined : {A : Type 0} (one : A) (front back : List A) → IsOneOf one (front ++ back) → IsOneOf one front ⊎ IsOneOf one back
@@ -137,12 +151,7 @@ mapped_from f image (first ∷ all) (inr behind) = let rest = mapped_from f imag
 
 -- the members are the same in any order
 pub one_permuted : {A : Type 0} (one : A) (all others : List A) → IsPermutation all others → IsOneOf one all → IsOneOf one others
-one_permuted {A} one all others same is =
-    let member : A → Type 0 = λ (item : A). IsOneOf item others in
-    one_of_all member all one
-    (recursion_from_All member all
-    (All-permutation member others all (IsPermutation-sym all others same) (All-from_recursion member others (all_of_each member others (λ item has. has)))))
-    is
+one_permuted one all others same is = (one_or_element one others).1 (Contains-permutation all others one same ((one_or_element one all).0 is))
 
 -- a member that passes a test stays
 pub one_stays : {A : Type 0} (test : A → Bool) (one : A) (all : List A) → IsOneOf one all → test one ≡ true → IsOneOf one (filter test all)

@@ -5,7 +5,7 @@ use Rattle.std.specs.Option.{is_none}
 use Rattle.std.proofs.lemmas.Bool.Decides.{nat_tests}
 use Rattle.dwg_file.specs.FileLines.{is_cut}
 use Rattle.dwg_objmap.specs.declared.pair.Pair.{Pair}
-use Rattle.dwg_objmap.specs.MapLines.{HasCheckWord}
+use Rattle.dwg_objmap.specs.MapLines.{HasPageWord}
 use Rattle.dwg_objmap.specs.Walking.{page_holds_at}
 use Rattle.dwg_sections.specs.declared.framed.Framed.TheVariants as framed
 use Rattle.dwg_sections.specs.declared.header.Locator.{Locator}
@@ -215,13 +215,13 @@ end_told (Some place) loss = (to, from)
     from (at, same, is) = let here : at ≡ place = cc in inl (is ∙ ap MapEnd here)
 
 -- a check word is wrong exactly where its test fails
-wrong_told : (bytes : List ℕ) (place : ℕ) → (page_holds_at bytes place ≡ false) ↔ (HasCheckWord bytes place → ⊥)
+wrong_told : (bytes : List ℕ) (place : ℕ) → (page_holds_at bytes place ≡ false) ↔ (HasPageWord bytes place → ⊥)
 wrong_told bytes place = ((λ failed right. never (sym failed ∙ (right_told bytes place).1 right)), λ wrong. of_test (page_holds_at bytes place) refl wrong)
   where
     never : false ≡ true → ⊥
     never same = cc
 
-    of_test : (holds : Bool) → page_holds_at bytes place ≡ holds → (HasCheckWord bytes place → ⊥) → holds ≡ false
+    of_test : (holds : Bool) → page_holds_at bytes place ≡ holds → (HasPageWord bytes place → ⊥) → holds ≡ false
     of_test true known wrong = absurd (wrong ((right_told bytes place).0 known))
     of_test false known wrong = refl
 

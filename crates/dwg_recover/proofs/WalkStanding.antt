@@ -5,7 +5,7 @@ use Rattle.std.proofs.lemmas.Bool.Decides.{nat_tests}
 use Rattle.std.proofs.lemmas.Option.{same_Some}
 use Rattle.dwg_objmap.specs.declared.pair.Pair.{Pair}
 use Rattle.dwg_objmap.specs.Pairs.{ORIGIN, pair_behind}
-use Rattle.dwg_objmap.specs.MapLines.{body_at, word_at, HasCheckWord, HasPage}
+use Rattle.dwg_objmap.specs.MapLines.{body_at, word_at, HasPageWord, HasPage}
 use Rattle.dwg_objmap.proofs.PagePlaces.{length_of_body}
 use Rattle.dwg_objmap.specs.Walking.{SizeIsThere, page_holds_at, pairs_from, pairs_in_front, size_of_page, with_next}
 use Rattle.dwg_recover.specs.Walks.{IsWalk, Walk, pairs_at, pairs_of, walk_from, walk_of_size, walk_over, with_page}
@@ -111,5 +111,5 @@ walk_once bytes place (page ∷ pages) (next ∷ others) lost other (from, size,
         (ap₂ (λ (p : ℕ) (ps : List ℕ). p ∷ ps) (from ∙ sym start) others_same.0, others_same.1)
 
 -- a check word is right exactly where its test passes
-pub right_told : (bytes : List ℕ) (place : ℕ) → (page_holds_at bytes place ≡ true) ↔ HasCheckWord bytes place
+pub right_told : (bytes : List ℕ) (place : ℕ) → (page_holds_at bytes place ≡ true) ↔ HasPageWord bytes place
 right_told bytes place = ((λ passed. grind (arith, nat_tests, passed)), λ right. grind (arith, nat_tests, right))

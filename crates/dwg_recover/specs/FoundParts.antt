@@ -6,7 +6,7 @@ use Rattle.dwg_classes.specs.declared.class.Class.{Class}
 use Rattle.dwg_classes.specs.Class.{AreClasses}
 use Rattle.dwg_file.specs.ReadAs.{whole_locators}
 use Rattle.dwg_file.specs.Spelled.{AreSectionsOf}
-use Rattle.dwg_objmap.specs.MapLines.{HasCheckWord, body_at}
+use Rattle.dwg_objmap.specs.MapLines.{HasPageWord, body_at}
 use Rattle.dwg_objmap.specs.Walking.{AreLongest}
 use Rattle.dwg_sections.specs.declared.framed.Framed.{Framed}
 use Rattle.dwg_sections.specs.declared.framed.Framed.TheVariants as framed
@@ -51,7 +51,7 @@ WalkIsLocated =
 abbrev pub PagesGivePairs : Type 0
 PagesGivePairs =
     (bytes : List ℕ) (page : ℕ) → AreBytes bytes
-    → (HasCheckWord bytes page → AreLongest (body_at bytes page) (pairs_at bytes page)) × ((HasCheckWord bytes page → ⊥) → pairs_at bytes page ≡ [])
+    → (HasPageWord bytes page → AreLongest (body_at bytes page) (pairs_at bytes page)) × ((HasPageWord bytes page → ⊥) → pairs_at bytes page ≡ [])
 
 -- what a drawing that is recovered of a damaged input has of the header, or without one, and of the sections that are found; of the unknown sections it has those that don't pass the end of the input
 pub record ArePartsKept (bytes : List ℕ) : Type 0 where

@@ -1,6 +1,5 @@
 -- The order of place: each frame begins no later than those behind it, and those of one place are what they were. A rule of this project.
-use Rattle.std.proofs.Common.{◌≡◌, ℕ, ◌<◌, ◌≤◌, List, [], ◌∷◌, ◌==◌}
-use Rattle.std.specs.Prelude.{⊤}
+use Rattle.std.specs.Prelude.{◌≡◌, ⊤, ℕ, ◌<◌, ◌≤◌, ◌==◌, List, [], ◌∷◌}
 use Rattle.std.specs.List.{AllByRecursion, filter}
 use Rattle.dwg_recover.specs.declared.frame.Frame.{Frame}
 use Rattle.dwg_recover.specs.Frames.{in_place_order}
@@ -20,5 +19,6 @@ pub record AreInOrder (most : ℕ) (frames : List Frame) : Type 0 where
   pub within : AllByRecursion (λ (frame : Frame). frame.from < most) (in_place_order most frames)
   pub same : (place : ℕ) → place < most → at_place (in_place_order most frames) place ≡ at_place frames place
 
+-- and so are any frames when they are put into that order
 abbrev pub PlacesAreInOrder : Type 0
 PlacesAreInOrder = (most : ℕ) (frames : List Frame) → AreInOrder most frames

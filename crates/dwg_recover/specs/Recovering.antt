@@ -1,4 +1,10 @@
 -- What is recovered of an input: its drawing, its refusal, its losses and the frames that are kept, where it spells a drawing and where it is damaged. A rule of this project.
+-- The order in which recovery goes: an input in which no line of the table fails is that of its drawing, with the frames of its map (`recovered_whole`). Of any
+-- other (`recovered_damaged`) the file header is taken (`header_of`), where no line on it fails; the header variables and the classes, where their sections are found
+-- (`section_found`, `classes_found`); and the pairs (`pairs_read`) of the pages that the walk over the map goes over (`walk_of`). Of the frames that the pairs lead to,
+-- in order of place, each is kept that lies behind those kept before it and has a new handle (`frames_mapped`); and then at each place of the input, from the first
+-- on, the frame that shares no byte and no handle with those kept and whose object is Typed or Plain (`frames_kept`). Their objects in order of handle (`objects_of`) and those parts are the drawing
+-- (`drawing_recovered`). Losses are told in the order of `losses_of`, and frames in order of place (`told`).
 use Rattle.std.specs.Prelude.{ℕ, ◌+◌, List, [], ◌∷◌, ◌++◌, length, map, replicate, Option, Some, None, if◌then◌else◌}
 use Rattle.std.specs.Option.{is_none}
 use Rattle.std.specs.Result.{result_unwrap_or}
@@ -65,7 +71,7 @@ body_tried bytes (Some span) = span_body bytes span
 unfoldable pub frame_body : List ℕ → ℕ → List ℕ
 frame_body bytes place = body_tried bytes (span_found bytes place)
 
--- the object that the body of a frame is read as
+-- the object that the body of a frame is read as: the one of which `FormOf` holds (`form_at`)
 abbrev pub object_of : List Class → List ℕ → Frame → ObjectValue
 object_of classes bytes frame = form_at classes (frame_body bytes frame.from)
 
@@ -98,7 +104,7 @@ drawing_recovered bytes = record {
   objects = objects_of (classes_found bytes) bytes (frames_kept bytes);
 }
 
--- the losses of a damaged input, in their order
+-- the losses of a damaged input, in their order: the file header, the header variables, the classes; unknown sections in the order of their locators; pages of the map as the walk goes over them, and its end; objects in the order of their pairs
 unfoldable pub losses_of : List ℕ → List Loss
 losses_of bytes =
     lost_if (is_none (header_of bytes)) losses.Header

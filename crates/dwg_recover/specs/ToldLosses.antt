@@ -1,7 +1,7 @@
 -- Which losses are told of a damaged input: each of what is lost, and no other. A rule of this project.
 use Rattle.std.proofs.Common.{◌≡◌, ℕ, ◌+◌, ◌<◌, ◌≤◌, List, length, Some, None}
 use Rattle.std.specs.Prelude.{◌↔◌, ◌≢◌}
-use Rattle.dwg_objmap.specs.MapLines.{HasCheckWord}
+use Rattle.dwg_objmap.specs.MapLines.{HasPageWord}
 use Rattle.dwg_sections.specs.declared.framed.Framed.TheVariants as framed
 use Rattle.dwg_sections.specs.declared.header.Locator.{Locator}
 use Rattle.dwg_recover.specs.declared.frame.Frame.{Frame}
@@ -19,7 +19,7 @@ IsLoss bytes Classes = section_found framed.Classes bytes ≡ None
 IsLoss bytes (Section number place) =
     (locator : Locator) × IsOneOf locator (locators_of (header_of bytes)) × (number ≡ locator.number) × (place ≡ locator.place)
     × (3 ≤ number) × (0 < locator.size) × (length bytes < place + locator.size)
-IsLoss bytes (Page index place) = IsAt index place (walk_of bytes).pages × (HasCheckWord bytes place → ⊥)
+IsLoss bytes (Page index place) = IsAt index place (walk_of bytes).pages × (HasPageWord bytes place → ⊥)
 IsLoss bytes (MapEnd place) = (walk_of bytes).lost ≡ Some place
 IsLoss bytes (Object handle place) =
     (number : ℕ) × IsAt number (record { handle = handle; place = place }) (pairs_read bytes) × ((frame : Frame) → IsOneOf frame (frames_mapped bytes) → frame.pair ≢ Some number)

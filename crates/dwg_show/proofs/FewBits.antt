@@ -1,6 +1,6 @@
 -- The objects of a drawing have few enough bits.
-use Rattle.std.proofs.Common.{◌≡◌, sym, subst, ℕ, zero, suc, ◌+◌, ◌*◌, ◌^◌, ◌<◌, Bool, List, [], ◌∷◌, ◌++◌, length, length-append, arith}
-use Rattle.std.specs.Prelude.{⊤, get_or, map}
+use Rattle.std.proofs.Common.{◌≡◌, ℕ, ◌+◌, ◌*◌, ◌^◌, ◌<◌, Bool, List, [], ◌∷◌, ◌++◌, length, length-append, arith}
+use Rattle.std.specs.Prelude.{⊤, map}
 use Rattle.std.specs.List.{AllByRecursion}
 use Rattle.dwg_bits.proofs.PaddingLaw.{padding_fills}
 use Rattle.dwg_bits.specs.Sink.{padding}
@@ -10,7 +10,7 @@ use Rattle.dwg_classes.specs.declared.class.Class.{Class}
 use Rattle.dwg_grammar.specs.ToEnd.{short_all}
 use Rattle.dwg_grammar.specs.Reference.{Reference}
 use Rattle.dwg_grammar.specs.ReferenceCodes.{reference}
-use Rattle.dwg_object.specs.Forms.{head}
+use Rattle.dwg_object.specs.Heads.{head}
 use Rattle.dwg_object.specs.Objects.{ObjectValue, TypedValue, PlainValue, RawValue}
 use Rattle.dwg_object.specs.Written.{IsValidObject, body_bytes, common_main, front_bits, object_bits, refs_bits, written_head}
 use Rattle.dwg_object.specs.declared.common.Common.{Common}
@@ -57,13 +57,3 @@ all_of_seen {A} {B} Holds seen (thing ∷ things) are = (are.0, all_of_seen Hold
 pub all_of_any : {A : Type 0} (things : List A) → AllByRecursion (λ (thing : A). ⊤) things
 all_of_any {A} [] = tt
 all_of_any {A} (thing ∷ things) = (tt, all_of_any things)
-
--- and of the one at a place
-pub one_of_all : {A : Type 0} (Holds : A → Type 0) (things : List A) (index : ℕ) (thing : A) → index < length things → AllByRecursion Holds things
-    → thing ≡ get_or things index thing → Holds thing
-one_of_all {A} Holds things index thing within are is = subst Holds (sym is) (at things index within are)
-  where
-    at : (all : List A) (i : ℕ) → i < length all → AllByRecursion Holds all → Holds (get_or all i thing)
-    at [] i within are = absurd (omega (arith, within))
-    at (one ∷ others) zero within are = are.0
-    at (one ∷ others) (suc i) within are = at others i (omega (arith, within)) are.1

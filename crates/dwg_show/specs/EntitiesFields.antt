@@ -3,8 +3,8 @@ use Rattle.std.specs.Prelude.{[], ◌++◌, codes}
 use Rattle.dwg_entities.specs.declared.attdef.Attdef.{Attdef}
 use Rattle.dwg_entities.specs.declared.attrib.Attrib.{Attrib}
 use Rattle.dwg_entities.specs.declared.block.Block.{Block}
-use Rattle.dwg_entities.specs.declared.ends.EndBlk.{EndBlk}
-use Rattle.dwg_entities.specs.declared.ends.SeqEnd.{SeqEnd}
+use Rattle.dwg_entities.specs.declared.closing.EndBlk.{EndBlk}
+use Rattle.dwg_entities.specs.declared.closing.SeqEnd.{SeqEnd}
 use Rattle.dwg_entities.specs.declared.insert.Attributes.{Attributes}
 use Rattle.dwg_entities.specs.declared.insert.Insert.{Insert}
 use Rattle.dwg_entities.specs.declared.text.Text.{Text}

@@ -16,11 +16,13 @@ unsound_note = line (codes "dwg: not sound")
 unfoldable pub size_note : List ℕ
 size_note = line (codes "dwg: size must be 1 to 200000")
 
--- which part of the input is faulty, where, and why
+-- the words of a refusal: which part of the input is faulty, where, and why
+unfoldable pub refusal_words : Refusal → List ℕ
+refusal_words refusal = part_word_of refusal.line ++ codes " " ++ decimal refusal.index ++ codes " at " ++ decimal refusal.place ++ codes ": " ++ reason_word_of refusal.line
+
+-- the note of a refusal
 unfoldable pub refusal_note : Refusal → List ℕ
-refusal_note refusal =
-    line (codes "dwg: refused: " ++ part_word_of refusal.line ++ codes " " ++ decimal refusal.index
-    ++ codes " at " ++ decimal refusal.place ++ codes ": " ++ reason_word_of refusal.line)
+refusal_note refusal = line (codes "dwg: refused: " ++ refusal_words refusal)
 
 -- the input could not be read
 unfoldable pub read_fault_note : List ℕ

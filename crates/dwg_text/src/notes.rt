@@ -47,17 +47,26 @@ pub fn too_long_note() -> &'static [u8]
     b"dwg: input too long\n"
 }
 
+/// Appends the words of a refusal: which part of the input is faulty, where, and why. The only refusal is want of memory.
+#[tactic(auto, unfolding(crate::specs::Notes::refusal_words))]
+pub fn push_refusal_words(text: &mut String, refusal: Refusal) -> Result<(), AllocError>
+    requires { IsOfTable refusal }
+    ensures { OnOk result (string_bytes text.new ≡ string_bytes text.old ++ texts.refusal_words refusal) }
+{
+    let index = refusal.index;
+    let place = refusal.place;
+    text.push_str(part_word(refusal.line))?;
+    write!(text, " {index} at {place}: ")?;
+    text.push_str(reason_word(refusal.line))
+}
+
 #[tactic(auto, unfolding(crate::specs::Notes::refusal_note))]
 fn refusal_text(alloc: Global, refusal: Refusal) -> Result<String, AllocError>
     requires { IsOfTable refusal }
     ensures { IfOk result (λ note. string_bytes note ≡ texts.refusal_note refusal) }
 {
-    let index = refusal.index;
-    let place = refusal.place;
     let mut note = String::from_str(alloc, "dwg: refused: ")?;
-    note.push_str(part_word(refusal.line))?;
-    write!(note, " {index} at {place}: ")?;
-    note.push_str(reason_word(refusal.line))?;
+    push_refusal_words(&mut note, refusal)?;
     note.push_str("\n")?;
     Ok(note)
 }

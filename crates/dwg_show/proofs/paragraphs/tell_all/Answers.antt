@@ -1,5 +1,6 @@
-use Rattle.dwg_show.proofs.FewBits.{one_of_all}
-use Rattle.std.proofs.Common.{subst}
+use Rattle.std.proofs.Common.{sym, ◌∙◌, ap, subst, Some}
+use Rattle.std.proofs.lemmas.Option.{slice_get-get_or}
+use Rattle.dwg_base.proofs.OneOfAll.{one_of_all}
 use Rattle.dwg_show.specs.Telling.{Tells}
 use Rattle.dwg_show.proofs.Elements.{more_paragraphs}
 use Rattle.dwg_show.proofs.Telling.{◌▷◌}
@@ -11,4 +12,7 @@ along-preserved g c =
     (c.along.invariant ▷ c.tell.ensures)
 
 pub tell-requires : goal.tell-requires
-tell-requires g c = one_of_all g.T.Tell.can_tell c.args.paragraphs.now c.along.index c.index-paragraphs-index.result c.along-test.true c.requires c.index-paragraphs-index.is
+tell-requires g c =
+    let one = c.index-paragraphs-index.result in
+    one_of_all g.T.Tell.can_tell c.args.paragraphs.now c.along.index one c.requires
+    (slice_get-get_or c.args.paragraphs.now c.along.index one c.along-test.true ∙ ap Some (sym c.index-paragraphs-index.is))
