@@ -1,5 +1,6 @@
 //! The tests, by what they are of; and how their cases are read and told.
 
+mod apps;
 mod common;
 mod file;
 mod forms;

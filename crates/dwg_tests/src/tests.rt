@@ -6,6 +6,7 @@ mod check;
 mod classes;
 mod codes;
 mod handles;
+mod items;
 mod laws;
 mod lines;
 mod lists;

@@ -1,5 +1,6 @@
 //! The laws, each the contract of a function without code.
 
+use dwg_appitems::item_laws;
 use dwg_bits::bit_laws;
 use dwg_check::{check_word_laws, short_damage_laws};
 use dwg_classes::classes_laws;
@@ -19,4 +20,5 @@ fn laws_ask_for_nothing() {
     file_header_laws();
     framed_laws();
     classes_laws();
+    item_laws();
 }

@@ -1,0 +1,13 @@
+pub mod VariantLemmas
+pub mod ItemLemmas
+pub mod ItemCounts
+pub mod ItemFronts
+pub mod ItemReading
+pub mod ItemWriting
+pub mod AllItems
+pub mod ExactSpellings
+pub mod HandleBounds
+pub mod ReferringItems
+pub mod ComputedItems
+pub mod FindingOrder
+pub mod LookupSteps

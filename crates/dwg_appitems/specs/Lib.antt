@@ -1,0 +1,10 @@
+-- The grammar of items: what each code byte is followed by.
+pub mod Items
+-- Bytes that are items one behind the other, and which items can be written.
+pub mod ItemLists
+-- An item at the front of bytes: what is read of it, and how many bytes that are.
+pub mod ItemFront
+-- What the references of items fail: layers and objects that aren't there.
+pub mod AppFindings
+-- How often the handles of items are looked up.
+pub mod ItemLookups

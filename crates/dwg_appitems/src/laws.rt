@@ -1,0 +1,20 @@
+//! The laws of items.
+
+ghost use Rattle.std.specs.Prelude.{◌≡◌, ◌↔◌, ℕ, List, Some};
+ghost use Rattle.dwg_base.specs.Bytes.{AreBytes};
+ghost use Rattle.dwg_grammar.specs.Grammar.{IsLawful};
+ghost use Rattle.dwg_grammar.specs.ToEnd.{AreValues};
+ghost use Rattle.dwg_appitems.specs.declared.item.AppItem.{AppItem};
+ghost use Rattle.dwg_appitems.specs.AppFindings.{items_in};
+ghost use Rattle.dwg_appitems.specs.ItemLists.{AreItems, items_bytes};
+ghost use Rattle.dwg_appitems.specs.Items.{item};
+
+/// What holds of items: bits spell at most one item, and no spelling of an item is a proper front of another; bytes are at most
+/// one list of items; what is written of items are these items, so that they are read back; and the items that are computed of
+/// bytes are those that the bytes are.
+pub fn item_laws()
+    ensures item { IsLawful item }
+    ensures unique { (all others : List AppItem) (bytes : List ℕ) → AreItems all bytes → AreItems others bytes → all ≡ others }
+    ensures whole { (all : List AppItem) → AreValues item all → AreItems all (items_bytes all) }
+    ensures computed { (bytes : List ℕ) (all : List AppItem) → AreBytes bytes → (items_in bytes ≡ Some all) ↔ AreItems all bytes }
+{}

@@ -1,0 +1,269 @@
+//! Items read from bytes.
+
+ghost use Rattle.std.specs.Prelude.{◌≡◌, ◌≤◌, List, length, take, IfOk, IfSome, IfNone};
+ghost use Rattle.std.specs.List.{AllByRecursion};
+ghost use Rattle.std.specs.Option.{option_map};
+ghost use Rattle.dwg_bits.specs.Cursor.{rest};
+ghost use Rattle.dwg_grammar.specs.Codes.{rc};
+ghost use Rattle.dwg_grammar.specs.Combinators.{items};
+ghost use Rattle.dwg_appitems.specs.declared.item.AppItem.{AppItem};
+ghost use Rattle.dwg_appitems.specs.AppFindings.{items_in};
+ghost use Rattle.dwg_appitems.specs.ItemFront.{ReadsItem};
+ghost use Rattle.dwg_appitems.specs.ItemLists.{AreItems, CanBeWritten, items_bytes};
+ghost use Rattle.dwg_appitems.specs.Items.{item, item_by};
+
+use crate::handle::CodeHandle;
+use crate::item::AppItem;
+use dwg_base::{ByteRun, Items, NoMemory, bytes_behind};
+use dwg_bits::BitCursor;
+use dwg_codes::{BitCode, CodeRC, CodeRD, CodeRL, CodeRS, Point3, read_bytes};
+use std::alloc::Global;
+
+/// Reads a value of a code, as it is parsed.
+fn parse_code<C: BitCode>(context: &C::Context, cursor: &mut BitCursor<'_>) -> Option<C::Value>
+    requires { C.IsContext context.now }
+    ensures parsed { (C.grammar context.now).parse (rest cursor.old) ≡ option_map (λ value. (value, rest cursor.new)) result }
+    ensures same_bytes { cursor.new.bytes.now ≡ cursor.old.bytes.now }
+    ensures same_end { cursor.new.end ≡ cursor.old.end }
+{
+    C::read(context, cursor)
+}
+
+/// Reads so many bytes, as they are parsed.
+#[tactic(auto, using(dwg_grammar::proofs::BodyReading::bytes_parsed))]
+fn parse_bytes(
+    alloc: Global,
+    count: u8,
+    cursor: &mut BitCursor<'_>,
+) -> Result<Option<ByteRun>, NoMemory>
+    ensures parsed { IfOk result (λ found. (items rc count).parse (rest cursor.old) ≡ option_map (λ run. (run, rest cursor.new)) found) }
+    ensures same_bytes { cursor.new.bytes.now ≡ cursor.old.bytes.now }
+    ensures same_end { cursor.new.end ≡ cursor.old.end }
+{
+    read_bytes(alloc, u32::from(count), cursor)
+}
+
+/// Reads a mark: two bytes.
+#[tactic(auto, unfolding(dwg_grammar::specs::Combinators::chain))]
+fn read_mark(cursor: &mut BitCursor<'_>) -> Option<[u8; 2]>
+    ensures parsed { (items rc 2).parse (rest cursor.old) ≡ option_map (λ mark. (mark, rest cursor.new)) result }
+    ensures same_bytes { cursor.new.bytes.now ≡ cursor.old.bytes.now }
+    ensures same_end { cursor.new.end ≡ cursor.old.end }
+{
+    let first = parse_code::<CodeRC>(&(), cursor)?;
+    let second = parse_code::<CodeRC>(&(), cursor)?;
+    Some([first, second])
+}
+
+/// Reads a text behind its code byte.
+#[tactic(auto, unfolding(crate::specs::Items::item_by))]
+fn read_text(alloc: Global, cursor: &mut BitCursor<'_>) -> Result<Option<AppItem>, NoMemory>
+    ensures parsed { IfOk result (λ found. (item_by 0).parse (rest cursor.old) ≡ option_map (λ value. (value, rest cursor.new)) found) }
+    ensures same_bytes { cursor.new.bytes.now ≡ cursor.old.bytes.now }
+    ensures same_end { cursor.new.end ≡ cursor.old.end }
+{
+    let Some(count) = parse_code::<CodeRC>(&(), cursor) else {
+        return Ok(None);
+    };
+    let Some(mark) = read_mark(cursor) else {
+        return Ok(None);
+    };
+    let Some(text) = parse_bytes(alloc, count, cursor)? else {
+        return Ok(None);
+    };
+    Ok(Some(AppItem::Text { mark, text }))
+}
+
+/// Reads a brace behind its code byte: 0 opens, 1 closes, and no other byte is one.
+#[tactic(auto, unfolding(crate::specs::Items::item_by))]
+fn read_brace(cursor: &mut BitCursor<'_>) -> Option<AppItem>
+    ensures parsed { (item_by 2).parse (rest cursor.old) ≡ option_map (λ value. (value, rest cursor.new)) result }
+    ensures same_bytes { cursor.new.bytes.now ≡ cursor.old.bytes.now }
+    ensures same_end { cursor.new.end ≡ cursor.old.end }
+{
+    let byte = parse_code::<CodeRC>(&(), cursor)?;
+    if byte < 2 {
+        return Some(AppItem::Brace { close: byte == 1 });
+    }
+    None
+}
+
+/// Reads counted bytes behind their code byte.
+#[tactic(auto, unfolding(crate::specs::Items::item_by))]
+fn read_counted(alloc: Global, cursor: &mut BitCursor<'_>) -> Result<Option<AppItem>, NoMemory>
+    ensures parsed { IfOk result (λ found. (item_by 4).parse (rest cursor.old) ≡ option_map (λ value. (value, rest cursor.new)) found) }
+    ensures same_bytes { cursor.new.bytes.now ≡ cursor.old.bytes.now }
+    ensures same_end { cursor.new.end ≡ cursor.old.end }
+{
+    let Some(count) = parse_code::<CodeRC>(&(), cursor) else {
+        return Ok(None);
+    };
+    let Some(bytes) = parse_bytes(alloc, count, cursor)? else {
+        return Ok(None);
+    };
+    Ok(Some(AppItem::Bytes { bytes }))
+}
+
+/// Reads a point behind its code byte.
+#[tactic(auto, using(crate::proofs::ItemReading::point_behind))]
+fn read_point(code: u8, cursor: &mut BitCursor<'_>) -> Option<AppItem>
+    requires from { 10 ≤ code }
+    requires to { code ≤ 13 }
+    ensures parsed { (item_by code).parse (rest cursor.old) ≡ option_map (λ value. (value, rest cursor.new)) result }
+    ensures same_bytes { cursor.new.bytes.now ≡ cursor.old.bytes.now }
+    ensures same_end { cursor.new.end ≡ cursor.old.end }
+{
+    let x = parse_code::<CodeRD>(&(), cursor)?;
+    let y = parse_code::<CodeRD>(&(), cursor)?;
+    let z = parse_code::<CodeRD>(&(), cursor)?;
+    Some(AppItem::Point {
+        code,
+        words: Point3 { x, y, z },
+    })
+}
+
+/// Reads a word behind its code byte.
+#[tactic(auto, using(crate::proofs::ItemReading::word_behind))]
+fn read_word(code: u8, cursor: &mut BitCursor<'_>) -> Option<AppItem>
+    requires from { 40 ≤ code }
+    requires to { code ≤ 42 }
+    ensures parsed { (item_by code).parse (rest cursor.old) ≡ option_map (λ value. (value, rest cursor.new)) result }
+    ensures same_bytes { cursor.new.bytes.now ≡ cursor.old.bytes.now }
+    ensures same_end { cursor.new.end ≡ cursor.old.end }
+{
+    let value = parse_code::<CodeRD>(&(), cursor)?;
+    Some(AppItem::Word { code, value })
+}
+
+/// Reads the handle of a layer behind its code byte.
+#[tactic(auto, unfolding(crate::specs::Items::item_by))]
+fn read_layer(cursor: &mut BitCursor<'_>) -> Option<AppItem>
+    ensures parsed { (item_by 3).parse (rest cursor.old) ≡ option_map (λ value. (value, rest cursor.new)) result }
+    ensures same_bytes { cursor.new.bytes.now ≡ cursor.old.bytes.now }
+    ensures same_end { cursor.new.end ≡ cursor.old.end }
+{
+    let handle = parse_code::<CodeHandle>(&(), cursor)?;
+    Some(AppItem::Layer { handle })
+}
+
+/// Reads the handle of an object behind its code byte.
+#[tactic(auto, unfolding(crate::specs::Items::item_by))]
+fn read_object(cursor: &mut BitCursor<'_>) -> Option<AppItem>
+    ensures parsed { (item_by 5).parse (rest cursor.old) ≡ option_map (λ value. (value, rest cursor.new)) result }
+    ensures same_bytes { cursor.new.bytes.now ≡ cursor.old.bytes.now }
+    ensures same_end { cursor.new.end ≡ cursor.old.end }
+{
+    let handle = parse_code::<CodeHandle>(&(), cursor)?;
+    Some(AppItem::Object { handle })
+}
+
+/// Reads a number of 16 bits behind its code byte.
+#[tactic(auto, unfolding(crate::specs::Items::item_by))]
+fn read_short(cursor: &mut BitCursor<'_>) -> Option<AppItem>
+    ensures parsed { (item_by 70).parse (rest cursor.old) ≡ option_map (λ value. (value, rest cursor.new)) result }
+    ensures same_bytes { cursor.new.bytes.now ≡ cursor.old.bytes.now }
+    ensures same_end { cursor.new.end ≡ cursor.old.end }
+{
+    let value = parse_code::<CodeRS>(&(), cursor)?;
+    Some(AppItem::Short { value })
+}
+
+/// Reads a number of 32 bits behind its code byte.
+#[tactic(auto, unfolding(crate::specs::Items::item_by))]
+fn read_long(cursor: &mut BitCursor<'_>) -> Option<AppItem>
+    ensures parsed { (item_by 71).parse (rest cursor.old) ≡ option_map (λ value. (value, rest cursor.new)) result }
+    ensures same_bytes { cursor.new.bytes.now ≡ cursor.old.bytes.now }
+    ensures same_end { cursor.new.end ≡ cursor.old.end }
+{
+    let value = parse_code::<CodeRL>(&(), cursor)?;
+    Some(AppItem::Long { value })
+}
+
+/// Reads what follows a code byte. None exactly where no front of the rest spells it; the only refusal is want of memory.
+#[tactic(auto, using(crate::proofs::ItemReading::none_behind))]
+fn read_behind(
+    alloc: Global,
+    code: u8,
+    cursor: &mut BitCursor<'_>,
+) -> Result<Option<AppItem>, NoMemory>
+    ensures parsed { IfOk result (λ found. (item_by code).parse (rest cursor.old) ≡ option_map (λ value. (value, rest cursor.new)) found) }
+    ensures same_bytes { cursor.new.bytes.now ≡ cursor.old.bytes.now }
+    ensures same_end { cursor.new.end ≡ cursor.old.end }
+{
+    match code {
+        0 => read_text(alloc, cursor),
+        2 => Ok(read_brace(cursor)),
+        3 => Ok(read_layer(cursor)),
+        4 => read_counted(alloc, cursor),
+        5 => Ok(read_object(cursor)),
+        10..=13 => Ok(read_point(code, cursor)),
+        40..=42 => Ok(read_word(code, cursor)),
+        70 => Ok(read_short(cursor)),
+        71 => Ok(read_long(cursor)),
+        _ => Ok(None),
+    }
+}
+
+/// Reads an item: its code byte, and what follows it. None exactly where no front of the rest spells one; the only refusal is
+/// want of memory.
+#[tactic(auto, unfolding(crate::specs::Items::item))]
+fn read_item(alloc: Global, cursor: &mut BitCursor<'_>) -> Result<Option<AppItem>, NoMemory>
+    ensures parsed { IfOk result (λ found. item.parse (rest cursor.old) ≡ option_map (λ value. (value, rest cursor.new)) found) }
+    ensures same_bytes { cursor.new.bytes.now ≡ cursor.old.bytes.now }
+    ensures same_end { cursor.new.end ≡ cursor.old.end }
+{
+    let Some(code) = parse_code::<CodeRC>(&(), cursor) else {
+        return Ok(None);
+    };
+    read_behind(alloc, code, cursor)
+}
+
+/// The most bytes that an item has: a text of 255 bytes behind its code byte, its count and its mark.
+const LONGEST: usize = 259;
+
+/// The first bytes, as many as an item can have.
+fn first_bytes(bytes: &[u8]) -> &[u8]
+    ensures first { result.now ≡ take 259 bytes.now }
+    ensures few { length result.now ≤ 259 }
+{
+    if bytes.len() <= LONGEST {
+        return bytes;
+    }
+    &bytes[..LONGEST]
+}
+
+/// Reads the item at the front of bytes, and says how many it is. None exactly where no item is there; the only refusal is want
+/// of memory.
+///
+/// It looks at no more bytes than an item can have, so their bits are counted in a `u64` however many bytes there are.
+fn read_front(alloc: Global, bytes: &[u8]) -> Result<Option<(AppItem, usize)>, NoMemory>
+    ensures { IfOk result (λ found. ReadsItem found bytes.now) }
+{
+    let first = first_bytes(bytes);
+    let mut cursor = BitCursor::new(first, 0, 8 * first.len() as u64);
+    let Some(item) = read_item(alloc, &mut cursor)? else {
+        return Ok(None);
+    };
+    Ok(Some((item, (cursor.place / 8) as usize)))
+}
+
+/// Reads the items that bytes are. None exactly where they are no items one behind the other; the only refusal is want of
+/// memory, which is taken only for items that are there. What is read can be written, and is written by the same bytes.
+pub fn read_items(alloc: Global, bytes: &[u8]) -> Result<Option<Items<AppItem>>, NoMemory>
+    ensures items { IfOk result (λ found. IfSome found (λ all. AreItems all bytes.now)) }
+    ensures computed { IfOk result (λ found. found ≡ items_in bytes.now) }
+    ensures writable { IfOk result (λ found. IfSome found (λ all. AllByRecursion CanBeWritten all)) }
+    ensures again { IfOk result (λ found. IfSome found (λ all. items_bytes all ≡ bytes.now)) }
+    ensures none { IfOk result (λ found. IfNone found ((all : List AppItem) → AreItems all bytes.now → ⊥)) }
+{
+    let mut found = Items::new(alloc);
+    let mut place = 0;
+    'along: while place < bytes.len() {
+        let Some((item, count)) = read_front(alloc, bytes_behind(bytes, place))? else {
+            return Ok(None);
+        };
+        found.add(item)?;
+        place += count;
+    }
+    Ok(Some(found))
+}
