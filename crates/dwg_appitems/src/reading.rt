@@ -14,34 +14,11 @@ ghost use Rattle.dwg_appitems.specs.Items.{item, item_by};
 
 use crate::handle::CodeHandle;
 use crate::item::AppItem;
-use dwg_base::{ByteRun, Items, NoMemory, bytes_behind};
+use dwg_base::{Items, NoMemory, bytes_behind};
 use dwg_bits::BitCursor;
-use dwg_codes::{BitCode, CodeRC, CodeRD, CodeRL, CodeRS, Point3, read_bytes};
+use dwg_codes::{CodeRC, CodeRD, CodeRL, CodeRS, Point3};
+use dwg_common::{parse_bytes, parse_code};
 use std::alloc::Global;
-
-/// Reads a value of a code, as it is parsed.
-fn parse_code<C: BitCode>(context: &C::Context, cursor: &mut BitCursor<'_>) -> Option<C::Value>
-    requires { C.IsContext context.now }
-    ensures parsed { (C.grammar context.now).parse (rest cursor.old) ≡ option_map (λ value. (value, rest cursor.new)) result }
-    ensures same_bytes { cursor.new.bytes.now ≡ cursor.old.bytes.now }
-    ensures same_end { cursor.new.end ≡ cursor.old.end }
-{
-    C::read(context, cursor)
-}
-
-/// Reads so many bytes, as they are parsed.
-#[tactic(auto, using(dwg_grammar::proofs::BodyReading::bytes_parsed))]
-fn parse_bytes(
-    alloc: Global,
-    count: u8,
-    cursor: &mut BitCursor<'_>,
-) -> Result<Option<ByteRun>, NoMemory>
-    ensures parsed { IfOk result (λ found. (items rc count).parse (rest cursor.old) ≡ option_map (λ run. (run, rest cursor.new)) found) }
-    ensures same_bytes { cursor.new.bytes.now ≡ cursor.old.bytes.now }
-    ensures same_end { cursor.new.end ≡ cursor.old.end }
-{
-    read_bytes(alloc, u32::from(count), cursor)
-}
 
 /// Reads a mark: two bytes.
 #[tactic(auto, unfolding(dwg_grammar::specs::Combinators::chain))]
@@ -68,7 +45,7 @@ fn read_text(alloc: Global, cursor: &mut BitCursor<'_>) -> Result<Option<AppItem
     let Some(mark) = read_mark(cursor) else {
         return Ok(None);
     };
-    let Some(text) = parse_bytes(alloc, count, cursor)? else {
+    let Some(text) = parse_bytes(alloc, u32::from(count), cursor)? else {
         return Ok(None);
     };
     Ok(Some(AppItem::Text { mark, text }))
@@ -98,7 +75,7 @@ fn read_counted(alloc: Global, cursor: &mut BitCursor<'_>) -> Result<Option<AppI
     let Some(count) = parse_code::<CodeRC>(&(), cursor) else {
         return Ok(None);
     };
-    let Some(bytes) = parse_bytes(alloc, count, cursor)? else {
+    let Some(bytes) = parse_bytes(alloc, u32::from(count), cursor)? else {
         return Ok(None);
     };
     Ok(Some(AppItem::Bytes { bytes }))
