@@ -73,54 +73,6 @@ fn is_layer_at(objects: &[Object<'_>], place: Option<usize>) -> bool
     }
 }
 
-/// Whether an object of kind LAYER has a handle.
-fn is_layer_there<L: Ledger>(
-    objects: &[Object<'_>],
-    known: &Index,
-    named: u64,
-    steps: &mut Steps<L>,
-) -> bool
-    requires ascend { Ascend (handles_of (map value_of objects.now)) }
-    requires known { known.now ≡ handles_of (map value_of objects.now) }
-    ensures there { result ≡ list_any (λ x. handle_of x == named && is_layer (kind_of x)) (map value_of objects.now) }
-    ensures steps { TakeAtMost (length objects.now) 1 steps.old steps.new }
-{
-    is_layer_at(objects, place_named(objects, known, named, steps))
-}
-
-/// Whether an object has a handle.
-fn is_object_there<L: Ledger>(
-    objects: &[Object<'_>],
-    known: &Index,
-    named: u64,
-    steps: &mut Steps<L>,
-) -> bool
-    requires ascend { Ascend (handles_of (map value_of objects.now)) }
-    requires known { known.now ≡ handles_of (map value_of objects.now) }
-    ensures there { result ≡ list_any (λ x. handle_of x == named) (map value_of objects.now) }
-    ensures steps { TakeAtMost (length objects.now) 1 steps.old steps.new }
-{
-    place_named(objects, known, named, steps).is_some()
-}
-
-/// Whether an object has a handle, or it is null.
-fn is_null_or_there<L: Ledger>(
-    objects: &[Object<'_>],
-    known: &Index,
-    named: u64,
-    steps: &mut Steps<L>,
-) -> bool
-    requires ascend { Ascend (handles_of (map value_of objects.now)) }
-    requires known { known.now ≡ handles_of (map value_of objects.now) }
-    ensures there { result ≡ (named == 0 || list_any (λ x. handle_of x == named) (map value_of objects.now)) }
-    ensures steps { TakeAtMost (length objects.now) 1 steps.old steps.new }
-{
-    if named == 0 {
-        return true;
-    }
-    is_object_there(objects, known, named, steps)
-}
-
 /// Whether what an item refers to is there.
 pub(crate) fn is_met<L: Ledger>(
     objects: &[Object<'_>],
@@ -134,8 +86,15 @@ pub(crate) fn is_met<L: Ledger>(
     ensures steps { TakeAtMost (length objects.now) (item_references one.now) steps.old steps.new }
 {
     match one {
-        AppItem::Layer { handle } => is_layer_there(objects, known, *handle, steps),
-        AppItem::Object { handle } => is_null_or_there(objects, known, *handle, steps),
+        AppItem::Layer { handle } => {
+            is_layer_at(objects, place_named(objects, known, *handle, steps))
+        }
+        AppItem::Object { handle } => {
+            if *handle == 0 {
+                return true;
+            }
+            place_named(objects, known, *handle, steps).is_some()
+        }
         _ => true,
     }
 }
