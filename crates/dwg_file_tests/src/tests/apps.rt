@@ -6,6 +6,7 @@ use crate::tests::inputs::canonical_file;
 use crate::tests::table::{Telling, hold};
 use crate::tests::told;
 use dwg_appitems::{AppFinding, app_audit};
+use dwg_audit::auditable_laws;
 use dwg_base::{Items, LIMIT};
 use dwg_file::{Drawing, read_drawing};
 use dwg_steps::Steps;
@@ -24,6 +25,7 @@ fn audit_counted<L: Ledger>(
     requires parts { blank.parts ≡ L.parts }
     requires some { 0 < blank.parts }
 {
+    auditable_laws();
     let parts = drawing.parts();
     let mut steps = Steps::<L>::new(blank);
     app_audit(alloc, parts.objects.as_slice(), &mut steps).ok()
