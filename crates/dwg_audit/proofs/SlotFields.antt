@@ -99,15 +99,7 @@ unfolding body_slots
 body_has_none (bodies.Text body) = listed_have_none fields.Style refl _
 body_has_none (bodies.Attrib body) = listed_have_none fields.Style refl _
 body_has_none (bodies.Attdef body) = listed_have_none fields.Style refl _
-body_has_none (bodies.Block body) = empty_has_none
-body_has_none (bodies.EndBlk body) = empty_has_none
-body_has_none (bodies.SeqEnd body) = empty_has_none
 body_has_none (bodies.Insert body) = listed_have_none fields.Block refl _ beside attributes_have_none body.attributes
-body_has_none (bodies.Arc body) = empty_has_none
-body_has_none (bodies.Circle body) = empty_has_none
-body_has_none (bodies.Line body) = empty_has_none
-body_has_none (bodies.Point body) = empty_has_none
-body_has_none (bodies.LwPolyline body) = empty_has_none
 body_has_none (bodies.Dictionary body) = listed_have_none fields.Item refl _
 body_has_none (bodies.BlockControl body) = listed_have_none fields.Entry refl _ beside listed_have_none fields.Model refl _ beside listed_have_none fields.Paper refl _
 body_has_none (bodies.BlockHeader body) =
@@ -124,6 +116,7 @@ body_has_none (bodies.Ltype body) = listed_have_none fields.Style refl _ beside 
 body_has_none (bodies.AppIdControl body) = listed_have_none fields.Entry refl _
 body_has_none (bodies.AppId body) = listed_have_none fields.Xref refl _
 body_has_none (bodies.XRecord body) = listed_have_none fields.Target refl _
+body_has_none body = empty_has_none
 
 -- nor has an object
 slots_have_none : (x : ObjectValue) → HasNoOwner (slots x)

@@ -1,3 +1,5 @@
+-- What a reader of a part did.
+pub mod Parsing
 -- Members of a list of which the main bits tell one part each and the references name another.
 pub mod Members
 -- The application data of an object, which stand in its main bits.

@@ -1,10 +1,9 @@
 //! The application data of an object as bits (Open Design Specification, "Extended object data").
 
 ghost use Rattle.std.specs.Prelude.{◌≡◌, ◌<◌, ◌≤◌, ◌^◌, ◌↔◌, length, IfOk, IsTrue};
-ghost use Rattle.std.specs.Option.{option_map};
 ghost use Rattle.dwg_base.specs.Bytes.{AreBytes};
-ghost use Rattle.dwg_bits.specs.Cursor.{rest};
 ghost use Rattle.dwg_bits.specs.Sink.{Extends};
+ghost use Rattle.dwg_common.specs.Parsing.{Keeps, Parses};
 ghost use Rattle.dwg_common.specs.AppList.{IsAppData, app_item, app_list};
 ghost use Rattle.dwg_common.specs.AppShort.{item_short, items_short};
 
@@ -26,9 +25,8 @@ fn read_item(
     cursor: &mut BitCursor<'_>,
     base: Handle,
 ) -> Result<Option<AppData>, NoMemory>
-    ensures parsed { IfOk result (λ found. (app_item base size).parse (rest cursor.old) ≡ option_map (λ item. (item, rest cursor.new)) found) }
-    ensures same_bytes { cursor.new.bytes.now ≡ cursor.old.bytes.now }
-    ensures same_end { cursor.new.end ≡ cursor.old.end }
+    ensures parsed { IfOk result (λ found. Parses (app_item base size) found cursor.old cursor.new) }
+    ensures kept { Keeps cursor.old cursor.new }
 {
     let Some(application) = parse_ref(cursor, base) else {
         return Ok(None);
@@ -46,9 +44,8 @@ pub(crate) fn read_items(
     cursor: &mut BitCursor<'_>,
     base: Handle,
 ) -> Result<Option<Items<AppData>>, NoMemory>
-    ensures parsed { IfOk result (λ found. (app_list base).parse (rest cursor.old) ≡ option_map (λ items. (items, rest cursor.new)) found) }
-    ensures same_bytes { cursor.new.bytes.now ≡ cursor.old.bytes.now }
-    ensures same_end { cursor.new.end ≡ cursor.old.end }
+    ensures parsed { IfOk result (λ found. Parses (app_list base) found cursor.old cursor.new) }
+    ensures kept { Keeps cursor.old cursor.new }
 {
     let mut found = Items::new(alloc);
     'along: loop {

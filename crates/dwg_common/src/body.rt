@@ -4,6 +4,7 @@ ghost use Rattle.std.specs.Prelude.{◌≡◌, ◌^◌, ◌<◌, ◌≤◌, ◌�
 ghost use Rattle.dwg_bits.specs.Cursor.{rest};
 ghost use Rattle.dwg_bits.specs.Sink.{Extends};
 ghost use Rattle.dwg_grammar.specs.Bodies.{BodyGrammar, IsBody, ReadsBody, IsLawfulBody};
+ghost use Rattle.dwg_common.specs.Parsing.{Keeps, ParsesBody};
 
 use dwg_base::{Handle, NoMemory};
 use dwg_bits::{BitCursor, BitSink};
@@ -26,10 +27,23 @@ pub trait BodyCode: Sized {
     // What the body spells in the object of a handle.
     ghost grammar: { ℕ → BodyGrammar Self };
 
+    /// Reads the value that is parsed of the main bits and of the reference bits in the object of the handle `base`, and moves
+    /// both cursors as far as it came. None exactly where no fronts spell one. The only refusal is want of memory, which is
+    /// taken only for what is there.
+    fn parse(
+        alloc: Global,
+        main: &mut BitCursor<'_>,
+        refs: &mut BitCursor<'_>,
+        base: Handle,
+    ) -> Result<Option<Self>, NoMemory>
+        ensures parsed { IfOk result (λ found. ParsesBody (grammar base) found main.old main.new refs.old refs.new) }
+        ensures kept { Keeps main.old main.new }
+        ensures refs_kept { Keeps refs.old refs.new };
+
     /// Reads the value that fronts of the main bits and of the reference bits spell in the object of the handle `base`, and
     /// moves behind those fronts. None, with nothing moved, exactly where no fronts spell one. The only refusal is want of
     /// memory, which is taken only for what is there.
-    fn read(
+    final fn read(
         alloc: Global,
         main: &mut BitCursor<'_>,
         refs: &mut BitCursor<'_>,
@@ -42,7 +56,17 @@ pub trait BodyCode: Sized {
         ensures same_bytes { main.new.bytes.now ≡ main.old.bytes.now }
         ensures same_end { main.new.end ≡ main.old.end }
         ensures refs_same_bytes { refs.new.bytes.now ≡ refs.old.bytes.now }
-        ensures refs_same_end { refs.new.end ≡ refs.old.end };
+        ensures refs_same_end { refs.new.end ≡ refs.old.end }
+    {
+        let mut ahead = *main;
+        let mut refs_ahead = *refs;
+        let Some(value) = Self::parse(alloc, &mut ahead, &mut refs_ahead, base)? else {
+            return Ok(None);
+        };
+        *main = ahead;
+        *refs = refs_ahead;
+        Ok(Some(value))
+    }
 
     /// Whether the value has a spelling in the object of the handle `base`: lists and texts are no longer than their counts
     /// can tell, each part is there exactly where the others say so, and the codes of references reach their targets.

@@ -1,8 +1,6 @@
 //! What all entities have.
 
 ghost use Rattle.std.specs.Prelude.{◌≡◌, IfOk};
-ghost use Rattle.std.specs.Option.{option_map};
-ghost use Rattle.dwg_bits.specs.Cursor.{rest};
 ghost use Rattle.dwg_common.specs.CommonLaws.{entity_is_body};
 ghost use Rattle.dwg_common.specs.Entities.{entity_common, entity_of, main_of_entity};
 
@@ -151,49 +149,26 @@ fn look_of(common: &EntityCommon) -> Look
     }
 }
 
-/// Reads what all entities have, as it is parsed. The only refusal is want of memory, which is taken only for what is there.
-#[tactic(auto, unfolding(crate::specs::Entities::entity_common))]
-fn read_entity(
-    alloc: Global,
-    main: &mut BitCursor<'_>,
-    refs: &mut BitCursor<'_>,
-    base: Handle,
-) -> Result<Option<EntityCommon>, NoMemory>
-    ensures parsed { IfOk result (λ found. (entity_common base).parse (rest main.old) (rest refs.old) ≡ option_map (λ common. (common, (rest main.new, rest refs.new))) found) }
-    ensures same_bytes { main.new.bytes.now ≡ main.old.bytes.now }
-    ensures same_end { main.new.end ≡ main.old.end }
-    ensures refs_same_bytes { refs.new.bytes.now ≡ refs.old.bytes.now }
-    ensures refs_same_end { refs.new.end ≡ refs.old.end }
-{
-    let Some(start) = read_start(alloc, main, base)? else {
-        return Ok(None);
-    };
-    let Some(look) = read_look(main) else {
-        return Ok(None);
-    };
-    let Some(named) = read_named(alloc, refs, base, &start, look)? else {
-        return Ok(None);
-    };
-    Ok(Some(entity_of(start, look, named)))
-}
-
 impl BodyCode for EntityCommon {
     ghost grammar = { entity_common };
 
-    fn read(
+    #[tactic(auto, unfolding(crate::specs::Entities::entity_common))]
+    fn parse(
         alloc: Global,
         main: &mut BitCursor<'_>,
         refs: &mut BitCursor<'_>,
         base: Handle,
     ) -> Result<Option<EntityCommon>, NoMemory> {
-        let mut ahead = *main;
-        let mut refs_ahead = *refs;
-        let Some(common) = read_entity(alloc, &mut ahead, &mut refs_ahead, base)? else {
+        let Some(start) = read_start(alloc, main, base)? else {
             return Ok(None);
         };
-        *main = ahead;
-        *refs = refs_ahead;
-        Ok(Some(common))
+        let Some(look) = read_look(main) else {
+            return Ok(None);
+        };
+        let Some(named) = read_named(alloc, refs, base, &start, look)? else {
+            return Ok(None);
+        };
+        Ok(Some(entity_of(start, look, named)))
     }
 
     #[tactic(auto, unfolding(crate::specs::Entities::entity_common))]

@@ -1,9 +1,8 @@
 //! The picture of an entity, as bits (Open Design Specification, "Common entity data").
 
 ghost use Rattle.std.specs.Prelude.{◌≡◌, ◌^◌, ◌<◌, ◌≤◌, ◌↔◌, length, IfOk, IsTrue};
-ghost use Rattle.std.specs.Option.{option_map};
-ghost use Rattle.dwg_bits.specs.Cursor.{rest};
 ghost use Rattle.dwg_bits.specs.Sink.{Extends};
+ghost use Rattle.dwg_common.specs.Parsing.{Keeps, Parses};
 ghost use Rattle.dwg_common.specs.Entities.{graphic};
 
 use crate::parts::parse_code;
@@ -20,9 +19,8 @@ pub(crate) fn read_graphic(
     alloc: Global,
     cursor: &mut BitCursor<'_>,
 ) -> Result<Option<Option<ByteRun>>, NoMemory>
-    ensures parsed { IfOk result (λ found. graphic.parse (rest cursor.old) ≡ option_map (λ picture. (picture, rest cursor.new)) found) }
-    ensures same_bytes { cursor.new.bytes.now ≡ cursor.old.bytes.now }
-    ensures same_end { cursor.new.end ≡ cursor.old.end }
+    ensures parsed { IfOk result (λ found. Parses graphic found cursor.old cursor.new) }
+    ensures kept { Keeps cursor.old cursor.new }
 {
     let Some(there) = parse_code::<CodeB>(&(), cursor) else {
         return Ok(None);

@@ -1,9 +1,8 @@
 //! How an entity looks, as bits (Open Design Specification, "Common entity data").
 
 ghost use Rattle.std.specs.Prelude.{◌≡◌, ◌^◌, ◌<◌, ◌≤◌, ◌↔◌, length, IsTrue};
-ghost use Rattle.std.specs.Option.{option_map};
-ghost use Rattle.dwg_bits.specs.Cursor.{rest};
 ghost use Rattle.dwg_bits.specs.Sink.{Extends};
+ghost use Rattle.dwg_common.specs.Parsing.{Keeps, Parses};
 ghost use Rattle.dwg_common.specs.Entities.{entity_look};
 
 use crate::entity::Look;
@@ -16,9 +15,8 @@ const LAST_FLAG: u8 = 3;
 
 /// Reads how an entity looks, as it is parsed.
 pub(crate) fn read_look(cursor: &mut BitCursor<'_>) -> Option<Look>
-    ensures parsed { entity_look.parse (rest cursor.old) ≡ option_map (λ look. (look, rest cursor.new)) result }
-    ensures same_bytes { cursor.new.bytes.now ≡ cursor.old.bytes.now }
-    ensures same_end { cursor.new.end ≡ cursor.old.end }
+    ensures parsed { Parses entity_look result cursor.old cursor.new }
+    ensures kept { Keeps cursor.old cursor.new }
 {
     let colour = parse_code::<CodeBS>(&(), cursor)?;
     let linetype_scale = parse_code::<CodeBD>(&(), cursor)?;

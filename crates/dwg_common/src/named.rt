@@ -1,13 +1,12 @@
 //! What an entity names, as bits (Open Design Specification, "Common entity data").
 
 ghost use Rattle.std.specs.Prelude.{◌≡◌, ◌==◌, ◌^◌, ◌<◌, ◌≤◌, ◌↔◌, length, is_none, not, IfOk, IsTrue};
-ghost use Rattle.std.specs.Option.{option_map};
-ghost use Rattle.dwg_bits.specs.Cursor.{rest};
 ghost use Rattle.dwg_bits.specs.Sink.{Extends};
 ghost use Rattle.dwg_grammar.specs.Combinators.{items, when};
 ghost use Rattle.dwg_grammar.specs.ReferenceCodes.{reference};
 ghost use Rattle.dwg_common.specs.Entities.{entity_refs, links, main_of_entity, named_of_entity};
 ghost use Rattle.dwg_grammar.specs.References.{maybe_refs, one_ref, then_refs};
+ghost use Rattle.dwg_common.specs.Parsing.{Keeps, Parses};
 
 use crate::entity::{EntityCommon, Links, Look, Named, Start};
 use crate::links::{CodeLinks, links_fit};
@@ -30,9 +29,8 @@ fn read_styles(
     base: Handle,
     look: Look,
 ) -> Option<(Option<Ref>, Option<Ref>)>
-    ensures parsed { (then_refs (maybe_refs (look.linetype_flag == 3) (one_ref base)) (maybe_refs (look.plotstyle_flag == 3) (one_ref base))).grammar.parse (rest cursor.old) ≡ option_map (λ styles. (styles, rest cursor.new)) result }
-    ensures same_bytes { cursor.new.bytes.now ≡ cursor.old.bytes.now }
-    ensures same_end { cursor.new.end ≡ cursor.old.end }
+    ensures parsed { Parses (then_refs (maybe_refs (look.linetype_flag == 3) (one_ref base)) (maybe_refs (look.plotstyle_flag == 3) (one_ref base))).grammar result cursor.old cursor.new }
+    ensures kept { Keeps cursor.old cursor.new }
 {
     let linetype = parse_when::<CodeH>(&base, look.linetype_flag == NAMED, cursor)?;
     let plotstyle = parse_when::<CodeH>(&base, look.plotstyle_flag == NAMED, cursor)?;
@@ -48,9 +46,8 @@ pub(crate) fn read_named(
     start: &Start,
     look: Look,
 ) -> Result<Option<Named>, NoMemory>
-    ensures parsed { IfOk result (λ found. (entity_refs base (start.now, look)).grammar.parse (rest cursor.old) ≡ option_map (λ named. (named, rest cursor.new)) found) }
-    ensures same_bytes { cursor.new.bytes.now ≡ cursor.old.bytes.now }
-    ensures same_end { cursor.new.end ≡ cursor.old.end }
+    ensures parsed { IfOk result (λ found. Parses (entity_refs base (start.now, look)).grammar found cursor.old cursor.new) }
+    ensures kept { Keeps cursor.old cursor.new }
 {
     let Some(owner) = parse_when::<CodeH>(&base, start.mode == TO_OWNER, cursor) else {
         return Ok(None);

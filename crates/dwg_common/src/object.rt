@@ -1,8 +1,6 @@
 //! What all objects have that are no entities.
 
 ghost use Rattle.std.specs.Prelude.{◌≡◌, IfOk};
-ghost use Rattle.std.specs.Option.{option_map};
-ghost use Rattle.dwg_bits.specs.Cursor.{rest};
 ghost use Rattle.dwg_common.specs.CommonLaws.{object_is_body};
 ghost use Rattle.dwg_common.specs.NonEntities.{object_common};
 
@@ -30,61 +28,37 @@ pub struct ObjectCommon {
     pub xdict: Ref,
 }
 
-/// Reads the parts, those of the main bits first. None exactly where one of them isn't spelled; the only refusal is want of
-/// memory.
-#[tactic(auto, unfolding(crate::specs::NonEntities::object_common))]
-fn read_parts(
-    alloc: Global,
-    main: &mut BitCursor<'_>,
-    refs: &mut BitCursor<'_>,
-    base: Handle,
-) -> Result<Option<ObjectCommon>, NoMemory>
-    ensures parsed { IfOk result (λ found. (object_common base).parse (rest main.old) (rest refs.old) ≡ option_map (λ common. (common, (rest main.new, rest refs.new))) found) }
-    ensures same_bytes { main.new.bytes.now ≡ main.old.bytes.now }
-    ensures same_end { main.new.end ≡ main.old.end }
-    ensures refs_same_bytes { refs.new.bytes.now ≡ refs.old.bytes.now }
-    ensures refs_same_end { refs.new.end ≡ refs.old.end }
-{
-    let Some(app) = read_items(alloc, main, base)? else {
-        return Ok(None);
-    };
-    let Some(count) = parse_code::<CodeBL>(&(), main) else {
-        return Ok(None);
-    };
-    let Some(owner) = parse_ref(refs, base) else {
-        return Ok(None);
-    };
-    let Some(reactors) = parse_refs(alloc, refs, base, count)? else {
-        return Ok(None);
-    };
-    let Some(xdict) = parse_ref(refs, base) else {
-        return Ok(None);
-    };
-    Ok(Some(ObjectCommon {
-        app,
-        reactors,
-        owner,
-        xdict,
-    }))
-}
-
 impl BodyCode for ObjectCommon {
     ghost grammar = { object_common };
 
-    fn read(
+    #[tactic(auto, unfolding(crate::specs::NonEntities::object_common))]
+    fn parse(
         alloc: Global,
         main: &mut BitCursor<'_>,
         refs: &mut BitCursor<'_>,
         base: Handle,
     ) -> Result<Option<ObjectCommon>, NoMemory> {
-        let mut main_ahead = *main;
-        let mut refs_ahead = *refs;
-        let Some(common) = read_parts(alloc, &mut main_ahead, &mut refs_ahead, base)? else {
+        let Some(app) = read_items(alloc, main, base)? else {
             return Ok(None);
         };
-        *main = main_ahead;
-        *refs = refs_ahead;
-        Ok(Some(common))
+        let Some(count) = parse_code::<CodeBL>(&(), main) else {
+            return Ok(None);
+        };
+        let Some(owner) = parse_ref(refs, base) else {
+            return Ok(None);
+        };
+        let Some(reactors) = parse_refs(alloc, refs, base, count)? else {
+            return Ok(None);
+        };
+        let Some(xdict) = parse_ref(refs, base) else {
+            return Ok(None);
+        };
+        Ok(Some(ObjectCommon {
+            app,
+            reactors,
+            owner,
+            xdict,
+        }))
     }
 
     #[tactic(auto, using(crate::proofs::ObjectParts::fits_of_parts, crate::proofs::ObjectParts::parts_of_fits))]

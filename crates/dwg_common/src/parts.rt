@@ -1,11 +1,10 @@
 //! The parts of bodies, read as they are parsed: so a body that reads one behind the other is parsed as its grammar says.
 
 ghost use Rattle.std.specs.Prelude.{◌≡◌, IfOk};
-ghost use Rattle.std.specs.Option.{option_map};
-ghost use Rattle.dwg_bits.specs.Cursor.{rest};
 ghost use Rattle.dwg_grammar.specs.Codes.{rc};
 ghost use Rattle.dwg_grammar.specs.Combinators.{items, when};
 ghost use Rattle.dwg_grammar.specs.ReferenceCodes.{reference};
+ghost use Rattle.dwg_common.specs.Parsing.{Keeps, Parses};
 
 use dwg_base::{ByteRun, Handle, Items, NoMemory};
 use dwg_bits::BitCursor;
@@ -16,9 +15,8 @@ use std::alloc::Global;
 /// Reads a value of a code. None exactly where no front of the rest spells one.
 pub fn parse_code<C: BitCode>(context: &C::Context, cursor: &mut BitCursor<'_>) -> Option<C::Value>
     requires { C.IsContext context.now }
-    ensures parsed { (C.grammar context.now).parse (rest cursor.old) ≡ option_map (λ value. (value, rest cursor.new)) result }
-    ensures same_bytes { cursor.new.bytes.now ≡ cursor.old.bytes.now }
-    ensures same_end { cursor.new.end ≡ cursor.old.end }
+    ensures parsed { Parses (C.grammar context.now) result cursor.old cursor.new }
+    ensures kept { Keeps cursor.old cursor.new }
 {
     C::read(context, cursor)
 }
@@ -26,9 +24,8 @@ pub fn parse_code<C: BitCode>(context: &C::Context, cursor: &mut BitCursor<'_>) 
 /// Reads a reference of the object of the handle `base`. None exactly where no front of the rest spells one.
 #[tactic(auto, using(dwg_grammar::proofs::BodyReading::ref_parsed))]
 pub fn parse_ref(cursor: &mut BitCursor<'_>, base: Handle) -> Option<Ref>
-    ensures parsed { (reference base).parse (rest cursor.old) ≡ option_map (λ found. (found, rest cursor.new)) result }
-    ensures same_bytes { cursor.new.bytes.now ≡ cursor.old.bytes.now }
-    ensures same_end { cursor.new.end ≡ cursor.old.end }
+    ensures parsed { Parses (reference base) result cursor.old cursor.new }
+    ensures kept { Keeps cursor.old cursor.new }
 {
     read_ref(cursor, base)
 }
@@ -42,9 +39,8 @@ pub fn parse_refs(
     base: Handle,
     count: u32,
 ) -> Result<Option<Items<Ref>>, NoMemory>
-    ensures parsed { IfOk result (λ found. (items (reference base) count).parse (rest cursor.old) ≡ option_map (λ values. (values, rest cursor.new)) found) }
-    ensures same_bytes { cursor.new.bytes.now ≡ cursor.old.bytes.now }
-    ensures same_end { cursor.new.end ≡ cursor.old.end }
+    ensures parsed { IfOk result (λ found. Parses (items (reference base) count) found cursor.old cursor.new) }
+    ensures kept { Keeps cursor.old cursor.new }
 {
     read_refs(alloc, cursor, base, count)
 }
@@ -57,9 +53,8 @@ pub fn parse_bytes(
     count: u32,
     cursor: &mut BitCursor<'_>,
 ) -> Result<Option<ByteRun>, NoMemory>
-    ensures parsed { IfOk result (λ found. (items rc count).parse (rest cursor.old) ≡ option_map (λ run. (run, rest cursor.new)) found) }
-    ensures same_bytes { cursor.new.bytes.now ≡ cursor.old.bytes.now }
-    ensures same_end { cursor.new.end ≡ cursor.old.end }
+    ensures parsed { IfOk result (λ found. Parses (items rc count) found cursor.old cursor.new) }
+    ensures kept { Keeps cursor.old cursor.new }
 {
     read_bytes(alloc, count, cursor)
 }
@@ -72,9 +67,8 @@ pub fn parse_when<C: BitCode>(
     cursor: &mut BitCursor<'_>,
 ) -> Option<Option<C::Value>>
     requires { C.IsContext context.now }
-    ensures parsed { (when present (C.grammar context.now)).parse (rest cursor.old) ≡ option_map (λ value. (value, rest cursor.new)) result }
-    ensures same_bytes { cursor.new.bytes.now ≡ cursor.old.bytes.now }
-    ensures same_end { cursor.new.end ≡ cursor.old.end }
+    ensures parsed { Parses (when present (C.grammar context.now)) result cursor.old cursor.new }
+    ensures kept { Keeps cursor.old cursor.new }
 {
     read_when::<C>(context, present, cursor)
 }

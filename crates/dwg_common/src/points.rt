@@ -1,11 +1,10 @@
 //! Points as bits: each word by a code of its own (Open Design Specification, "Bit codes").
 
 ghost use Rattle.std.specs.Prelude.{◌≡◌, ◌<◌, ⊤};
-ghost use Rattle.std.specs.Option.{option_map};
-ghost use Rattle.dwg_bits.specs.Cursor.{rest};
 ghost use Rattle.dwg_grammar.specs.Codes.{IsPoint3};
 ghost use Rattle.dwg_grammar.proofs.PointLemmas.{rd2_is_code, dd2_is_code};
 ghost use Rattle.dwg_grammar.specs.Points.{IsPoint2, rd2, dd2};
+ghost use Rattle.dwg_common.specs.Parsing.{Keeps, Parses};
 
 use crate::parts::parse_code;
 use dwg_bits::{BitCursor, BitSink};
@@ -22,9 +21,8 @@ pub fn known_point(point: &Point3)
 
 /// Reads two RDs, as they are parsed.
 fn read_two(cursor: &mut BitCursor<'_>) -> Option<Point2>
-    ensures parsed { rd2.parse (rest cursor.old) ≡ option_map (λ point. (point, rest cursor.new)) result }
-    ensures same_bytes { cursor.new.bytes.now ≡ cursor.old.bytes.now }
-    ensures same_end { cursor.new.end ≡ cursor.old.end }
+    ensures parsed { Parses rd2 result cursor.old cursor.new }
+    ensures kept { Keeps cursor.old cursor.new }
 {
     let x = parse_code::<CodeRD>(&(), cursor)?;
     let y = parse_code::<CodeRD>(&(), cursor)?;
@@ -66,9 +64,8 @@ impl BitCode for Code2RD {
 
 /// Reads two DDs, each against a word of the default, as they are parsed.
 fn read_two_against(default: Point2, cursor: &mut BitCursor<'_>) -> Option<Point2>
-    ensures parsed { (dd2 default).parse (rest cursor.old) ≡ option_map (λ point. (point, rest cursor.new)) result }
-    ensures same_bytes { cursor.new.bytes.now ≡ cursor.old.bytes.now }
-    ensures same_end { cursor.new.end ≡ cursor.old.end }
+    ensures parsed { Parses (dd2 default) result cursor.old cursor.new }
+    ensures kept { Keeps cursor.old cursor.new }
 {
     let x = parse_code::<CodeDD>(&default.x, cursor)?;
     let y = parse_code::<CodeDD>(&default.y, cursor)?;

@@ -2,11 +2,10 @@
 //! and "XRECORD").
 
 ghost use Rattle.std.specs.Prelude.{◌≡◌, ◌^◌, ◌<◌, ◌≤◌, ◌↔◌, length, IfOk, IsTrue};
-ghost use Rattle.std.specs.Option.{option_map};
-ghost use Rattle.dwg_bits.specs.Cursor.{rest};
 ghost use Rattle.dwg_bits.specs.Sink.{Extends};
 ghost use Rattle.dwg_grammar.specs.Codes.{bl, rc};
 ghost use Rattle.dwg_grammar.specs.Combinators.{counted};
+ghost use Rattle.dwg_common.specs.Parsing.{Keeps, Parses};
 
 use crate::counts::count_fits;
 use crate::parts::{parse_bytes, parse_code};
@@ -22,9 +21,8 @@ pub(crate) fn parse_sized_by<S: BitCode<Context = (), Value = u32>>(
     cursor: &mut BitCursor<'_>,
 ) -> Result<Option<ByteRun>, NoMemory>
     requires { S.IsContext tt }
-    ensures parsed { IfOk result (λ found. (counted (S.grammar tt) rc).parse (rest cursor.old) ≡ option_map (λ run. (run, rest cursor.new)) found) }
-    ensures same_bytes { cursor.new.bytes.now ≡ cursor.old.bytes.now }
-    ensures same_end { cursor.new.end ≡ cursor.old.end }
+    ensures parsed { IfOk result (λ found. Parses (counted (S.grammar tt) rc) found cursor.old cursor.new) }
+    ensures kept { Keeps cursor.old cursor.new }
 {
     let Some(size) = parse_code::<S>(&(), cursor) else {
         return Ok(None);
@@ -38,9 +36,8 @@ pub(crate) fn parse_sized_by<S: BitCode<Context = (), Value = u32>>(
 /// Reads a size and so many bytes, as they are parsed. The only refusal is want of memory, which is taken only for bytes that
 /// are there.
 pub fn parse_sized(alloc: Global, cursor: &mut BitCursor<'_>) -> Result<Option<ByteRun>, NoMemory>
-    ensures parsed { IfOk result (λ found. (counted bl rc).parse (rest cursor.old) ≡ option_map (λ run. (run, rest cursor.new)) found) }
-    ensures same_bytes { cursor.new.bytes.now ≡ cursor.old.bytes.now }
-    ensures same_end { cursor.new.end ≡ cursor.old.end }
+    ensures parsed { IfOk result (λ found. Parses (counted bl rc) found cursor.old cursor.new) }
+    ensures kept { Keeps cursor.old cursor.new }
 {
     parse_sized_by::<CodeBL>(alloc, cursor)
 }

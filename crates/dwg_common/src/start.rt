@@ -1,9 +1,8 @@
 //! What an entity begins with, as bits (Open Design Specification, "Common entity data").
 
 ghost use Rattle.std.specs.Prelude.{◌≡◌, ◌^◌, ◌<◌, ◌≤◌, ◌↔◌, length, IfOk, IsTrue};
-ghost use Rattle.std.specs.Option.{option_map};
-ghost use Rattle.dwg_bits.specs.Cursor.{rest};
 ghost use Rattle.dwg_bits.specs.Sink.{Extends};
+ghost use Rattle.dwg_common.specs.Parsing.{Keeps, Parses};
 ghost use Rattle.dwg_common.specs.Entities.{entity_mode, entity_start, main_of_entity};
 
 use crate::app_list::{app_fits, app_length, read_items, write_app};
@@ -21,9 +20,8 @@ const LAST_MODE: u8 = 2;
 
 /// Reads where an entity belongs, as it is parsed: 0, 1 or 2.
 fn read_mode(cursor: &mut BitCursor<'_>) -> Option<u8>
-    ensures parsed { entity_mode.parse (rest cursor.old) ≡ option_map (λ mode. (mode, rest cursor.new)) result }
-    ensures same_bytes { cursor.new.bytes.now ≡ cursor.old.bytes.now }
-    ensures same_end { cursor.new.end ≡ cursor.old.end }
+    ensures parsed { Parses entity_mode result cursor.old cursor.new }
+    ensures kept { Keeps cursor.old cursor.new }
 {
     let mode = parse_code::<CodeBB>(&(), cursor)?;
     if mode > LAST_MODE {
@@ -39,9 +37,8 @@ pub(crate) fn read_start(
     cursor: &mut BitCursor<'_>,
     base: Handle,
 ) -> Result<Option<Start>, NoMemory>
-    ensures parsed { IfOk result (λ found. (entity_start base).parse (rest cursor.old) ≡ option_map (λ start. (start, rest cursor.new)) found) }
-    ensures same_bytes { cursor.new.bytes.now ≡ cursor.old.bytes.now }
-    ensures same_end { cursor.new.end ≡ cursor.old.end }
+    ensures parsed { IfOk result (λ found. Parses (entity_start base) found cursor.old cursor.new) }
+    ensures kept { Keeps cursor.old cursor.new }
 {
     let Some(app) = read_items(alloc, cursor, base)? else {
         return Ok(None);

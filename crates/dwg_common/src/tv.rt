@@ -1,10 +1,9 @@
 //! Texts as bits: at most 65,535 bytes (Open Design Specification, "Bit codes").
 
 ghost use Rattle.std.specs.Prelude.{◌≡◌, ◌^◌, ◌<◌, ◌≤◌, ◌↔◌, length, IfOk, IsTrue};
-ghost use Rattle.std.specs.Option.{option_map};
-ghost use Rattle.dwg_bits.specs.Cursor.{rest};
 ghost use Rattle.dwg_bits.specs.Sink.{Extends};
 ghost use Rattle.dwg_grammar.specs.Codes.{tv};
+ghost use Rattle.dwg_common.specs.Parsing.{Keeps, Parses};
 
 use dwg_base::{ByteRun, NoMemory};
 use dwg_bits::{BitCursor, BitSink};
@@ -17,9 +16,8 @@ const TOO_MANY_BYTES: usize = 1 << 16;
 /// Reads a TV, as it is parsed. The only refusal is want of memory, which is taken only for bytes that are there.
 #[tactic(auto, using(crate::proofs::TextReading::tv_parsed))]
 pub fn parse_tv(alloc: Global, cursor: &mut BitCursor<'_>) -> Result<Option<ByteRun>, NoMemory>
-    ensures parsed { IfOk result (λ found. tv.parse (rest cursor.old) ≡ option_map (λ run. (run, rest cursor.new)) found) }
-    ensures same_bytes { cursor.new.bytes.now ≡ cursor.old.bytes.now }
-    ensures same_end { cursor.new.end ≡ cursor.old.end }
+    ensures parsed { IfOk result (λ found. Parses tv found cursor.old cursor.new) }
+    ensures kept { Keeps cursor.old cursor.new }
 {
     read_text(alloc, cursor)
 }

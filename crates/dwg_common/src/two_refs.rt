@@ -1,10 +1,9 @@
 //! Two references, one behind the other, as a code (Open Design Specification, "Handle references").
 
 ghost use Rattle.std.specs.Prelude.{◌≡◌, ◌^◌, ◌<◌, ◌↔◌, IsTrue};
-ghost use Rattle.std.specs.Option.{option_map};
-ghost use Rattle.dwg_bits.specs.Cursor.{rest};
 ghost use Rattle.dwg_grammar.specs.References.{two_refs};
 ghost use Rattle.dwg_grammar.proofs.ReferenceParts.{two_is_part};
+ghost use Rattle.dwg_common.specs.Parsing.{Keeps, Parses};
 
 use crate::parts::parse_code;
 use dwg_base::Handle;
@@ -14,9 +13,8 @@ use dwg_handles::{CodeH, Ref, ref_bits};
 
 /// Reads two references of the object of the handle `base`, as they are parsed.
 fn read_two(cursor: &mut BitCursor<'_>, base: Handle) -> Option<(Ref, Ref)>
-    ensures parsed { (two_refs base).grammar.parse (rest cursor.old) ≡ option_map (λ both. (both, rest cursor.new)) result }
-    ensures same_bytes { cursor.new.bytes.now ≡ cursor.old.bytes.now }
-    ensures same_end { cursor.new.end ≡ cursor.old.end }
+    ensures parsed { Parses (two_refs base).grammar result cursor.old cursor.new }
+    ensures kept { Keeps cursor.old cursor.new }
 {
     let first = parse_code::<CodeH>(&base, cursor)?;
     let second = parse_code::<CodeH>(&base, cursor)?;

@@ -1,6 +1,4 @@
 pub mod DictionaryLemmas
-pub mod SeenReading
-pub mod ControlReading
 pub mod ItemReading
 pub mod PartWriting
 pub mod ItemFitting

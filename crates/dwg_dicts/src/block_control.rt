@@ -3,12 +3,11 @@
 ghost use Rattle.dwg_dicts.specs.DictLaws.{block_control_is_body};
 ghost use Rattle.dwg_dicts.specs.EntriesAndTwo.{block_control_body};
 
-use crate::entries_and_two::{
-    entries_and_two_fit, entries_and_two_lengths, read_entries_and_two, write_entries_and_two,
-};
+use crate::entries_and_two::{entries_and_two_fit, entries_and_two_lengths, write_entries_and_two};
 use dwg_base::{Handle, Items, NoMemory};
 use dwg_bits::{BitCursor, BitSink};
-use dwg_common::{BodyCode, Lengths, write_count};
+use dwg_codes::CodeBL;
+use dwg_common::{BodyCode, Lengths, parse_code, parse_ref, parse_refs, write_count};
 use dwg_handles::Ref;
 use std::alloc::Global;
 
@@ -26,23 +25,29 @@ pub struct BlockControl {
 impl BodyCode for BlockControl {
     ghost grammar = { block_control_body };
 
-    fn read(
+    #[tactic(auto, unfolding(crate::specs::EntriesAndTwo::block_control_body))]
+    fn parse(
         alloc: Global,
         main: &mut BitCursor<'_>,
         refs: &mut BitCursor<'_>,
         base: Handle,
     ) -> Result<Option<BlockControl>, NoMemory> {
-        let mut ahead = *main;
-        let mut refs_ahead = *refs;
-        let Some(named) = read_entries_and_two(alloc, &mut ahead, &mut refs_ahead, base)? else {
+        let Some(count) = parse_code::<CodeBL>(&(), main) else {
             return Ok(None);
         };
-        *main = ahead;
-        *refs = refs_ahead;
+        let Some(entries) = parse_refs(alloc, refs, base, count)? else {
+            return Ok(None);
+        };
+        let Some(model) = parse_ref(refs, base) else {
+            return Ok(None);
+        };
+        let Some(paper) = parse_ref(refs, base) else {
+            return Ok(None);
+        };
         Ok(Some(BlockControl {
-            entries: named.0,
-            model: named.1.0,
-            paper: named.1.1,
+            entries,
+            model,
+            paper,
         }))
     }
 

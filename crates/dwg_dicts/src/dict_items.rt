@@ -2,12 +2,11 @@
 //! Specification, "DICTIONARY").
 
 ghost use Rattle.std.specs.Prelude.{◌≡◌, ◌^◌, ◌<◌, ◌≤◌, ◌↔◌, length, IfOk, IsTrue};
-ghost use Rattle.std.specs.Option.{option_map};
-ghost use Rattle.dwg_bits.specs.Cursor.{rest};
 ghost use Rattle.dwg_bits.specs.Sink.{Extends};
 ghost use Rattle.dwg_grammar.specs.Codes.{tv};
 ghost use Rattle.dwg_grammar.specs.ToEnd.{AreValues, short_all};
 ghost use Rattle.dwg_grammar.specs.ReferenceCodes.{reference};
+ghost use Rattle.dwg_common.specs.Parsing.{Keeps, ParsesBody};
 ghost use Rattle.dwg_dicts.specs.Dictionaries.{AreItems, IsItem, items_alone, names_of, targets_of};
 
 use crate::dictionary::DictItem;
@@ -26,11 +25,9 @@ pub(crate) fn read_items(
     refs: &mut BitCursor<'_>,
     base: Handle,
 ) -> Result<Option<Items<DictItem>>, NoMemory>
-    ensures parsed { IfOk result (λ found. (items_alone base count).parse (rest main.old) (rest refs.old) ≡ option_map (λ listed. (listed, (rest main.new, rest refs.new))) found) }
-    ensures same_bytes { main.new.bytes.now ≡ main.old.bytes.now }
-    ensures same_end { main.new.end ≡ main.old.end }
-    ensures refs_same_bytes { refs.new.bytes.now ≡ refs.old.bytes.now }
-    ensures refs_same_end { refs.new.end ≡ refs.old.end }
+    ensures parsed { IfOk result (λ found. ParsesBody (items_alone base count) found main.old main.new refs.old refs.new) }
+    ensures kept { Keeps main.old main.new }
+    ensures refs_kept { Keeps refs.old refs.new }
 {
     let mut found = Items::new(alloc);
     'along: for _ in 0..count {

@@ -1,8 +1,7 @@
 //! Dictionaries: names of objects.
 
 ghost use Rattle.std.specs.Prelude.{◌≡◌, IfOk};
-ghost use Rattle.std.specs.Option.{option_map};
-ghost use Rattle.dwg_bits.specs.Cursor.{rest};
+ghost use Rattle.dwg_common.specs.Parsing.{Keeps, Parses};
 ghost use Rattle.dwg_dicts.specs.DictLaws.{dictionary_is_body};
 ghost use Rattle.dwg_dicts.specs.Dictionaries.{dictionary_body, dictionary_start};
 
@@ -38,9 +37,8 @@ pub struct Dictionary {
 
 /// Reads what a dictionary begins with, as it is parsed: how many items it has, and its two flags.
 fn read_start(cursor: &mut BitCursor<'_>) -> Option<(u32, (u16, u8))>
-    ensures parsed { dictionary_start.parse (rest cursor.old) ≡ option_map (λ start. (start, rest cursor.new)) result }
-    ensures same_bytes { cursor.new.bytes.now ≡ cursor.old.bytes.now }
-    ensures same_end { cursor.new.end ≡ cursor.old.end }
+    ensures parsed { Parses dictionary_start result cursor.old cursor.new }
+    ensures kept { Keeps cursor.old cursor.new }
 {
     let count = parse_code::<CodeBL>(&(), cursor)?;
     let cloning = parse_code::<CodeBS>(&(), cursor)?;
@@ -48,49 +46,26 @@ fn read_start(cursor: &mut BitCursor<'_>) -> Option<(u32, (u16, u8))>
     Some((count, (cloning, hard_owner)))
 }
 
-/// Reads a dictionary, as it is parsed. The only refusal is want of memory, which is taken only for items that are there.
-fn read_dictionary(
-    alloc: Global,
-    main: &mut BitCursor<'_>,
-    refs: &mut BitCursor<'_>,
-    base: Handle,
-) -> Result<Option<Dictionary>, NoMemory>
-    ensures parsed { IfOk result (λ found. (dictionary_body base).parse (rest main.old) (rest refs.old) ≡ option_map (λ dictionary. (dictionary, (rest main.new, rest refs.new))) found) }
-    ensures same_bytes { main.new.bytes.now ≡ main.old.bytes.now }
-    ensures same_end { main.new.end ≡ main.old.end }
-    ensures refs_same_bytes { refs.new.bytes.now ≡ refs.old.bytes.now }
-    ensures refs_same_end { refs.new.end ≡ refs.old.end }
-{
-    let Some(start) = read_start(main) else {
-        return Ok(None);
-    };
-    let Some(items) = read_items(alloc, start.0, main, refs, base)? else {
-        return Ok(None);
-    };
-    Ok(Some(Dictionary {
-        cloning: start.1.0,
-        hard_owner: start.1.1,
-        items,
-    }))
-}
-
 impl BodyCode for Dictionary {
     ghost grammar = { dictionary_body };
 
-    fn read(
+    fn parse(
         alloc: Global,
         main: &mut BitCursor<'_>,
         refs: &mut BitCursor<'_>,
         base: Handle,
     ) -> Result<Option<Dictionary>, NoMemory> {
-        let mut ahead = *main;
-        let mut refs_ahead = *refs;
-        let Some(dictionary) = read_dictionary(alloc, &mut ahead, &mut refs_ahead, base)? else {
+        let Some(start) = read_start(main) else {
             return Ok(None);
         };
-        *main = ahead;
-        *refs = refs_ahead;
-        Ok(Some(dictionary))
+        let Some(items) = read_items(alloc, start.0, main, refs, base)? else {
+            return Ok(None);
+        };
+        Ok(Some(Dictionary {
+            cloning: start.1.0,
+            hard_owner: start.1.1,
+            items,
+        }))
     }
 
     #[tactic(auto, unfolding(crate::specs::Dictionaries::dictionary_body, dwg_grammar::specs::Combinators::chain), using(crate::proofs::DictionaryLemmas::names_counted, crate::proofs::DictionaryLemmas::targets_counted))]

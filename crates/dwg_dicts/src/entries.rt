@@ -1,40 +1,14 @@
 //! The entries of a control as bits: their count among the main bits, and each as a reference (Open Design Specification,
 //! "LAYER CONTROL", "STYLE CONTROL" and "APPID CONTROL").
 
-ghost use Rattle.std.specs.Prelude.{◌≡◌, ◌^◌, ◌<◌, ◌≤◌, ◌↔◌, length, IfOk, IsTrue};
-ghost use Rattle.std.specs.Option.{option_map};
-ghost use Rattle.dwg_bits.specs.Cursor.{rest};
+ghost use Rattle.std.specs.Prelude.{◌≡◌, ◌^◌, ◌<◌, ◌≤◌, ◌↔◌, length, IsTrue};
 ghost use Rattle.dwg_bits.specs.Sink.{Extends};
 ghost use Rattle.dwg_dicts.specs.Entries.{entries_alone};
 
-use dwg_base::{Handle, Items, NoMemory};
-use dwg_bits::{BitCursor, BitSink};
-use dwg_codes::CodeBL;
-use dwg_common::{Lengths, count_bits, count_fits, parse_code, parse_refs};
+use dwg_base::Handle;
+use dwg_bits::BitSink;
+use dwg_common::{Lengths, count_bits, count_fits};
 use dwg_handles::{Ref, refs_bits, refs_fit, write_refs};
-use std::alloc::Global;
-
-/// Reads entries, as they are parsed. The only refusal is want of memory, which is taken only for entries that are there.
-pub(crate) fn read_entries(
-    alloc: Global,
-    main: &mut BitCursor<'_>,
-    refs: &mut BitCursor<'_>,
-    base: Handle,
-) -> Result<Option<Items<Ref>>, NoMemory>
-    ensures parsed { IfOk result (λ found. (entries_alone base).parse (rest main.old) (rest refs.old) ≡ option_map (λ entries. (entries, (rest main.new, rest refs.new))) found) }
-    ensures same_bytes { main.new.bytes.now ≡ main.old.bytes.now }
-    ensures same_end { main.new.end ≡ main.old.end }
-    ensures refs_same_bytes { refs.new.bytes.now ≡ refs.old.bytes.now }
-    ensures refs_same_end { refs.new.end ≡ refs.old.end }
-{
-    let Some(count) = parse_code::<CodeBL>(&(), main) else {
-        return Ok(None);
-    };
-    let Some(entries) = parse_refs(alloc, refs, base, count)? else {
-        return Ok(None);
-    };
-    Ok(Some(entries))
-}
 
 /// Whether entries can be told from the object of the handle `base`: fewer than 2^32, each by a code that reaches it.
 #[tactic(auto, unfolding(dwg_grammar::specs::Combinators::chain))]

@@ -3,10 +3,11 @@
 ghost use Rattle.dwg_dicts.specs.DictLaws.{layer_control_is_body};
 ghost use Rattle.dwg_dicts.specs.Entries.{layer_control_body};
 
-use crate::entries::{entries_fit, entries_lengths, read_entries, write_entries};
+use crate::entries::{entries_fit, entries_lengths, write_entries};
 use dwg_base::{Handle, Items, NoMemory};
 use dwg_bits::{BitCursor, BitSink};
-use dwg_common::{BodyCode, Lengths, write_count};
+use dwg_codes::CodeBL;
+use dwg_common::{BodyCode, Lengths, parse_code, parse_refs, write_count};
 use dwg_handles::Ref;
 use std::alloc::Global;
 
@@ -20,19 +21,19 @@ pub struct LayerControl {
 impl BodyCode for LayerControl {
     ghost grammar = { layer_control_body };
 
-    fn read(
+    #[tactic(auto, unfolding(crate::specs::Entries::layer_control_body))]
+    fn parse(
         alloc: Global,
         main: &mut BitCursor<'_>,
         refs: &mut BitCursor<'_>,
         base: Handle,
     ) -> Result<Option<LayerControl>, NoMemory> {
-        let mut ahead = *main;
-        let mut refs_ahead = *refs;
-        let Some(entries) = read_entries(alloc, &mut ahead, &mut refs_ahead, base)? else {
+        let Some(count) = parse_code::<CodeBL>(&(), main) else {
             return Ok(None);
         };
-        *main = ahead;
-        *refs = refs_ahead;
+        let Some(entries) = parse_refs(alloc, refs, base, count)? else {
+            return Ok(None);
+        };
         Ok(Some(LayerControl { entries }))
     }
 

@@ -3,6 +3,7 @@
 ghost use Rattle.std.specs.Prelude.{◌≡◌, ◌^◌, ◌<◌, IfOk};
 ghost use Rattle.std.specs.Option.{option_map};
 ghost use Rattle.dwg_bits.specs.Cursor.{rest};
+ghost use Rattle.dwg_common.specs.Parsing.{Keeps, Parses};
 ghost use Rattle.dwg_dicts.specs.DictLaws.{xrecord_is_body};
 ghost use Rattle.dwg_dicts.specs.XRecords.{all_targets, xrecord_body, xrecord_main};
 
@@ -27,9 +28,8 @@ pub struct XRecord {
 /// Reads what the main bits of a record tell, as it is parsed. The only refusal is want of memory, which is taken only for
 /// bytes that are there.
 fn read_told(alloc: Global, cursor: &mut BitCursor<'_>) -> Result<Option<(ByteRun, u16)>, NoMemory>
-    ensures parsed { IfOk result (λ found. xrecord_main.parse (rest cursor.old) ≡ option_map (λ told. (told, rest cursor.new)) found) }
-    ensures same_bytes { cursor.new.bytes.now ≡ cursor.old.bytes.now }
-    ensures same_end { cursor.new.end ≡ cursor.old.end }
+    ensures parsed { IfOk result (λ found. Parses xrecord_main found cursor.old cursor.new) }
+    ensures kept { Keeps cursor.old cursor.new }
 {
     let Some(bytes) = parse_sized(alloc, cursor)? else {
         return Ok(None);
@@ -49,56 +49,32 @@ fn read_targets(
     base: Handle,
 ) -> Result<Option<Items<Ref>>, NoMemory>
     ensures parsed { IfOk result (λ found. all_targets base (rest cursor.old) ≡ option_map (λ targets. (targets, rest cursor.new)) found) }
-    ensures same_bytes { cursor.new.bytes.now ≡ cursor.old.bytes.now }
-    ensures same_end { cursor.new.end ≡ cursor.old.end }
+    ensures kept { Keeps cursor.old cursor.new }
 {
     read_refs_to_end(alloc, cursor, base)
-}
-
-/// Reads a record, as it is parsed. The only refusal is want of memory, which is taken only for what is there.
-#[tactic(auto, unfolding(crate::specs::XRecords::xrecord_body))]
-fn read_xrecord(
-    alloc: Global,
-    main: &mut BitCursor<'_>,
-    refs: &mut BitCursor<'_>,
-    base: Handle,
-) -> Result<Option<XRecord>, NoMemory>
-    ensures parsed { IfOk result (λ found. (xrecord_body base).parse (rest main.old) (rest refs.old) ≡ option_map (λ xrecord. (xrecord, (rest main.new, rest refs.new))) found) }
-    ensures same_bytes { main.new.bytes.now ≡ main.old.bytes.now }
-    ensures same_end { main.new.end ≡ main.old.end }
-    ensures refs_same_bytes { refs.new.bytes.now ≡ refs.old.bytes.now }
-    ensures refs_same_end { refs.new.end ≡ refs.old.end }
-{
-    let Some(told) = read_told(alloc, main)? else {
-        return Ok(None);
-    };
-    let Some(targets) = read_targets(alloc, refs, base)? else {
-        return Ok(None);
-    };
-    Ok(Some(XRecord {
-        bytes: told.0,
-        cloning: told.1,
-        targets,
-    }))
 }
 
 impl BodyCode for XRecord {
     ghost grammar = { xrecord_body };
 
-    fn read(
+    #[tactic(auto, unfolding(crate::specs::XRecords::xrecord_body))]
+    fn parse(
         alloc: Global,
         main: &mut BitCursor<'_>,
         refs: &mut BitCursor<'_>,
         base: Handle,
     ) -> Result<Option<XRecord>, NoMemory> {
-        let mut ahead = *main;
-        let mut refs_ahead = *refs;
-        let Some(xrecord) = read_xrecord(alloc, &mut ahead, &mut refs_ahead, base)? else {
+        let Some(told) = read_told(alloc, main)? else {
             return Ok(None);
         };
-        *main = ahead;
-        *refs = refs_ahead;
-        Ok(Some(xrecord))
+        let Some(targets) = read_targets(alloc, refs, base)? else {
+            return Ok(None);
+        };
+        Ok(Some(XRecord {
+            bytes: told.0,
+            cloning: told.1,
+            targets,
+        }))
     }
 
     #[tactic(auto, unfolding(crate::specs::XRecords::xrecord_body))]

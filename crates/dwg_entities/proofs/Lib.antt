@@ -1,3 +1,2 @@
 pub mod ScaleReading
 pub mod InsertReading
-pub mod BlockReading

@@ -1,8 +1,6 @@
 //! The definition of an attribute.
 
 ghost use Rattle.std.specs.Prelude.{◌≡◌, IfOk};
-ghost use Rattle.std.specs.Option.{option_map};
-ghost use Rattle.dwg_bits.specs.Cursor.{rest};
 ghost use Rattle.dwg_entities.specs.AttdefBody.{attdef_body};
 ghost use Rattle.dwg_entities.specs.BodiesLaws.{attdef_is_body};
 
@@ -23,53 +21,29 @@ pub struct Attdef {
     pub prompt: ByteRun,
 }
 
-/// Reads the definition of an attribute, as it is parsed. The only refusal is want of memory, which is taken only for bytes
-/// that are there.
-#[tactic(auto, unfolding(crate::specs::AttdefBody::attdef_body))]
-fn read_parts(
-    alloc: Global,
-    main: &mut BitCursor<'_>,
-    refs: &mut BitCursor<'_>,
-    base: Handle,
-) -> Result<Option<Attdef>, NoMemory>
-    ensures parsed { IfOk result (λ found. (attdef_body base).parse (rest main.old) (rest refs.old) ≡ option_map (λ attdef. (attdef, (rest main.new, rest refs.new))) found) }
-    ensures same_bytes { main.new.bytes.now ≡ main.old.bytes.now }
-    ensures same_end { main.new.end ≡ main.old.end }
-    ensures refs_same_bytes { refs.new.bytes.now ≡ refs.old.bytes.now }
-    ensures refs_same_end { refs.new.end ≡ refs.old.end }
-{
-    let Some(label) = read_label(alloc, main)? else {
-        return Ok(None);
-    };
-    let Some(prompt) = parse_tv(alloc, main)? else {
-        return Ok(None);
-    };
-    let Some(style) = parse_ref(refs, base) else {
-        return Ok(None);
-    };
-    Ok(Some(Attdef {
-        attrib: attrib_of(label, style),
-        prompt,
-    }))
-}
-
 impl BodyCode for Attdef {
     ghost grammar = { attdef_body };
 
-    fn read(
+    #[tactic(auto, unfolding(crate::specs::AttdefBody::attdef_body))]
+    fn parse(
         alloc: Global,
         main: &mut BitCursor<'_>,
         refs: &mut BitCursor<'_>,
         base: Handle,
     ) -> Result<Option<Attdef>, NoMemory> {
-        let mut ahead = *main;
-        let mut refs_ahead = *refs;
-        let Some(attdef) = read_parts(alloc, &mut ahead, &mut refs_ahead, base)? else {
+        let Some(label) = read_label(alloc, main)? else {
             return Ok(None);
         };
-        *main = ahead;
-        *refs = refs_ahead;
-        Ok(Some(attdef))
+        let Some(prompt) = parse_tv(alloc, main)? else {
+            return Ok(None);
+        };
+        let Some(style) = parse_ref(refs, base) else {
+            return Ok(None);
+        };
+        Ok(Some(Attdef {
+            attrib: attrib_of(label, style),
+            prompt,
+        }))
     }
 
     #[tactic(auto, unfolding(crate::specs::AttdefBody::attdef_body, dwg_grammar::specs::ReferenceCodes::reference))]

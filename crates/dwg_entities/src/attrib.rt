@@ -1,8 +1,6 @@
 //! An attribute of an insert.
 
 ghost use Rattle.std.specs.Prelude.{◌≡◌, IfOk};
-ghost use Rattle.std.specs.Option.{option_map};
-ghost use Rattle.dwg_bits.specs.Cursor.{rest};
 ghost use Rattle.dwg_entities.specs.AttribBody.{attrib_body, attrib_of};
 ghost use Rattle.dwg_entities.specs.BodiesLaws.{attrib_is_body};
 
@@ -52,46 +50,23 @@ pub(crate) fn attrib_of(label: Label, style: Ref) -> Attrib
     }
 }
 
-/// Reads an attribute, as it is parsed. The only refusal is want of memory, which is taken only for bytes that are there.
-#[tactic(auto, unfolding(crate::specs::AttribBody::attrib_body))]
-fn read_parts(
-    alloc: Global,
-    main: &mut BitCursor<'_>,
-    refs: &mut BitCursor<'_>,
-    base: Handle,
-) -> Result<Option<Attrib>, NoMemory>
-    ensures parsed { IfOk result (λ found. (attrib_body base).parse (rest main.old) (rest refs.old) ≡ option_map (λ attrib. (attrib, (rest main.new, rest refs.new))) found) }
-    ensures same_bytes { main.new.bytes.now ≡ main.old.bytes.now }
-    ensures same_end { main.new.end ≡ main.old.end }
-    ensures refs_same_bytes { refs.new.bytes.now ≡ refs.old.bytes.now }
-    ensures refs_same_end { refs.new.end ≡ refs.old.end }
-{
-    let Some(label) = read_label(alloc, main)? else {
-        return Ok(None);
-    };
-    let Some(style) = parse_ref(refs, base) else {
-        return Ok(None);
-    };
-    Ok(Some(attrib_of(label, style)))
-}
-
 impl BodyCode for Attrib {
     ghost grammar = { attrib_body };
 
-    fn read(
+    #[tactic(auto, unfolding(crate::specs::AttribBody::attrib_body))]
+    fn parse(
         alloc: Global,
         main: &mut BitCursor<'_>,
         refs: &mut BitCursor<'_>,
         base: Handle,
     ) -> Result<Option<Attrib>, NoMemory> {
-        let mut ahead = *main;
-        let mut refs_ahead = *refs;
-        let Some(attrib) = read_parts(alloc, &mut ahead, &mut refs_ahead, base)? else {
+        let Some(label) = read_label(alloc, main)? else {
             return Ok(None);
         };
-        *main = ahead;
-        *refs = refs_ahead;
-        Ok(Some(attrib))
+        let Some(style) = parse_ref(refs, base) else {
+            return Ok(None);
+        };
+        Ok(Some(attrib_of(label, style)))
     }
 
     #[tactic(auto, unfolding(crate::specs::AttribBody::attrib_body, dwg_grammar::specs::ReferenceCodes::reference))]

@@ -1,9 +1,8 @@
 //! The attributes of an insert, as a code (Open Design Specification, "INSERT").
 
 ghost use Rattle.std.specs.Prelude.{◌≡◌, ◌^◌, ◌<◌, ◌↔◌, is_some, IsTrue};
-ghost use Rattle.std.specs.Option.{option_map};
-ghost use Rattle.dwg_bits.specs.Cursor.{rest};
 ghost use Rattle.dwg_grammar.specs.Combinators.{when};
+ghost use Rattle.dwg_common.specs.Parsing.{Keeps, Parses};
 ghost use Rattle.dwg_entities.specs.BodiesLaws.{attributes_is_part};
 ghost use Rattle.dwg_entities.specs.InsertBody.{attributes};
 
@@ -16,9 +15,8 @@ use dwg_handles::{CodeH, ref_bits};
 
 /// Reads the attributes of an insert of the handle `base`, as they are parsed.
 fn read_attributes(cursor: &mut BitCursor<'_>, base: Handle) -> Option<Attributes>
-    ensures parsed { (attributes base).grammar.parse (rest cursor.old) ≡ option_map (λ attributes. (attributes, rest cursor.new)) result }
-    ensures same_bytes { cursor.new.bytes.now ≡ cursor.old.bytes.now }
-    ensures same_end { cursor.new.end ≡ cursor.old.end }
+    ensures parsed { Parses (attributes base).grammar result cursor.old cursor.new }
+    ensures kept { Keeps cursor.old cursor.new }
 {
     let first = parse_code::<CodeH>(&base, cursor)?;
     let last = parse_code::<CodeH>(&base, cursor)?;

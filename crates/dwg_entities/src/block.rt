@@ -1,9 +1,7 @@
 //! The begin of a block.
 
 ghost use Rattle.std.specs.Prelude.{◌≡◌, IfOk};
-ghost use Rattle.std.specs.Option.{option_map};
-ghost use Rattle.dwg_bits.specs.Cursor.{rest};
-ghost use Rattle.dwg_entities.specs.BlockBody.{block_body, block_main};
+ghost use Rattle.dwg_entities.specs.BlockBody.{block_body};
 ghost use Rattle.dwg_entities.specs.BodiesLaws.{block_is_body};
 
 use dwg_base::{ByteRun, Handle, NoMemory};
@@ -18,35 +16,20 @@ pub struct Block {
     pub name: ByteRun,
 }
 
-/// Reads the begin of a block, as it is parsed. The only refusal is want of memory, which is taken only for bytes that are
-/// there.
-fn read_block(alloc: Global, cursor: &mut BitCursor<'_>) -> Result<Option<Block>, NoMemory>
-    ensures parsed { IfOk result (λ found. block_main.parse (rest cursor.old) ≡ option_map (λ block. (block, rest cursor.new)) found) }
-    ensures same_bytes { cursor.new.bytes.now ≡ cursor.old.bytes.now }
-    ensures same_end { cursor.new.end ≡ cursor.old.end }
-{
-    let Some(name) = parse_tv(alloc, cursor)? else {
-        return Ok(None);
-    };
-    Ok(Some(Block { name }))
-}
-
 impl BodyCode for Block {
     ghost grammar = { block_body };
 
-    #[tactic(auto, using(crate::proofs::BlockReading::block_read, crate::proofs::BlockReading::block_value))]
-    fn read(
+    #[tactic(auto, unfolding(crate::specs::BlockBody::block_body))]
+    fn parse(
         alloc: Global,
         main: &mut BitCursor<'_>,
         _refs: &mut BitCursor<'_>,
         _base: Handle,
     ) -> Result<Option<Block>, NoMemory> {
-        let mut ahead = *main;
-        let Some(block) = read_block(alloc, &mut ahead)? else {
+        let Some(name) = parse_tv(alloc, main)? else {
             return Ok(None);
         };
-        *main = ahead;
-        Ok(Some(block))
+        Ok(Some(Block { name }))
     }
 
     #[tactic(auto, unfolding(crate::specs::BlockBody::block_body))]

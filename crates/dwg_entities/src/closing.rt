@@ -19,8 +19,8 @@ pub struct SeqEnd;
 impl BodyCode for EndBlk {
     ghost grammar = { endblk_body };
 
-    #[tactic(auto, using(crate::proofs::BlockReading::endblk_read, crate::proofs::BlockReading::endblk_value))]
-    fn read(
+    #[tactic(auto, unfolding(crate::specs::Closing::endblk_body))]
+    fn parse(
         _alloc: Global,
         _main: &mut BitCursor<'_>,
         _refs: &mut BitCursor<'_>,
@@ -51,8 +51,8 @@ impl BodyCode for EndBlk {
 impl BodyCode for SeqEnd {
     ghost grammar = { seqend_body };
 
-    #[tactic(auto, using(crate::proofs::BlockReading::seqend_read, crate::proofs::BlockReading::seqend_value))]
-    fn read(
+    #[tactic(auto, unfolding(crate::specs::Closing::seqend_body))]
+    fn parse(
         _alloc: Global,
         _main: &mut BitCursor<'_>,
         _refs: &mut BitCursor<'_>,

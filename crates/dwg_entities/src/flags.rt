@@ -1,11 +1,10 @@
 //! Parts that stand unless a flag is set, as bits (Open Design Specification, "TEXT").
 
 ghost use Rattle.std.specs.Prelude.{◌≡◌, ◌^◌, ◌<◌, ◌≤◌, ◌↔◌, length, IsTrue};
-ghost use Rattle.std.specs.Option.{option_map};
-ghost use Rattle.dwg_bits.specs.Cursor.{rest};
 ghost use Rattle.dwg_bits.specs.Sink.{Extends};
 ghost use Rattle.dwg_grammar.specs.Codes.{bs, rd};
 ghost use Rattle.dwg_grammar.specs.Flags.{has};
+ghost use Rattle.dwg_common.specs.Parsing.{Keeps, Parses};
 ghost use Rattle.dwg_entities.specs.Flags.{unless, worth_unless};
 
 use dwg_bits::{BitCursor, BitSink};
@@ -40,9 +39,8 @@ pub(crate) fn parse_unless<C: BitCode>(
 ) -> Option<Option<C::Value>>
     requires context { C.IsContext context.now }
     requires worth { 0 < worth }
-    ensures parsed { (unless flags worth (C.grammar context.now)).parse (rest cursor.old) ≡ option_map (λ part. (part, rest cursor.new)) result }
-    ensures same_bytes { cursor.new.bytes.now ≡ cursor.old.bytes.now }
-    ensures same_end { cursor.new.end ≡ cursor.old.end }
+    ensures parsed { Parses (unless flags worth (C.grammar context.now)) result cursor.old cursor.new }
+    ensures kept { Keeps cursor.old cursor.new }
 {
     parse_when::<C>(context, !has(flags, worth), cursor)
 }

@@ -1,9 +1,8 @@
 //! What the main bits of a text tell, as bits (Open Design Specification, "TEXT").
 
 ghost use Rattle.std.specs.Prelude.{◌≡◌, ◌^◌, ◌<◌, ◌≤◌, ◌↔◌, length, IfOk, IsTrue};
-ghost use Rattle.std.specs.Option.{option_map};
-ghost use Rattle.dwg_bits.specs.Cursor.{rest};
 ghost use Rattle.dwg_bits.specs.Sink.{Extends};
+ghost use Rattle.dwg_common.specs.Parsing.{Keeps, Parses};
 ghost use Rattle.dwg_entities.specs.TextBody.{flags_of, inscription_of, text_main};
 
 use crate::flags::worth_unless;
@@ -72,9 +71,8 @@ pub(crate) fn read_inscription(
     alloc: Global,
     cursor: &mut BitCursor<'_>,
 ) -> Result<Option<Inscription>, NoMemory>
-    ensures parsed { IfOk result (λ found. text_main.parse (rest cursor.old) ≡ option_map (λ told. (told, rest cursor.new)) found) }
-    ensures same_bytes { cursor.new.bytes.now ≡ cursor.old.bytes.now }
-    ensures same_end { cursor.new.end ≡ cursor.old.end }
+    ensures parsed { IfOk result (λ found. Parses text_main found cursor.old cursor.new) }
+    ensures kept { Keeps cursor.old cursor.new }
 {
     let Some(flags) = parse_code::<CodeRC>(&(), cursor) else {
         return Ok(None);

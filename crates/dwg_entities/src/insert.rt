@@ -1,8 +1,7 @@
 //! An insert of a block.
 
 ghost use Rattle.std.specs.Prelude.{◌≡◌, length, ◌<◌};
-ghost use Rattle.std.specs.Option.{option_map};
-ghost use Rattle.dwg_bits.specs.Cursor.{rest};
+ghost use Rattle.dwg_common.specs.Parsing.{Keeps, Parses};
 ghost use Rattle.dwg_entities.specs.BodiesLaws.{insert_is_body};
 ghost use Rattle.dwg_entities.specs.InsertBody.{insert_body, insert_main, insert_refs, setting_of};
 
@@ -73,9 +72,8 @@ fn setting_of(insert: &Insert) -> Setting
 
 /// Reads what the main bits of an insert tell, as it is parsed.
 fn read_setting(cursor: &mut BitCursor<'_>) -> Option<Setting>
-    ensures parsed { insert_main.parse (rest cursor.old) ≡ option_map (λ setting. (setting, rest cursor.new)) result }
-    ensures same_bytes { cursor.new.bytes.now ≡ cursor.old.bytes.now }
-    ensures same_end { cursor.new.end ≡ cursor.old.end }
+    ensures parsed { Parses insert_main result cursor.old cursor.new }
+    ensures kept { Keeps cursor.old cursor.new }
 {
     let place = parse_code::<Code3BD>(&(), cursor)?;
     let scale = parse_code::<CodeScale>(&(), cursor)?;
@@ -97,34 +95,12 @@ fn read_names(
     base: Handle,
     setting: Setting,
 ) -> Option<(Ref, Option<Attributes>)>
-    ensures parsed { (insert_refs base setting).grammar.parse (rest cursor.old) ≡ option_map (λ named. (named, rest cursor.new)) result }
-    ensures same_bytes { cursor.new.bytes.now ≡ cursor.old.bytes.now }
-    ensures same_end { cursor.new.end ≡ cursor.old.end }
+    ensures parsed { Parses (insert_refs base setting).grammar result cursor.old cursor.new }
+    ensures kept { Keeps cursor.old cursor.new }
 {
     let block = parse_ref(cursor, base)?;
     let attributes = parse_when::<CodeAttributes>(&base, setting.attributes, cursor)?;
     Some((block, attributes))
-}
-
-/// Reads an insert, as it is parsed.
-#[tactic(auto, unfolding(crate::specs::InsertBody::insert_body))]
-fn read_insert(main: &mut BitCursor<'_>, refs: &mut BitCursor<'_>, base: Handle) -> Option<Insert>
-    ensures parsed { (insert_body base).parse (rest main.old) (rest refs.old) ≡ option_map (λ insert. (insert, (rest main.new, rest refs.new))) result }
-    ensures same_bytes { main.new.bytes.now ≡ main.old.bytes.now }
-    ensures same_end { main.new.end ≡ main.old.end }
-    ensures refs_same_bytes { refs.new.bytes.now ≡ refs.old.bytes.now }
-    ensures refs_same_end { refs.new.end ≡ refs.old.end }
-{
-    let setting = read_setting(main)?;
-    let named = read_names(refs, base, setting)?;
-    Some(Insert {
-        place: setting.place,
-        scale: setting.scale,
-        rotation: setting.rotation,
-        extrusion: setting.extrusion,
-        block: named.0,
-        attributes: named.1,
-    })
 }
 
 /// The main bits of every insert can be told: their codes tell every number of their types.
@@ -138,20 +114,27 @@ fn setting_fits(setting: Setting)
 impl BodyCode for Insert {
     ghost grammar = { insert_body };
 
-    fn read(
+    #[tactic(auto, unfolding(crate::specs::InsertBody::insert_body))]
+    fn parse(
         _alloc: Global,
         main: &mut BitCursor<'_>,
         refs: &mut BitCursor<'_>,
         base: Handle,
     ) -> Result<Option<Insert>, NoMemory> {
-        let mut ahead = *main;
-        let mut refs_ahead = *refs;
-        let Some(insert) = read_insert(&mut ahead, &mut refs_ahead, base) else {
+        let Some(setting) = read_setting(main) else {
             return Ok(None);
         };
-        *main = ahead;
-        *refs = refs_ahead;
-        Ok(Some(insert))
+        let Some(named) = read_names(refs, base, setting) else {
+            return Ok(None);
+        };
+        Ok(Some(Insert {
+            place: setting.place,
+            scale: setting.scale,
+            rotation: setting.rotation,
+            extrusion: setting.extrusion,
+            block: named.0,
+            attributes: named.1,
+        }))
     }
 
     #[tactic(auto, unfolding(crate::specs::InsertBody::insert_body, dwg_grammar::specs::ReferenceCodes::reference))]

@@ -1,9 +1,8 @@
 //! What the main bits of an attribute tell, as bits (Open Design Specification, "ATTRIB").
 
 ghost use Rattle.std.specs.Prelude.{◌≡◌, ◌^◌, ◌<◌, ◌≤◌, ◌↔◌, length, IfOk, IsTrue};
-ghost use Rattle.std.specs.Option.{option_map};
-ghost use Rattle.dwg_bits.specs.Cursor.{rest};
 ghost use Rattle.dwg_bits.specs.Sink.{Extends};
+ghost use Rattle.dwg_common.specs.Parsing.{Keeps, Parses};
 ghost use Rattle.dwg_entities.specs.AttribBody.{attrib_main, label_of};
 
 use crate::attrib::{Attrib, Label};
@@ -21,9 +20,8 @@ pub(crate) fn read_label(
     alloc: Global,
     cursor: &mut BitCursor<'_>,
 ) -> Result<Option<Label>, NoMemory>
-    ensures parsed { IfOk result (λ found. attrib_main.parse (rest cursor.old) ≡ option_map (λ label. (label, rest cursor.new)) found) }
-    ensures same_bytes { cursor.new.bytes.now ≡ cursor.old.bytes.now }
-    ensures same_end { cursor.new.end ≡ cursor.old.end }
+    ensures parsed { IfOk result (λ found. Parses attrib_main found cursor.old cursor.new) }
+    ensures kept { Keeps cursor.old cursor.new }
 {
     let Some(inscription) = read_inscription(alloc, cursor)? else {
         return Ok(None);

@@ -1,9 +1,8 @@
 //! The form of the letters of a text, as bits (Open Design Specification, "TEXT").
 
 ghost use Rattle.std.specs.Prelude.{◌≡◌, ◌^◌, ◌<◌, ◌≤◌, ◌↔◌, length, IsTrue};
-ghost use Rattle.std.specs.Option.{option_map};
-ghost use Rattle.dwg_bits.specs.Cursor.{rest};
 ghost use Rattle.dwg_bits.specs.Sink.{Extends};
+ghost use Rattle.dwg_common.specs.Parsing.{Keeps, Parses};
 ghost use Rattle.dwg_entities.specs.TextBody.{text_lettering};
 
 use crate::flags::{length_unless, parse_unless, word_fits, write_unless};
@@ -23,9 +22,8 @@ pub(crate) const NO_WIDTH: u8 = 0x10;
 
 /// Reads the form of the letters of a text of these flags, as it is parsed.
 pub(crate) fn read_lettering(flags: u8, cursor: &mut BitCursor<'_>) -> Option<Lettering>
-    ensures parsed { (text_lettering flags).parse (rest cursor.old) ≡ option_map (λ lettering. (lettering, rest cursor.new)) result }
-    ensures same_bytes { cursor.new.bytes.now ≡ cursor.old.bytes.now }
-    ensures same_end { cursor.new.end ≡ cursor.old.end }
+    ensures parsed { Parses (text_lettering flags) result cursor.old cursor.new }
+    ensures kept { Keeps cursor.old cursor.new }
 {
     let oblique = parse_unless::<CodeRD>(&(), flags, NO_OBLIQUE, cursor)?;
     let rotation = parse_unless::<CodeRD>(&(), flags, NO_ROTATION, cursor)?;

@@ -1,11 +1,10 @@
 //! Where a text stands, as bits (Open Design Specification, "TEXT").
 
 ghost use Rattle.std.specs.Prelude.{◌≡◌, ◌^◌, ◌<◌, ◌≤◌, ◌↔◌, length, IsTrue};
-ghost use Rattle.std.specs.Option.{option_map};
-ghost use Rattle.dwg_bits.specs.Cursor.{rest};
 ghost use Rattle.dwg_bits.specs.Sink.{Extends};
 ghost use Rattle.dwg_entities.specs.Flags.{unless};
 ghost use Rattle.dwg_grammar.specs.Points.{dd2};
+ghost use Rattle.dwg_common.specs.Parsing.{Keeps, Parses};
 ghost use Rattle.dwg_entities.specs.TextBody.{text_placing};
 
 use crate::flags::{has, length_unless, parse_unless, word_fits, write_unless};
@@ -22,9 +21,8 @@ pub(crate) const NO_ALIGNMENT: u8 = 0x02;
 
 /// Reads where a text of these flags stands, as it is parsed.
 pub(crate) fn read_placing(flags: u8, cursor: &mut BitCursor<'_>) -> Option<Placing>
-    ensures parsed { (text_placing flags).parse (rest cursor.old) ≡ option_map (λ placing. (placing, rest cursor.new)) result }
-    ensures same_bytes { cursor.new.bytes.now ≡ cursor.old.bytes.now }
-    ensures same_end { cursor.new.end ≡ cursor.old.end }
+    ensures parsed { Parses (text_placing flags) result cursor.old cursor.new }
+    ensures kept { Keeps cursor.old cursor.new }
 {
     let elevation = parse_unless::<CodeRD>(&(), flags, NO_ELEVATION, cursor)?;
     let insertion = parse_code::<Code2RD>(&(), cursor)?;

@@ -1,10 +1,9 @@
 //! The scale of an insert as bits (Open Design Specification, "INSERT").
 
 ghost use Rattle.std.specs.Prelude.{◌≡◌, ◌<◌, ◌≤◌, ⊤, length};
-ghost use Rattle.std.specs.Option.{option_map};
-ghost use Rattle.dwg_bits.specs.Cursor.{rest};
 ghost use Rattle.dwg_bits.specs.Sink.{Extends};
 ghost use Rattle.dwg_grammar.specs.Codes.{IsPoint3};
+ghost use Rattle.dwg_common.specs.Parsing.{Keeps, Parses};
 ghost use Rattle.dwg_entities.specs.Scale.{scale, scale_beside_one, scale_by, scale_even, scale_free, scale_tag};
 ghost use Rattle.dwg_entities.specs.ScaleLaws.{scale_is_code};
 
@@ -26,9 +25,8 @@ const WHOLE: u8 = 3;
 
 /// Reads a scale of any words, as it is parsed.
 fn read_free(cursor: &mut BitCursor<'_>) -> Option<Point3>
-    ensures parsed { scale_free.parse (rest cursor.old) ≡ option_map (λ point. (point, rest cursor.new)) result }
-    ensures same_bytes { cursor.new.bytes.now ≡ cursor.old.bytes.now }
-    ensures same_end { cursor.new.end ≡ cursor.old.end }
+    ensures parsed { Parses scale_free result cursor.old cursor.new }
+    ensures kept { Keeps cursor.old cursor.new }
 {
     let x = parse_code::<CodeRD>(&(), cursor)?;
     let y = parse_code::<CodeDD>(&x, cursor)?;
@@ -38,9 +36,8 @@ fn read_free(cursor: &mut BitCursor<'_>) -> Option<Point3>
 
 /// Reads a scale whose x is 1.0, as it is parsed.
 fn read_beside_one(cursor: &mut BitCursor<'_>) -> Option<Point3>
-    ensures parsed { scale_beside_one.parse (rest cursor.old) ≡ option_map (λ point. (point, rest cursor.new)) result }
-    ensures same_bytes { cursor.new.bytes.now ≡ cursor.old.bytes.now }
-    ensures same_end { cursor.new.end ≡ cursor.old.end }
+    ensures parsed { Parses scale_beside_one result cursor.old cursor.new }
+    ensures kept { Keeps cursor.old cursor.new }
 {
     let y = parse_code::<CodeDD>(&ONE_WORD, cursor)?;
     let z = parse_code::<CodeDD>(&ONE_WORD, cursor)?;
@@ -49,9 +46,8 @@ fn read_beside_one(cursor: &mut BitCursor<'_>) -> Option<Point3>
 
 /// Reads a scale of one word, as it is parsed.
 fn read_even(cursor: &mut BitCursor<'_>) -> Option<Point3>
-    ensures parsed { scale_even.parse (rest cursor.old) ≡ option_map (λ point. (point, rest cursor.new)) result }
-    ensures same_bytes { cursor.new.bytes.now ≡ cursor.old.bytes.now }
-    ensures same_end { cursor.new.end ≡ cursor.old.end }
+    ensures parsed { Parses scale_even result cursor.old cursor.new }
+    ensures kept { Keeps cursor.old cursor.new }
 {
     let x = parse_code::<CodeRD>(&(), cursor)?;
     Some(Point3 { x, y: x, z: x })
@@ -60,9 +56,8 @@ fn read_even(cursor: &mut BitCursor<'_>) -> Option<Point3>
 /// Reads what is behind a tag, as it is parsed.
 #[tactic(auto, using(crate::proofs::ScaleReading::none_behind))]
 fn read_behind(tag: u8, cursor: &mut BitCursor<'_>) -> Option<Point3>
-    ensures parsed { (scale_by tag).parse (rest cursor.old) ≡ option_map (λ point. (point, rest cursor.new)) result }
-    ensures same_bytes { cursor.new.bytes.now ≡ cursor.old.bytes.now }
-    ensures same_end { cursor.new.end ≡ cursor.old.end }
+    ensures parsed { Parses (scale_by tag) result cursor.old cursor.new }
+    ensures kept { Keeps cursor.old cursor.new }
 {
     match tag {
         FREE => read_free(cursor),
@@ -80,9 +75,8 @@ fn read_behind(tag: u8, cursor: &mut BitCursor<'_>) -> Option<Point3>
 /// Reads a scale, as it is parsed.
 #[tactic(auto, unfolding(crate::specs::Scale::scale))]
 fn read_scale(cursor: &mut BitCursor<'_>) -> Option<Point3>
-    ensures parsed { scale.parse (rest cursor.old) ≡ option_map (λ point. (point, rest cursor.new)) result }
-    ensures same_bytes { cursor.new.bytes.now ≡ cursor.old.bytes.now }
-    ensures same_end { cursor.new.end ≡ cursor.old.end }
+    ensures parsed { Parses scale result cursor.old cursor.new }
+    ensures kept { Keeps cursor.old cursor.new }
 {
     let tag = parse_code::<CodeBB>(&(), cursor)?;
     read_behind(tag, cursor)

@@ -1,8 +1,6 @@
 //! A line of text.
 
 ghost use Rattle.std.specs.Prelude.{◌≡◌, IfOk};
-ghost use Rattle.std.specs.Option.{option_map};
-ghost use Rattle.dwg_bits.specs.Cursor.{rest};
 ghost use Rattle.dwg_entities.specs.BodiesLaws.{text_is_body};
 ghost use Rattle.dwg_entities.specs.TextBody.{text_body, text_of};
 
@@ -121,46 +119,23 @@ pub(crate) fn text_of(told: Inscription, style: Ref) -> Text
     }
 }
 
-/// Reads a text, as it is parsed. The only refusal is want of memory, which is taken only for bytes that are there.
-#[tactic(auto, unfolding(crate::specs::TextBody::text_body))]
-fn read_parts(
-    alloc: Global,
-    main: &mut BitCursor<'_>,
-    refs: &mut BitCursor<'_>,
-    base: Handle,
-) -> Result<Option<Text>, NoMemory>
-    ensures parsed { IfOk result (λ found. (text_body base).parse (rest main.old) (rest refs.old) ≡ option_map (λ text. (text, (rest main.new, rest refs.new))) found) }
-    ensures same_bytes { main.new.bytes.now ≡ main.old.bytes.now }
-    ensures same_end { main.new.end ≡ main.old.end }
-    ensures refs_same_bytes { refs.new.bytes.now ≡ refs.old.bytes.now }
-    ensures refs_same_end { refs.new.end ≡ refs.old.end }
-{
-    let Some(told) = read_inscription(alloc, main)? else {
-        return Ok(None);
-    };
-    let Some(style) = parse_ref(refs, base) else {
-        return Ok(None);
-    };
-    Ok(Some(text_of(told, style)))
-}
-
 impl BodyCode for Text {
     ghost grammar = { text_body };
 
-    fn read(
+    #[tactic(auto, unfolding(crate::specs::TextBody::text_body))]
+    fn parse(
         alloc: Global,
         main: &mut BitCursor<'_>,
         refs: &mut BitCursor<'_>,
         base: Handle,
     ) -> Result<Option<Text>, NoMemory> {
-        let mut ahead = *main;
-        let mut refs_ahead = *refs;
-        let Some(text) = read_parts(alloc, &mut ahead, &mut refs_ahead, base)? else {
+        let Some(told) = read_inscription(alloc, main)? else {
             return Ok(None);
         };
-        *main = ahead;
-        *refs = refs_ahead;
-        Ok(Some(text))
+        let Some(style) = parse_ref(refs, base) else {
+            return Ok(None);
+        };
+        Ok(Some(text_of(told, style)))
     }
 
     #[tactic(auto, unfolding(crate::specs::TextBody::text_body, dwg_grammar::specs::ReferenceCodes::reference))]

@@ -1,9 +1,8 @@
 //! The words of a text, as bits (Open Design Specification, "TEXT").
 
 ghost use Rattle.std.specs.Prelude.{◌≡◌, ◌^◌, ◌<◌, ◌≤◌, ◌↔◌, length, IfOk, IsTrue};
-ghost use Rattle.std.specs.Option.{option_map};
-ghost use Rattle.dwg_bits.specs.Cursor.{rest};
 ghost use Rattle.dwg_bits.specs.Sink.{Extends};
+ghost use Rattle.dwg_common.specs.Parsing.{Keeps, Parses};
 ghost use Rattle.dwg_entities.specs.TextBody.{inscription_of, text_wording};
 
 use crate::flags::{length_unless, number_fits, parse_unless, write_unless};
@@ -30,9 +29,8 @@ pub(crate) fn read_wording(
     flags: u8,
     cursor: &mut BitCursor<'_>,
 ) -> Result<Option<Wording>, NoMemory>
-    ensures parsed { IfOk result (λ found. (text_wording flags).parse (rest cursor.old) ≡ option_map (λ wording. (wording, rest cursor.new)) found) }
-    ensures same_bytes { cursor.new.bytes.now ≡ cursor.old.bytes.now }
-    ensures same_end { cursor.new.end ≡ cursor.old.end }
+    ensures parsed { IfOk result (λ found. Parses (text_wording flags) found cursor.old cursor.new) }
+    ensures kept { Keeps cursor.old cursor.new }
 {
     let Some(text) = parse_tv(alloc, cursor)? else {
         return Ok(None);

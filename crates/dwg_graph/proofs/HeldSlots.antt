@@ -16,7 +16,7 @@ use Rattle.dwg_kinds.specs.declared.field.Field.{Field}
 use Rattle.dwg_kinds.specs.declared.field.Field.TheVariants as fields
 use Rattle.dwg_kinds.specs.declared.kind.Kind.{Kind}
 use Rattle.dwg_kinds.specs.declared.kind.Kind.TheVariants as kinds
-use Rattle.dwg_kinds.specs.Kinds.{is_entity_kind, same_kind, place_of_kind}
+use Rattle.dwg_kinds.specs.Kinds.{is_entity_kind, same_kind}
 use Rattle.dwg_kinds.specs.Needs.{has_field, need_of, owner_need, of_entities, of_one, linetype_need, plotstyle_need, style_need, block_need, end_need, xref_need, entry_need}
 use Rattle.dwg_object.specs.declared.body.Body.TheVariants as bodies
 use Rattle.dwg_object.specs.declared.body.Body.{Body}
@@ -71,34 +71,9 @@ record HoldsEntities (kind : Kind) : Type 0 where
 
 -- each kind of entity holds them
 holds_entities : (kind : Kind) → is_entity_kind kind ≡ true → HoldsEntities kind
-unfolding is_entity_kind has_field need_of linetype_need plotstyle_need of_entities
-holds_entities kinds.Text is = record { previous = refl; next = refl; layer = refl; linetype = refl; plotstyle = refl }
-holds_entities kinds.Attrib is = record { previous = refl; next = refl; layer = refl; linetype = refl; plotstyle = refl }
-holds_entities kinds.Attdef is = record { previous = refl; next = refl; layer = refl; linetype = refl; plotstyle = refl }
-holds_entities kinds.Block is = record { previous = refl; next = refl; layer = refl; linetype = refl; plotstyle = refl }
-holds_entities kinds.EndBlk is = record { previous = refl; next = refl; layer = refl; linetype = refl; plotstyle = refl }
-holds_entities kinds.SeqEnd is = record { previous = refl; next = refl; layer = refl; linetype = refl; plotstyle = refl }
-holds_entities kinds.Insert is = record { previous = refl; next = refl; layer = refl; linetype = refl; plotstyle = refl }
-holds_entities kinds.Arc is = record { previous = refl; next = refl; layer = refl; linetype = refl; plotstyle = refl }
-holds_entities kinds.Circle is = record { previous = refl; next = refl; layer = refl; linetype = refl; plotstyle = refl }
-holds_entities kinds.Line is = record { previous = refl; next = refl; layer = refl; linetype = refl; plotstyle = refl }
-holds_entities kinds.Point is = record { previous = refl; next = refl; layer = refl; linetype = refl; plotstyle = refl }
-holds_entities kinds.LwPolyline is = record { previous = refl; next = refl; layer = refl; linetype = refl; plotstyle = refl }
-holds_entities kinds.Dictionary is = absurd cc
-holds_entities kinds.BlockControl is = absurd cc
-holds_entities kinds.BlockHeader is = absurd cc
-holds_entities kinds.LayerControl is = absurd cc
-holds_entities kinds.Layer is = absurd cc
-holds_entities kinds.StyleControl is = absurd cc
-holds_entities kinds.Style is = absurd cc
-holds_entities kinds.LtypeControl is = absurd cc
-holds_entities kinds.Ltype is = absurd cc
-holds_entities kinds.AppIdControl is = absurd cc
-holds_entities kinds.AppId is = absurd cc
-holds_entities kinds.XRecord is = absurd cc
-holds_entities kinds.PlainEntity is = record { previous = refl; next = refl; layer = refl; linetype = refl; plotstyle = refl }
-holds_entities kinds.PlainObject is = absurd cc
-holds_entities kinds.Unknown is = absurd cc
+unfolding has_field need_of linetype_need plotstyle_need of_entities
+holds_entities kinds.Layer is = record { previous = rw is; next = rw is; layer = rw is; linetype = refl; plotstyle = refl }
+holds_entities kind is = record { previous = rw is; next = rw is; layer = rw is; linetype = rw is; plotstyle = rw is }
 
 -- the slots of a field that is a list
 abbrev by : (kind : Kind) (field : Field) (references : List Reference) → IsTrue (has_field field kind) → Held kind (listed field references)
@@ -145,7 +120,7 @@ held_by_common kind (commons.Object common) is = held_by_object kind common
 
 -- the attributes of an insert, and their end
 held_by_attributes : (attributes : Option Attributes) → Held kinds.Insert (attribute_slots attributes)
-unfolding has_field need_of end_need of_one same_kind place_of_kind
+unfolding has_field need_of end_need of_one same_kind
 held_by_attributes None = held_none kinds.Insert
 held_by_attributes (Some attributes) =
     by_one kinds.Insert fields.First attributes.first refl & by_one kinds.Insert fields.Last attributes.last refl & by_one kinds.Insert fields.Seqend attributes.seqend refl
@@ -158,19 +133,11 @@ held_by_ends (Some ends) = by_one kinds.BlockHeader fields.First ends.first refl
 
 -- what the kinds hold of their own
 held_by_body : (body : Body) → Held (body_kind body) (body_slots body)
-unfolding body_slots has_field need_of linetype_need plotstyle_need style_need block_need xref_need entry_need of_one same_kind place_of_kind
+unfolding body_slots has_field need_of linetype_need plotstyle_need style_need block_need xref_need entry_need of_one same_kind
 held_by_body (bodies.Text body) = by_one kinds.Text fields.Style body.style refl
 held_by_body (bodies.Attrib body) = by_one kinds.Attrib fields.Style body.text.style refl
 held_by_body (bodies.Attdef body) = by_one kinds.Attdef fields.Style body.attrib.text.style refl
-held_by_body (bodies.Block body) = held_none kinds.Block
-held_by_body (bodies.EndBlk body) = held_none kinds.EndBlk
-held_by_body (bodies.SeqEnd body) = held_none kinds.SeqEnd
 held_by_body (bodies.Insert body) = by_one kinds.Insert fields.Block body.block refl & held_by_attributes body.attributes
-held_by_body (bodies.Arc body) = held_none kinds.Arc
-held_by_body (bodies.Circle body) = held_none kinds.Circle
-held_by_body (bodies.Line body) = held_none kinds.Line
-held_by_body (bodies.Point body) = held_none kinds.Point
-held_by_body (bodies.LwPolyline body) = held_none kinds.LwPolyline
 held_by_body (bodies.Dictionary body) = by kinds.Dictionary fields.Item (map (λ item. item.target) body.items) refl
 held_by_body (bodies.BlockControl body) =
     by kinds.BlockControl fields.Entry body.entries refl & by_one kinds.BlockControl fields.Model body.model refl & by_one kinds.BlockControl fields.Paper body.paper refl
@@ -190,6 +157,7 @@ held_by_body (bodies.Ltype body) =
 held_by_body (bodies.AppIdControl body) = by kinds.AppIdControl fields.Entry body.entries refl
 held_by_body (bodies.AppId body) = by_one kinds.AppId fields.Xref body.entry.xref refl
 held_by_body (bodies.XRecord body) = by kinds.XRecord fields.Target body.targets refl
+held_by_body body = held_none (body_kind body)
 
 -- what an object holds
 held_by : (x : ObjectValue) → IsWhole x → Held (kind_of x) (slots x)
@@ -206,29 +174,7 @@ slots_are_held x slot whole there = (held_by x whole).each slot there
 pub owners_are_held : (number handle : ℕ) (common : Common) (body : Body) → IsTrue (has_field fields.Owner (kind_of (TypedValue number handle common body)))
 unfolding has_field need_of owner_need
 owners_are_held number handle common (bodies.Text body) = refl
-owners_are_held number handle common (bodies.Attrib body) = refl
-owners_are_held number handle common (bodies.Attdef body) = refl
-owners_are_held number handle common (bodies.Block body) = refl
-owners_are_held number handle common (bodies.EndBlk body) = refl
-owners_are_held number handle common (bodies.SeqEnd body) = refl
-owners_are_held number handle common (bodies.Insert body) = refl
-owners_are_held number handle common (bodies.Arc body) = refl
-owners_are_held number handle common (bodies.Circle body) = refl
-owners_are_held number handle common (bodies.Line body) = refl
-owners_are_held number handle common (bodies.Point body) = refl
-owners_are_held number handle common (bodies.LwPolyline body) = refl
-owners_are_held number handle common (bodies.Dictionary body) = refl
-owners_are_held number handle common (bodies.BlockControl body) = refl
-owners_are_held number handle common (bodies.BlockHeader body) = refl
-owners_are_held number handle common (bodies.LayerControl body) = refl
-owners_are_held number handle common (bodies.Layer body) = refl
-owners_are_held number handle common (bodies.StyleControl body) = refl
-owners_are_held number handle common (bodies.Style body) = refl
-owners_are_held number handle common (bodies.LtypeControl body) = refl
-owners_are_held number handle common (bodies.Ltype body) = refl
-owners_are_held number handle common (bodies.AppIdControl body) = refl
-owners_are_held number handle common (bodies.AppId body) = refl
-owners_are_held number handle common (bodies.XRecord body) = refl
+owners_are_held number handle common body = refl
 
 -- a Typed object that is whole holds the fields of its references
 pub holds_fields : SlotsAreHeld → OwnersAreHeld → (x : ObjectValue) → IsWhole x → IsTrue (is_typed x) → HoldsFields x

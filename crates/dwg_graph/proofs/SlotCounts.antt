@@ -156,15 +156,7 @@ unfolding body_slots own_body text_body attrib_body attdef_body block_body endbl
 own_counted base (bodies.Text body) = simp length_of_slots (omega arith)
 own_counted base (bodies.Attrib body) = simp length_of_slots (omega arith)
 own_counted base (bodies.Attdef body) = simp length_of_slots (omega arith)
-own_counted base (bodies.Block body) = omega arith
-own_counted base (bodies.EndBlk body) = omega arith
-own_counted base (bodies.SeqEnd body) = omega arith
 own_counted base (bodies.Insert body) = simp (length-append, length_of_slots) (omega (arith, attributes_counted body.attributes))
-own_counted base (bodies.Arc body) = omega arith
-own_counted base (bodies.Circle body) = omega arith
-own_counted base (bodies.Line body) = omega arith
-own_counted base (bodies.Point body) = omega arith
-own_counted base (bodies.LwPolyline body) = omega arith
 own_counted base (bodies.Dictionary body) = simp length_of_slots (omega arith)
 own_counted base (bodies.BlockControl body) = simp (length-append, length_of_slots) (omega arith)
 own_counted base (bodies.BlockHeader body) = simp (length-append, length_of_slots) (omega (arith, ends_counted body.ends))
@@ -177,6 +169,7 @@ own_counted base (bodies.Ltype body) = simp (length-append, length_of_slots) (om
 own_counted base (bodies.AppIdControl body) = simp length_of_slots (omega arith)
 own_counted base (bodies.AppId body) = simp length_of_slots (omega arith)
 own_counted base (bodies.XRecord body) = simp length_of_slots (omega arith)
+own_counted base body = omega arith
 
 -- a common part is written by eight bits for each slot at the least
 common_bound : (handle : ℕ) (common : Common) → handle < 2 ^ 63 → (common_part (is_of_entity common) handle).Fits common

@@ -183,15 +183,7 @@ unfolding body_slots field_number is_entity_kind
 runs_of_body (bodies.Text body) = by 10 25 fields.Style (body.style ∷ []) (omega arith) (omega arith)
 runs_of_body (bodies.Attrib body) = by 10 25 fields.Style (body.text.style ∷ []) (omega arith) (omega arith)
 runs_of_body (bodies.Attdef body) = by 10 25 fields.Style (body.attrib.text.style ∷ []) (omega arith) (omega arith)
-runs_of_body (bodies.Block body) = none 10 25 (omega arith)
-runs_of_body (bodies.EndBlk body) = none 10 25 (omega arith)
-runs_of_body (bodies.SeqEnd body) = none 10 25 (omega arith)
 runs_of_body (bodies.Insert body) = by 10 12 fields.Block (body.block ∷ []) (omega arith) (omega arith) & runs_of_attributes body.attributes
-runs_of_body (bodies.Arc body) = none 10 25 (omega arith)
-runs_of_body (bodies.Circle body) = none 10 25 (omega arith)
-runs_of_body (bodies.Line body) = none 10 25 (omega arith)
-runs_of_body (bodies.Point body) = none 10 25 (omega arith)
-runs_of_body (bodies.LwPolyline body) = none 10 25 (omega arith)
 runs_of_body (bodies.Dictionary body) = by 5 25 fields.Item (map (λ item. item.target) body.items) (omega arith) (omega arith)
 runs_of_body (bodies.BlockControl body) =
     by 5 20 fields.Entry body.entries (omega arith) (omega arith) & by 20 21 fields.Model (body.model ∷ []) (omega arith) (omega arith)
@@ -213,6 +205,7 @@ runs_of_body (bodies.Ltype body) =
 runs_of_body (bodies.AppIdControl body) = by 5 25 fields.Entry body.entries (omega arith) (omega arith)
 runs_of_body (bodies.AppId body) = by 5 25 fields.Xref (body.entry.xref ∷ []) (omega arith) (omega arith)
 runs_of_body (bodies.XRecord body) = by 5 25 fields.Target body.targets (omega arith) (omega arith)
+runs_of_body body = none 10 25 (omega arith)
 
 -- the slots of a whole object ascend
 pub slots_are_ordered : (x : ObjectValue) → IsWhole x → AllPairs StandsBefore (slots x)

@@ -1,16 +1,17 @@
 -- Numbers in the tables of kinds: what a run gives, what no row gives, and which kinds are those of entities.
 use Rattle.std.proofs.Common.{◌≡◌, refl, sym, ap, ◌∙◌, ℕ, ◌<◌, ◌≤◌, true, false, List, [], ◌∷◌, arith}
 use Rattle.std.specs.Prelude.{◌≢◌, ◌==◌, ◌↔◌, ◌&&◌, Bool, nat_lt, not, None, Contains, IsTrue}
-use Rattle.std.specs.List.{AllByRecursion, list_all}
+use Rattle.std.specs.List.{AllByRecursion, list_all, list_any}
+use Rattle.std.specs.Cmp.{on_equiv, nat_eq_equiv}
 use Rattle.std.specs.Map.{lookup}
 use Rattle.std.proofs.lemmas.Bool.Decides.{nat_tests}
 use Rattle.std.proofs.lemmas.Bool.{true≢false}
-use Rattle.std.proofs.lemmas.List.Elements.{All-contains}
-use Rattle.std.proofs.lemmas.List.Sums.{AllPass-from_list_all}
+use Rattle.std.proofs.lemmas.Map.Views.{Contains-from_any, list_any-from_Contains}
 use Rattle.dwg_kinds.specs.declared.kind.Kind.{Kind}
-use Rattle.dwg_kinds.specs.declared.kind.Kind.TheVariants.{Text, Attrib, Attdef, Block, EndBlk, SeqEnd, Insert, Arc, Circle, Line, Point, LwPolyline, PlainEntity, Unknown}
+use Rattle.dwg_kinds.specs.declared.kind.Kind.TheVariants.{Text, PlainEntity, Unknown}
 use Rattle.dwg_kinds.specs.declared.number.ClassHint.{ClassHint}
-use Rattle.dwg_kinds.specs.Kinds.{Run, TYPED_KINDS, PLAIN_ENTITIES, PLAIN_OBJECTS, ENTITY_KINDS, LiesOutside, lies_in, fixed_kind_of, kind_at, is_entity_kind}
+use Rattle.dwg_kinds.specs.Kinds.{Run, TYPED_KINDS, PLAIN_ENTITIES, PLAIN_OBJECTS, ENTITY_KINDS, LiesOutside, lies_in, fixed_kind_of, kind_at, place_of_kind, is_entity_kind, same_kind}
+use Rattle.dwg_kinds.proofs.SameKinds.{same_kinds}
 
 -- a number of no row is not found
 not_found : (number : ℕ) (rows : List (ℕ × Kind)) → AllByRecursion (λ typed. number ≢ typed.0) rows → lookup (λ typed. typed == number) rows ≡ None
@@ -79,33 +80,16 @@ in_plain_entities number hint =
     at_each_run (kind_at number hint ≡ PlainEntity) number PLAIN_ENTITIES
     (λ lies. rw (below_all number 500 PLAIN_ENTITIES below_classes lies, not_found number TYPED_KINDS (no_row number PLAIN_ENTITIES TYPED_KINDS entities_untyped lies), lies) refl)
 
--- a kind of entities is in their list
-entity_listed : (kind : Kind) → IsTrue (is_entity_kind kind) → Contains ENTITY_KINDS kind
-unfolding is_entity_kind fixed_kind_of TYPED_KINDS
-entity_listed Text is = (0, omega arith, refl)
-entity_listed Attrib is = (1, omega arith, refl)
-entity_listed Attdef is = (2, omega arith, refl)
-entity_listed Block is = (3, omega arith, refl)
-entity_listed EndBlk is = (4, omega arith, refl)
-entity_listed SeqEnd is = (5, omega arith, refl)
-entity_listed Insert is = (6, omega arith, refl)
-entity_listed Arc is = (7, omega arith, refl)
-entity_listed Circle is = (8, omega arith, refl)
-entity_listed Line is = (9, omega arith, refl)
-entity_listed Point is = (10, omega arith, refl)
-entity_listed LwPolyline is = (11, omega arith, refl)
-entity_listed PlainEntity is = (12, omega arith, refl)
-entity_listed kind is = absurd (cc)
-
--- a test of the table: each kind of the list is one of entities
-listed_are_entities : list_all is_entity_kind ENTITY_KINDS ≡ true
-unfolding is_entity_kind fixed_kind_of TYPED_KINDS
-listed_are_entities = refl
+-- a kind is one of entities where the list of their kinds has it
+is_listed : (kind : Kind) → list_any (same_kind kind) ENTITY_KINDS ≡ is_entity_kind kind
+unfolding is_entity_kind same_kind
+is_listed Text = refl
+is_listed kind = refl
 
 -- the kinds of entities are those of the list
 pub entities_listed : (kind : Kind) → IsTrue (is_entity_kind kind) ↔ Contains ENTITY_KINDS kind
+unfolding same_kind
 entities_listed kind = (
-  entity_listed kind,
-  λ listed. All-contains (λ (other : Kind). IsTrue (is_entity_kind other)) ENTITY_KINDS kind
-      (AllPass-from_list_all is_entity_kind ENTITY_KINDS listed_are_entities) listed,
+  λ is. Contains-from_any (λ one other. (same_kinds one other).0) kind ENTITY_KINDS (is_listed kind ∙ is),
+  λ listed. sym (is_listed kind) ∙ list_any-from_Contains (on_equiv place_of_kind nat_eq_equiv) kind ENTITY_KINDS listed,
 )

@@ -1,3 +1,2 @@
 pub mod KindTables
-pub mod KindNames
 pub mod SameKinds

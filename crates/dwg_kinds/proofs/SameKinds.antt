@@ -1,134 +1,83 @@
--- Two kinds are one where their places are, and two fields where their numbers or names are: each is found again by its place, number or name.
+-- Two kinds are one where their places or their names are, and two fields where their numbers or names are: each has a row, and is found again by what its row tells.
 -- Whether two kinds are one is cited by dwg_graph.
-use Rattle.std.proofs.Common.{◌≡◌, refl, sym, ◌∙◌, ap, ℕ, List, [], ◌∷◌, Option, Some, subst, arith}
-use Rattle.std.specs.Prelude.{◌==◌, ◌↔◌, IsTrue, find}
+use Rattle.std.proofs.Common.{◌≡◌, refl, sym, ◌∙◌, ap, ℕ, List, [], subst, arith}
+use Rattle.std.specs.Prelude.{◌+◌, ◌==◌, ◌↔◌, IsTrue, find, unwrap_or, get_or}
 use Rattle.std.specs.Str.{bytes_eq}
 use Rattle.std.proofs.lemmas.Bool.Decides.{nat_tests}
-use Rattle.std.proofs.lemmas.Option.{same_Some}
+use denote.Enum.Declared.{tag_of}
+use Rattle.dwg_kinds.specs.contracts.field.Field.{the_type}
 use Rattle.dwg_kinds.specs.declared.kind.Kind.{Kind}
-use Rattle.dwg_kinds.specs.declared.kind.Kind.TheVariants as kind
+use Rattle.dwg_kinds.specs.declared.kind.Kind.TheVariants as kinds
 use Rattle.dwg_kinds.specs.declared.field.Field.{Field}
-use Rattle.dwg_kinds.specs.declared.field.Field.TheVariants as field
-use Rattle.dwg_kinds.specs.Kinds.{place_of_kind, same_kind}
-use Rattle.dwg_kinds.specs.Needs.{field_number, field_name}
-use Rattle.dwg_kinds.proofs.KindNames.{KINDS}
+use Rattle.dwg_kinds.specs.declared.field.Field.TheVariants as fields
+use Rattle.dwg_kinds.specs.Kinds.{KIND_ROWS, UNKNOWN, place_of_kind, kind_name, same_kind}
+use Rattle.dwg_kinds.specs.Needs.{FieldRow, FIELD_ROWS, field_number, field_name}
 
--- the first kind at a place
-abbrev placed : ℕ → Option Kind
-placed place = find (λ k. place_of_kind k == place) KINDS
+-- the kind at a place
+abbrev placed : ℕ → Kind
+placed place = (get_or KIND_ROWS place UNKNOWN).kind
 
--- the first kind at its place is the kind itself
-placed_again : (k : Kind) → placed (place_of_kind k) ≡ Some k
-unfolding place_of_kind
-placed_again kind.Text = refl
-placed_again kind.Attrib = refl
-placed_again kind.Attdef = refl
-placed_again kind.Block = refl
-placed_again kind.EndBlk = refl
-placed_again kind.SeqEnd = refl
-placed_again kind.Insert = refl
-placed_again kind.Arc = refl
-placed_again kind.Circle = refl
-placed_again kind.Line = refl
-placed_again kind.Point = refl
-placed_again kind.LwPolyline = refl
-placed_again kind.Dictionary = refl
-placed_again kind.BlockControl = refl
-placed_again kind.BlockHeader = refl
-placed_again kind.LayerControl = refl
-placed_again kind.Layer = refl
-placed_again kind.StyleControl = refl
-placed_again kind.Style = refl
-placed_again kind.LtypeControl = refl
-placed_again kind.Ltype = refl
-placed_again kind.AppIdControl = refl
-placed_again kind.AppId = refl
-placed_again kind.XRecord = refl
-placed_again kind.PlainEntity = refl
-placed_again kind.PlainObject = refl
-placed_again kind.Unknown = refl
+-- the kind at its place is the kind itself, so the row of each kind is its own
+placed_again : (kind : Kind) → placed (place_of_kind kind) ≡ kind
+placed_again kinds.Text = refl
+placed_again kind = refl
 
 -- two kinds are one exactly where the test says so
-pub same_kinds : (k other : Kind) → IsTrue (same_kind k other) ↔ (k ≡ other)
+pub same_kinds : (kind other : Kind) → IsTrue (same_kind kind other) ↔ (kind ≡ other)
 unfolding same_kind
-same_kinds k other = (
-  λ same. let places : place_of_kind k ≡ place_of_kind other = grind (arith, nat_tests, same) in
-      same_Some k other (sym (placed_again k) ∙ (ap placed places ∙ placed_again other)),
-  λ same. subst (λ (o : Kind). IsTrue (same_kind k o)) same (grind (arith, nat_tests)),
+same_kinds kind other = (
+  λ same. let places : place_of_kind kind ≡ place_of_kind other = grind (arith, nat_tests, same) in sym (placed_again kind) ∙ (ap placed places ∙ placed_again other),
+  λ same. subst (λ (o : Kind). IsTrue (same_kind kind o)) same (grind (arith, nat_tests)),
 )
 
--- all fields
-abbrev FIELDS : List Field
-FIELDS = field.Application ∷ field.Owner ∷ field.Reactor ∷ field.Xdict ∷ field.Previous ∷ field.Next ∷ field.Layer ∷ field.Linetype ∷ field.Plotstyle ∷ field.Style ∷ field.Block ∷ field.First ∷ field.Last ∷ field.Seqend ∷ field.Xref ∷ field.Endblk ∷ field.Insert ∷ field.Layout ∷ field.Entry ∷ field.Model ∷ field.Paper ∷ field.Extra ∷ field.Item ∷ field.Target ∷ []
+-- the first kind of a name
+abbrev named : List ℕ → Kind
+named name = (unwrap_or (find (λ row. bytes_eq row.name name) KIND_ROWS) UNKNOWN).kind
+
+-- the first kind of its name is the kind itself
+named_again : (kind : Kind) → named (kind_name kind) ≡ kind
+unfolding kind_name
+named_again kinds.Text = refl
+named_again kind = refl
+
+-- no two kinds have one name
+pub names_differ : (kind other : Kind) → kind_name kind ≡ kind_name other → kind ≡ other
+names_differ kind other same = sym (named_again kind) ∙ (ap named same ∙ named_again other)
+
+-- no field at all
+abbrev NO_FIELD : FieldRow
+NO_FIELD = record { number = 0; field = fields.Application; name = [] }
 
 -- the first field of a number
-abbrev numbered : ℕ → Option Field
-numbered number = find (λ f. field_number f == number) FIELDS
+abbrev numbered : ℕ → Field
+numbered number = (unwrap_or (find (λ row. row.number == number) FIELD_ROWS) NO_FIELD).field
 
 -- the first field of its number is the field itself
-numbered_again : (f : Field) → numbered (field_number f) ≡ Some f
+numbered_again : (field : Field) → numbered (field_number field) ≡ field
 unfolding field_number
-numbered_again field.Application = refl
-numbered_again field.Owner = refl
-numbered_again field.Reactor = refl
-numbered_again field.Xdict = refl
-numbered_again field.Previous = refl
-numbered_again field.Next = refl
-numbered_again field.Layer = refl
-numbered_again field.Linetype = refl
-numbered_again field.Plotstyle = refl
-numbered_again field.Style = refl
-numbered_again field.Block = refl
-numbered_again field.First = refl
-numbered_again field.Last = refl
-numbered_again field.Seqend = refl
-numbered_again field.Xref = refl
-numbered_again field.Endblk = refl
-numbered_again field.Insert = refl
-numbered_again field.Layout = refl
-numbered_again field.Entry = refl
-numbered_again field.Model = refl
-numbered_again field.Paper = refl
-numbered_again field.Extra = refl
-numbered_again field.Item = refl
-numbered_again field.Target = refl
+numbered_again fields.Application = refl
+numbered_again field = refl
+
+-- fields are numbered in the order in which they are declared, from 1 on
+pub numbered_in_order : (field : Field) → field_number field ≡ tag_of the_type field + 1
+unfolding field_number
+numbered_in_order fields.Application = refl
+numbered_in_order field = refl
 
 -- two fields of one number are one
-pub numbers_differ : (f other : Field) → field_number f ≡ field_number other → f ≡ other
-numbers_differ f other same = same_Some f other (sym (numbered_again f) ∙ (ap numbered same ∙ numbered_again other))
+pub numbers_differ : (field other : Field) → field_number field ≡ field_number other → field ≡ other
+numbers_differ field other same = sym (numbered_again field) ∙ (ap numbered same ∙ numbered_again other)
 
 -- the first field of a name
-abbrev named : List ℕ → Option Field
-named name = find (λ f. bytes_eq (field_name f) name) FIELDS
+abbrev titled : List ℕ → Field
+titled name = (unwrap_or (find (λ row. bytes_eq row.name name) FIELD_ROWS) NO_FIELD).field
 
 -- the first field of its name is the field itself
-found_again : (f : Field) → named (field_name f) ≡ Some f
+titled_again : (field : Field) → titled (field_name field) ≡ field
 unfolding field_name
-found_again field.Application = refl
-found_again field.Owner = refl
-found_again field.Reactor = refl
-found_again field.Xdict = refl
-found_again field.Previous = refl
-found_again field.Next = refl
-found_again field.Layer = refl
-found_again field.Linetype = refl
-found_again field.Plotstyle = refl
-found_again field.Style = refl
-found_again field.Block = refl
-found_again field.First = refl
-found_again field.Last = refl
-found_again field.Seqend = refl
-found_again field.Xref = refl
-found_again field.Endblk = refl
-found_again field.Insert = refl
-found_again field.Layout = refl
-found_again field.Entry = refl
-found_again field.Model = refl
-found_again field.Paper = refl
-found_again field.Extra = refl
-found_again field.Item = refl
-found_again field.Target = refl
+titled_again fields.Application = refl
+titled_again field = refl
 
 -- no two fields have one name
-pub words_differ : (f other : Field) → field_name f ≡ field_name other → f ≡ other
-words_differ f other same = same_Some f other (sym (found_again f) ∙ (ap named same ∙ found_again other))
+pub words_differ : (field other : Field) → field_name field ≡ field_name other → field ≡ other
+words_differ field other same = sym (titled_again field) ∙ (ap titled same ∙ titled_again other)

@@ -1,19 +1,90 @@
--- Kinds of objects: which one a type number stands for, which of them are entities, and the names that are printed (Open Design Specification, "R13 to R2000 file layout, object data"). The plain kinds are a rule of this project.
-use Rattle.std.specs.Prelude.{ℕ, ◌==◌, ◌<◌, ◌⊎◌, ◌++◌, map, Bool, true, false, ◌&&◌, List, [], ◌∷◌, unwrap_or, codes, nat_le, nat_lt, if◌then◌else◌}
-use Rattle.std.specs.List.{list_any, AllByRecursion}
+-- Kinds of objects: a row for each, and which kind a type number stands for (Open Design Specification, "R13 to R2000 file layout, object data"). The plain kinds are a rule of this project, and so is what must own an object.
+use Rattle.std.specs.Prelude.{ℕ, ◌==◌, ◌<◌, ◌⊎◌, Bool, true, false, ◌&&◌, List, [], ◌∷◌, Option, Some, None, map, filter, get_or, unwrap_or, option_map, codes, nat_le, nat_lt, if◌then◌else◌}
+use Rattle.std.specs.List.{list_any, filter_map, AllByRecursion}
 use Rattle.std.specs.Map.{lookup}
+use denote.Enum.Declared.{tag_of}
+use Rattle.dwg_kinds.specs.contracts.kind.Kind.{the_type}
+use Rattle.dwg_kinds.specs.declared.field.Need.{Need}
+use Rattle.dwg_kinds.specs.declared.field.Need.TheVariants.{Null, Any, NullOrAny, Is, Attributed}
 use Rattle.dwg_kinds.specs.declared.kind.Kind.{Kind}
-use Rattle.dwg_kinds.specs.declared.kind.Kind.TheVariants.{Text, Attrib, Attdef, Block, EndBlk, SeqEnd, Insert, Arc, Circle, Line, Point, LwPolyline, Dictionary, BlockControl, BlockHeader, LayerControl, Layer, StyleControl, Style, LtypeControl, Ltype, AppIdControl, AppId, XRecord, PlainEntity, PlainObject, Unknown}
+use Rattle.dwg_kinds.specs.declared.kind.Kind.TheVariants.{Text, Attrib, Attdef, Block, EndBlk, SeqEnd, Insert, Arc, Circle, Line, Point, Dictionary, BlockControl, BlockHeader, LayerControl, Layer, StyleControl, Style, LtypeControl, Ltype, AppIdControl, AppId, LwPolyline, XRecord, PlainEntity, PlainObject, Unknown}
 use Rattle.dwg_kinds.specs.declared.number.ClassHint.{ClassHint}
 use Rattle.dwg_kinds.specs.declared.number.ClassHint.TheVariants as hint
 
+-- what is told of a kind: the number that stands for it, where one does; the kind; its name, as it is printed; whether it is one of entities; what must own an object of it
+pub record KindRow : Type 0 where
+  pub number : Option ℕ
+  pub kind : Kind
+  pub name : List ℕ
+  pub is_entity : Bool
+  pub owner : Option Need
+
+-- a row in one line
+abbrev row : Option ℕ → Kind → List ℕ → Bool → Option Need → KindRow
+row number kind name is_entity owner = record { number = number; kind = kind; name = name; is_entity = is_entity; owner = owner }
+
+-- the row of objects of which nothing is told
+abbrev pub UNKNOWN : KindRow
+UNKNOWN = row None Unknown (codes "UNKNOWN") false None
+
+-- all kinds, in the order in which they are declared
+abbrev pub KIND_ROWS : List KindRow
+KIND_ROWS =
+    row (Some 1) Text (codes "TEXT") true (Some (Is BlockHeader))
+    ∷ row (Some 2) Attrib (codes "ATTRIB") true (Some Attributed)
+    ∷ row (Some 3) Attdef (codes "ATTDEF") true (Some (Is BlockHeader))
+    ∷ row (Some 4) Block (codes "BLOCK") true (Some (Is BlockHeader))
+    ∷ row (Some 5) EndBlk (codes "ENDBLK") true (Some (Is BlockHeader))
+    ∷ row (Some 6) SeqEnd (codes "SEQEND") true (Some Attributed)
+    ∷ row (Some 7) Insert (codes "INSERT") true (Some (Is BlockHeader))
+    ∷ row (Some 17) Arc (codes "ARC") true (Some (Is BlockHeader))
+    ∷ row (Some 18) Circle (codes "CIRCLE") true (Some (Is BlockHeader))
+    ∷ row (Some 19) Line (codes "LINE") true (Some (Is BlockHeader))
+    ∷ row (Some 27) Point (codes "POINT") true (Some (Is BlockHeader))
+    ∷ row (Some 42) Dictionary (codes "DICTIONARY") false (Some NullOrAny)
+    ∷ row (Some 48) BlockControl (codes "BLOCK CONTROL") false (Some Null)
+    ∷ row (Some 49) BlockHeader (codes "BLOCK HEADER") false (Some (Is BlockControl))
+    ∷ row (Some 50) LayerControl (codes "LAYER CONTROL") false (Some Null)
+    ∷ row (Some 51) Layer (codes "LAYER") false (Some (Is LayerControl))
+    ∷ row (Some 52) StyleControl (codes "STYLE CONTROL") false (Some Null)
+    ∷ row (Some 53) Style (codes "STYLE") false (Some (Is StyleControl))
+    ∷ row (Some 56) LtypeControl (codes "LTYPE CONTROL") false (Some Null)
+    ∷ row (Some 57) Ltype (codes "LTYPE") false (Some (Is LtypeControl))
+    ∷ row (Some 66) AppIdControl (codes "APPID CONTROL") false (Some Null)
+    ∷ row (Some 67) AppId (codes "APPID") false (Some (Is AppIdControl))
+    ∷ row (Some 77) LwPolyline (codes "LWPOLYLINE") true (Some (Is BlockHeader))
+    ∷ row (Some 79) XRecord (codes "XRECORD") false (Some Any)
+    ∷ row None PlainEntity (codes "ENTITY") true None
+    ∷ row None PlainObject (codes "OBJECT") false None
+    ∷ UNKNOWN ∷ []
+
+-- the place of a kind among all kinds, as they are declared
+abbrev pub place_of_kind : Kind → ℕ
+place_of_kind kind = tag_of the_type kind
+
+-- the row at that place, which is the kind's own
+abbrev pub row_of : Kind → KindRow
+row_of kind = get_or KIND_ROWS (place_of_kind kind) UNKNOWN
+
+-- the name of a kind
+unfoldable pub kind_name : Kind → List ℕ
+kind_name kind = (row_of kind).name
+
+-- whether a kind is one of entities
+unfoldable pub is_entity_kind : Kind → Bool
+is_entity_kind kind = (row_of kind).is_entity
+
+-- the kinds that are ones of entities
+abbrev pub ENTITY_KINDS : List Kind
+ENTITY_KINDS = map (λ row. row.kind) (filter (λ row. row.is_entity) KIND_ROWS)
+
+-- whether two kinds are one
+unfoldable pub same_kind : Kind → Kind → Bool
+same_kind kind other = place_of_kind kind == place_of_kind other
+
 -- the kinds that are typed, each with the number that stands for it
 unfoldable pub TYPED_KINDS : List (ℕ × Kind)
-TYPED_KINDS =
-    (1, Text) ∷ (2, Attrib) ∷ (3, Attdef) ∷ (4, Block) ∷ (5, EndBlk) ∷ (6, SeqEnd) ∷ (7, Insert)
-    ∷ (17, Arc) ∷ (18, Circle) ∷ (19, Line) ∷ (27, Point) ∷ (42, Dictionary)
-    ∷ (48, BlockControl) ∷ (49, BlockHeader) ∷ (50, LayerControl) ∷ (51, Layer) ∷ (52, StyleControl) ∷ (53, Style) ∷ (56, LtypeControl) ∷ (57, Ltype)
-    ∷ (66, AppIdControl) ∷ (67, AppId) ∷ (77, LwPolyline) ∷ (79, XRecord) ∷ []
+TYPED_KINDS = filter_map (λ row. option_map (λ number. (number, row.kind)) row.number) KIND_ROWS
 
 -- a run of numbers: its first and its last
 abbrev pub Run : Type 0
@@ -57,92 +128,3 @@ hinted_kind_of hint.Other = Unknown
 -- the kind of a number
 unfoldable pub kind_at : ℕ → ClassHint → Kind
 kind_at number hint = if nat_lt number LEAST_CLASS_NUMBER then fixed_kind_of number else hinted_kind_of hint
-
--- the numbers of the typed kinds that are entities
-abbrev pub ENTITY_NUMBERS : List ℕ
-ENTITY_NUMBERS = 1 ∷ 2 ∷ 3 ∷ 4 ∷ 5 ∷ 6 ∷ 7 ∷ 17 ∷ 18 ∷ 19 ∷ 27 ∷ 77 ∷ []
-
--- the kinds that are entities: those of these numbers, and entities of which nothing more is told
-abbrev pub ENTITY_KINDS : List Kind
-ENTITY_KINDS = map fixed_kind_of ENTITY_NUMBERS ++ PlainEntity ∷ []
-
--- whether a kind is one of entities
-unfoldable pub is_entity_kind : Kind → Bool
-is_entity_kind Text = true
-is_entity_kind Attrib = true
-is_entity_kind Attdef = true
-is_entity_kind Block = true
-is_entity_kind EndBlk = true
-is_entity_kind SeqEnd = true
-is_entity_kind Insert = true
-is_entity_kind Arc = true
-is_entity_kind Circle = true
-is_entity_kind Line = true
-is_entity_kind Point = true
-is_entity_kind LwPolyline = true
-is_entity_kind PlainEntity = true
-is_entity_kind kind = false
-
--- the name of a kind
-unfoldable pub kind_name : Kind → List ℕ
-kind_name Text = codes "TEXT"
-kind_name Attrib = codes "ATTRIB"
-kind_name Attdef = codes "ATTDEF"
-kind_name Block = codes "BLOCK"
-kind_name EndBlk = codes "ENDBLK"
-kind_name SeqEnd = codes "SEQEND"
-kind_name Insert = codes "INSERT"
-kind_name Arc = codes "ARC"
-kind_name Circle = codes "CIRCLE"
-kind_name Line = codes "LINE"
-kind_name Point = codes "POINT"
-kind_name Dictionary = codes "DICTIONARY"
-kind_name BlockControl = codes "BLOCK CONTROL"
-kind_name BlockHeader = codes "BLOCK HEADER"
-kind_name LayerControl = codes "LAYER CONTROL"
-kind_name Layer = codes "LAYER"
-kind_name StyleControl = codes "STYLE CONTROL"
-kind_name Style = codes "STYLE"
-kind_name LtypeControl = codes "LTYPE CONTROL"
-kind_name Ltype = codes "LTYPE"
-kind_name AppIdControl = codes "APPID CONTROL"
-kind_name AppId = codes "APPID"
-kind_name LwPolyline = codes "LWPOLYLINE"
-kind_name XRecord = codes "XRECORD"
-kind_name PlainEntity = codes "ENTITY"
-kind_name PlainObject = codes "OBJECT"
-kind_name Unknown = codes "UNKNOWN"
-
--- the place of a kind among all kinds, as they are declared
-unfoldable pub place_of_kind : Kind → ℕ
-place_of_kind Text = 0
-place_of_kind Attrib = 1
-place_of_kind Attdef = 2
-place_of_kind Block = 3
-place_of_kind EndBlk = 4
-place_of_kind SeqEnd = 5
-place_of_kind Insert = 6
-place_of_kind Arc = 7
-place_of_kind Circle = 8
-place_of_kind Line = 9
-place_of_kind Point = 10
-place_of_kind LwPolyline = 11
-place_of_kind Dictionary = 12
-place_of_kind BlockControl = 13
-place_of_kind BlockHeader = 14
-place_of_kind LayerControl = 15
-place_of_kind Layer = 16
-place_of_kind StyleControl = 17
-place_of_kind Style = 18
-place_of_kind LtypeControl = 19
-place_of_kind Ltype = 20
-place_of_kind AppIdControl = 21
-place_of_kind AppId = 22
-place_of_kind XRecord = 23
-place_of_kind PlainEntity = 24
-place_of_kind PlainObject = 25
-place_of_kind Unknown = 26
-
--- whether two kinds are one
-unfoldable pub same_kind : Kind → Kind → Bool
-same_kind kind other = place_of_kind kind == place_of_kind other

@@ -1,67 +1,65 @@
 -- The references that an object holds: their names, which kinds hold each, and what it must lead to (Open Design Specification, the listed objects; what must hold is a rule of this project).
-use Rattle.std.specs.Prelude.{ℕ, Bool, List, Option, Some, None, codes, if◌then◌else◌}
+use Rattle.std.specs.Prelude.{ℕ, Bool, List, [], ◌∷◌, Option, Some, None, get_or, codes, if◌then◌else◌}
 use Rattle.std.specs.Option.{is_some}
+use denote.Enum.Declared.{tag_of}
+use Rattle.dwg_kinds.specs.contracts.field.Field.{the_type}
 use Rattle.dwg_kinds.specs.declared.kind.Kind.{Kind}
 use Rattle.dwg_kinds.specs.declared.kind.Kind.TheVariants as kind
 use Rattle.dwg_kinds.specs.declared.field.Field.{Field}
 use Rattle.dwg_kinds.specs.declared.field.Field.TheVariants.{Application, Owner, Reactor, Xdict, Previous, Next, Layer, Linetype, Plotstyle, Style, Block, First, Last, Seqend, Xref, Endblk, Insert, Layout, Entry, Model, Paper, Extra, Item, Target}
 use Rattle.dwg_kinds.specs.declared.field.Need.{Need}
-use Rattle.dwg_kinds.specs.declared.field.Need.TheVariants.{Null, Any, NullOrAny, Entity, NullOrEntity, Is, NullOrIs, Attributed}
-use Rattle.dwg_kinds.specs.Kinds.{is_entity_kind, same_kind}
+use Rattle.dwg_kinds.specs.declared.field.Need.TheVariants.{Any, NullOrAny, Entity, NullOrEntity, Is, NullOrIs}
+use Rattle.dwg_kinds.specs.Kinds.{row_of, is_entity_kind, same_kind}
+
+-- what is told of a field: its number, the field, and its name, as it is printed
+pub record FieldRow : Type 0 where
+  pub number : ℕ
+  pub field : Field
+  pub name : List ℕ
+
+-- a row in one line
+abbrev row : ℕ → Field → List ℕ → FieldRow
+row number field name = record { number = number; field = field; name = name }
+
+-- all fields, in the order in which they are declared
+abbrev pub FIELD_ROWS : List FieldRow
+FIELD_ROWS =
+    row 1 Application (codes "application")
+    ∷ row 2 Owner (codes "owner")
+    ∷ row 3 Reactor (codes "reactor")
+    ∷ row 4 Xdict (codes "xdict")
+    ∷ row 5 Previous (codes "previous")
+    ∷ row 6 Next (codes "next")
+    ∷ row 7 Layer (codes "layer")
+    ∷ row 8 Linetype (codes "linetype")
+    ∷ row 9 Plotstyle (codes "plotstyle")
+    ∷ row 10 Style (codes "style")
+    ∷ row 11 Block (codes "block")
+    ∷ row 12 First (codes "first")
+    ∷ row 13 Last (codes "last")
+    ∷ row 14 Seqend (codes "seqend")
+    ∷ row 15 Xref (codes "xref")
+    ∷ row 16 Endblk (codes "endblk")
+    ∷ row 17 Insert (codes "insert")
+    ∷ row 18 Layout (codes "layout")
+    ∷ row 19 Entry (codes "entry")
+    ∷ row 20 Model (codes "model")
+    ∷ row 21 Paper (codes "paper")
+    ∷ row 22 Extra (codes "extra")
+    ∷ row 23 Item (codes "item")
+    ∷ row 24 Target (codes "target") ∷ []
+
+-- the row of a field, which stands at its place among those that are declared
+abbrev pub row_of_field : Field → FieldRow
+row_of_field field = get_or FIELD_ROWS (tag_of the_type field) (row 0 Application [])
 
 -- the number of a field in its table, which is the order of fields
 unfoldable pub field_number : Field → ℕ
-field_number Application = 1
-field_number Owner = 2
-field_number Reactor = 3
-field_number Xdict = 4
-field_number Previous = 5
-field_number Next = 6
-field_number Layer = 7
-field_number Linetype = 8
-field_number Plotstyle = 9
-field_number Style = 10
-field_number Block = 11
-field_number First = 12
-field_number Last = 13
-field_number Seqend = 14
-field_number Xref = 15
-field_number Endblk = 16
-field_number Insert = 17
-field_number Layout = 18
-field_number Entry = 19
-field_number Model = 20
-field_number Paper = 21
-field_number Extra = 22
-field_number Item = 23
-field_number Target = 24
+field_number field = (row_of_field field).number
 
 -- the name of a field, as it is printed
 unfoldable pub field_name : Field → List ℕ
-field_name Application = codes "application"
-field_name Owner = codes "owner"
-field_name Reactor = codes "reactor"
-field_name Xdict = codes "xdict"
-field_name Previous = codes "previous"
-field_name Next = codes "next"
-field_name Layer = codes "layer"
-field_name Linetype = codes "linetype"
-field_name Plotstyle = codes "plotstyle"
-field_name Style = codes "style"
-field_name Block = codes "block"
-field_name First = codes "first"
-field_name Last = codes "last"
-field_name Seqend = codes "seqend"
-field_name Xref = codes "xref"
-field_name Endblk = codes "endblk"
-field_name Insert = codes "insert"
-field_name Layout = codes "layout"
-field_name Entry = codes "entry"
-field_name Model = codes "model"
-field_name Paper = codes "paper"
-field_name Extra = codes "extra"
-field_name Item = codes "item"
-field_name Target = codes "target"
+field_name field = (row_of_field field).name
 
 -- a need of all entities, and of nothing else
 unfoldable pub of_entities : Need → Kind → Option Need
@@ -69,31 +67,7 @@ of_entities need holder = if is_entity_kind holder then Some need else None
 
 -- what owns an object of a kind
 unfoldable pub owner_need : Kind → Option Need
-owner_need kind.Line = Some (Is kind.BlockHeader)
-owner_need kind.Point = Some (Is kind.BlockHeader)
-owner_need kind.Circle = Some (Is kind.BlockHeader)
-owner_need kind.Arc = Some (Is kind.BlockHeader)
-owner_need kind.LwPolyline = Some (Is kind.BlockHeader)
-owner_need kind.Text = Some (Is kind.BlockHeader)
-owner_need kind.Attdef = Some (Is kind.BlockHeader)
-owner_need kind.Insert = Some (Is kind.BlockHeader)
-owner_need kind.Block = Some (Is kind.BlockHeader)
-owner_need kind.EndBlk = Some (Is kind.BlockHeader)
-owner_need kind.Attrib = Some Attributed
-owner_need kind.SeqEnd = Some Attributed
-owner_need kind.BlockControl = Some Null
-owner_need kind.LayerControl = Some Null
-owner_need kind.StyleControl = Some Null
-owner_need kind.LtypeControl = Some Null
-owner_need kind.AppIdControl = Some Null
-owner_need kind.BlockHeader = Some (Is kind.BlockControl)
-owner_need kind.Layer = Some (Is kind.LayerControl)
-owner_need kind.Style = Some (Is kind.StyleControl)
-owner_need kind.Ltype = Some (Is kind.LtypeControl)
-owner_need kind.AppId = Some (Is kind.AppIdControl)
-owner_need kind.Dictionary = Some NullOrAny
-owner_need kind.XRecord = Some Any
-owner_need holder = None
+owner_need holder = (row_of holder).owner
 
 -- what the linetype of a holder is
 unfoldable pub linetype_need : Kind → Option Need

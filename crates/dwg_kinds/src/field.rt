@@ -1,9 +1,9 @@
 //! Fields that refer to other objects: which kinds hold each, and what it must lead to.
 
 ghost use Rattle.std.specs.Prelude.{◌≡◌, Some, IsTrue};
-ghost use Rattle.dwg_kinds.specs.Needs.{field_name, field_number, has_field, of_entities, owner_need, linetype_need, plotstyle_need, style_need, block_need, end_need, xref_need, entry_need, of_one, need_of};
+ghost use Rattle.dwg_kinds.specs.Needs.{field_name, field_number, has_field, of_entities, linetype_need, plotstyle_need, style_need, block_need, end_need, xref_need, entry_need, of_one, need_of};
 
-use crate::kind::{Kind, is_entity, is_same};
+use crate::kind::{Kind, is_entity, is_same, needed_owner};
 
 /// A field that refers to another object (Open Design Specification, the listed objects). The fields stand in the order in which
 /// an audit names them.
@@ -80,37 +80,12 @@ pub enum Need {
     Attributed,
 }
 
-/// The number of a field in the order of fields, 1 to 24.
-#[tactic(auto, unfolding(crate::specs::Needs::field_number))]
+/// The number of a field in the order of fields, 1 to 24. They are declared in that order.
+#[tactic(auto, using(crate::proofs::SameKinds::numbered_in_order))]
 pub fn number_of(field: Field) -> u8
     ensures { result ≡ field_number field }
 {
-    match field {
-        Field::Application => 1,
-        Field::Owner => 2,
-        Field::Reactor => 3,
-        Field::Xdict => 4,
-        Field::Previous => 5,
-        Field::Next => 6,
-        Field::Layer => 7,
-        Field::Linetype => 8,
-        Field::Plotstyle => 9,
-        Field::Style => 10,
-        Field::Block => 11,
-        Field::First => 12,
-        Field::Last => 13,
-        Field::Seqend => 14,
-        Field::Xref => 15,
-        Field::Endblk => 16,
-        Field::Insert => 17,
-        Field::Layout => 18,
-        Field::Entry => 19,
-        Field::Model => 20,
-        Field::Paper => 21,
-        Field::Extra => 22,
-        Field::Item => 23,
-        Field::Target => 24,
-    }
+    field as u8 + 1
 }
 
 /// The name of a field, as it is printed.
@@ -152,35 +127,6 @@ fn needed_of_entities(need: Need, holder: Kind) -> Option<Need>
     ensures { result ≡ of_entities need holder }
 {
     if is_entity(holder) { Some(need) } else { None }
-}
-
-/// What owns an object of a kind.
-#[tactic(auto, unfolding(crate::specs::Needs::owner_need))]
-fn needed_owner(holder: Kind) -> Option<Need>
-    ensures { result ≡ owner_need holder }
-{
-    match holder {
-        Kind::Line | Kind::Point | Kind::Circle | Kind::Arc | Kind::LwPolyline => Some(Need::Is(
-            Kind::BlockHeader,
-        )),
-        Kind::Text | Kind::Attdef | Kind::Insert | Kind::Block | Kind::EndBlk => Some(Need::Is(
-            Kind::BlockHeader,
-        )),
-        Kind::Attrib | Kind::SeqEnd => Some(Need::Attributed),
-        Kind::BlockControl
-        | Kind::LayerControl
-        | Kind::StyleControl
-        | Kind::LtypeControl
-        | Kind::AppIdControl => Some(Need::Null),
-        Kind::BlockHeader => Some(Need::Is(Kind::BlockControl)),
-        Kind::Layer => Some(Need::Is(Kind::LayerControl)),
-        Kind::Style => Some(Need::Is(Kind::StyleControl)),
-        Kind::Ltype => Some(Need::Is(Kind::LtypeControl)),
-        Kind::AppId => Some(Need::Is(Kind::AppIdControl)),
-        Kind::Dictionary => Some(Need::NullOrAny),
-        Kind::XRecord => Some(Need::Any),
-        Kind::PlainEntity | Kind::PlainObject | Kind::Unknown => None,
-    }
 }
 
 /// What the linetype of a holder is.

@@ -1,7 +1,10 @@
 //! Kinds as values: which are entities, and the names that are printed of them.
 
 ghost use Rattle.std.specs.Prelude.{◌≡◌};
-ghost use Rattle.dwg_kinds.specs.Kinds.{is_entity_kind, kind_name, place_of_kind, same_kind};
+ghost use Rattle.dwg_kinds.specs.Kinds.{is_entity_kind, kind_name, same_kind};
+ghost use Rattle.dwg_kinds.specs.Needs.{owner_need};
+
+use crate::field::Need;
 
 /// What an object is (Open Design Specification, "R13 to R2000 file layout, object data"). The last three are a rule of this
 /// project: objects of which no more is told than whether they are entities, or not even that.
@@ -29,8 +32,6 @@ pub enum Kind {
     Line,
     /// A point.
     Point,
-    /// A polyline in a plane.
-    LwPolyline,
     /// A dictionary: names with objects.
     Dictionary,
     /// The table of the blocks.
@@ -53,6 +54,8 @@ pub enum Kind {
     AppIdControl,
     /// An application.
     AppId,
+    /// A polyline in a plane.
+    LwPolyline,
     /// A record of free data.
     XRecord,
     /// Any other entity.
@@ -63,90 +66,84 @@ pub enum Kind {
     Unknown,
 }
 
-/// Whether objects of this kind are entities.
-#[tactic(auto, unfolding(crate::specs::Kinds::is_entity_kind))]
-pub fn is_entity(kind: Kind) -> bool
-    ensures { result ≡ is_entity_kind kind }
+/// What is told of a kind: its name, as it is printed, whether it is one of entities, and what must own an object of it.
+#[derive(Clone, Copy)]
+struct KindRow {
+    name: &'static str,
+    is_entity: bool,
+    owner: Option<Need>,
+}
+
+/// A row in one line.
+fn row(name: &'static str, is_entity: bool, owner: Option<Need>) -> KindRow
+    ensures name { result.name.now ≡ name.now }
+    ensures is_entity { result.is_entity ≡ is_entity }
+    ensures owner { result.owner ≡ owner }
+{
+    KindRow {
+        name,
+        is_entity,
+        owner,
+    }
+}
+
+/// The row of a kind.
+#[tactic(auto, unfolding(crate::specs::Kinds::kind_name, crate::specs::Kinds::is_entity_kind, crate::specs::Needs::owner_need))]
+fn row_of(kind: Kind) -> KindRow
+    ensures name { result.name.now ≡ kind_name kind }
+    ensures is_entity { result.is_entity ≡ is_entity_kind kind }
+    ensures owner { result.owner ≡ owner_need kind }
 {
     match kind {
-        Kind::Text | Kind::Attrib | Kind::Attdef => true,
-        Kind::Block | Kind::EndBlk | Kind::SeqEnd | Kind::Insert => true,
-        Kind::Arc | Kind::Circle | Kind::Line | Kind::Point | Kind::LwPolyline => true,
-        Kind::PlainEntity => true,
-        _ => false,
+        Kind::Text => row("TEXT", true, Some(Need::Is(Kind::BlockHeader))),
+        Kind::Attrib => row("ATTRIB", true, Some(Need::Attributed)),
+        Kind::Attdef => row("ATTDEF", true, Some(Need::Is(Kind::BlockHeader))),
+        Kind::Block => row("BLOCK", true, Some(Need::Is(Kind::BlockHeader))),
+        Kind::EndBlk => row("ENDBLK", true, Some(Need::Is(Kind::BlockHeader))),
+        Kind::SeqEnd => row("SEQEND", true, Some(Need::Attributed)),
+        Kind::Insert => row("INSERT", true, Some(Need::Is(Kind::BlockHeader))),
+        Kind::Arc => row("ARC", true, Some(Need::Is(Kind::BlockHeader))),
+        Kind::Circle => row("CIRCLE", true, Some(Need::Is(Kind::BlockHeader))),
+        Kind::Line => row("LINE", true, Some(Need::Is(Kind::BlockHeader))),
+        Kind::Point => row("POINT", true, Some(Need::Is(Kind::BlockHeader))),
+        Kind::Dictionary => row("DICTIONARY", false, Some(Need::NullOrAny)),
+        Kind::BlockControl => row("BLOCK CONTROL", false, Some(Need::Null)),
+        Kind::BlockHeader => row("BLOCK HEADER", false, Some(Need::Is(Kind::BlockControl))),
+        Kind::LayerControl => row("LAYER CONTROL", false, Some(Need::Null)),
+        Kind::Layer => row("LAYER", false, Some(Need::Is(Kind::LayerControl))),
+        Kind::StyleControl => row("STYLE CONTROL", false, Some(Need::Null)),
+        Kind::Style => row("STYLE", false, Some(Need::Is(Kind::StyleControl))),
+        Kind::LtypeControl => row("LTYPE CONTROL", false, Some(Need::Null)),
+        Kind::Ltype => row("LTYPE", false, Some(Need::Is(Kind::LtypeControl))),
+        Kind::AppIdControl => row("APPID CONTROL", false, Some(Need::Null)),
+        Kind::AppId => row("APPID", false, Some(Need::Is(Kind::AppIdControl))),
+        Kind::LwPolyline => row("LWPOLYLINE", true, Some(Need::Is(Kind::BlockHeader))),
+        Kind::XRecord => row("XRECORD", false, Some(Need::Any)),
+        Kind::PlainEntity => row("ENTITY", true, None),
+        Kind::PlainObject => row("OBJECT", false, None),
+        Kind::Unknown => row("UNKNOWN", false, None),
     }
 }
 
 /// The name of a kind, as it is printed.
-#[tactic(auto, unfolding(crate::specs::Kinds::kind_name))]
 pub fn name_of(kind: Kind) -> &'static str
     ensures { result.now ≡ kind_name kind }
 {
-    match kind {
-        Kind::Text => "TEXT",
-        Kind::Attrib => "ATTRIB",
-        Kind::Attdef => "ATTDEF",
-        Kind::Block => "BLOCK",
-        Kind::EndBlk => "ENDBLK",
-        Kind::SeqEnd => "SEQEND",
-        Kind::Insert => "INSERT",
-        Kind::Arc => "ARC",
-        Kind::Circle => "CIRCLE",
-        Kind::Line => "LINE",
-        Kind::Point => "POINT",
-        Kind::LwPolyline => "LWPOLYLINE",
-        Kind::Dictionary => "DICTIONARY",
-        Kind::BlockControl => "BLOCK CONTROL",
-        Kind::BlockHeader => "BLOCK HEADER",
-        Kind::LayerControl => "LAYER CONTROL",
-        Kind::Layer => "LAYER",
-        Kind::StyleControl => "STYLE CONTROL",
-        Kind::Style => "STYLE",
-        Kind::LtypeControl => "LTYPE CONTROL",
-        Kind::Ltype => "LTYPE",
-        Kind::AppIdControl => "APPID CONTROL",
-        Kind::AppId => "APPID",
-        Kind::XRecord => "XRECORD",
-        Kind::PlainEntity => "ENTITY",
-        Kind::PlainObject => "OBJECT",
-        Kind::Unknown => "UNKNOWN",
-    }
+    row_of(kind).name
 }
 
-/// The place of a kind among all kinds.
-#[tactic(auto, unfolding(crate::specs::Kinds::place_of_kind))]
-fn place(kind: Kind) -> u8
-    ensures { result ≡ place_of_kind kind }
+/// Whether objects of this kind are entities.
+pub fn is_entity(kind: Kind) -> bool
+    ensures { result ≡ is_entity_kind kind }
 {
-    match kind {
-        Kind::Text => 0,
-        Kind::Attrib => 1,
-        Kind::Attdef => 2,
-        Kind::Block => 3,
-        Kind::EndBlk => 4,
-        Kind::SeqEnd => 5,
-        Kind::Insert => 6,
-        Kind::Arc => 7,
-        Kind::Circle => 8,
-        Kind::Line => 9,
-        Kind::Point => 10,
-        Kind::LwPolyline => 11,
-        Kind::Dictionary => 12,
-        Kind::BlockControl => 13,
-        Kind::BlockHeader => 14,
-        Kind::LayerControl => 15,
-        Kind::Layer => 16,
-        Kind::StyleControl => 17,
-        Kind::Style => 18,
-        Kind::LtypeControl => 19,
-        Kind::Ltype => 20,
-        Kind::AppIdControl => 21,
-        Kind::AppId => 22,
-        Kind::XRecord => 23,
-        Kind::PlainEntity => 24,
-        Kind::PlainObject => 25,
-        Kind::Unknown => 26,
-    }
+    row_of(kind).is_entity
+}
+
+/// What owns an object of a kind.
+pub(crate) fn needed_owner(kind: Kind) -> Option<Need>
+    ensures { result ≡ owner_need kind }
+{
+    row_of(kind).owner
 }
 
 /// Whether two kinds are one.
@@ -154,5 +151,5 @@ fn place(kind: Kind) -> u8
 pub fn is_same(kind: Kind, other: Kind) -> bool
     ensures { result ≡ same_kind kind other }
 {
-    place(kind) == place(other)
+    kind == other
 }

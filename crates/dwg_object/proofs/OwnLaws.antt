@@ -83,33 +83,10 @@ own_is_body kinds.Unknown base small = no_is_body base
 -- what is spelled of a kind is of that kind
 pub own_of_kind : (kind : Kind) (base : ℕ) (value : Body) (main references : List Bool) (over : ℕ) → (own_body kind base).Spells value main references over → body_kind value ≡ kind
 unfolding own_body
-own_of_kind kinds.Text base value main references over spelled = ap body_kind spelled.1
-own_of_kind kinds.Attrib base value main references over spelled = ap body_kind spelled.1
-own_of_kind kinds.Attdef base value main references over spelled = ap body_kind spelled.1
-own_of_kind kinds.Block base value main references over spelled = ap body_kind spelled.1
-own_of_kind kinds.EndBlk base value main references over spelled = ap body_kind spelled.1
-own_of_kind kinds.SeqEnd base value main references over spelled = ap body_kind spelled.1
-own_of_kind kinds.Insert base value main references over spelled = ap body_kind spelled.1
-own_of_kind kinds.Arc base value main references over spelled = ap body_kind spelled.1
-own_of_kind kinds.Circle base value main references over spelled = ap body_kind spelled.1
-own_of_kind kinds.Line base value main references over spelled = ap body_kind spelled.1
-own_of_kind kinds.Point base value main references over spelled = ap body_kind spelled.1
-own_of_kind kinds.LwPolyline base value main references over spelled = ap body_kind spelled.1
-own_of_kind kinds.Dictionary base value main references over spelled = ap body_kind spelled.1
-own_of_kind kinds.BlockControl base value main references over spelled = ap body_kind spelled.1
-own_of_kind kinds.BlockHeader base value main references over spelled = ap body_kind spelled.1
-own_of_kind kinds.LayerControl base value main references over spelled = ap body_kind spelled.1
-own_of_kind kinds.Layer base value main references over spelled = ap body_kind spelled.1
-own_of_kind kinds.StyleControl base value main references over spelled = ap body_kind spelled.1
-own_of_kind kinds.Style base value main references over spelled = ap body_kind spelled.1
-own_of_kind kinds.LtypeControl base value main references over spelled = ap body_kind spelled.1
-own_of_kind kinds.Ltype base value main references over spelled = ap body_kind spelled.1
-own_of_kind kinds.AppIdControl base value main references over spelled = ap body_kind spelled.1
-own_of_kind kinds.AppId base value main references over spelled = ap body_kind spelled.1
-own_of_kind kinds.XRecord base value main references over spelled = ap body_kind spelled.1
 own_of_kind kinds.PlainEntity base value main references over spelled = absurd spelled
 own_of_kind kinds.PlainObject base value main references over spelled = absurd spelled
 own_of_kind kinds.Unknown base value main references over spelled = absurd spelled
+own_of_kind kind base value main references over spelled = ap body_kind spelled.1
 
 -- so it is
 pub own_is_lawful : OwnBodiesAreLawful

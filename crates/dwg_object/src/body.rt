@@ -315,6 +315,46 @@ impl VariantOf<Body> for XRecord {
     }
 }
 
+/// What is done by kind, for all kinds that have a body: here alone do they stand in a list.
+///
+/// - `by_kind!(body of, held => done)`: what is done with the body that is held, whichever it is;
+/// - `by_kind!(kind of)`: the kind of a body;
+/// - `by_kind!(read kind, ..)`: the body of a kind as it is read, `Ok(None)` for each kind that has none.
+#[macro_export]
+macro_rules! by_kind {
+    (body $of:expr, $held:ident => $done:expr) => {
+        $crate::by_kind!(names done_with $of, $held => $done)
+    };
+    (kind $of:expr) => {
+        $crate::by_kind!(names kind_held $of)
+    };
+    (read $kind:expr, $alloc:expr, $main:expr, $refs:expr, $base:expr) => {
+        $crate::by_kind!(names read_as $kind, $alloc, $main, $refs, $base)
+    };
+    (names $then:ident $($given:tt)*) => {
+        $crate::by_kind!($then [
+            Text Attrib Attdef Block EndBlk SeqEnd Insert Arc Circle Line Point LwPolyline Dictionary BlockControl BlockHeader
+            LayerControl Layer StyleControl Style LtypeControl Ltype AppIdControl AppId XRecord
+        ] $($given)*)
+    };
+    (done_with [$($name:ident)*] $of:expr, $held:ident => $done:expr) => {
+        match $of {
+            $(Body::$name($held) => $done,)*
+        }
+    };
+    (kind_held [$($name:ident)*] $of:expr) => {
+        match $of {
+            $(Body::$name(_) => Kind::$name,)*
+        }
+    };
+    (read_as [$($name:ident)*] $kind:expr, $alloc:expr, $main:expr, $refs:expr, $base:expr) => {
+        match $kind {
+            $(Kind::$name => read_variant::<$name, Body>($alloc, $main, $refs, $base),)*
+            Kind::PlainEntity | Kind::PlainObject | Kind::Unknown => Ok(None),
+        }
+    };
+}
+
 impl Body {
     /// Reads what a kind has of its own, in the object of the handle `base`. None, with nothing moved, exactly where no fronts of
     /// the main bits and of the reference bits spell it, and so for each kind that is no variant of `Body`; the only refusal is want of memory.
@@ -328,65 +368,14 @@ impl Body {
     ) -> Result<Option<Body>, NoMemory>
         ensures reads { IfOk result (λ found. ReadsBody (own_body kind base) found (rest main.old) (rest main.new) (rest refs.old) (rest refs.new)) }
     {
-        match kind {
-            Kind::Text => read_variant::<Text, Body>(alloc, main, refs, base),
-            Kind::Attrib => read_variant::<Attrib, Body>(alloc, main, refs, base),
-            Kind::Attdef => read_variant::<Attdef, Body>(alloc, main, refs, base),
-            Kind::Block => read_variant::<Block, Body>(alloc, main, refs, base),
-            Kind::EndBlk => read_variant::<EndBlk, Body>(alloc, main, refs, base),
-            Kind::SeqEnd => read_variant::<SeqEnd, Body>(alloc, main, refs, base),
-            Kind::Insert => read_variant::<Insert, Body>(alloc, main, refs, base),
-            Kind::Arc => read_variant::<Arc, Body>(alloc, main, refs, base),
-            Kind::Circle => read_variant::<Circle, Body>(alloc, main, refs, base),
-            Kind::Line => read_variant::<Line, Body>(alloc, main, refs, base),
-            Kind::Point => read_variant::<Point, Body>(alloc, main, refs, base),
-            Kind::LwPolyline => read_variant::<LwPolyline, Body>(alloc, main, refs, base),
-            Kind::Dictionary => read_variant::<Dictionary, Body>(alloc, main, refs, base),
-            Kind::BlockControl => read_variant::<BlockControl, Body>(alloc, main, refs, base),
-            Kind::BlockHeader => read_variant::<BlockHeader, Body>(alloc, main, refs, base),
-            Kind::LayerControl => read_variant::<LayerControl, Body>(alloc, main, refs, base),
-            Kind::Layer => read_variant::<Layer, Body>(alloc, main, refs, base),
-            Kind::StyleControl => read_variant::<StyleControl, Body>(alloc, main, refs, base),
-            Kind::Style => read_variant::<Style, Body>(alloc, main, refs, base),
-            Kind::LtypeControl => read_variant::<LtypeControl, Body>(alloc, main, refs, base),
-            Kind::Ltype => read_variant::<Ltype, Body>(alloc, main, refs, base),
-            Kind::AppIdControl => read_variant::<AppIdControl, Body>(alloc, main, refs, base),
-            Kind::AppId => read_variant::<AppId, Body>(alloc, main, refs, base),
-            Kind::XRecord => read_variant::<XRecord, Body>(alloc, main, refs, base),
-            Kind::PlainEntity | Kind::PlainObject | Kind::Unknown => Ok(None),
-        }
+        by_kind!(read kind, alloc, main, refs, base)
     }
 
     /// The kind of what is held.
     pub(crate) fn kind(&self) -> Kind
         ensures { result ≡ body_kind self.now }
     {
-        match self {
-            Body::Text(_) => Kind::Text,
-            Body::Attrib(_) => Kind::Attrib,
-            Body::Attdef(_) => Kind::Attdef,
-            Body::Block(_) => Kind::Block,
-            Body::EndBlk(_) => Kind::EndBlk,
-            Body::SeqEnd(_) => Kind::SeqEnd,
-            Body::Insert(_) => Kind::Insert,
-            Body::Arc(_) => Kind::Arc,
-            Body::Circle(_) => Kind::Circle,
-            Body::Line(_) => Kind::Line,
-            Body::Point(_) => Kind::Point,
-            Body::LwPolyline(_) => Kind::LwPolyline,
-            Body::Dictionary(_) => Kind::Dictionary,
-            Body::BlockControl(_) => Kind::BlockControl,
-            Body::BlockHeader(_) => Kind::BlockHeader,
-            Body::LayerControl(_) => Kind::LayerControl,
-            Body::Layer(_) => Kind::Layer,
-            Body::StyleControl(_) => Kind::StyleControl,
-            Body::Style(_) => Kind::Style,
-            Body::LtypeControl(_) => Kind::LtypeControl,
-            Body::Ltype(_) => Kind::Ltype,
-            Body::AppIdControl(_) => Kind::AppIdControl,
-            Body::AppId(_) => Kind::AppId,
-            Body::XRecord(_) => Kind::XRecord,
-        }
+        by_kind!(kind self)
     }
 
     /// How many bits it is written by in the object of the handle `base`.
@@ -398,32 +387,7 @@ impl Body {
         ensures main { result.main ≡ length (own_main base self.now) }
         ensures refs { result.refs ≡ length (own_refs base self.now) }
     {
-        match self {
-            Body::Text(body) => body.lengths(base),
-            Body::Attrib(body) => body.lengths(base),
-            Body::Attdef(body) => body.lengths(base),
-            Body::Block(body) => body.lengths(base),
-            Body::EndBlk(body) => body.lengths(base),
-            Body::SeqEnd(body) => body.lengths(base),
-            Body::Insert(body) => body.lengths(base),
-            Body::Arc(body) => body.lengths(base),
-            Body::Circle(body) => body.lengths(base),
-            Body::Line(body) => body.lengths(base),
-            Body::Point(body) => body.lengths(base),
-            Body::LwPolyline(body) => body.lengths(base),
-            Body::Dictionary(body) => body.lengths(base),
-            Body::BlockControl(body) => body.lengths(base),
-            Body::BlockHeader(body) => body.lengths(base),
-            Body::LayerControl(body) => body.lengths(base),
-            Body::Layer(body) => body.lengths(base),
-            Body::StyleControl(body) => body.lengths(base),
-            Body::Style(body) => body.lengths(base),
-            Body::LtypeControl(body) => body.lengths(base),
-            Body::Ltype(body) => body.lengths(base),
-            Body::AppIdControl(body) => body.lengths(base),
-            Body::AppId(body) => body.lengths(base),
-            Body::XRecord(body) => body.lengths(base),
-        }
+        by_kind!(body self, body => body.lengths(base))
     }
 
     /// Writes the bits that stand before the references.
@@ -434,32 +398,7 @@ impl Body {
         requires room { length (own_main base self.now) ≤ sink.old.spare }
         ensures { Extends sink.old sink.new (own_main base self.now) }
     {
-        match self {
-            Body::Text(body) => body.write_main(base, sink),
-            Body::Attrib(body) => body.write_main(base, sink),
-            Body::Attdef(body) => body.write_main(base, sink),
-            Body::Block(body) => body.write_main(base, sink),
-            Body::EndBlk(body) => body.write_main(base, sink),
-            Body::SeqEnd(body) => body.write_main(base, sink),
-            Body::Insert(body) => body.write_main(base, sink),
-            Body::Arc(body) => body.write_main(base, sink),
-            Body::Circle(body) => body.write_main(base, sink),
-            Body::Line(body) => body.write_main(base, sink),
-            Body::Point(body) => body.write_main(base, sink),
-            Body::LwPolyline(body) => body.write_main(base, sink),
-            Body::Dictionary(body) => body.write_main(base, sink),
-            Body::BlockControl(body) => body.write_main(base, sink),
-            Body::BlockHeader(body) => body.write_main(base, sink),
-            Body::LayerControl(body) => body.write_main(base, sink),
-            Body::Layer(body) => body.write_main(base, sink),
-            Body::StyleControl(body) => body.write_main(base, sink),
-            Body::Style(body) => body.write_main(base, sink),
-            Body::LtypeControl(body) => body.write_main(base, sink),
-            Body::Ltype(body) => body.write_main(base, sink),
-            Body::AppIdControl(body) => body.write_main(base, sink),
-            Body::AppId(body) => body.write_main(base, sink),
-            Body::XRecord(body) => body.write_main(base, sink),
-        }
+        by_kind!(body self, body => body.write_main(base, sink))
     }
 
     /// Writes the references.
@@ -470,31 +409,6 @@ impl Body {
         requires room { length (own_refs base self.now) ≤ sink.old.spare }
         ensures { Extends sink.old sink.new (own_refs base self.now) }
     {
-        match self {
-            Body::Text(body) => body.write_refs(base, sink),
-            Body::Attrib(body) => body.write_refs(base, sink),
-            Body::Attdef(body) => body.write_refs(base, sink),
-            Body::Block(body) => body.write_refs(base, sink),
-            Body::EndBlk(body) => body.write_refs(base, sink),
-            Body::SeqEnd(body) => body.write_refs(base, sink),
-            Body::Insert(body) => body.write_refs(base, sink),
-            Body::Arc(body) => body.write_refs(base, sink),
-            Body::Circle(body) => body.write_refs(base, sink),
-            Body::Line(body) => body.write_refs(base, sink),
-            Body::Point(body) => body.write_refs(base, sink),
-            Body::LwPolyline(body) => body.write_refs(base, sink),
-            Body::Dictionary(body) => body.write_refs(base, sink),
-            Body::BlockControl(body) => body.write_refs(base, sink),
-            Body::BlockHeader(body) => body.write_refs(base, sink),
-            Body::LayerControl(body) => body.write_refs(base, sink),
-            Body::Layer(body) => body.write_refs(base, sink),
-            Body::StyleControl(body) => body.write_refs(base, sink),
-            Body::Style(body) => body.write_refs(base, sink),
-            Body::LtypeControl(body) => body.write_refs(base, sink),
-            Body::Ltype(body) => body.write_refs(base, sink),
-            Body::AppIdControl(body) => body.write_refs(base, sink),
-            Body::AppId(body) => body.write_refs(base, sink),
-            Body::XRecord(body) => body.write_refs(base, sink),
-        }
+        by_kind!(body self, body => body.write_refs(base, sink))
     }
 }

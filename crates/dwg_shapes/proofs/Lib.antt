@@ -1,6 +1,5 @@
 pub mod EndLaws
 pub mod PartReading
-pub mod MainReading
 pub mod Known
 pub mod ChainReading
 pub mod VertexLoops

@@ -1,8 +1,7 @@
 //! Arcs of circles.
 
 ghost use Rattle.std.specs.Prelude.{◌≡◌, ◌<◌, length};
-ghost use Rattle.std.specs.Option.{option_map};
-ghost use Rattle.dwg_bits.specs.Cursor.{rest};
+ghost use Rattle.dwg_common.specs.Parsing.{Keeps, Parses};
 ghost use Rattle.dwg_shapes.specs.Arcs.{arc_body, arc_main};
 ghost use Rattle.dwg_shapes.specs.ShapeLaws.{arc_is_body};
 
@@ -44,9 +43,8 @@ fn circle_of(arc: &Arc) -> Circle
 
 /// Reads an arc, as it is parsed.
 fn read_arc(cursor: &mut BitCursor<'_>) -> Option<Arc>
-    ensures parsed { arc_main.parse (rest cursor.old) ≡ option_map (λ arc. (arc, rest cursor.new)) result }
-    ensures same_bytes { cursor.new.bytes.now ≡ cursor.old.bytes.now }
-    ensures same_end { cursor.new.end ≡ cursor.old.end }
+    ensures parsed { Parses arc_main result cursor.old cursor.new }
+    ensures kept { Keeps cursor.old cursor.new }
 {
     let circle = read_circle(cursor)?;
     let start_angle = parse_code::<CodeBD>(&(), cursor)?;
@@ -64,18 +62,14 @@ fn read_arc(cursor: &mut BitCursor<'_>) -> Option<Arc>
 impl BodyCode for Arc {
     ghost grammar = { arc_body };
 
-    fn read(
+    #[tactic(auto, unfolding(crate::specs::Arcs::arc_body))]
+    fn parse(
         _alloc: Global,
         main: &mut BitCursor<'_>,
         _refs: &mut BitCursor<'_>,
         _base: Handle,
     ) -> Result<Option<Arc>, NoMemory> {
-        let mut ahead = *main;
-        let Some(arc) = read_arc(&mut ahead) else {
-            return Ok(None);
-        };
-        *main = ahead;
-        Ok(Some(arc))
+        Ok(read_arc(main))
     }
 
     #[tactic(auto, unfolding(crate::specs::Arcs::arc_body))]

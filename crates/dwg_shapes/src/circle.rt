@@ -1,9 +1,8 @@
 //! Circles.
 
 ghost use Rattle.std.specs.Prelude.{◌≡◌, ◌^◌, ◌<◌, ◌≤◌, length};
-ghost use Rattle.std.specs.Option.{option_map};
-ghost use Rattle.dwg_bits.specs.Cursor.{rest};
 ghost use Rattle.dwg_bits.specs.Sink.{Extends};
+ghost use Rattle.dwg_common.specs.Parsing.{Keeps, Parses};
 ghost use Rattle.dwg_shapes.specs.Circles.{circle_body, circle_main};
 ghost use Rattle.dwg_shapes.specs.ShapeLaws.{circle_is_body};
 
@@ -62,9 +61,8 @@ pub(crate) fn write_circle(circle: &Circle, sink: &mut BitSink)
 
 /// Reads a circle, as it is parsed.
 pub(crate) fn read_circle(cursor: &mut BitCursor<'_>) -> Option<Circle>
-    ensures parsed { circle_main.parse (rest cursor.old) ≡ option_map (λ circle. (circle, rest cursor.new)) result }
-    ensures same_bytes { cursor.new.bytes.now ≡ cursor.old.bytes.now }
-    ensures same_end { cursor.new.end ≡ cursor.old.end }
+    ensures parsed { Parses circle_main result cursor.old cursor.new }
+    ensures kept { Keeps cursor.old cursor.new }
 {
     let centre = parse_code::<Code3BD>(&(), cursor)?;
     let radius = parse_code::<CodeBD>(&(), cursor)?;
@@ -81,18 +79,14 @@ pub(crate) fn read_circle(cursor: &mut BitCursor<'_>) -> Option<Circle>
 impl BodyCode for Circle {
     ghost grammar = { circle_body };
 
-    fn read(
+    #[tactic(auto, unfolding(crate::specs::Circles::circle_body))]
+    fn parse(
         _alloc: Global,
         main: &mut BitCursor<'_>,
         _refs: &mut BitCursor<'_>,
         _base: Handle,
     ) -> Result<Option<Circle>, NoMemory> {
-        let mut ahead = *main;
-        let Some(circle) = read_circle(&mut ahead) else {
-            return Ok(None);
-        };
-        *main = ahead;
-        Ok(Some(circle))
+        Ok(read_circle(main))
     }
 
     #[tactic(auto, unfolding(crate::specs::Circles::circle_body))]

@@ -1,8 +1,7 @@
 //! Lines.
 
 ghost use Rattle.std.specs.Prelude.{◌≡◌, ◌<◌, length};
-ghost use Rattle.std.specs.Option.{option_map};
-ghost use Rattle.dwg_bits.specs.Cursor.{rest};
+ghost use Rattle.dwg_common.specs.Parsing.{Keeps, Parses};
 ghost use Rattle.dwg_shapes.specs.Lines.{AreEnds, line_body, line_main};
 ghost use Rattle.dwg_shapes.specs.ShapeLaws.{line_is_body};
 
@@ -50,9 +49,8 @@ fn ends_of(line: &Line) -> LineEnds
 
 /// Reads a line, as it is parsed.
 fn read_line(cursor: &mut BitCursor<'_>) -> Option<Line>
-    ensures parsed { line_main.parse (rest cursor.old) ≡ option_map (λ line. (line, rest cursor.new)) result }
-    ensures same_bytes { cursor.new.bytes.now ≡ cursor.old.bytes.now }
-    ensures same_end { cursor.new.end ≡ cursor.old.end }
+    ensures parsed { Parses line_main result cursor.old cursor.new }
+    ensures kept { Keeps cursor.old cursor.new }
 {
     let ends = read_ends(cursor)?;
     let thickness = parse_code::<CodeBT>(&(), cursor)?;
@@ -68,18 +66,14 @@ fn read_line(cursor: &mut BitCursor<'_>) -> Option<Line>
 impl BodyCode for Line {
     ghost grammar = { line_body };
 
-    fn read(
+    #[tactic(auto, unfolding(crate::specs::Lines::line_body))]
+    fn parse(
         _alloc: Global,
         main: &mut BitCursor<'_>,
         _refs: &mut BitCursor<'_>,
         _base: Handle,
     ) -> Result<Option<Line>, NoMemory> {
-        let mut ahead = *main;
-        let Some(line) = read_line(&mut ahead) else {
-            return Ok(None);
-        };
-        *main = ahead;
-        Ok(Some(line))
+        Ok(read_line(main))
     }
 
     #[tactic(auto, unfolding(crate::specs::Lines::line_body))]

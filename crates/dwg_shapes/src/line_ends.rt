@@ -1,9 +1,8 @@
 //! The ends of a line, as bits (Open Design Specification, "LINE").
 
 ghost use Rattle.std.specs.Prelude.{◌≡◌, ◌^◌, ◌<◌, ◌≤◌, length};
-ghost use Rattle.std.specs.Option.{option_map};
-ghost use Rattle.dwg_bits.specs.Cursor.{rest};
 ghost use Rattle.dwg_bits.specs.Sink.{Extends};
+ghost use Rattle.dwg_common.specs.Parsing.{Keeps, Parses};
 ghost use Rattle.dwg_shapes.specs.Lines.{heights, ends_by, AreEnds, is_flat, line_ends};
 
 use crate::line::LineEnds;
@@ -13,9 +12,8 @@ use dwg_common::parse_code;
 
 /// Reads the z words of both ends, as they are parsed: none where z-zero is 1.
 fn read_heights(z_zero: bool, cursor: &mut BitCursor<'_>) -> Option<(u64, u64)>
-    ensures parsed { (heights z_zero).parse (rest cursor.old) ≡ option_map (λ words. (words, rest cursor.new)) result }
-    ensures same_bytes { cursor.new.bytes.now ≡ cursor.old.bytes.now }
-    ensures same_end { cursor.new.end ≡ cursor.old.end }
+    ensures parsed { Parses (heights z_zero) result cursor.old cursor.new }
+    ensures kept { Keeps cursor.old cursor.new }
 {
     if z_zero {
         return Some((0, 0));
@@ -27,9 +25,8 @@ fn read_heights(z_zero: bool, cursor: &mut BitCursor<'_>) -> Option<(u64, u64)>
 
 /// Reads the ends behind z-zero, as they are parsed.
 fn read_ends_by(z_zero: bool, cursor: &mut BitCursor<'_>) -> Option<LineEnds>
-    ensures parsed { (ends_by z_zero).parse (rest cursor.old) ≡ option_map (λ ends. (ends, rest cursor.new)) result }
-    ensures same_bytes { cursor.new.bytes.now ≡ cursor.old.bytes.now }
-    ensures same_end { cursor.new.end ≡ cursor.old.end }
+    ensures parsed { Parses (ends_by z_zero) result cursor.old cursor.new }
+    ensures kept { Keeps cursor.old cursor.new }
 {
     let start_x = parse_code::<CodeRD>(&(), cursor)?;
     let end_x = parse_code::<CodeDD>(&start_x, cursor)?;
@@ -52,9 +49,8 @@ fn read_ends_by(z_zero: bool, cursor: &mut BitCursor<'_>) -> Option<LineEnds>
 
 /// Reads the ends of a line, as they are parsed.
 pub(crate) fn read_ends(cursor: &mut BitCursor<'_>) -> Option<LineEnds>
-    ensures parsed { line_ends.parse (rest cursor.old) ≡ option_map (λ ends. (ends, rest cursor.new)) result }
-    ensures same_bytes { cursor.new.bytes.now ≡ cursor.old.bytes.now }
-    ensures same_end { cursor.new.end ≡ cursor.old.end }
+    ensures parsed { Parses line_ends result cursor.old cursor.new }
+    ensures kept { Keeps cursor.old cursor.new }
 {
     let z_zero = parse_code::<CodeB>(&(), cursor)?;
     read_ends_by(z_zero, cursor)

@@ -2,10 +2,10 @@
 
 ghost use Rattle.std.specs.Prelude.{◌≡◌, ◌^◌, ◌<◌, ◌≤◌, ◌↔◌, List, length, IfOk, IsTrue};
 ghost use Rattle.std.specs.Option.{option_map};
-ghost use Rattle.dwg_bits.specs.Cursor.{rest};
 ghost use Rattle.dwg_bits.specs.Sink.{Extends};
 ghost use Rattle.dwg_grammar.specs.Codes.{bl};
 ghost use Rattle.dwg_grammar.specs.Combinators.{when};
+ghost use Rattle.dwg_common.specs.Parsing.{Keeps, Parses};
 ghost use Rattle.dwg_shapes.specs.LwPolylines.{items_where};
 
 use dwg_base::{Items, NoMemory};
@@ -25,9 +25,8 @@ pub(crate) fn parse_list_where<C: BitCode>(
 where
     C::Value: Drop,
     requires { C.IsContext context.now }
-    ensures parsed { IfOk result (λ found. (items_where (C.grammar context.now) count).parse (rest cursor.old) ≡ option_map (λ values. (values, rest cursor.new)) found) }
-    ensures same_bytes { cursor.new.bytes.now ≡ cursor.old.bytes.now }
-    ensures same_end { cursor.new.end ≡ cursor.old.end }
+    ensures parsed { IfOk result (λ found. Parses (items_where (C.grammar context.now) count) found cursor.old cursor.new) }
+    ensures kept { Keeps cursor.old cursor.new }
 {
     let Some(many) = count else {
         return Ok(Some(None));

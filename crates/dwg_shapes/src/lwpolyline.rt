@@ -1,8 +1,7 @@
 //! Light polylines: polylines of a plane.
 
 ghost use Rattle.std.specs.Prelude.{◌≡◌, ◌^◌, ◌<◌, IfOk};
-ghost use Rattle.std.specs.Option.{option_map};
-ghost use Rattle.dwg_bits.specs.Cursor.{rest};
+ghost use Rattle.dwg_common.specs.Parsing.{Keeps, Parses};
 ghost use Rattle.dwg_shapes.specs.LwPolylines.{lwpolyline_body, lwpolyline_main, polyline_of, start_of};
 ghost use Rattle.dwg_shapes.specs.ShapeLaws.{lwpolyline_is_body};
 
@@ -120,9 +119,8 @@ fn read_lwpolyline(
     alloc: Global,
     cursor: &mut BitCursor<'_>,
 ) -> Result<Option<LwPolyline>, NoMemory>
-    ensures parsed { IfOk result (λ found. lwpolyline_main.parse (rest cursor.old) ≡ option_map (λ polyline. (polyline, rest cursor.new)) found) }
-    ensures same_bytes { cursor.new.bytes.now ≡ cursor.old.bytes.now }
-    ensures same_end { cursor.new.end ≡ cursor.old.end }
+    ensures parsed { IfOk result (λ found. Parses lwpolyline_main found cursor.old cursor.new) }
+    ensures kept { Keeps cursor.old cursor.new }
 {
     let Some(start) = read_start(cursor) else {
         return Ok(None);
@@ -139,18 +137,14 @@ fn read_lwpolyline(
 impl BodyCode for LwPolyline {
     ghost grammar = { lwpolyline_body };
 
-    fn read(
+    #[tactic(auto, unfolding(crate::specs::LwPolylines::lwpolyline_body))]
+    fn parse(
         alloc: Global,
         main: &mut BitCursor<'_>,
         _refs: &mut BitCursor<'_>,
         _base: Handle,
     ) -> Result<Option<LwPolyline>, NoMemory> {
-        let mut ahead = *main;
-        let Some(polyline) = read_lwpolyline(alloc, &mut ahead)? else {
-            return Ok(None);
-        };
-        *main = ahead;
-        Ok(Some(polyline))
+        read_lwpolyline(alloc, main)
     }
 
     #[tactic(auto, unfolding(crate::specs::LwPolylines::lwpolyline_body))]

@@ -1,8 +1,7 @@
 //! Points that are drawn.
 
 ghost use Rattle.std.specs.Prelude.{◌≡◌, ◌<◌, length};
-ghost use Rattle.std.specs.Option.{option_map};
-ghost use Rattle.dwg_bits.specs.Cursor.{rest};
+ghost use Rattle.dwg_common.specs.Parsing.{Keeps, Parses};
 ghost use Rattle.dwg_shapes.specs.Points.{point_body, point_main};
 ghost use Rattle.dwg_shapes.specs.ShapeLaws.{point_is_body};
 
@@ -27,9 +26,8 @@ pub struct Point {
 
 /// Reads a point, as it is parsed.
 fn read_point(cursor: &mut BitCursor<'_>) -> Option<Point>
-    ensures parsed { point_main.parse (rest cursor.old) ≡ option_map (λ point. (point, rest cursor.new)) result }
-    ensures same_bytes { cursor.new.bytes.now ≡ cursor.old.bytes.now }
-    ensures same_end { cursor.new.end ≡ cursor.old.end }
+    ensures parsed { Parses point_main result cursor.old cursor.new }
+    ensures kept { Keeps cursor.old cursor.new }
 {
     let place = parse_code::<Code3BD>(&(), cursor)?;
     let thickness = parse_code::<CodeBT>(&(), cursor)?;
@@ -46,18 +44,14 @@ fn read_point(cursor: &mut BitCursor<'_>) -> Option<Point>
 impl BodyCode for Point {
     ghost grammar = { point_body };
 
-    fn read(
+    #[tactic(auto, unfolding(crate::specs::Points::point_body))]
+    fn parse(
         _alloc: Global,
         main: &mut BitCursor<'_>,
         _refs: &mut BitCursor<'_>,
         _base: Handle,
     ) -> Result<Option<Point>, NoMemory> {
-        let mut ahead = *main;
-        let Some(point) = read_point(&mut ahead) else {
-            return Ok(None);
-        };
-        *main = ahead;
-        Ok(Some(point))
+        Ok(read_point(main))
     }
 
     #[tactic(auto, unfolding(crate::specs::Points::point_body))]

@@ -2,9 +2,9 @@
 
 ghost use Rattle.std.specs.Prelude.{◌≡◌, ◌^◌, ◌<◌, ◌≤◌, ◌↔◌, length, option_map, IfOk, IsTrue};
 ghost use Rattle.std.specs.List.{AllByRecursion};
-ghost use Rattle.dwg_bits.specs.Cursor.{rest};
 ghost use Rattle.dwg_bits.specs.Sink.{Extends};
 ghost use Rattle.dwg_grammar.specs.Codes.{bd};
+ghost use Rattle.dwg_common.specs.Parsing.{Keeps, Parses};
 ghost use Rattle.dwg_shapes.specs.LwPolylines.{counts_of, items_where, lists_of, polyline_counts, polyline_lists, width_pair};
 
 use crate::lists::{
@@ -28,9 +28,8 @@ const WIDTHS: u16 = 32;
 
 /// Reads the counts of a lightweight polyline, as they are parsed: which there are is told by its flag.
 pub(crate) fn read_counts(flag: u16, cursor: &mut BitCursor<'_>) -> Option<Counts>
-    ensures parsed { (polyline_counts flag).parse (rest cursor.old) ≡ option_map (λ counts. (counts, rest cursor.new)) result }
-    ensures same_bytes { cursor.new.bytes.now ≡ cursor.old.bytes.now }
-    ensures same_end { cursor.new.end ≡ cursor.old.end }
+    ensures parsed { Parses (polyline_counts flag) result cursor.old cursor.new }
+    ensures kept { Keeps cursor.old cursor.new }
 {
     let points = parse_code::<CodeBL>(&(), cursor)?;
     let bulges = parse_when::<CodeBL>(&(), has(flag, BULGES), cursor)?;
@@ -49,9 +48,8 @@ pub(crate) fn read_lists(
     counts: Counts,
     cursor: &mut BitCursor<'_>,
 ) -> Result<Option<Lists>, NoMemory>
-    ensures parsed { IfOk result (λ found. (polyline_lists counts).parse (rest cursor.old) ≡ option_map (λ lists. (lists, rest cursor.new)) found) }
-    ensures same_bytes { cursor.new.bytes.now ≡ cursor.old.bytes.now }
-    ensures same_end { cursor.new.end ≡ cursor.old.end }
+    ensures parsed { IfOk result (λ found. Parses (polyline_lists counts) found cursor.old cursor.new) }
+    ensures kept { Keeps cursor.old cursor.new }
 {
     let Some(points) = read_vertices(alloc, counts.points, cursor)? else {
         return Ok(None);

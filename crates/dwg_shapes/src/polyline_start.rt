@@ -1,12 +1,11 @@
 //! What a lightweight polyline begins with, as bits (Open Design Specification, "LWPOLYLINE").
 
 ghost use Rattle.std.specs.Prelude.{◌≡◌, ◌==◌, ◌^◌, ◌<◌, ◌≤◌, ◌↔◌, length, IsTrue};
-ghost use Rattle.std.specs.Option.{option_map};
-ghost use Rattle.dwg_bits.specs.Cursor.{rest};
 ghost use Rattle.dwg_bits.specs.Sink.{Extends};
 ghost use Rattle.dwg_grammar.specs.Codes.{bd, bd3};
 ghost use Rattle.dwg_grammar.specs.Combinators.{when};
 ghost use Rattle.dwg_grammar.specs.Flags.{has};
+ghost use Rattle.dwg_common.specs.Parsing.{Keeps, Parses};
 ghost use Rattle.dwg_shapes.specs.LwPolylines.{polyline_start};
 
 use crate::lwpolyline::PolylineStart;
@@ -36,9 +35,8 @@ pub(crate) fn has(flag: u16, worth: u16) -> bool
 
 /// Reads what a lightweight polyline begins with, as it is parsed.
 pub(crate) fn read_start(cursor: &mut BitCursor<'_>) -> Option<PolylineStart>
-    ensures parsed { polyline_start.parse (rest cursor.old) ≡ option_map (λ start. (start, rest cursor.new)) result }
-    ensures same_bytes { cursor.new.bytes.now ≡ cursor.old.bytes.now }
-    ensures same_end { cursor.new.end ≡ cursor.old.end }
+    ensures parsed { Parses polyline_start result cursor.old cursor.new }
+    ensures kept { Keeps cursor.old cursor.new }
 {
     let flag = parse_code::<CodeBS>(&(), cursor)?;
     let width = parse_when::<CodeBD>(&(), has(flag, WIDTH), cursor)?;

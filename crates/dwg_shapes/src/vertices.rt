@@ -1,11 +1,10 @@
 //! The points of a lightweight polyline, as bits (Open Design Specification, "LWPOLYLINE").
 
 ghost use Rattle.std.specs.Prelude.{◌≡◌, ◌^◌, ◌<◌, ◌≤◌, length, IfOk};
-ghost use Rattle.std.specs.Option.{option_map};
-ghost use Rattle.dwg_bits.specs.Cursor.{rest};
 ghost use Rattle.dwg_bits.specs.Sink.{Extends};
 ghost use Rattle.dwg_shapes.specs.LwPolylines.{vertex, vertices};
 ghost use Rattle.dwg_grammar.specs.Points.{IsPoint2};
+ghost use Rattle.dwg_common.specs.Parsing.{Keeps, Parses};
 
 use dwg_base::{Items, NoMemory};
 use dwg_bits::{BitCursor, BitSink};
@@ -23,9 +22,8 @@ fn known_vertex(point: &Point2)
 
 /// Reads a point behind the one before it, as it is parsed.
 fn read_vertex(before: Option<Point2>, cursor: &mut BitCursor<'_>) -> Option<Point2>
-    ensures parsed { (vertex before).parse (rest cursor.old) ≡ option_map (λ point. (point, rest cursor.new)) result }
-    ensures same_bytes { cursor.new.bytes.now ≡ cursor.old.bytes.now }
-    ensures same_end { cursor.new.end ≡ cursor.old.end }
+    ensures parsed { Parses (vertex before) result cursor.old cursor.new }
+    ensures kept { Keeps cursor.old cursor.new }
 {
     match before {
         None => parse_code::<Code2RD>(&(), cursor),
@@ -43,9 +41,8 @@ pub(crate) fn read_vertices(
     count: u32,
     cursor: &mut BitCursor<'_>,
 ) -> Result<Option<Items<Point2>>, NoMemory>
-    ensures parsed { IfOk result (λ found. (vertices count).parse (rest cursor.old) ≡ option_map (λ points. (points, rest cursor.new)) found) }
-    ensures same_bytes { cursor.new.bytes.now ≡ cursor.old.bytes.now }
-    ensures same_end { cursor.new.end ≡ cursor.old.end }
+    ensures parsed { IfOk result (λ found. Parses (vertices count) found cursor.old cursor.new) }
+    ensures kept { Keeps cursor.old cursor.new }
 {
     let mut before = None;
     let mut found = Items::new(alloc);

@@ -2,8 +2,7 @@
 
 ghost use Rattle.std.specs.Prelude.{◌≡◌, ⊤, length};
 ghost use Rattle.std.specs.List.{AllByRecursion};
-ghost use Rattle.std.specs.Option.{option_map};
-ghost use Rattle.dwg_bits.specs.Cursor.{rest};
+ghost use Rattle.dwg_common.specs.Parsing.{Keeps, Parses};
 ghost use Rattle.dwg_shapes.specs.LwPolylines.{width_pair};
 ghost use Rattle.dwg_shapes.specs.VertexLaws.{width_pair_is_code};
 
@@ -33,9 +32,8 @@ pub(crate) fn known_widths(widths: &[Width])
 
 /// Reads a width, as it is parsed.
 fn read_width(cursor: &mut BitCursor<'_>) -> Option<Width>
-    ensures parsed { width_pair.parse (rest cursor.old) ≡ option_map (λ width. (width, rest cursor.new)) result }
-    ensures same_bytes { cursor.new.bytes.now ≡ cursor.old.bytes.now }
-    ensures same_end { cursor.new.end ≡ cursor.old.end }
+    ensures parsed { Parses width_pair result cursor.old cursor.new }
+    ensures kept { Keeps cursor.old cursor.new }
 {
     let start = parse_code::<CodeBD>(&(), cursor)?;
     let end = parse_code::<CodeBD>(&(), cursor)?;

@@ -1,8 +1,6 @@
 //! Names of applications.
 
 ghost use Rattle.std.specs.Prelude.{◌≡◌, IfOk};
-ghost use Rattle.std.specs.Option.{option_map};
-ghost use Rattle.dwg_bits.specs.Cursor.{rest};
 ghost use Rattle.dwg_tables.specs.AppIdBody.{app_id_body};
 ghost use Rattle.dwg_tables.specs.TableLaws.{app_id_is_body};
 
@@ -24,53 +22,29 @@ pub struct AppId {
     pub extra: u8,
 }
 
-/// Reads the name of an application, as it is parsed. The only refusal is want of memory, which is taken only for bytes that
-/// are there.
-#[tactic(auto, unfolding(crate::specs::AppIdBody::app_id_body))]
-fn read_parts(
-    alloc: Global,
-    main: &mut BitCursor<'_>,
-    refs: &mut BitCursor<'_>,
-    base: Handle,
-) -> Result<Option<AppId>, NoMemory>
-    ensures parsed { IfOk result (λ found. (app_id_body base).parse (rest main.old) (rest refs.old) ≡ option_map (λ app. (app, (rest main.new, rest refs.new))) found) }
-    ensures same_bytes { main.new.bytes.now ≡ main.old.bytes.now }
-    ensures same_end { main.new.end ≡ main.old.end }
-    ensures refs_same_bytes { refs.new.bytes.now ≡ refs.old.bytes.now }
-    ensures refs_same_end { refs.new.end ≡ refs.old.end }
-{
-    let Some(title) = read_title(alloc, main)? else {
-        return Ok(None);
-    };
-    let Some(extra) = parse_code::<CodeRC>(&(), main) else {
-        return Ok(None);
-    };
-    let Some(xref) = parse_ref(refs, base) else {
-        return Ok(None);
-    };
-    Ok(Some(AppId {
-        entry: entry_of(title, xref),
-        extra,
-    }))
-}
-
 impl BodyCode for AppId {
     ghost grammar = { app_id_body };
 
-    fn read(
+    #[tactic(auto, unfolding(crate::specs::AppIdBody::app_id_body))]
+    fn parse(
         alloc: Global,
         main: &mut BitCursor<'_>,
         refs: &mut BitCursor<'_>,
         base: Handle,
     ) -> Result<Option<AppId>, NoMemory> {
-        let mut ahead = *main;
-        let mut refs_ahead = *refs;
-        let Some(body) = read_parts(alloc, &mut ahead, &mut refs_ahead, base)? else {
+        let Some(title) = read_title(alloc, main)? else {
             return Ok(None);
         };
-        *main = ahead;
-        *refs = refs_ahead;
-        Ok(Some(body))
+        let Some(extra) = parse_code::<CodeRC>(&(), main) else {
+            return Ok(None);
+        };
+        let Some(xref) = parse_ref(refs, base) else {
+            return Ok(None);
+        };
+        Ok(Some(AppId {
+            entry: entry_of(title, xref),
+            extra,
+        }))
     }
 
     #[tactic(auto, unfolding(crate::specs::AppIdBody::app_id_body, dwg_grammar::specs::ReferenceCodes::reference))]

@@ -1,9 +1,8 @@
 //! What the main bits of the header of a block tell behind its flags (Open Design Specification, "BLOCK HEADER").
 
 ghost use Rattle.std.specs.Prelude.{◌≡◌, ◌^◌, ◌<◌, ◌≤◌, ◌↔◌, length, IfOk, IsTrue};
-ghost use Rattle.std.specs.Option.{option_map};
-ghost use Rattle.dwg_bits.specs.Cursor.{rest};
 ghost use Rattle.dwg_bits.specs.Sink.{Extends};
+ghost use Rattle.dwg_common.specs.Parsing.{Keeps, Parses};
 ghost use Rattle.dwg_tables.specs.BlockHeaderBody.{block_content, content_of};
 
 use crate::block_header::{BlockContent, BlockHeader};
@@ -23,9 +22,8 @@ pub(crate) fn read_content(
     alloc: Global,
     cursor: &mut BitCursor<'_>,
 ) -> Result<Option<BlockContent>, NoMemory>
-    ensures parsed { IfOk result (λ found. block_content.parse (rest cursor.old) ≡ option_map (λ content. (content, rest cursor.new)) found) }
-    ensures same_bytes { cursor.new.bytes.now ≡ cursor.old.bytes.now }
-    ensures same_end { cursor.new.end ≡ cursor.old.end }
+    ensures parsed { IfOk result (λ found. Parses block_content found cursor.old cursor.new) }
+    ensures kept { Keeps cursor.old cursor.new }
 {
     let Some(base) = parse_code::<Code3BD>(&(), cursor) else {
         return Ok(None);

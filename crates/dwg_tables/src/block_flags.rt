@@ -1,9 +1,8 @@
 //! What single bits of the header of a block tell (Open Design Specification, "BLOCK HEADER").
 
 ghost use Rattle.std.specs.Prelude.{◌≡◌, ◌^◌, ◌<◌, ◌≤◌, length};
-ghost use Rattle.std.specs.Option.{option_map};
-ghost use Rattle.dwg_bits.specs.Cursor.{rest};
 ghost use Rattle.dwg_bits.specs.Sink.{Extends};
+ghost use Rattle.dwg_common.specs.Parsing.{Keeps, Parses};
 ghost use Rattle.dwg_tables.specs.BlockHeaderBody.{block_flags};
 
 use crate::block_header::BlockFlags;
@@ -14,9 +13,8 @@ use dwg_common::parse_code;
 /// Reads the flags of a header, as they are parsed.
 #[tactic(auto, unfolding(crate::specs::BlockHeaderBody::block_flags))]
 pub(crate) fn read_flags(cursor: &mut BitCursor<'_>) -> Option<BlockFlags>
-    ensures parsed { block_flags.parse (rest cursor.old) ≡ option_map (λ flags. (flags, rest cursor.new)) result }
-    ensures same_bytes { cursor.new.bytes.now ≡ cursor.old.bytes.now }
-    ensures same_end { cursor.new.end ≡ cursor.old.end }
+    ensures parsed { Parses block_flags result cursor.old cursor.new }
+    ensures kept { Keeps cursor.old cursor.new }
 {
     let anonymous = parse_code::<CodeB>(&(), cursor)?;
     let has_attributes = parse_code::<CodeB>(&(), cursor)?;

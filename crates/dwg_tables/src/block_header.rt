@@ -1,8 +1,6 @@
 //! Headers of blocks.
 
 ghost use Rattle.std.specs.Prelude.{◌≡◌, length, IfOk};
-ghost use Rattle.std.specs.Option.{option_map};
-ghost use Rattle.dwg_bits.specs.Cursor.{rest};
 ghost use Rattle.dwg_tables.specs.BlockHeaderBody.{block_header_body, flags_of, header_of};
 ghost use Rattle.dwg_tables.specs.BlockHeaderLaws.{block_header_is_body};
 
@@ -167,53 +165,30 @@ fn header_of(
     })
 }
 
-/// Reads a header, as it is parsed. The only refusal is want of memory, which is taken only for what is there.
-#[tactic(auto, unfolding(crate::specs::BlockHeaderBody::block_header_body))]
-fn read_parts(
-    alloc: Global,
-    main: &mut BitCursor<'_>,
-    refs: &mut BitCursor<'_>,
-    base: Handle,
-) -> Result<Option<BlockHeader>, NoMemory>
-    ensures parsed { IfOk result (λ found. (block_header_body base).parse (rest main.old) (rest refs.old) ≡ option_map (λ header. (header, (rest main.new, rest refs.new))) found) }
-    ensures same_bytes { main.new.bytes.now ≡ main.old.bytes.now }
-    ensures same_end { main.new.end ≡ main.old.end }
-    ensures refs_same_bytes { refs.new.bytes.now ≡ refs.old.bytes.now }
-    ensures refs_same_end { refs.new.end ≡ refs.old.end }
-{
-    let Some(title) = read_title(alloc, main)? else {
-        return Ok(None);
-    };
-    let Some(flags) = read_flags(main) else {
-        return Ok(None);
-    };
-    let Some(content) = read_content(alloc, main)? else {
-        return Ok(None);
-    };
-    let Some(names) = read_block_names(alloc, flags, &content, refs, base)? else {
-        return Ok(None);
-    };
-    let header = header_of(alloc, title, flags, content, names)?;
-    Ok(Some(header))
-}
-
 impl BodyCode for BlockHeader {
     ghost grammar = { block_header_body };
 
-    fn read(
+    #[tactic(auto, unfolding(crate::specs::BlockHeaderBody::block_header_body))]
+    fn parse(
         alloc: Global,
         main: &mut BitCursor<'_>,
         refs: &mut BitCursor<'_>,
         base: Handle,
     ) -> Result<Option<BlockHeader>, NoMemory> {
-        let mut ahead = *main;
-        let mut refs_ahead = *refs;
-        let Some(body) = read_parts(alloc, &mut ahead, &mut refs_ahead, base)? else {
+        let Some(title) = read_title(alloc, main)? else {
             return Ok(None);
         };
-        *main = ahead;
-        *refs = refs_ahead;
-        Ok(Some(body))
+        let Some(flags) = read_flags(main) else {
+            return Ok(None);
+        };
+        let Some(content) = read_content(alloc, main)? else {
+            return Ok(None);
+        };
+        let Some(names) = read_block_names(alloc, flags, &content, refs, base)? else {
+            return Ok(None);
+        };
+        let header = header_of(alloc, title, flags, content, names)?;
+        Ok(Some(header))
     }
 
     #[tactic(auto, unfolding(crate::specs::BlockHeaderBody::block_header_body))]

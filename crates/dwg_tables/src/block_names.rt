@@ -1,9 +1,8 @@
 //! What the header of a block names, as bits (Open Design Specification, "BLOCK HEADER").
 
 ghost use Rattle.std.specs.Prelude.{◌≡◌, ◌^◌, ◌<◌, ◌≤◌, ◌↔◌, length, IfOk, IfSome, IsTrue};
-ghost use Rattle.std.specs.Option.{option_map};
-ghost use Rattle.dwg_bits.specs.Cursor.{rest};
 ghost use Rattle.dwg_bits.specs.Sink.{Extends};
+ghost use Rattle.dwg_common.specs.Parsing.{Keeps, Parses};
 ghost use Rattle.dwg_tables.specs.BlockHeaderBody.{block_refs, content_of, has_ends, names_of};
 
 use crate::block_header::{BlockContent, BlockFlags, BlockHeader, BlockNames};
@@ -33,10 +32,9 @@ pub(crate) fn read_block_names(
     cursor: &mut BitCursor<'_>,
     base: Handle,
 ) -> Result<Option<BlockNames>, NoMemory>
-    ensures parsed { IfOk result (λ found. (block_refs base flags content.now).grammar.parse (rest cursor.old) ≡ option_map (λ names. (names, rest cursor.new)) found) }
+    ensures parsed { IfOk result (λ found. Parses (block_refs base flags content.now).grammar found cursor.old cursor.new) }
     ensures as_many { IfOk result (λ found. IfSome found (λ names. length names.targets ≡ length content.now.counts)) }
-    ensures same_bytes { cursor.new.bytes.now ≡ cursor.old.bytes.now }
-    ensures same_end { cursor.new.end ≡ cursor.old.end }
+    ensures kept { Keeps cursor.old cursor.new }
 {
     let Some(xref) = parse_code::<CodeH>(&base, cursor) else {
         return Ok(None);

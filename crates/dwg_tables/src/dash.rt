@@ -1,9 +1,8 @@
 //! What the main bits of a dash tell, as a code (Open Design Specification, "LTYPE").
 
 ghost use Rattle.std.specs.Prelude.{◌≡◌, ⊤, map};
-ghost use Rattle.std.specs.Option.{option_map};
-ghost use Rattle.dwg_bits.specs.Cursor.{rest};
 ghost use Rattle.dwg_grammar.specs.ToEnd.{AreValues};
+ghost use Rattle.dwg_common.specs.Parsing.{Keeps, Parses};
 ghost use Rattle.dwg_tables.specs.LtypeBody.{dash_of, stroke, stroke_of, style_of};
 ghost use Rattle.dwg_tables.specs.TableLaws.{stroke_is_code};
 
@@ -58,9 +57,8 @@ impl Joined<Stroke> for Dash {
 /// Reads what the main bits of a dash tell, as it is parsed.
 #[tactic(auto, unfolding(crate::specs::LtypeBody::stroke))]
 fn read_stroke(cursor: &mut BitCursor<'_>) -> Option<Stroke>
-    ensures parsed { stroke.parse (rest cursor.old) ≡ option_map (λ told. (told, rest cursor.new)) result }
-    ensures same_bytes { cursor.new.bytes.now ≡ cursor.old.bytes.now }
-    ensures same_end { cursor.new.end ≡ cursor.old.end }
+    ensures parsed { Parses stroke result cursor.old cursor.new }
+    ensures kept { Keeps cursor.old cursor.new }
 {
     let length = parse_code::<CodeBD>(&(), cursor)?;
     let code = parse_code::<CodeBS>(&(), cursor)?;

@@ -6,6 +6,7 @@ ghost use Rattle.dwg_bits.specs.Cursor.{rest};
 ghost use Rattle.dwg_bits.specs.Sink.{Extends};
 ghost use Rattle.dwg_grammar.specs.Codes.{bd, rc};
 ghost use Rattle.dwg_grammar.specs.Combinators.{seq};
+ghost use Rattle.dwg_common.specs.Parsing.{Keeps, Parses};
 ghost use Rattle.dwg_tables.specs.StyleBody.{style_form};
 
 use crate::style::Form;
@@ -17,8 +18,7 @@ use dwg_common::parse_code;
 /// the last text was.
 fn read_slant(cursor: &mut BitCursor<'_>) -> Option<(u64, u8, u64)>
     ensures parsed { (seq bd (λ oblique. seq rc (λ generation. bd))).parse (rest cursor.old) ≡ option_map (λ slant. ((slant.0, (slant.1, slant.2)), rest cursor.new)) result }
-    ensures same_bytes { cursor.new.bytes.now ≡ cursor.old.bytes.now }
-    ensures same_end { cursor.new.end ≡ cursor.old.end }
+    ensures kept { Keeps cursor.old cursor.new }
 {
     let oblique = parse_code::<CodeBD>(&(), cursor)?;
     let generation = parse_code::<CodeRC>(&(), cursor)?;
@@ -29,9 +29,8 @@ fn read_slant(cursor: &mut BitCursor<'_>) -> Option<(u64, u8, u64)>
 /// Reads the form of letters, as it is parsed.
 #[tactic(auto, unfolding(crate::specs::StyleBody::style_form))]
 pub(crate) fn read_form(cursor: &mut BitCursor<'_>) -> Option<Form>
-    ensures parsed { style_form.parse (rest cursor.old) ≡ option_map (λ form. (form, rest cursor.new)) result }
-    ensures same_bytes { cursor.new.bytes.now ≡ cursor.old.bytes.now }
-    ensures same_end { cursor.new.end ≡ cursor.old.end }
+    ensures parsed { Parses style_form result cursor.old cursor.new }
+    ensures kept { Keeps cursor.old cursor.new }
 {
     let flag_a = parse_code::<CodeB>(&(), cursor)?;
     let flag_b = parse_code::<CodeB>(&(), cursor)?;

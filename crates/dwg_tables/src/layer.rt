@@ -5,6 +5,7 @@ ghost use Rattle.std.specs.Option.{option_map};
 ghost use Rattle.dwg_bits.specs.Cursor.{rest};
 ghost use Rattle.dwg_grammar.specs.Codes.{bs};
 ghost use Rattle.dwg_grammar.specs.Combinators.{seq};
+ghost use Rattle.dwg_common.specs.Parsing.{Keeps, Parses};
 ghost use Rattle.dwg_tables.specs.LayerBody.{layer_body, layer_refs};
 ghost use Rattle.dwg_tables.specs.TableLaws.{layer_is_body};
 
@@ -35,9 +36,8 @@ pub struct Layer {
 
 /// Reads the values of a layer and the number of its colour, as they are parsed.
 fn read_values(cursor: &mut BitCursor<'_>) -> Option<(u16, u16)>
-    ensures parsed { (seq bs (λ values. bs)).parse (rest cursor.old) ≡ option_map (λ told. (told, rest cursor.new)) result }
-    ensures same_bytes { cursor.new.bytes.now ≡ cursor.old.bytes.now }
-    ensures same_end { cursor.new.end ≡ cursor.old.end }
+    ensures parsed { Parses (seq bs (λ values. bs)) result cursor.old cursor.new }
+    ensures kept { Keeps cursor.old cursor.new }
 {
     let values = parse_code::<CodeBS>(&(), cursor)?;
     let colour = parse_code::<CodeBS>(&(), cursor)?;
@@ -48,8 +48,7 @@ fn read_values(cursor: &mut BitCursor<'_>) -> Option<(u16, u16)>
 /// plot style and its linetype.
 fn read_named(cursor: &mut BitCursor<'_>, base: Handle) -> Option<(Ref, Ref, Ref)>
     ensures parsed { (layer_refs base).grammar.parse (rest cursor.old) ≡ option_map (λ named. ((named.0, (named.1, named.2)), rest cursor.new)) result }
-    ensures same_bytes { cursor.new.bytes.now ≡ cursor.old.bytes.now }
-    ensures same_end { cursor.new.end ≡ cursor.old.end }
+    ensures kept { Keeps cursor.old cursor.new }
 {
     let xref = parse_ref(cursor, base)?;
     let plotstyle = parse_ref(cursor, base)?;
@@ -57,55 +56,32 @@ fn read_named(cursor: &mut BitCursor<'_>, base: Handle) -> Option<(Ref, Ref, Ref
     Some((xref, plotstyle, linetype))
 }
 
-/// Reads a layer, as it is parsed. The only refusal is want of memory, which is taken only for bytes that are there.
-#[tactic(auto, unfolding(crate::specs::LayerBody::layer_body))]
-fn read_parts(
-    alloc: Global,
-    main: &mut BitCursor<'_>,
-    refs: &mut BitCursor<'_>,
-    base: Handle,
-) -> Result<Option<Layer>, NoMemory>
-    ensures parsed { IfOk result (λ found. (layer_body base).parse (rest main.old) (rest refs.old) ≡ option_map (λ layer. (layer, (rest main.new, rest refs.new))) found) }
-    ensures same_bytes { main.new.bytes.now ≡ main.old.bytes.now }
-    ensures same_end { main.new.end ≡ main.old.end }
-    ensures refs_same_bytes { refs.new.bytes.now ≡ refs.old.bytes.now }
-    ensures refs_same_end { refs.new.end ≡ refs.old.end }
-{
-    let Some(title) = read_title(alloc, main)? else {
-        return Ok(None);
-    };
-    let Some((values, colour)) = read_values(main) else {
-        return Ok(None);
-    };
-    let Some((xref, plotstyle, linetype)) = read_named(refs, base) else {
-        return Ok(None);
-    };
-    Ok(Some(Layer {
-        entry: entry_of(title, xref),
-        values,
-        colour,
-        plotstyle,
-        linetype,
-    }))
-}
-
 impl BodyCode for Layer {
     ghost grammar = { layer_body };
 
-    fn read(
+    #[tactic(auto, unfolding(crate::specs::LayerBody::layer_body))]
+    fn parse(
         alloc: Global,
         main: &mut BitCursor<'_>,
         refs: &mut BitCursor<'_>,
         base: Handle,
     ) -> Result<Option<Layer>, NoMemory> {
-        let mut ahead = *main;
-        let mut refs_ahead = *refs;
-        let Some(body) = read_parts(alloc, &mut ahead, &mut refs_ahead, base)? else {
+        let Some(title) = read_title(alloc, main)? else {
             return Ok(None);
         };
-        *main = ahead;
-        *refs = refs_ahead;
-        Ok(Some(body))
+        let Some((values, colour)) = read_values(main) else {
+            return Ok(None);
+        };
+        let Some((xref, plotstyle, linetype)) = read_named(refs, base) else {
+            return Ok(None);
+        };
+        Ok(Some(Layer {
+            entry: entry_of(title, xref),
+            values,
+            colour,
+            plotstyle,
+            linetype,
+        }))
     }
 
     #[tactic(auto, unfolding(crate::specs::LayerBody::layer_body, dwg_grammar::specs::ReferenceCodes::reference))]

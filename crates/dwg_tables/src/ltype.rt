@@ -1,11 +1,10 @@
 //! Linetypes.
 
 ghost use Rattle.std.specs.Prelude.{◌≡◌, ◌^◌, ◌<◌, ◌≤◌, ◌↔◌, length, map, IfOk, IfSome, IsTrue};
-ghost use Rattle.std.specs.Option.{option_map};
-ghost use Rattle.dwg_bits.specs.Cursor.{rest};
 ghost use Rattle.dwg_bits.specs.Sink.{Extends};
 ghost use Rattle.dwg_grammar.specs.Combinators.{items};
 ghost use Rattle.dwg_grammar.specs.ReferenceCodes.{reference};
+ghost use Rattle.dwg_common.specs.Parsing.{Keeps, Parses};
 ghost use Rattle.dwg_tables.specs.LtypeBody.{ltype_body, ltype_of, ltype_refs, stroke_of, style_of};
 ghost use Rattle.dwg_tables.specs.TableLaws.{ltype_is_body};
 
@@ -100,10 +99,9 @@ fn read_named(
     refs: &mut BitCursor<'_>,
     base: Handle,
 ) -> Result<Option<(Ref, Items<Ref>)>, NoMemory>
-    ensures parsed { IfOk result (λ found. (ltype_refs base told.now).grammar.parse (rest refs.old) ≡ option_map (λ named. (named, rest refs.new)) found) }
+    ensures parsed { IfOk result (λ found. Parses (ltype_refs base told.now).grammar found refs.old refs.new) }
     ensures as_many { IfOk result (λ found. IfSome found (λ named. length named.1 ≡ length told.now.strokes)) }
-    ensures same_bytes { refs.new.bytes.now ≡ refs.old.bytes.now }
-    ensures same_end { refs.new.end ≡ refs.old.end }
+    ensures kept { Keeps refs.old refs.new }
 {
     let Some(xref) = parse_ref(refs, base) else {
         return Ok(None);
@@ -128,30 +126,6 @@ fn ltype_of(alloc: Global, told: Pattern, named: (Ref, Items<Ref>)) -> Result<Lt
         dashes,
         texts: told.texts,
     })
-}
-
-/// Reads a linetype, as it is parsed. The only refusal is want of memory, which is taken only for what is there.
-#[tactic(auto, unfolding(crate::specs::LtypeBody::ltype_body))]
-fn read_parts(
-    alloc: Global,
-    main: &mut BitCursor<'_>,
-    refs: &mut BitCursor<'_>,
-    base: Handle,
-) -> Result<Option<Ltype>, NoMemory>
-    ensures parsed { IfOk result (λ found. (ltype_body base).parse (rest main.old) (rest refs.old) ≡ option_map (λ ltype. (ltype, (rest main.new, rest refs.new))) found) }
-    ensures same_bytes { main.new.bytes.now ≡ main.old.bytes.now }
-    ensures same_end { main.new.end ≡ main.old.end }
-    ensures refs_same_bytes { refs.new.bytes.now ≡ refs.old.bytes.now }
-    ensures refs_same_end { refs.new.end ≡ refs.old.end }
-{
-    let Some(told) = read_pattern(alloc, main)? else {
-        return Ok(None);
-    };
-    let Some(named) = read_named(alloc, &told, refs, base)? else {
-        return Ok(None);
-    };
-    let ltype = ltype_of(alloc, told, named)?;
-    Ok(Some(ltype))
 }
 
 /// Whether the style of each dash can be told from the linetype of the handle `base`.
@@ -185,20 +159,21 @@ fn write_styles(dashes: &[Dash], base: Handle, sink: &mut BitSink)
 impl BodyCode for Ltype {
     ghost grammar = { ltype_body };
 
-    fn read(
+    #[tactic(auto, unfolding(crate::specs::LtypeBody::ltype_body))]
+    fn parse(
         alloc: Global,
         main: &mut BitCursor<'_>,
         refs: &mut BitCursor<'_>,
         base: Handle,
     ) -> Result<Option<Ltype>, NoMemory> {
-        let mut ahead = *main;
-        let mut refs_ahead = *refs;
-        let Some(body) = read_parts(alloc, &mut ahead, &mut refs_ahead, base)? else {
+        let Some(told) = read_pattern(alloc, main)? else {
             return Ok(None);
         };
-        *main = ahead;
-        *refs = refs_ahead;
-        Ok(Some(body))
+        let Some(named) = read_named(alloc, &told, refs, base)? else {
+            return Ok(None);
+        };
+        let ltype = ltype_of(alloc, told, named)?;
+        Ok(Some(ltype))
     }
 
     #[tactic(auto, unfolding(crate::specs::LtypeBody::ltype_body, dwg_grammar::specs::ReferenceCodes::reference))]

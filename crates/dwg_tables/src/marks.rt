@@ -1,11 +1,10 @@
 //! The marks of the inserts of a block, as bits (Open Design Specification, "BLOCK HEADER").
 
 ghost use Rattle.std.specs.Prelude.{◌≡◌, ◌^◌, ◌<◌, ◌≤◌, ◌↔◌, length, map, IfOk, IsTrue};
-ghost use Rattle.std.specs.Option.{option_map};
-ghost use Rattle.dwg_bits.specs.Cursor.{rest};
 ghost use Rattle.dwg_bits.specs.Sink.{Extends};
 ghost use Rattle.dwg_grammar.specs.Combinators.{items};
 ghost use Rattle.dwg_grammar.specs.ReferenceCodes.{reference};
+ghost use Rattle.dwg_common.specs.Parsing.{Keeps, Parses};
 ghost use Rattle.dwg_tables.specs.BlockHeaderBody.{count_of, mark_of, target_of};
 ghost use Rattle.dwg_tables.specs.InsertMarks.{IsMarkCount, mark_counts};
 
@@ -55,9 +54,8 @@ pub(crate) fn read_counts(
     alloc: Global,
     cursor: &mut BitCursor<'_>,
 ) -> Result<Option<Items<u8>>, NoMemory>
-    ensures parsed { IfOk result (λ found. mark_counts.parse (rest cursor.old) ≡ option_map (λ counts. (counts, rest cursor.new)) found) }
-    ensures same_bytes { cursor.new.bytes.now ≡ cursor.old.bytes.now }
-    ensures same_end { cursor.new.end ≡ cursor.old.end }
+    ensures parsed { IfOk result (λ found. Parses mark_counts found cursor.old cursor.new) }
+    ensures kept { Keeps cursor.old cursor.new }
 {
     let mut counts = Items::new(alloc);
     'along: loop {

@@ -1,13 +1,12 @@
 //! Members of lists, of which the main bits tell one part each and the references name another. A rule of this project.
 
 ghost use Rattle.std.specs.Prelude.{◌≡◌, ◌^◌, ◌<◌, ◌≤◌, ◌↔◌, length, map, IfOk, IfSome, IsTrue};
-ghost use Rattle.std.specs.Option.{option_map};
-ghost use Rattle.dwg_bits.specs.Cursor.{rest};
 ghost use Rattle.dwg_bits.specs.Sink.{Extends};
 ghost use Rattle.dwg_grammar.specs.Combinators.{items};
 ghost use Rattle.dwg_grammar.specs.ToEnd.{AreValues, short_all};
 ghost use Rattle.dwg_grammar.specs.Reference.{Reference};
 ghost use Rattle.dwg_grammar.specs.ReferenceCodes.{reference};
+ghost use Rattle.dwg_common.specs.Parsing.{Keeps, Parses};
 ghost use Rattle.dwg_common.specs.Members.{joined};
 
 use dwg_base::{Handle, Items, NoMemory};
@@ -46,10 +45,9 @@ pub(crate) fn read_names<P>(
     cursor: &mut BitCursor<'_>,
     base: Handle,
 ) -> Result<Option<Items<Ref>>, NoMemory>
-    ensures parsed { IfOk result (λ found. (items (reference base) (length told.now)).parse (rest cursor.old) ≡ option_map (λ names. (names, rest cursor.new)) found) }
+    ensures parsed { IfOk result (λ found. Parses (items (reference base) (length told.now)) found cursor.old cursor.new) }
     ensures as_many { IfOk result (λ found. IfSome found (λ names. length names ≡ length told.now)) }
-    ensures same_bytes { cursor.new.bytes.now ≡ cursor.old.bytes.now }
-    ensures same_end { cursor.new.end ≡ cursor.old.end }
+    ensures kept { Keeps cursor.old cursor.new }
 {
     let mut names = Items::new(alloc);
     'along: for _ in 0..told.len() {

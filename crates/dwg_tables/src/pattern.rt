@@ -6,6 +6,7 @@ ghost use Rattle.dwg_bits.specs.Cursor.{rest};
 ghost use Rattle.dwg_bits.specs.Sink.{Extends};
 ghost use Rattle.dwg_grammar.specs.Codes.{bd, rc};
 ghost use Rattle.dwg_grammar.specs.Combinators.{counted, items, seq};
+ghost use Rattle.dwg_common.specs.Parsing.{Keeps, Parses};
 ghost use Rattle.dwg_tables.specs.LtypeBody.{ltype_main, pattern_of, stroke, stroke_of};
 
 use crate::dash::{CodeStroke, known_strokes};
@@ -30,9 +31,8 @@ fn read_strokes(
     alloc: Global,
     cursor: &mut BitCursor<'_>,
 ) -> Result<Option<Items<Stroke>>, NoMemory>
-    ensures parsed { IfOk result (λ found. (counted rc stroke).parse (rest cursor.old) ≡ option_map (λ strokes. (strokes, rest cursor.new)) found) }
-    ensures same_bytes { cursor.new.bytes.now ≡ cursor.old.bytes.now }
-    ensures same_end { cursor.new.end ≡ cursor.old.end }
+    ensures parsed { IfOk result (λ found. Parses (counted rc stroke) found cursor.old cursor.new) }
+    ensures kept { Keeps cursor.old cursor.new }
 {
     let Some(count) = parse_code::<CodeRC>(&(), cursor) else {
         return Ok(None);
@@ -60,8 +60,7 @@ struct Drawn {
 /// which is taken only for what is there.
 fn read_drawn(alloc: Global, cursor: &mut BitCursor<'_>) -> Result<Option<Drawn>, NoMemory>
     ensures parsed { IfOk result (λ found. (seq bd (λ length. seq rc (λ alignment. seq (counted rc stroke) (λ strokes. items rc 256)))).parse (rest cursor.old) ≡ option_map (λ drawn. ((drawn.length, (drawn.alignment, (drawn.strokes, drawn.texts))), rest cursor.new)) found) }
-    ensures same_bytes { cursor.new.bytes.now ≡ cursor.old.bytes.now }
-    ensures same_end { cursor.new.end ≡ cursor.old.end }
+    ensures kept { Keeps cursor.old cursor.new }
 {
     let Some(length) = parse_code::<CodeBD>(&(), cursor) else {
         return Ok(None);
@@ -90,9 +89,8 @@ pub(crate) fn read_pattern(
     alloc: Global,
     cursor: &mut BitCursor<'_>,
 ) -> Result<Option<Pattern>, NoMemory>
-    ensures parsed { IfOk result (λ found. ltype_main.parse (rest cursor.old) ≡ option_map (λ pattern. (pattern, rest cursor.new)) found) }
-    ensures same_bytes { cursor.new.bytes.now ≡ cursor.old.bytes.now }
-    ensures same_end { cursor.new.end ≡ cursor.old.end }
+    ensures parsed { IfOk result (λ found. Parses ltype_main found cursor.old cursor.new) }
+    ensures kept { Keeps cursor.old cursor.new }
 {
     let Some(title) = read_title(alloc, cursor)? else {
         return Ok(None);

@@ -1,10 +1,9 @@
 //! Text styles.
 
 ghost use Rattle.std.specs.Prelude.{◌≡◌, IfOk};
-ghost use Rattle.std.specs.Option.{option_map};
-ghost use Rattle.dwg_bits.specs.Cursor.{rest};
 ghost use Rattle.dwg_grammar.specs.Codes.{tv};
 ghost use Rattle.dwg_grammar.specs.Combinators.{seq};
+ghost use Rattle.dwg_common.specs.Parsing.{Keeps, Parses};
 ghost use Rattle.dwg_tables.specs.StyleBody.{form_of, style_body, style_of};
 ghost use Rattle.dwg_tables.specs.TableLaws.{style_is_body};
 
@@ -100,9 +99,8 @@ fn read_fonts(
     alloc: Global,
     cursor: &mut BitCursor<'_>,
 ) -> Result<Option<(ByteRun, ByteRun)>, NoMemory>
-    ensures parsed { IfOk result (λ found. (seq tv (λ font. tv)).parse (rest cursor.old) ≡ option_map (λ fonts. (fonts, rest cursor.new)) found) }
-    ensures same_bytes { cursor.new.bytes.now ≡ cursor.old.bytes.now }
-    ensures same_end { cursor.new.end ≡ cursor.old.end }
+    ensures parsed { IfOk result (λ found. Parses (seq tv (λ font. tv)) found cursor.old cursor.new) }
+    ensures kept { Keeps cursor.old cursor.new }
 {
     let Some(font) = parse_tv(alloc, cursor)? else {
         return Ok(None);
@@ -113,52 +111,29 @@ fn read_fonts(
     Ok(Some((font, big_font)))
 }
 
-/// Reads a text style, as it is parsed. The only refusal is want of memory, which is taken only for bytes that are there.
-#[tactic(auto, unfolding(crate::specs::StyleBody::style_body))]
-fn read_parts(
-    alloc: Global,
-    main: &mut BitCursor<'_>,
-    refs: &mut BitCursor<'_>,
-    base: Handle,
-) -> Result<Option<Style>, NoMemory>
-    ensures parsed { IfOk result (λ found. (style_body base).parse (rest main.old) (rest refs.old) ≡ option_map (λ style. (style, (rest main.new, rest refs.new))) found) }
-    ensures same_bytes { main.new.bytes.now ≡ main.old.bytes.now }
-    ensures same_end { main.new.end ≡ main.old.end }
-    ensures refs_same_bytes { refs.new.bytes.now ≡ refs.old.bytes.now }
-    ensures refs_same_end { refs.new.end ≡ refs.old.end }
-{
-    let Some(title) = read_title(alloc, main)? else {
-        return Ok(None);
-    };
-    let Some(form) = read_form(main) else {
-        return Ok(None);
-    };
-    let Some(fonts) = read_fonts(alloc, main)? else {
-        return Ok(None);
-    };
-    let Some(xref) = parse_ref(refs, base) else {
-        return Ok(None);
-    };
-    Ok(Some(style_of(title, form, fonts, xref)))
-}
-
 impl BodyCode for Style {
     ghost grammar = { style_body };
 
-    fn read(
+    #[tactic(auto, unfolding(crate::specs::StyleBody::style_body))]
+    fn parse(
         alloc: Global,
         main: &mut BitCursor<'_>,
         refs: &mut BitCursor<'_>,
         base: Handle,
     ) -> Result<Option<Style>, NoMemory> {
-        let mut ahead = *main;
-        let mut refs_ahead = *refs;
-        let Some(body) = read_parts(alloc, &mut ahead, &mut refs_ahead, base)? else {
+        let Some(title) = read_title(alloc, main)? else {
             return Ok(None);
         };
-        *main = ahead;
-        *refs = refs_ahead;
-        Ok(Some(body))
+        let Some(form) = read_form(main) else {
+            return Ok(None);
+        };
+        let Some(fonts) = read_fonts(alloc, main)? else {
+            return Ok(None);
+        };
+        let Some(xref) = parse_ref(refs, base) else {
+            return Ok(None);
+        };
+        Ok(Some(style_of(title, form, fonts, xref)))
     }
 
     #[tactic(auto, unfolding(crate::specs::StyleBody::style_body, dwg_grammar::specs::ReferenceCodes::reference))]

@@ -2,9 +2,8 @@
 //! "SHAPEFILE", "LTYPE", "APPID" and "BLOCK HEADER").
 
 ghost use Rattle.std.specs.Prelude.{◌≡◌, ◌^◌, ◌<◌, ◌≤◌, ◌↔◌, length, IfOk, IsTrue};
-ghost use Rattle.std.specs.Option.{option_map};
-ghost use Rattle.dwg_bits.specs.Cursor.{rest};
 ghost use Rattle.dwg_bits.specs.Sink.{Extends};
+ghost use Rattle.dwg_common.specs.Parsing.{Keeps, Parses};
 ghost use Rattle.dwg_tables.specs.Entries.{entry_main, title_of};
 
 use crate::entry::{Entry, Title};
@@ -21,9 +20,8 @@ pub(crate) fn read_title(
     alloc: Global,
     cursor: &mut BitCursor<'_>,
 ) -> Result<Option<Title>, NoMemory>
-    ensures parsed { IfOk result (λ found. entry_main.parse (rest cursor.old) ≡ option_map (λ title. (title, rest cursor.new)) found) }
-    ensures same_bytes { cursor.new.bytes.now ≡ cursor.old.bytes.now }
-    ensures same_end { cursor.new.end ≡ cursor.old.end }
+    ensures parsed { IfOk result (λ found. Parses entry_main found cursor.old cursor.new) }
+    ensures kept { Keeps cursor.old cursor.new }
 {
     let Some(name) = parse_tv(alloc, cursor)? else {
         return Ok(None);

@@ -22,8 +22,8 @@ along-preserved c =
     let item = item_read c.args.base c.in-Some.size c.in_ok-item.field-0 c.in-Some-2.item _ _ (search) c.in-Some-2.is c.in_ok-item.ensures.parsed in
     record {
       so_far = one_begun c.args.base c.in-Some.size c.in-Some-2.item _ _ _ _ _ _ (search) c.if-size-eq-MARK.false c.in-Ok.ensures.ok c.in-Some.ensures.reads item so_far.so_far;
-      bytes = c.in_ok-item.ensures.same_bytes ∙ c.in-Some.ensures.same_bytes ∙ so_far.bytes;
-      end = c.in_ok-item.ensures.same_end ∙ c.in-Some.ensures.same_end ∙ so_far.end;
+      bytes = c.in_ok-item.ensures.kept.bytes ∙ c.in-Some.ensures.same_bytes ∙ so_far.bytes;
+      end = c.in_ok-item.ensures.kept.end ∙ c.in-Some.ensures.same_end ∙ so_far.end;
     }
 
 pub along-smaller : goal.along-smaller

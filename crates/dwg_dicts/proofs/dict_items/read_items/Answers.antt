@@ -1,4 +1,4 @@
-use Rattle.std.proofs.Common.{◌∙◌}
+use Rattle.std.proofs.Common.{rules}
 use Rattle.dwg_dicts.proofs.ItemReading.{one_begun, name_missing, target_missing, all_begun}
 use Rattle.dwg_dicts.proofs.dict_items.read_items.Goals as goal
 
@@ -16,10 +16,8 @@ along-preserved c =
     record {
       so_far = one_begun c.args.base c.args.count _ c.along.found _ c.in_ok-name.field-0 c.parse_ref.result c.in-Some.name c.in-Some-parse_ref.target _ _ _ _ _ _
           c.along-test.true c.in-Ok.ensures.ok c.in-Some.is c.in_ok-name.ensures.parsed c.in-Some-parse_ref.is c.parse_ref.ensures.parsed so_far.so_far;
-      bytes = c.in_ok-name.ensures.same_bytes ∙ so_far.bytes;
-      end = c.in_ok-name.ensures.same_end ∙ so_far.end;
-      refs_bytes = c.parse_ref.ensures.same_bytes ∙ so_far.refs_bytes;
-      refs_end = c.parse_ref.ensures.same_end ∙ so_far.refs_end;
+      kept = search rules;
+      refs_kept = search rules;
     }
 
 pub returns-clause-parsed : goal.returns-clause-parsed

@@ -1,6 +1,5 @@
 use Rattle.dwg_kinds.proofs.KindTables.{no_other, in_plain_entities, entities_listed}
-use Rattle.dwg_kinds.proofs.KindNames.{names_differ}
-use Rattle.dwg_kinds.proofs.SameKinds.{same_kinds}
+use Rattle.dwg_kinds.proofs.SameKinds.{same_kinds, names_differ}
 use Rattle.dwg_kinds.proofs.laws.kind_laws.Goals as goal
 
 pub returns-clause-plain_entities : goal.returns-clause-plain_entities

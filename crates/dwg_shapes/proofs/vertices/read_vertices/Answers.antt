@@ -1,4 +1,4 @@
-use Rattle.std.proofs.Common.{◌∙◌, Some, None}
+use Rattle.std.proofs.Common.{Some, None, rules}
 use Rattle.dwg_grammar.specs.Combinators.{chain}
 use Rattle.dwg_grammar.specs.declared.points.Point2.{Point2}
 use Rattle.dwg_shapes.specs.LwPolylines.{vertex}
@@ -15,8 +15,7 @@ pub along-preserved : goal.along-preserved
 along-preserved c = record {
   so_far = one_begun vertex (λ (point : Point2). Some point) None c.along.before c.args.count _ c.along.found _ c.read_vertex.result c.in-Some.point _ _ _
       c.along-test.true c.in-Ok.ensures.ok c.in-Some.is c.read_vertex.ensures.parsed c.along.invariant.so_far;
-  bytes = c.read_vertex.ensures.same_bytes ∙ c.along.invariant.bytes;
-  end = c.read_vertex.ensures.same_end ∙ c.along.invariant.end;
+  kept = search rules;
 }
 
 pub returns-clause-parsed : goal.returns-clause-parsed

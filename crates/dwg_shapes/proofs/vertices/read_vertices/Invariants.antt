@@ -1,5 +1,6 @@
-use Rattle.std.proofs.Common.{◌≡◌, Some, None}
+use Rattle.std.proofs.Common.{Some, None}
 use Rattle.dwg_bits.specs.Cursor.{rest}
+use Rattle.dwg_common.specs.Parsing.{Keeps}
 use Rattle.dwg_grammar.specs.declared.points.Point2.{Point2}
 use Rattle.dwg_shapes.specs.LwPolylines.{vertex}
 use Rattle.dwg_shapes.proofs.ChainReading.{IsBegun}
@@ -9,6 +10,5 @@ use Rattle.dwg_shapes.proofs.vertices.read_vertices.Given as goal
 abbrev pub invariant-along : goal.invariant-along
 invariant-along l = record {
   so_far : IsBegun vertex (λ (point : Point2). Some point) None l.before l.count l.counter l.found (rest l.fn.cursor) (rest l.cursor);
-  bytes : l.cursor.bytes.now ≡ l.fn.cursor.bytes.now;
-  end : l.cursor.end ≡ l.fn.cursor.end;
+  kept : Keeps l.fn.cursor l.cursor;
 }

@@ -1,4 +1,4 @@
-use Rattle.std.proofs.Common.{◌∙◌, arith}
+use Rattle.std.proofs.Common.{arith, rules}
 use Rattle.dwg_bits.proofs.BitLaws.{length_of_bits_between}
 use Rattle.dwg_tables.proofs.MarkReading.{one_begun, all_begun, one_missing, count_takes}
 use Rattle.dwg_tables.proofs.marks.read_counts.Goals as goal
@@ -14,8 +14,7 @@ pub along-preserved : goal.along-preserved
 along-preserved c = record {
   so_far = one_begun c.along.counts _ c.parse_code.result c.in-Some.count _ _ _ c.if-count-eq-END_OF_MARKS.false c.in-Ok.ensures.ok c.in-Some.is c.parse_code.ensures.parsed
       c.along.invariant.so_far;
-  bytes = c.parse_code.ensures.same_bytes ∙ c.along.invariant.bytes;
-  end = c.parse_code.ensures.same_end ∙ c.along.invariant.end;
+  kept = search rules;
 }
 
 pub along-smaller : goal.along-smaller

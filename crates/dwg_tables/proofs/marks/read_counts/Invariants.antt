@@ -1,5 +1,6 @@
-use Rattle.std.proofs.Common.{◌≡◌, ◌-◌}
+use Rattle.std.proofs.Common.{◌-◌}
 use Rattle.dwg_bits.specs.Cursor.{rest}
+use Rattle.dwg_common.specs.Parsing.{Keeps}
 use Rattle.dwg_tables.proofs.MarkReading.{AreBegun}
 use Rattle.dwg_tables.proofs.marks.read_counts.Given as goal
 
@@ -7,8 +8,7 @@ use Rattle.dwg_tables.proofs.marks.read_counts.Given as goal
 abbrev pub invariant-along : goal.invariant-along
 invariant-along l = record {
   so_far : AreBegun l.counts (rest l.fn.cursor) (rest l.cursor);
-  bytes : l.cursor.bytes.now ≡ l.fn.cursor.bytes.now;
-  end : l.cursor.end ≡ l.fn.cursor.end;
+  kept : Keeps l.fn.cursor l.cursor;
 }
 
 -- each turn takes bits

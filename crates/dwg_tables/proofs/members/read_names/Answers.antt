@@ -1,4 +1,4 @@
-use Rattle.std.proofs.Common.{◌∙◌, length}
+use Rattle.std.proofs.Common.{length, rules}
 use Rattle.dwg_grammar.specs.ReferenceCodes.{reference}
 use Rattle.dwg_tables.proofs.NameReading.{one_begun, one_missing, all_begun}
 use Rattle.dwg_tables.proofs.members.read_names.Goals as goal
@@ -12,8 +12,7 @@ pub along-preserved : goal.along-preserved
 along-preserved g c = record {
   so_far = one_begun (reference c.args.base) (length c.args.told.now) _ c.along.names _ c.parse_ref.result c.in-Some.name _ _ _
       c.along-test.true c.in-Ok.ensures.ok c.in-Some.is c.parse_ref.ensures.parsed c.along.invariant.so_far;
-  bytes = c.parse_ref.ensures.same_bytes ∙ c.along.invariant.bytes;
-  end = c.parse_ref.ensures.same_end ∙ c.along.invariant.end;
+  kept = search rules;
 }
 
 pub returns-clause-parsed : goal.returns-clause-parsed

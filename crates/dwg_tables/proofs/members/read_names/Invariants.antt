@@ -1,5 +1,6 @@
-use Rattle.std.proofs.Common.{◌≡◌, length}
+use Rattle.std.proofs.Common.{length}
 use Rattle.dwg_bits.specs.Cursor.{rest}
+use Rattle.dwg_common.specs.Parsing.{Keeps}
 use Rattle.dwg_grammar.specs.ReferenceCodes.{reference}
 use Rattle.dwg_tables.proofs.NameReading.{IsBegun}
 use Rattle.dwg_tables.proofs.members.read_names.Given as goal
@@ -8,6 +9,5 @@ use Rattle.dwg_tables.proofs.members.read_names.Given as goal
 abbrev pub invariant-along : goal.invariant-along
 invariant-along g l = record {
   so_far : IsBegun (reference l.base) (length l.told) l.counter l.names (rest l.fn.cursor) (rest l.cursor);
-  bytes : l.cursor.bytes.now ≡ l.fn.cursor.bytes.now;
-  end : l.cursor.end ≡ l.fn.cursor.end;
+  kept : Keeps l.fn.cursor l.cursor;
 }

@@ -3,7 +3,7 @@ use Rattle.std.specs.Option.{option_map}
 use Rattle.dwg_bits.specs.Cursor.{rest}
 use Rattle.dwg_dicts.specs.declared.dictionary.DictItem.{DictItem}
 use Rattle.dwg_dicts.proofs.ItemReading.{dictionary_of, dictionary_unbegun, dictionary_begun}
-use Rattle.dwg_dicts.proofs.dictionary.read_dictionary.Goals as goal
+use Rattle.dwg_dicts.proofs.dictionary.DictionaryBodyCode.parse.Goals as goal
 
 pub returns-in_default-clause-parsed : goal.returns-in_default-clause-parsed
 returns-in_default-clause-parsed c =
