@@ -232,11 +232,16 @@ def one_handle_last(count):
     return drawing(frame(1, 0), lambda start: pages([(h, start) for h in range(1, count + 1)] + [(1, start)], 65533))
 
 
-def dictionary(handle, owner, items):
-    """A DICTIONARY with its owner and what its items, all of one name, lead to."""
+def extended(application, content):
+    """Application data: how many bytes, whose they are, the bytes."""
+    return short(len(content)) + reference(5, application) + "".join(f"{byte:08b}" for byte in content)
+
+
+def dictionary(handle, owner, items, applications=""):
+    """A DICTIONARY with its owner, what its items, all of one name, lead to, and its application data."""
     own = reference(0, handle)
     name = short(1) + little(65, 1)
-    main = short(0) + long(0) + long(len(items)) + short(0) + little(0, 1) + name * len(items)
+    main = applications + short(0) + long(0) + long(len(items)) + short(0) + little(0, 1) + name * len(items)
     references = reference(4, owner) + reference(3, 0) + "".join(reference(2, item) for item in items)
     size = len(short(42)) + 32 + len(own) + len(main)
     return framed_body(packed(short(42) + little(size, 4) + own + main + references))
@@ -254,6 +259,27 @@ def many_claims(count):
     """One DICTIONARY of so many items that all lead to another, which is its own."""
     said = lambda handle: dictionary(handle, 0 if handle == 1 else 1, [2] * count if handle == 1 else [])
     return in_order(*frames_and_places(2, said))
+
+
+def named_object(handle):
+    """An item of extended data that names an object."""
+    return b"\x05" + handle.to_bytes(8, "big")
+
+
+def one_with_items(count):
+    """One DICTIONARY with so many items in its extended data, as many in each application data as it can have; each names the DICTIONARY."""
+    most = 65_535 // 9
+    runs = [min(most, count - first) for first in range(0, count, most)]
+    data = "".join(extended(1, named_object(1) * run) for run in runs)
+    return in_order(*frames_and_places(1, lambda handle: dictionary(handle, 0, [], data)))
+
+
+def five_items_each(count):
+    """DICTIONARYs, each with five items in its extended data: a text, itself, the first of them, a real number and a short one."""
+    items = lambda handle: (
+        b"\x00\x03\x1e\x00KEY" + named_object(handle) + named_object(1) + b"\x28" + bytes(6) + b"\xf0\x3f" + b"\x46" + (handle % 65_536).to_bytes(2, "little")
+    )
+    return in_order(*frames_and_places(count, lambda handle: dictionary(handle, 0, [], extended(1, items(handle)))))
 
 
 def one_byte(count):
@@ -287,6 +313,8 @@ INPUTS = {
     "descending": (descending_map, (150_000, 300_000)),
     "owner-path": (owner_path, (100_000, 200_000)),
     "claims": (many_claims, (100_000, 200_000)),
+    "items": (one_with_items, (500_000, 1_000_000)),
+    "five-items": (five_items_each, (100_000, 200_000)),
     "one-place": (one_place, (1_500_000, 3_000_000)),
     "repeated": (one_handle_last, (1_500_000, 3_000_000)),
     "one-byte": (one_byte, (1_048_576, 2_097_152)),

@@ -5,7 +5,7 @@ use Rattle.std.specs.Option.{is_some}
 use Rattle.dwg_answers.specs.declared.words.Command.{Command}
 use Rattle.dwg_answers.specs.declared.words.Command.TheVariants as commands
 use Rattle.dwg_answers.specs.declared.words.Reading.{Reading}
-use Rattle.dwg_answers.specs.declared.words.Reading.TheVariants.{Sections, Classes, Show, Rewrite, Audit, Recover, Certify, Accept}
+use Rattle.dwg_answers.specs.declared.words.Reading.TheVariants.{Sections, Classes, Show, Rewrite, Audit, Recover, Appdata, Certify, Accept}
 use Rattle.dwg_answers.specs.Words.{IsReading, IsUsage, reading_in, reads}
 
 -- a command that reads is read back
@@ -16,6 +16,7 @@ reads_back Show = refl
 reads_back Rewrite = refl
 reads_back Audit = refl
 reads_back Recover = refl
+reads_back Appdata = refl
 reads_back Certify = refl
 reads_back Accept = refl
 
@@ -37,6 +38,7 @@ heeded commands.Show reading is usage = usage
 heeded commands.Rewrite reading is usage = usage
 heeded commands.Audit reading is usage = usage
 heeded commands.Recover reading is usage = usage
+heeded commands.Appdata reading is usage = usage
 heeded commands.Certify reading is usage = usage
 heeded commands.Accept reading is usage = usage
 heeded (commands.Make n seed) reading is usage = absurd cc

@@ -10,6 +10,7 @@ pub mod DrillWords
 pub mod Drills
 pub mod SectionLemmas
 pub mod ShortDamage
+pub mod ItemAnswers
 pub mod OwnCertificate
 pub mod CertificateReplies
 pub mod CertificateAnswers

@@ -3,7 +3,7 @@ use Rattle.std.proofs.Common.{◌≡◌, refl, ℕ, ◌+◌, ◌≤◌, ◌<◌,
 use Rattle.std.proofs.lemmas.Bool.Decides.{nat_tests}
 use Rattle.std.specs.Prelude.{Bool, Option, Result, Ok, Err, IfOk, nat_lt, if◌then◌else◌}
 use Rattle.std.specs.Io.KnownBytes.{Consumes, IsAtEnd}
-use Rattle.dwg_audit.specs.declared.finding.Finding.{Finding}
+use Rattle.dwg_appitems.specs.AppFindings.{app_findings}
 use Rattle.dwg_audit.specs.Findings.{findings}
 use Rattle.dwg_base.specs.Devices.{Came, MOST_BYTES}
 use Rattle.dwg_base.specs.declared.refusal.Refusal.{Refusal}
@@ -16,7 +16,7 @@ use Rattle.dwg_text.specs.Notes.{usage_note, unsound_note, too_long_note, too_la
 use Rattle.dwg_answers.specs.declared.words.Command.{Command}
 use Rattle.dwg_answers.specs.declared.words.Command.TheVariants as commands
 use Rattle.dwg_answers.specs.declared.words.Reading.{Reading}
-use Rattle.dwg_answers.specs.declared.words.Reading.TheVariants.{Sections, Classes, Show, Rewrite, Audit, Recover, Certify, Accept}
+use Rattle.dwg_answers.specs.declared.words.Reading.TheVariants.{Sections, Classes, Show, Rewrite, Audit, Recover, Appdata, Certify, Accept}
 use Rattle.dwg_answers.specs.declared.status.Status.{Status}
 use Rattle.dwg_answers.specs.declared.status.Status.TheVariants.{Done, Found, Usage, TooLong, TooLarge}
 use Rattle.dwg_answers.specs.declared.answer.Answer.{Answer}
@@ -26,7 +26,7 @@ use Rattle.dwg_file.specs.DrawingAt.{drawing_at}
 use Rattle.dwg_file.specs.Canonical.{size_of, canonical}
 use Rattle.dwg_answers.specs.CertifiedInput.{cert_in, drawing_bytes}
 use Rattle.dwg_answers.specs.Lines.{lines_of}
-use Rattle.dwg_answers.specs.Outcome.{noted, printed, refused_or, filed, certified, acceptance, accepted, made_answer, drill_answer, audited, verdict_status, recovery_notes, recovery_status, recovered_answer, answer_within, outcome_within, outcome_of_input, outcome_read, outcome_of}
+use Rattle.dwg_answers.specs.Outcome.{noted, printed, refused_or, filed, certified, acceptance, accepted, made_answer, drill_answer, audited, items_told, verdict_status, recovery_notes, recovery_status, recovered_answer, answer_within, outcome_within, outcome_of_input, outcome_read, outcome_of}
 use Rattle.dwg_recover.specs.Recovering.{RecoveredValue, recovered}
 use Rattle.dwg_answers.specs.Words.{reading_in}
 use Rattle.dwg_answers.specs.Requests.{asked}
@@ -57,14 +57,18 @@ recovered_is_drained value = filed_is_drained value.drawing (recovery_notes valu
     of_refusal None = tt
     of_refusal (Some refusal) = tt
 
--- and what an audit says
+-- and what audits say, by what they found
+verdict_is_drained : {A : Type 0} (found : List A) → IsDrained (verdict_status found)
+verdict_is_drained {A} [] = tt
+verdict_is_drained {A} (finding ∷ more) = tt
+
 audited_is_drained : (drawing : Contents) → IsDrained (audited drawing).status
 unfolding audited
-audited_is_drained drawing = of_findings (findings drawing.objects)
-  where
-    of_findings : (found : List Finding) → IsDrained (verdict_status found)
-    of_findings [] = tt
-    of_findings (finding ∷ more) = tt
+audited_is_drained drawing = verdict_is_drained (findings drawing.objects)
+
+items_are_drained : (drawing : Contents) → IsDrained (items_told drawing).status
+unfolding items_told
+items_are_drained drawing = verdict_is_drained (app_findings drawing.objects)
 
 -- and what is said of a drawing's certificate
 certified_is_drained : (drawing : Contents) → IsDrained (certified drawing).status
@@ -93,6 +97,7 @@ answer_is_drained Show bytes = tt
 answer_is_drained Rewrite bytes = filed_is_drained (drawing_at bytes) [] Done tt
 answer_is_drained Audit bytes = audited_is_drained (drawing_at bytes)
 answer_is_drained Recover bytes = recovered_is_drained (recovered bytes)
+answer_is_drained Appdata bytes = items_are_drained (drawing_at bytes)
 answer_is_drained Certify bytes = certified_is_drained (drawing_at bytes)
 answer_is_drained Accept bytes = accepted_is_drained (drawing_at (drawing_bytes bytes)) (cert_in bytes)
 
@@ -155,6 +160,7 @@ read_by commands.Show reading bytes is = ap (λ (some : Option Reading). outcome
 read_by commands.Rewrite reading bytes is = ap (λ (some : Option Reading). outcome_read some bytes) (sym is)
 read_by commands.Audit reading bytes is = ap (λ (some : Option Reading). outcome_read some bytes) (sym is)
 read_by commands.Recover reading bytes is = ap (λ (some : Option Reading). outcome_read some bytes) (sym is)
+read_by commands.Appdata reading bytes is = ap (λ (some : Option Reading). outcome_read some bytes) (sym is)
 read_by commands.Certify reading bytes is = ap (λ (some : Option Reading). outcome_read some bytes) (sym is)
 read_by commands.Accept reading bytes is = ap (λ (some : Option Reading). outcome_read some bytes) (sym is)
 read_by (commands.Make n seed) reading bytes is = absurd cc

@@ -4,7 +4,8 @@ use Rattle.dwg_base.specs.Devices.{MOST_BYTES}
 use Rattle.dwg_base.specs.Refusals.{first_fault}
 use Rattle.dwg_base.specs.declared.refusal.Refusal.{Refusal}
 use Rattle.dwg_sections.specs.HeaderLines.{header_at}
-use Rattle.dwg_audit.specs.declared.finding.Finding.{Finding}
+use Rattle.dwg_app_text.specs.AppText.{appdata_text}
+use Rattle.dwg_appitems.specs.AppFindings.{app_findings}
 use Rattle.dwg_audit.specs.Findings.{findings}
 use Rattle.dwg_cert.specs.AcceptTests.{is_accepted}
 use Rattle.dwg_cert.specs.Certified.{certificate_of}
@@ -26,7 +27,7 @@ use Rattle.dwg_text.specs.Classes.{classes_text}
 use Rattle.dwg_answers.specs.declared.words.Command.{Command}
 use Rattle.dwg_answers.specs.declared.words.Command.TheVariants as commands
 use Rattle.dwg_answers.specs.declared.words.Reading.{Reading}
-use Rattle.dwg_answers.specs.declared.words.Reading.TheVariants.{Sections, Classes, Show, Rewrite, Audit, Recover, Certify, Accept}
+use Rattle.dwg_answers.specs.declared.words.Reading.TheVariants.{Sections, Classes, Show, Rewrite, Audit, Recover, Appdata, Certify, Accept}
 use Rattle.dwg_answers.specs.declared.status.Status.{Status}
 use Rattle.dwg_answers.specs.declared.status.Status.TheVariants.{Done, Found, Usage, Refused, TooLong, TooLarge}
 use Rattle.dwg_answers.specs.declared.answer.Answer.{Answer}
@@ -78,14 +79,22 @@ drilled_answer n = unless_large (made n DRILL_SEED) (printed (drill_text (drille
 unfoldable pub drill_answer : ℕ → Answer
 drill_answer n = unless_no_size n (drilled_answer n)
 
--- how an audit ends
-abbrev pub verdict_status : List Finding → Status
-verdict_status [] = Done
-verdict_status (finding ∷ more) = Found
+-- how an audit with these findings ends
+abbrev pub verdict_status : {A : Type 0} → List A → Status
+verdict_status {A} [] = Done
+verdict_status {A} (finding ∷ more) = Found
 
 -- the findings of a drawing and the verdict
 unfoldable pub audited : Contents → Answer
 audited drawing = record { output = audit_text (findings drawing.objects); note = []; status = verdict_status (findings drawing.objects) }
+
+-- the application data of a drawing's objects, item by item, what these items refer to and isn't there, and the verdict
+unfoldable pub items_told : Contents → Answer
+items_told drawing = record {
+  output = appdata_text drawing.objects (app_findings drawing.objects);
+  note = [];
+  status = verdict_status (app_findings drawing.objects);
+}
 
 -- what a recovery notes, and how it ends: with no note where the input spells a drawing
 abbrev pub recovery_notes : Option Refusal → List Loss → List Kept → List ℕ
@@ -128,6 +137,7 @@ answer_within Show bytes = printed (show_text (drawing_at bytes))
 answer_within Rewrite bytes = written (drawing_at bytes)
 answer_within Audit bytes = audited (drawing_at bytes)
 answer_within Recover bytes = recovered_answer (recovered bytes)
+answer_within Appdata bytes = items_told (drawing_at bytes)
 answer_within Certify bytes = certified (drawing_at bytes)
 answer_within Accept bytes = accepted (drawing_at (drawing_bytes bytes)) (cert_in bytes)
 

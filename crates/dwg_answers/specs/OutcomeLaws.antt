@@ -1,5 +1,9 @@
 -- What the commands that read answer, said of the header that the input begins with, the classes that it has, the drawing that it spells, and the certificate in front of one. A rule of this project.
 use Rattle.std.specs.Prelude.{◌≡◌, ◌↔◌, ℕ, ◌≤◌, ◌<◌, List, [], ◌∷◌, ◌++◌, length, codes, Some}
+use Rattle.dwg_app_text.specs.AppText.{appdata_text}
+use Rattle.dwg_appitems.specs.AppFailures.{IsAppFinding}
+use Rattle.dwg_appitems.specs.AppFindings.{app_findings}
+use Rattle.dwg_appitems.specs.declared.finding.AppFinding.{AppFinding}
 use Rattle.dwg_audit.specs.Findings.{findings}
 use Rattle.dwg_base.specs.Bytes.{AreBytes}
 use Rattle.dwg_base.specs.Devices.{MOST_BYTES}
@@ -184,6 +188,20 @@ abbrev pub ShortDamageIsTold : Type 0
 ShortDamageIsTold =
     (drawing : Contents) (bytes : List ℕ) (earlier : List PairFrame) (frame : PairFrame) (later : List PairFrame) → IsValid drawing → size_of drawing ≤ MOST_BYTES → AreBytes bytes
     → canonical_frames drawing ≡ earlier ++ frame ∷ later → IsDamagedShortly drawing frame bytes → TellsDamage bytes earlier frame later
+
+-- `appdata` refuses an input that spells no drawing by the first line that fails
+abbrev pub NoItemsAreTold : Type 0
+NoItemsAreTold = (bytes : List ℕ) → IsInput bytes → SpellsNone bytes → Refuses bytes (said (codes "appdata") bytes)
+
+-- an answer prints the items of a drawing's extended data and then those whose references lead nowhere; its status tells whether there are any, and it notes nothing
+pub record TellsItems (drawing : Contents) (answer : Answer) : Type 0 where
+  pub prints : answer ≡ record { output = appdata_text drawing.objects (app_findings drawing.objects); note = []; status = answer.status }
+  pub met : (answer.status ≡ Done) ↔ ((finding : AppFinding) → IsAppFinding drawing.objects finding → ⊥)
+  pub unmet : (finding : AppFinding) → IsAppFinding drawing.objects finding → answer.status ≡ Found
+
+-- `appdata` does so with the drawing that an input spells
+abbrev pub AppdataTellsItems : Type 0
+AppdataTellsItems = (drawing : Contents) (bytes : List ℕ) → IsInput bytes → Spelled drawing bytes → TellsItems drawing (said (codes "appdata") bytes)
 
 -- `certify` refuses an input that spells no drawing by the first line that fails
 abbrev pub NoneIsCertified : Type 0

@@ -7,7 +7,7 @@ use Rattle.std.specs.Str.Parse.{digits_value}
 use Rattle.dwg_answers.specs.declared.words.Command.{Command}
 use Rattle.dwg_answers.specs.declared.words.Command.TheVariants as commands
 use Rattle.dwg_answers.specs.declared.words.Reading.{Reading}
-use Rattle.dwg_answers.specs.declared.words.Reading.TheVariants.{Sections, Classes, Show, Rewrite, Audit, Recover, Certify, Accept}
+use Rattle.dwg_answers.specs.declared.words.Reading.TheVariants.{Sections, Classes, Show, Rewrite, Audit, Recover, Appdata, Certify, Accept}
 use Rattle.dwg_make.specs.Made.{MOST_ENTITIES}
 
 -- the words as lists of bytes
@@ -42,8 +42,9 @@ reading_of word =
     else (if bytes_eq word (codes "rewrite") then Some Rewrite
     else (if bytes_eq word (codes "audit") then Some Audit
     else (if bytes_eq word (codes "recover") then Some Recover
+    else (if bytes_eq word (codes "appdata") then Some Appdata
     else (if bytes_eq word (codes "certify") then Some Certify
-    else (if bytes_eq word (codes "accept") then Some Accept else None)))))))
+    else (if bytes_eq word (codes "accept") then Some Accept else None))))))))
 
 -- the command that is each of those
 abbrev pub reads : Reading → Command
@@ -53,6 +54,7 @@ reads Show = commands.Show
 reads Rewrite = commands.Rewrite
 reads Audit = commands.Audit
 reads Recover = commands.Recover
+reads Appdata = commands.Appdata
 reads Certify = commands.Certify
 reads Accept = commands.Accept
 
@@ -64,6 +66,7 @@ reading_in commands.Show = Some Show
 reading_in commands.Rewrite = Some Rewrite
 reading_in commands.Audit = Some Audit
 reading_in commands.Recover = Some Recover
+reading_in commands.Appdata = Some Appdata
 reading_in commands.Certify = Some Certify
 reading_in commands.Accept = Some Accept
 reading_in (commands.Make n seed) = None
@@ -91,6 +94,7 @@ IsUsage (Some commands.Show) = ⊥
 IsUsage (Some commands.Rewrite) = ⊥
 IsUsage (Some commands.Audit) = ⊥
 IsUsage (Some commands.Recover) = ⊥
+IsUsage (Some commands.Appdata) = ⊥
 IsUsage (Some commands.Certify) = ⊥
 IsUsage (Some commands.Accept) = ⊥
 IsUsage (Some (commands.Make n seed)) = (n ≡ 0) ⊎ (MOST_ENTITIES < n)

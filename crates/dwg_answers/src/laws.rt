@@ -1,7 +1,8 @@
 //! Laws of what is answered, as the contract of a function without code of its own.
 
-ghost use Rattle.dwg_answers.specs.OutcomeLaws.{AcceptTellsAccepted, AuditTellsSound, CertifiedIsAccepted, ClassesPrintsClasses, NoCertificateIsRefused, NoClassesAreRefused, NoDrawingBehindIsRefused, NoDrawingIsRefused, NoHeaderIsRefused, NoneIsCertified, RecoverRewritesDrawing, RecoverWritesFrames, RewriteTellsSize, RewriteWritesDrawing, SectionsPrintsHeader, ShortDamageIsTold, ShowPrintsDrawing, SoundIsCertified, UnsoundIsNoted};
+ghost use Rattle.dwg_answers.specs.OutcomeLaws.{AcceptTellsAccepted, AppdataTellsItems, AuditTellsSound, CertifiedIsAccepted, ClassesPrintsClasses, NoCertificateIsRefused, NoClassesAreRefused, NoDrawingBehindIsRefused, NoDrawingIsRefused, NoHeaderIsRefused, NoItemsAreTold, NoneIsCertified, RecoverRewritesDrawing, RecoverWritesFrames, RewriteTellsSize, RewriteWritesDrawing, SectionsPrintsHeader, ShortDamageIsTold, ShowPrintsDrawing, SoundIsCertified, UnsoundIsNoted};
 
+use dwg_appitems::app_finding_laws;
 use dwg_audit::{auditable_laws, finding_laws};
 use dwg_cert::{acceptance_laws, certificate_laws};
 use dwg_classes::classes_laws;
@@ -23,6 +24,9 @@ use dwg_sections::{file_header_laws, framed_laws};
 /// what is recovered has every other object, and where its canonical file has at most 32 MiB, `recover` writes that and notes that
 /// refusal and the loss of that object alone; else it tells the size.
 ///
+/// `appdata` refuses an input that spells no drawing by the first line that fails. Where it spells one, `appdata` prints the items of
+/// its extended data and then those whose references lead nowhere, and ends with Done exactly where there are none, and else with Found.
+///
 /// `certify` refuses an input that spells no drawing by the first line that fails. Where it spells one, `certify` writes the certificate of
 /// its objects and ends with Done where their references hold together, and else notes that they don't and ends with Found. `accept`
 /// refuses an input that begins with no certificate by the first line on it that fails, and one whose rest spells no drawing by the first
@@ -42,6 +46,8 @@ pub fn outcome_laws()
     ensures recover { RecoverRewritesDrawing }
     ensures damaged { RecoverWritesFrames }
     ensures short { ShortDamageIsTold }
+    ensures no_items { NoItemsAreTold }
+    ensures items { AppdataTellsItems }
     ensures no_certified { NoneIsCertified }
     ensures certify { SoundIsCertified }
     ensures unsound { UnsoundIsNoted }
@@ -57,6 +63,7 @@ pub fn outcome_laws()
     canonical_laws();
     auditable_laws();
     finding_laws();
+    app_finding_laws();
     answer_laws();
     frame_damage_laws();
     short_damage_laws();

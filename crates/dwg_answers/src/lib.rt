@@ -5,6 +5,7 @@
 mod answer;
 mod answering;
 mod certifying;
+mod items;
 mod laws;
 mod making;
 mod reading;

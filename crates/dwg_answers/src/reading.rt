@@ -7,15 +7,16 @@ ghost use Rattle.dwg_file.specs.Contents.{contents_of};
 ghost use Rattle.dwg_file.specs.DrawingAt.{drawing_at};
 ghost use Rattle.dwg_file.specs.FileLines.{ALL_LINES};
 ghost use Rattle.dwg_recover.specs.Results.{recovered_value};
-ghost use Rattle.dwg_answers.specs.Outcome.{audited, outcome_within, recovered_answer, recovery_notes, recovery_status, verdict_status};
+ghost use Rattle.dwg_answers.specs.Outcome.{audited, outcome_within, recovered_answer, recovery_notes, recovery_status};
 ghost use Rattle.dwg_answers.specs.Replies.{answer_of, IsRefused};
 
 use crate::answer::{Answer, no_bytes, printed_answer, refused_answer};
 use crate::certifying::{accept_reply, certify_reply};
+use crate::items::appdata_reply;
 use crate::reply::Reply;
-use crate::status::Status;
+use crate::status::{Status, status_of};
 use crate::words::Reading;
-use dwg_audit::{Finding, audit_drawing};
+use dwg_audit::audit_drawing;
 use dwg_base::{ByteRun, Fault, NoMemory, Refusal};
 use dwg_file::{Drawing, classes_of_file, drawing_laws, read_drawing};
 use dwg_recover::{Recovered, recover_input};
@@ -92,17 +93,6 @@ fn rewrite_reply<'a>(alloc: Global, bytes: &'a [u8]) -> Result<Reply<'a>, Fault>
         note: no_bytes(alloc),
         status: Status::Done,
     })
-}
-
-/// How an audit with these findings ends.
-fn status_of(found: &[Finding]) -> Status
-    ensures { result ≡ verdict_status found.now }
-{
-    if found.is_empty() {
-        Status::Done
-    } else {
-        Status::Found
-    }
 }
 
 /// The findings of a drawing, and the verdict. The only refusal is want of memory.
@@ -200,6 +190,7 @@ fn reply_or_fault<'a>(alloc: Global, reading: Reading, bytes: &'a [u8]) -> Resul
             Ok(reply) => Ok(reply),
             Err(NoMemory) => Err(Fault::NoMemory),
         },
+        Reading::Appdata => appdata_reply(alloc, bytes),
         Reading::Certify => certify_reply(alloc, bytes),
         Reading::Accept => accept_reply(alloc, bytes),
     }

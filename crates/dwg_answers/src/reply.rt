@@ -2,10 +2,11 @@
 
 use crate::answer::Answer;
 use crate::status::Status;
-use dwg_base::ByteRun;
+use dwg_appitems::AppFinding;
+use dwg_base::{ByteRun, Items};
 use dwg_file::Drawing;
 
-/// What stands for an answer until that is sent. The text and the canonical file of a drawing are made as they are sent.
+/// What stands for an answer until that is sent. The texts and the canonical file of a drawing are made as they are sent.
 #[derive(Drop)]
 pub(crate) enum Reply<'a> {
     /// An answer that is made whole.
@@ -19,6 +20,13 @@ pub(crate) enum Reply<'a> {
     },
     /// The text of a drawing.
     Text(Drawing<'a>),
+    /// The text of a drawing's extended data.
+    Items {
+        /// The drawing.
+        drawing: Drawing<'a>,
+        /// What its items refer to and isn't there.
+        findings: Items<AppFinding>,
+    },
     /// The canonical file of a drawing and then a note, unless the file would be longer than the limit.
     File {
         /// The drawing.

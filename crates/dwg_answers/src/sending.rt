@@ -1,19 +1,22 @@
 //! Sending what the program answers: first all of the output, and then the note.
 
-ghost use Rattle.std.specs.Prelude.{◌≡◌, ◌≤◌, ◌⊎◌, ℕ, List, Option};
+ghost use Rattle.std.specs.Prelude.{◌≡◌, ◌≤◌, ◌⊎◌, ℕ, List, [], Option};
 ghost use Rattle.std.specs.Io.KnownBytes.{Appends};
 ghost use Rattle.dwg_base.specs.Devices.{AppendsFront, Rose};
 ghost use Rattle.dwg_file.specs.Contents.{contents_of};
 ghost use Rattle.dwg_file.specs.Canonical.{canonical};
 ghost use Rattle.dwg_show.specs.DrawingText.{show_text};
-ghost use Rattle.dwg_answers.specs.Outcome.{filed, noted, printed};
+ghost use Rattle.dwg_app_text.specs.AppText.{appdata_text};
+ghost use Rattle.dwg_answers.specs.Outcome.{filed, noted, printed, verdict_status};
 ghost use Rattle.dwg_text.specs.Notes as texts;
 ghost use Rattle.dwg_answers.specs.Replies.{answer_of};
 ghost use Rattle.dwg_answers.specs.Run.{Sent, sinks};
 
 use crate::answer::{Answer, too_large_answer};
 use crate::reply::Reply;
-use crate::status::Status;
+use crate::status::{Status, status_of};
+use dwg_app_text::appdata;
+use dwg_appitems::AppFinding;
 use dwg_base::{NoMemory, Sink, WriteFault, put_all};
 use dwg_file::{Drawing, Plan, PlanFault};
 use dwg_show::{ShowFault, show};
@@ -70,6 +73,26 @@ fn send_text<W: Sink>(alloc: Global, drawing: &Drawing<'_>, output: &mut W) -> S
 {
     match show(alloc, drawing, output) {
         Ok(()) => Status::Done,
+        Err(ShowFault::WriteFault) => Status::WriteFault,
+        Err(ShowFault::NoMemory) => Status::NoMemory,
+    }
+}
+
+/// Sends the text of a drawing's extended data, as it is made.
+fn send_items<W: Sink>(
+    alloc: Global,
+    drawing: &Drawing<'_>,
+    findings: &[AppFinding],
+    output: &mut W,
+) -> Status
+    ensures { (notes : Option (List ℕ)) (note_faults : ℕ)
+        → Sent (record { output = appdata_text (contents_of drawing.now).objects findings.now; note = []; status = verdict_status findings.now }) result
+        (record { output = W.taken output.old; output_faults = W.faults output.old; notes = notes; note_faults = note_faults })
+        (record { output = W.taken output.new; output_faults = W.faults output.new; notes = notes; note_faults = note_faults }) }
+{
+    let parts = drawing.parts();
+    match appdata(alloc, parts.objects.as_slice(), findings, output) {
+        Ok(()) => status_of(findings),
         Err(ShowFault::WriteFault) => Status::WriteFault,
         Err(ShowFault::NoMemory) => Status::NoMemory,
     }
@@ -142,6 +165,9 @@ pub(crate) fn send_reply<W: Sink, N: Sink>(
         Reply::Whole(answer) => send_answer(answer, output, notes),
         Reply::Note { note, status } => send(b"", note, *status, output, notes),
         Reply::Text(drawing) => send_text(alloc, drawing, output),
+        Reply::Items { drawing, findings } => {
+            send_items(alloc, drawing, findings.as_slice(), output)
+        }
         Reply::File {
             drawing,
             note,

@@ -1,6 +1,7 @@
 //! How a run of the program ends.
 
 ghost use Rattle.std.specs.Prelude.{◌≡◌};
+ghost use Rattle.dwg_answers.specs.Outcome.{verdict_status};
 
 use dwg_base::Refusal;
 
@@ -9,8 +10,8 @@ use dwg_base::Refusal;
 pub enum Status {
     /// All went well.
     Done,
-    /// All went well, and the audit has findings, the input of a recovery spells no drawing, a drawing that isn't sound has no
-    /// certificate, or a certificate isn't accepted.
+    /// All went well, and the audit has findings, items of extended data refer to what isn't there, the input of a recovery spells no
+    /// drawing, a drawing that isn't sound has no certificate, or a certificate isn't accepted.
     Found,
     /// The words stand in no line of the command table, or ask for a made drawing of no size that it has.
     Usage,
@@ -49,5 +50,16 @@ impl Status {
             Status::TooLong => 7,
             Status::TooLarge { .. } => 8,
         }
+    }
+}
+
+/// How an audit with these findings ends.
+pub(crate) fn status_of<T>(found: &[T]) -> Status
+    ensures { result ≡ verdict_status found.now }
+{
+    if found.is_empty() {
+        Status::Done
+    } else {
+        Status::Found
     }
 }

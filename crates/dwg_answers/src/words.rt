@@ -21,6 +21,8 @@ pub enum Reading {
     Audit,
     /// All that is left of a drawing is read.
     Recover,
+    /// The drawing is read, for the items of its extended data.
+    Appdata,
     /// The drawing is read, to be certified.
     Certify,
     /// A certificate is read, and the drawing behind it.
@@ -42,6 +44,8 @@ pub enum Command {
     Audit,
     /// The canonical file of the drawing, or of all that is left of it.
     Recover,
+    /// The items of the drawing's extended data, and what they refer to and isn't there.
+    Appdata,
     /// The certificate of the drawing, where it is sound.
     Certify,
     /// Whether the certificate that the input begins with is one of the drawing behind it.
@@ -127,6 +131,7 @@ fn reading_named(word: &str) -> Option<Reading>
         "rewrite" => Some(Reading::Rewrite),
         "audit" => Some(Reading::Audit),
         "recover" => Some(Reading::Recover),
+        "appdata" => Some(Reading::Appdata),
         "certify" => Some(Reading::Certify),
         "accept" => Some(Reading::Accept),
         _ => None,
@@ -144,6 +149,7 @@ fn command_by(reading: Reading) -> Command
         Reading::Rewrite => Command::Rewrite,
         Reading::Audit => Command::Audit,
         Reading::Recover => Command::Recover,
+        Reading::Appdata => Command::Appdata,
         Reading::Certify => Command::Certify,
         Reading::Accept => Command::Accept,
     }
@@ -160,6 +166,7 @@ pub(crate) fn reading_in(command: Command) -> Option<Reading>
         Command::Rewrite => Some(Reading::Rewrite),
         Command::Audit => Some(Reading::Audit),
         Command::Recover => Some(Reading::Recover),
+        Command::Appdata => Some(Reading::Appdata),
         Command::Certify => Some(Reading::Certify),
         Command::Accept => Some(Reading::Accept),
         Command::Make { .. } => None,

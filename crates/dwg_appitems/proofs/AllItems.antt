@@ -1,10 +1,10 @@
 -- Items counted and written, one by one.
 use Rattle.std.proofs.Common.{◌≡◌, refl, sym, ◌∙◌, ap, subst, ℕ, ◌+◌, ◌*◌, ◌%◌, ◌<◌, ◌≤◌, Bool, List, [], ◌∷◌, ◌++◌, length, drop, get_or, arith}
 use Rattle.std.specs.List.{AllByRecursion}
-use Rattle.std.proofs.lemmas.List.{append_assoc, append-nil, length-append, drop_more, drop_all}
+use Rattle.std.proofs.lemmas.List.{append-nil, length-append, drop_more, drop_all}
 use Rattle.dwg_bits.specs.Bits.{bits}
 use Rattle.dwg_bits.specs.Sink.{Written, Extends}
-use Rattle.dwg_bits.proofs.SinkLemmas.{extends_by_none, extends_by_both}
+use Rattle.dwg_bits.proofs.SinkLemmas.{extends_by_none}
 use Rattle.dwg_bits.proofs.WholeBytes.{bits_of_whole, length_of_whole}
 use Rattle.dwg_grammar.specs.Grammar.{AnyLetters}
 use Rattle.dwg_grammar.specs.ToEnd.{SpellsAll, AreValues, short_all}
@@ -30,10 +30,13 @@ all_can_be_written : (all : List AppItem) → AreValues item all → CanAllBeWri
 all_can_be_written [] are = tt
 all_can_be_written (one ∷ all) are = (item_can_be_written one are.0, all_can_be_written all are.1)
 
--- what is written of items are these items
+-- what is written of items are the bits of their bytes
+pub bits_of_items : (all : List AppItem) → AllByRecursion CanBeWritten all → short_all item all ≡ bits (items_bytes all)
+bits_of_items all can = sym (bits_of_whole (short_all item all) (whole_items all can))
+
+-- and these are the items
 pub items_whole : (all : List AppItem) → AreValues item all → AreItems all (items_bytes all)
-items_whole all are =
-    subst (SpellsAll item all) (sym (bits_of_whole (short_all item all) (whole_items all (all_can_be_written all are)))) (canonical_all AnyLetters item all item_is_code are)
+items_whole all are = subst (SpellsAll item all) (bits_of_items all (all_can_be_written all are)) (canonical_all AnyLetters item all item_is_code are)
 
 -- the bytes of items are an eighth of their bits
 bytes_of_items : (all : List AppItem) → CanAllBeWritten all → length (short_all item all) ≡ 8 * length (items_bytes all)
@@ -106,23 +109,6 @@ none_written all sink can = record {
   grown = extends_by_none sink;
   whole = refl;
 }
-
--- with the first of those that are left written, those behind it are left
-one_written : (all left : List AppItem) (one : AppItem) (old mid new : Written) → item.IsValue one → Extends mid new (item.short one) → AreWrittenSoFar all (one ∷ left) old mid
-    → AreWrittenSoFar all left old new
-one_written all left one old mid new fits more so_far = record {
-  can = so_far.can.1;
-  are = λ fit. so_far.are (fits, fit);
-  done = so_far.done ++ item.short one;
-  grown = extends_by_both old mid new so_far.done (item.short one) so_far.grown more;
-  whole = so_far.whole ∙ sym (append_assoc so_far.done (item.short one) (short_all item left));
-}
-
--- the same by its place
-pub written_at : (all : List AppItem) (i : ℕ) (one : AppItem) (old mid new : Written) → i < length all → one ≡ get_or all i one → item.IsValue one → Extends mid new (item.short one)
-    → AreWrittenSoFar all (drop i all) old mid → AreWrittenSoFar all (drop (i + 1) all) old new
-written_at all i one old mid new inside here fits more so_far =
-    one_written all (drop (i + 1) all) one old mid new fits more (subst (λ (left : List AppItem). AreWrittenSoFar all left old mid) (left_at all i one inside here) so_far)
 
 -- there is room for the item at a place, where there was room for all
 pub room_at : (all : List AppItem) (i : ℕ) (one : AppItem) (old mid : Written) → i < length all → one ≡ get_or all i one → length (short_all item all) ≤ old.spare

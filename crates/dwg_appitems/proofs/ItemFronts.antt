@@ -9,7 +9,7 @@ use Rattle.dwg_grammar.specs.Grammar.{AnyLetters, BeginsWith, Reads}
 use Rattle.dwg_grammar.specs.ToEnd.{SpellsAll, SpellsToEnd, HaveLeast}
 use Rattle.dwg_grammar.proofs.BodyReading.{parsed_read, parsed_unread}
 use Rattle.dwg_grammar.proofs.ToEndLemmas.{cut_uniquely, no_cut_to_end}
-use Rattle.dwg_codes.proofs.ListReading.{AreRead, none_yet, one_more}
+use Rattle.dwg_codes.proofs.ListReading.{AreRead, one_more}
 use Rattle.dwg_appitems.specs.declared.item.AppItem.{AppItem}
 use Rattle.dwg_appitems.specs.Items.{item}
 use Rattle.dwg_appitems.specs.ItemFront.{IsFront, ReadsItem}
@@ -70,10 +70,6 @@ pub front_unparsed : (bytes piece : List ℕ) (found : Option AppItem) (old new 
     → item.parse old ≡ option_map (λ one. (one, new)) found → ReadsItem None bytes
 front_unparsed bytes piece found old new cut all is was =
     front_unread bytes piece old cut (subst (λ letters. Reads item None letters old) all (parsed_unread item found old new item_is_code is was))
-
--- before the first item none is read
-pub none_so_far : (bytes : List ℕ) → AreRead item [] (bits bytes) (bits (drop 0 bytes))
-none_so_far bytes = none_yet item (bits bytes)
 
 -- an item more is read
 pub one_so_far : (found more : List AppItem) (value : AppItem) (bytes left : List ℕ) (at count : ℕ) → more ≡ found ++ value ∷ [] → left ≡ drop at bytes → IsFront left value count

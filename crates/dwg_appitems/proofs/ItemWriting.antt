@@ -113,6 +113,10 @@ pub text_written : (mark text : List ℕ) (s0 s1 s2 s3 : Written) → Extends s0
 text_written mark text s0 s1 s2 s3 count of_mark of_text =
     subst (Extends s0 s3) (sym (text_short mark text)) (extends_by_both s0 s1 s3 _ _ count (extends_by_both s1 s2 s3 _ _ of_mark of_text))
 
+-- behind its count there is room for the mark and the bytes of a text, where there was room for the text
+pub room_behind_count : (mark text : List ℕ) (s0 s1 : Written) → length (marked_text.short (mark, text)) ≤ s0.spare → Extends s0 s1 (rc.short (length text)) → 8 * (length mark + length text) ≤ s1.spare
+room_behind_count mark text s0 s1 room count = omega (arith, room, count.spare, length_of_text mark text, length_of_low_bits 8 (length text))
+
 -- bytes of a mark and fewer than 256 bytes are those of a text
 pub text_value : (mark text : List ℕ) → length mark ≡ 2 → AreBytes mark → AreBytes text → length text < 2 ^ 8 → marked_text.IsValue (mark, text)
 text_value mark text two bytes all few = ((values_of_bytes 2 mark).1 (two, bytes), (values_of_bytes (length text) text).1 (refl, all), few)

@@ -9,5 +9,8 @@ pub mod ExactSpellings
 pub mod HandleBounds
 pub mod ReferringItems
 pub mod ComputedItems
+pub mod NumberedFindings
 pub mod FindingOrder
+pub mod AppFindingLaws
+pub mod OrderedFindings
 pub mod LookupSteps

@@ -35,10 +35,10 @@ is_layer kinds.Layer = true
 is_layer other = false
 
 -- what an item refers to is there: a layer is an object of kind LAYER, and an object is any, or null
-abbrev pub refers : List ObjectValue → AppItem → Bool
-refers objects (Layer named) = list_any (λ x. handle_of x == named && is_layer (kind_of x)) objects
-refers objects (Object named) = named == 0 || list_any (λ x. handle_of x == named) objects
-refers objects other = true
+abbrev pub is_met : List ObjectValue → AppItem → Bool
+is_met objects (Layer named) = list_any (λ x. handle_of x == named && is_layer (kind_of x)) objects
+is_met objects (Object named) = named == 0 || list_any (λ x. handle_of x == named) objects
+is_met objects other = true
 
 -- the handle that an item refers by
 abbrev pub target_of : AppItem → ℕ
@@ -49,7 +49,7 @@ target_of other = 0
 -- what is found of the item of a number in the application data of a number
 abbrev pub item_findings : List ObjectValue → ℕ → ℕ → ℕ → AppItem → List AppFinding
 item_findings objects handle index place one =
-    if refers objects one then [] else record { handle = handle; index = index; item = place; target = target_of one } ∷ []
+    if is_met objects one then [] else record { handle = handle; index = index; item = place; target = target_of one } ∷ []
 
 -- of items, of which the first has this number
 unfoldable pub items_findings : List ObjectValue → ℕ → ℕ → ℕ → List AppItem → List AppFinding

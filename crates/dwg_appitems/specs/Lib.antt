@@ -6,5 +6,9 @@ pub mod ItemLists
 pub mod ItemFront
 -- What the references of items fail: layers and objects that aren't there.
 pub mod AppFindings
+-- What a finding says: which item stands where, and that its reference leads nowhere.
+pub mod AppFailures
+-- That the findings are exactly these, and in order.
+pub mod AppFindingLaws
 -- How often the handles of items are looked up.
 pub mod ItemLookups

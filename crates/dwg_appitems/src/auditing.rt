@@ -8,6 +8,7 @@ ghost use Rattle.dwg_appitems.specs.ItemLookups.{TakeAtMost, all_item_references
 ghost use Rattle.dwg_graph.specs.Places.{Ascend, handles_of};
 ghost use Rattle.dwg_object.specs.Objects.{value_of};
 
+use crate::apps::apps_of;
 use crate::finding::AppFinding;
 use crate::item::AppItem;
 use crate::reading::read_items;
@@ -15,7 +16,7 @@ use crate::referring::{is_met, target};
 use dwg_base::{Handle, Items, NoMemory};
 use dwg_common::AppData;
 use dwg_graph::Index;
-use dwg_object::{Common, Object};
+use dwg_object::Object;
 use dwg_steps::Steps;
 use std::alloc::Global;
 use std::sync::ledger::Ledger;
@@ -135,27 +136,6 @@ fn judge_apps<L: Ledger>(
         )?;
     }
     Ok(())
-}
-
-/// The application data of a common part.
-fn apps_of_common(common: &Common) -> &[AppData]
-    ensures { result.now ≡ found_by.apps_of_common common.now }
-{
-    match common {
-        Common::Entity(common) => common.app.as_slice(),
-        Common::Object(common) => common.app.as_slice(),
-    }
-}
-
-/// The application data of an object, none of a Raw one.
-fn apps_of<'o>(object: &'o Object<'_>) -> &'o [AppData]
-    ensures { result.now ≡ found_by.apps_of (value_of object.now) }
-{
-    match object {
-        Object::Typed(typed) => apps_of_common(&typed.common),
-        Object::Plain(plain) => apps_of_common(&plain.common),
-        Object::Raw(_) => &[],
-    }
 }
 
 /// Finds what the items of all objects fail. The only refusal is want of memory.

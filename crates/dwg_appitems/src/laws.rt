@@ -1,10 +1,10 @@
 //! The laws of items.
 
 ghost use Rattle.std.specs.Prelude.{◌≡◌, ◌↔◌, ℕ, List, Some};
-ghost use Rattle.dwg_base.specs.Bytes.{AreBytes};
 ghost use Rattle.dwg_grammar.specs.Grammar.{IsLawful};
 ghost use Rattle.dwg_grammar.specs.ToEnd.{AreValues};
 ghost use Rattle.dwg_appitems.specs.declared.item.AppItem.{AppItem};
+ghost use Rattle.dwg_appitems.specs.AppFindingLaws.{AppFindingsAreOrdered, AppFindingsStand, NothingIsFoundIfNothingFails};
 ghost use Rattle.dwg_appitems.specs.AppFindings.{items_in};
 ghost use Rattle.dwg_appitems.specs.ItemLists.{AreItems, items_bytes};
 ghost use Rattle.dwg_appitems.specs.Items.{item};
@@ -16,5 +16,13 @@ pub fn item_laws()
     ensures item { IsLawful item }
     ensures unique { (all others : List AppItem) (bytes : List ℕ) → AreItems all bytes → AreItems others bytes → all ≡ others }
     ensures whole { (all : List AppItem) → AreValues item all → AreItems all (items_bytes all) }
-    ensures computed { (bytes : List ℕ) (all : List AppItem) → AreBytes bytes → (items_in bytes ≡ Some all) ↔ AreItems all bytes }
+    ensures computed { (bytes : List ℕ) (all : List AppItem) → (items_in bytes ≡ Some all) ↔ AreItems all bytes }
+{}
+
+/// What holds of the findings of items: they are exactly the items whose reference leads nowhere; there are none exactly where no
+/// reference does; and those of objects whose handles ascend stand in strictly ascending order of handle, application data and item.
+pub fn app_finding_laws()
+    ensures stands { AppFindingsStand }
+    ensures none { NothingIsFoundIfNothingFails }
+    ensures ordered { AppFindingsAreOrdered }
 {}

@@ -2,6 +2,7 @@
 //! references lead nowhere. The grammar of items is a profile of this project.
 #![tactic(auto)]
 
+mod apps;
 mod auditing;
 mod finding;
 mod handle;
@@ -11,9 +12,10 @@ mod reading;
 mod referring;
 mod writing;
 
+pub use apps::apps_of;
 pub use auditing::app_audit;
 pub use finding::AppFinding;
 pub use item::AppItem;
-pub use laws::item_laws;
+pub use laws::{app_finding_laws, item_laws};
 pub use reading::read_items;
 pub use writing::{items_length, write_items};

@@ -3,7 +3,7 @@
 ghost use Rattle.std.specs.Prelude.{◌≡◌, ◌<◌, ◌^◌, ◌==◌, ◌&&◌, ◌||◌, ℕ, false, length, map};
 ghost use Rattle.std.specs.List.{list_any, slice_get, slice_index_or};
 ghost use Rattle.std.specs.Option.{option_and_then, option_map_or};
-ghost use Rattle.dwg_appitems.specs.AppFindings.{is_layer, refers, target_of};
+ghost use Rattle.dwg_appitems.specs.AppFindings.{is_layer, is_met, target_of};
 ghost use Rattle.dwg_appitems.specs.ItemLookups.{TakeAtMost, item_references};
 ghost use Rattle.dwg_graph.specs.Placed.{place_in};
 ghost use Rattle.dwg_graph.specs.Places.{Ascend, handles_of};
@@ -82,7 +82,7 @@ pub(crate) fn is_met<L: Ledger>(
 ) -> bool
     requires ascend { Ascend (handles_of (map value_of objects.now)) }
     requires known { known.now ≡ handles_of (map value_of objects.now) }
-    ensures met { result ≡ refers (map value_of objects.now) one.now }
+    ensures met { result ≡ is_met (map value_of objects.now) one.now }
     ensures steps { TakeAtMost (length objects.now) (item_references one.now) steps.old steps.new }
 {
     match one {

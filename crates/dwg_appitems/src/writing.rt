@@ -1,12 +1,14 @@
 //! Items written as bytes.
 
-ghost use Rattle.std.specs.Prelude.{◌≡◌, ◌*◌, ◌^◌, ◌<◌, ◌≤◌, length};
+ghost use Rattle.std.specs.Prelude.{◌≡◌, ◌*◌, ◌^◌, ◌<◌, ◌≤◌, length, Some};
 ghost use Rattle.std.specs.List.{AllByRecursion};
 ghost use Rattle.dwg_base.specs.Bytes.{AreBytes};
+ghost use Rattle.dwg_bits.specs.Bits.{bits};
 ghost use Rattle.dwg_bits.specs.Sink.{Extends};
 ghost use Rattle.dwg_grammar.specs.Codes.{rc, IsPoint3};
 ghost use Rattle.dwg_grammar.specs.Combinators.{counted};
 ghost use Rattle.dwg_grammar.specs.ToEnd.{short_all};
+ghost use Rattle.dwg_appitems.specs.AppFindings.{items_in};
 ghost use Rattle.dwg_appitems.specs.ItemLists.{AreItems, CanBeWritten, items_bytes};
 ghost use Rattle.dwg_appitems.specs.Items.{code_of, item, item_by, marked_text, words_of_point};
 
@@ -145,14 +147,16 @@ fn write_item(one: &AppItem, sink: &mut BitSink)
     write_behind(one, sink);
 }
 
-/// Writes items, one behind the other. They are items that can be written, and there is room for them; what is written are these
-/// items, so that they are read back.
+/// Writes items, one behind the other. They are items that can be written, and there is room for them; what is written are the bits
+/// of their bytes, which are these items, so that they are read back.
 #[tactic(auto, using(crate::proofs::AllItems::none_written, crate::proofs::AllItems::one_can_be_written, crate::proofs::AllItems::room_at, crate::proofs::AllItems::all_written, crate::proofs::AllItems::written_are))]
 pub fn write_items(all: &[AppItem], sink: &mut BitSink)
     requires items { AllByRecursion CanBeWritten all.now }
     requires room { length (short_all item all.now) ≤ sink.old.spare }
     ensures written { Extends sink.old sink.new (short_all item all.now) }
+    ensures bits { short_all item all.now ≡ bits (items_bytes all.now) }
     ensures are { AreItems all.now (items_bytes all.now) }
+    ensures computed { items_in (items_bytes all.now) ≡ Some all.now }
 {
     'along: for one in all {
         write_item(one, sink);

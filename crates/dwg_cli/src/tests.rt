@@ -1,5 +1,6 @@
 //! Tests of the program over devices in memory, by command; and the inputs and runs that they share.
 
+mod appdata;
 mod audit;
 mod certificates;
 mod commands;

@@ -1,9 +1,9 @@
 -- So many texts, one behind the other.
 use Rattle.std.proofs.Common.{ℕ, List, ◌++◌}
 use Rattle.std.specs.Prelude.{Option}
-use Rattle.dwg_show.specs.declared.page.Page.{Page}
-use Rattle.dwg_show.specs.Telling.{Tells}
-use Rattle.dwg_show.proofs.Telling.{◌▷◌}
+use Rattle.dwg_page.specs.declared.page.Page.{Page}
+use Rattle.dwg_page.specs.Telling.{Tells}
+use Rattle.dwg_page.proofs.Telling.{◌▷◌}
 
 pub tells_2 : {p0 p1 p2 : Page} {a0 a1 a2 : Option (List ℕ)} {f0 f1 f2 : ℕ} {t1 t2 : List ℕ}
     → Tells p0 p1 a0 a1 f0 f1 t1 → Tells p1 p2 a1 a2 f1 f2 t2

@@ -1,10 +1,11 @@
 -- Fields as they are printed: each on a line of two spaces, its path, a space and its value. A rule of this project.
-use Rattle.std.specs.Prelude.{ℕ, ◌+◌, Bool, List, [], ◌∷◌, ◌++◌, Option, Some, None, codes, decimal, length, ◌==◌, if◌then◌else◌}
+use Rattle.std.specs.Prelude.{ℕ, Bool, List, [], ◌++◌, Option, Some, None, codes, decimal, length, ◌==◌, if◌then◌else◌}
 use Rattle.dwg_grammar.specs.declared.points.Point2.{Point2}
 use Rattle.dwg_grammar.specs.declared.points.Point3.{Point3}
 use Rattle.dwg_grammar.specs.Reference.{Reference}
 use Rattle.dwg_text.specs.Lines.{line, truth, quoted}
-use Rattle.dwg_show.specs.Values.{word_text, point2_text, point3_text, reference_text, bytes_text}
+use Rattle.dwg_page.specs.Numbered.{numbered}
+use Rattle.dwg_page.specs.Values.{word_text, point2_text, point3_text, reference_text, bytes_text}
 
 -- the lines of a value at a path
 abbrev pub Printer : Type 0 → Type 0
@@ -52,14 +53,13 @@ abbrev pub optional : {A : Type 0} → Printer A → Printer (Option A)
 optional {A} print path None = []
 optional {A} print path (Some value) = print path value
 
--- the elements of a list from a number on
-abbrev pub elements_from : {A : Type 0} → Printer A → List ℕ → ℕ → List A → List ℕ
-elements_from {A} print path index [] = []
-elements_from {A} print path index (element ∷ elements) = print (element_path path index) element ++ elements_from print path (index + 1) elements
+-- what is printed of an element of the list at a path
+abbrev pub element : {A : Type 0} → Printer A → List ℕ → ℕ → A → List ℕ
+element {A} print path index value = print (element_path path index) value
 
 -- a list: an empty one has no line
 abbrev pub listed : {A : Type 0} → Printer A → Printer (List A)
-listed {A} print path elements = elements_from print path 0 elements
+listed {A} print path elements = numbered (element print path) 0 elements
 
 -- a member of what stands at a path, by its name
 abbrev pub member : {A : Type 0} → List ℕ → List ℕ → Printer A → A → List ℕ

@@ -1,9 +1,5 @@
--- What is printed of single values.
-pub mod Values
 -- Fields as they are printed: each on a line of two spaces, its path, a space and its value.
 pub mod Fields
--- What a page and the sink below it do as a text is told to the page.
-pub mod Telling
 -- The fields of the common parts of objects, in the order of their structs.
 pub mod CommonFields
 -- The fields of shapes, in the order of their structs.

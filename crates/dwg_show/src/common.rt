@@ -4,9 +4,9 @@ ghost use Rattle.dwg_show.specs.CommonFields as fields;
 
 use crate::bytes::{print_bytes, print_bytes_where};
 use crate::fields::{Print, print_member};
-use crate::page::Page;
 use dwg_base::Sink;
 use dwg_common::{AppData, EntityCommon, Links, ObjectCommon};
+use dwg_page::Page;
 
 impl Print for AppData {
     ghost lines = { fields.app_data_fields };

@@ -4,12 +4,12 @@ ghost use Rattle.dwg_show.specs.DictsFields as fields;
 
 use crate::bytes::print_bytes;
 use crate::fields::{Print, print_member};
-use crate::page::Page;
 use dwg_base::Sink;
 use dwg_dicts::{
     AppIdControl, BlockControl, DictItem, Dictionary, LayerControl, LtypeControl, StyleControl,
     XRecord,
 };
+use dwg_page::Page;
 
 impl Print for BlockControl {
     ghost lines = { fields.block_control_fields };

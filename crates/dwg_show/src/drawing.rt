@@ -10,15 +10,14 @@ ghost use Rattle.dwg_text.specs.Classes.{class_line, classes_text};
 ghost use Rattle.dwg_text.specs.Lines.{line};
 ghost use Rattle.dwg_show.specs.DrawingText as texts;
 ghost use Rattle.dwg_show.specs.FewBits.{HasFewBits};
-ghost use Rattle.dwg_show.specs.Telling.{Tells};
+ghost use Rattle.dwg_page.specs.Telling.{Tells};
 
-use crate::bytes::tell_bytes;
-use crate::page::{Page, ShowFault};
 use crate::paragraphs::{Tell, tell_all};
 use dwg_base::Sink;
 use dwg_classes::Class;
 use dwg_file::{Drawing, Other, Parts};
 use dwg_object::Object;
+use dwg_page::{Page, ShowFault, tell_bytes};
 use dwg_text::push_class_line;
 use std::alloc::{AllocError, Global};
 
@@ -36,7 +35,7 @@ impl Tell for Class {
 
     ghost told = { class_line };
 
-    #[tactic(auto, using(crate::proofs::Telling::tells_idle))]
+    #[tactic(auto, using(dwg_page::proofs::Telling::tells_idle))]
     fn tell<W: Sink>(&self, page: &mut Page, sink: &mut W) {
         if page.fault.is_some() {
             return;

@@ -3,9 +3,9 @@
 ghost use Rattle.dwg_show.specs.EntitiesFields as fields;
 
 use crate::fields::{Print, print_member};
-use crate::page::Page;
 use dwg_base::Sink;
 use dwg_entities::{Attdef, Attrib, Attributes, Block, EndBlk, Insert, SeqEnd, Text};
+use dwg_page::Page;
 
 impl Print for Text {
     ghost lines = { fields.text_fields };
@@ -88,13 +88,13 @@ impl Print for Block {
 impl Print for EndBlk {
     ghost lines = { fields.endblk_fields };
 
-    #[tactic(auto, using(crate::proofs::Telling::tells_nothing), unfolding(crate::specs::EntitiesFields::endblk_fields))]
+    #[tactic(auto, using(dwg_page::proofs::Telling::tells_nothing), unfolding(crate::specs::EntitiesFields::endblk_fields))]
     fn print<W: Sink>(&self, _path: &str, _page: &mut Page, _sink: &mut W) {}
 }
 
 impl Print for SeqEnd {
     ghost lines = { fields.seqend_fields };
 
-    #[tactic(auto, using(crate::proofs::Telling::tells_nothing), unfolding(crate::specs::EntitiesFields::seqend_fields))]
+    #[tactic(auto, using(dwg_page::proofs::Telling::tells_nothing), unfolding(crate::specs::EntitiesFields::seqend_fields))]
     fn print<W: Sink>(&self, _path: &str, _page: &mut Page, _sink: &mut W) {}
 }

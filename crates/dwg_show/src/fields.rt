@@ -2,13 +2,12 @@
 
 ghost use Rattle.std.specs.Prelude.{◌≡◌, ◌++◌, OnOk, List, ℕ, string_bytes};
 ghost use Rattle.dwg_show.specs.Fields as printers;
-ghost use Rattle.dwg_show.specs.Telling.{Tells};
+ghost use Rattle.dwg_page.specs.Telling.{Tells};
 
-use crate::page::{Page, ShowFault};
-use crate::values::{Count, Value};
 use dwg_base::{ByteRun, Items, Sink};
 use dwg_codes::{Point2, Point3};
 use dwg_handles::Ref;
+use dwg_page::{Count, Page, ShowFault, Value};
 use std::alloc::AllocError;
 
 /// What is printed at a path: a value by one line, an option by those of what it holds, a list by those of its elements, and a
@@ -35,7 +34,7 @@ fn push_line<T: Value>(text: &mut String, path: &str, value: &T) -> Result<(), A
 }
 
 /// Prints the line of a value.
-#[tactic(auto, using(crate::proofs::Telling::tells_idle, crate::proofs::Telling::tells_pushed, crate::proofs::Telling::tells_wanting))]
+#[tactic(auto, using(dwg_page::proofs::Telling::tells_idle, dwg_page::proofs::Telling::tells_pushed, dwg_page::proofs::Telling::tells_wanting))]
 fn print_line<T: Value, W: Sink>(value: &T, path: &str, page: &mut Page, sink: &mut W)
     ensures { Tells page.old page.new (W.taken sink.old) (W.taken sink.new) (W.faults sink.old) (W.faults sink.new) (printers.field_line path.now (T.printed value.now)) }
 {
@@ -141,7 +140,7 @@ pub(crate) fn print_member<T: Print, W: Sink>(
 }
 
 /// Prints an element of the list at a path.
-#[tactic(auto, using(crate::proofs::Telling::tells_idle))]
+#[tactic(auto, using(dwg_page::proofs::Telling::tells_idle))]
 fn print_element<T: Print, W: Sink>(
     element: &T,
     path: &str,
@@ -180,7 +179,7 @@ impl<T: Print> Print for Items<T> {
 impl<T: Print> Print for Option<T> {
     ghost lines = { printers.optional T.lines };
 
-    #[tactic(auto, using(crate::proofs::Telling::tells_nothing))]
+    #[tactic(auto, using(dwg_page::proofs::Telling::tells_nothing))]
     fn print<W: Sink>(&self, path: &str, page: &mut Page, sink: &mut W) {
         match self {
             Some(value) => value.print(path, page, sink),

@@ -8,11 +8,9 @@ mod drawing;
 mod entities;
 mod fields;
 mod object;
-mod page;
 mod paragraphs;
 mod shapes;
 mod tables;
-mod values;
 
 pub use drawing::show;
-pub use page::ShowFault;
+pub use dwg_page::ShowFault;

@@ -9,17 +9,16 @@ ghost use Rattle.dwg_object.specs.Objects.{value_of};
 ghost use Rattle.dwg_show.specs.Fields as printers;
 ghost use Rattle.dwg_show.specs.FewBits.{HasFewBits};
 ghost use Rattle.dwg_show.specs.ObjectText as texts;
-ghost use Rattle.dwg_show.specs.Telling.{Tells};
+ghost use Rattle.dwg_page.specs.Telling.{Tells};
 
 use crate::bytes::print_slice;
 use crate::fields::{Print, print_member};
-use crate::page::Page;
 use crate::paragraphs::Tell;
-use crate::values::Count;
 use dwg_base::Sink;
 use dwg_bits::{BitPart, BitSink};
 use dwg_kinds::name_of;
-use dwg_object::{Body, Common, Object};
+use dwg_object::{Body, Common, Object, by_kind};
+use dwg_page::{Count, Page};
 use std::alloc::{AllocError, Global};
 
 impl Print for Common {
@@ -39,32 +38,7 @@ impl Print for Body {
 
     #[tactic(auto, unfolding(crate::specs::ObjectText::body_fields))]
     fn print<W: Sink>(&self, path: &str, page: &mut Page, sink: &mut W) {
-        match self {
-            Body::Text(body) => body.print(path, page, sink),
-            Body::Attrib(body) => body.print(path, page, sink),
-            Body::Attdef(body) => body.print(path, page, sink),
-            Body::Block(body) => body.print(path, page, sink),
-            Body::EndBlk(body) => body.print(path, page, sink),
-            Body::SeqEnd(body) => body.print(path, page, sink),
-            Body::Insert(body) => body.print(path, page, sink),
-            Body::Arc(body) => body.print(path, page, sink),
-            Body::Circle(body) => body.print(path, page, sink),
-            Body::Line(body) => body.print(path, page, sink),
-            Body::Point(body) => body.print(path, page, sink),
-            Body::LwPolyline(body) => body.print(path, page, sink),
-            Body::Dictionary(body) => body.print(path, page, sink),
-            Body::BlockControl(body) => body.print(path, page, sink),
-            Body::BlockHeader(body) => body.print(path, page, sink),
-            Body::LayerControl(body) => body.print(path, page, sink),
-            Body::Layer(body) => body.print(path, page, sink),
-            Body::StyleControl(body) => body.print(path, page, sink),
-            Body::Style(body) => body.print(path, page, sink),
-            Body::LtypeControl(body) => body.print(path, page, sink),
-            Body::Ltype(body) => body.print(path, page, sink),
-            Body::AppIdControl(body) => body.print(path, page, sink),
-            Body::AppId(body) => body.print(path, page, sink),
-            Body::XRecord(body) => body.print(path, page, sink),
-        }
+        by_kind!(body self, body => body.print(path, page, sink))
     }
 }
 
@@ -161,7 +135,7 @@ impl Tell for Object<'_> {
 
     ghost told = { λ object. texts.object_text (value_of object) };
 
-    #[tactic(auto, using(crate::proofs::Telling::tells_idle), unfolding(crate::specs::ObjectText::object_text))]
+    #[tactic(auto, using(dwg_page::proofs::Telling::tells_idle), unfolding(crate::specs::ObjectText::object_text))]
     fn tell<W: Sink>(&self, page: &mut Page, sink: &mut W) {
         if page.fault.is_some() {
             return;

@@ -2,10 +2,10 @@
 
 ghost use Rattle.std.specs.Prelude.{List, ℕ, flat_map};
 ghost use Rattle.std.specs.List.{AllByRecursion};
-ghost use Rattle.dwg_show.specs.Telling.{Tells};
+ghost use Rattle.dwg_page.specs.Telling.{Tells};
 
-use crate::page::Page;
 use dwg_base::Sink;
+use dwg_page::Page;
 
 /// What is printed by lines of its own.
 pub(crate) trait Tell {

@@ -3,8 +3,8 @@
 ghost use Rattle.dwg_show.specs.ShapesFields as fields;
 
 use crate::fields::{Print, print_member};
-use crate::page::Page;
 use dwg_base::Sink;
+use dwg_page::Page;
 use dwg_shapes::{Arc, Circle, Line, LwPolyline, Point, Width};
 
 impl Print for Line {

@@ -4,8 +4,8 @@ ghost use Rattle.dwg_show.specs.TablesFields as fields;
 
 use crate::bytes::print_bytes;
 use crate::fields::{Print, print_member};
-use crate::page::Page;
 use dwg_base::Sink;
+use dwg_page::Page;
 use dwg_tables::{AppId, BlockHeader, Dash, Ends, Entry, InsertMark, Layer, Ltype, Style};
 
 impl Print for Entry {

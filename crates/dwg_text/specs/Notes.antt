@@ -6,7 +6,7 @@ use Rattle.dwg_text.specs.Lines.{line}
 
 -- which words the program takes
 unfoldable pub usage_note : List ℕ
-usage_note = line (codes "dwg: usage: sections | classes | show | rewrite | audit | recover | make N SEED | drill N | certify | accept")
+usage_note = line (codes "dwg: usage: sections | classes | show | rewrite | audit | recover | make N SEED | drill N | appdata | certify | accept")
 
 -- a drawing has no certificate
 unfoldable pub unsound_note : List ℕ

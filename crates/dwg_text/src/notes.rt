@@ -12,7 +12,7 @@ use std::alloc::{AllocError, Global};
 pub fn usage_note() -> &'static [u8]
     ensures { result.now ≡ texts.usage_note }
 {
-    b"dwg: usage: sections | classes | show | rewrite | audit | recover | make N SEED | drill N | certify | accept\n"
+    b"dwg: usage: sections | classes | show | rewrite | audit | recover | make N SEED | drill N | appdata | certify | accept\n"
 }
 
 /// The references of a drawing don't hold together, so it has no certificate.

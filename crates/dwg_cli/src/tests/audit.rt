@@ -12,15 +12,15 @@ pub(crate) struct Audited;
 
 impl Case for Audited {
     fn holds(alloc: Global, paragraph: &str) -> bool {
-        is_audited(alloc, paragraph).unwrap_or(false)
+        is_printed(alloc, "dwg audit", paragraph).unwrap_or(false)
     }
 }
 
-/// What the audit has to leave where it prints this, but for the last line end.
+/// What an audit has to leave where it prints this, but for the last line end: its verdict is yes or no.
 fn wanted(alloc: Global, text: &str) -> Option<Wanted> {
     let mut output = Vec::from_slice(alloc, text.as_bytes()).ok()?;
     output.push(b'\n').ok()?;
-    let status = if text == "audit yes" {
+    let status = if text.ends_with(" yes") {
         Status::Done
     } else {
         Status::Found
@@ -32,13 +32,13 @@ fn wanted(alloc: Global, text: &str) -> Option<Wanted> {
     })
 }
 
-/// Whether the audit of a paragraph's input prints its lines.
-fn is_audited(alloc: Global, paragraph: &str) -> Option<bool> {
+/// Whether an audit of a paragraph's input prints its lines.
+pub(crate) fn is_printed(alloc: Global, line: &str, paragraph: &str) -> Option<bool> {
     let (_what, rest) = paragraph.split_once("\n")?;
     let (input, text) = rest.split_once("\n")?;
     let bytes = input_of(alloc, input)?;
     let wanted = wanted(alloc, text)?;
-    Some(leaves(alloc, "dwg audit", &bytes, in_pieces(PLENTY), &wanted))
+    Some(leaves(alloc, line, &bytes, in_pieces(PLENTY), &wanted))
 }
 
 /// Claims: an item of a dictionary leads to one object more.

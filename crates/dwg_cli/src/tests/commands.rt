@@ -158,7 +158,7 @@ D43628289D57CA3F9D44102B0100000000E0DA92F82BC9D7D762A835C062BBEFD40C004A92800000
 
 /// What a run leaves that tells how the program is used.
 const USAGE: &str =
-    "Usage | - | dwg: usage: sections | classes | show | rewrite | audit | recover | make N SEED | drill N | certify | accept";
+    "Usage | - | dwg: usage: sections | classes | show | rewrite | audit | recover | make N SEED | drill N | appdata | certify | accept";
 
 /// What drawings are shown as.
 const SHOWN: &str = "\

@@ -79,7 +79,7 @@ fn prints_sections_and_notes(rt: HostRuntime) {
         dwg: refused: map 3 at 204: duplicate\n\
         dwg: read fault\n\
         dwg: input too long\n\
-        dwg: usage: sections | classes | show | rewrite | audit | recover | make N SEED | drill N | certify | accept\n",
+        dwg: usage: sections | classes | show | rewrite | audit | recover | make N SEED | drill N | appdata | certify | accept\n",
     );
 }
 

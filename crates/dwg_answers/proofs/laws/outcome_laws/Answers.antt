@@ -1,5 +1,6 @@
 use Rattle.dwg_answers.proofs.CertificateAnswers.{FormLaws, none_is_certified, sound_is_certified, unsound_is_noted, no_certificate_is_refused, no_drawing_behind_is_refused, accept_tells_accepted, certified_is_accepted}
 use Rattle.dwg_answers.proofs.CertificateReplies.{AcceptanceLaws}
+use Rattle.dwg_answers.proofs.ItemAnswers.{no_items_are_told, appdata_tells_items}
 use Rattle.dwg_answers.proofs.OutcomeLaws.{DrawingLaws, FileLaws, no_drawing_is_refused, show_prints_drawing, rewrite_writes_drawing, rewrite_tells_size, audit_tells_sound, recover_rewrites_drawing, recover_writes_frames}
 use Rattle.dwg_answers.proofs.SectionLemmas.{PartLaws, sections_prints_header, no_header_is_refused, classes_prints_classes, no_classes_are_refused}
 use Rattle.dwg_answers.proofs.ShortDamage.{short_damage_is_told}
@@ -41,6 +42,8 @@ returns c =
       short =
           short_damage_is_told c.canonical_laws.ensures.counted c.short_damage_laws.ensures.refused c.short_damage_laws.ensures.elsewhere
           c.short_damage_laws-2.ensures.short;
+      no_items = no_items_are_told laws;
+      items = appdata_tells_items laws c.app_finding_laws.ensures.none;
       no_certified = none_is_certified laws;
       certify = sound_is_certified laws auditable acceptance;
       unsound = unsound_is_noted laws auditable acceptance;

@@ -17,4 +17,4 @@ pub returns-clause-whole : goal.returns-clause-whole
 returns-clause-whole c = items_whole
 
 pub returns-clause-computed : goal.returns-clause-computed
-returns-clause-computed c bytes all are = (computed_are bytes all, are_computed bytes all)
+returns-clause-computed c bytes all = (computed_are bytes all, are_computed bytes all)

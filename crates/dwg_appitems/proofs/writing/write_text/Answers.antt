@@ -1,38 +1,29 @@
 use Rattle.std.proofs.Common.{arith, ap, length, subst}
-use Rattle.dwg_bits.proofs.BitLaws.{length_of_low_bits}
 use Rattle.dwg_bits.specs.Sink.{Extends}
 use Rattle.dwg_codes.proofs.RunReading.{length_of_run}
 use Rattle.dwg_grammar.specs.Codes.{rc}
 use Rattle.dwg_grammar.specs.ToEnd.{short_all}
-use Rattle.dwg_appitems.proofs.ItemWriting.{length_of_text, text_written, text_value}
+use Rattle.dwg_appitems.proofs.ItemWriting.{room_behind_count, text_written, text_value}
 use Rattle.dwg_appitems.proofs.writing.write_text.Goals as goal
 
 pub write_bytes-requires : goal.write_bytes-requires
-write_bytes-requires c = record {
-  room = omega (
-    arith,
-    c.requires.room,
-    length_of_text c.args.mark.now c.args.text.now,
-    c.write.ensures.spare,
-    length_of_low_bits 8 (length c.args.text.now),
-    ap length c.bounded_bytes.ensures.same,
-  );
-}
+write_bytes-requires c =
+    let room = room_behind_count c.args.mark.now c.args.text.now c.args.sink.now c.write.new.sink c.requires.room c.write.ensures in
+    record { room = omega (arith, room, ap length c.bounded_bytes.ensures.same) }
 
 pub write_bytes-requires-2 : goal.write_bytes-requires-2
-write_bytes-requires-2 c = record {
-  room = omega (
-    arith,
-    c.requires.room,
-    length_of_text c.args.mark.now c.args.text.now,
-    c.write.ensures.spare,
-    length_of_low_bits 8 (length c.args.text.now),
-    ap length c.bounded_bytes.ensures.same,
-    c.write_bytes.ensures.spare,
-    length_of_run c.bounded_bytes.result.now,
-    ap length c.bounded_bytes-2.ensures.same,
-  );
-}
+write_bytes-requires-2 c =
+    let room = room_behind_count c.args.mark.now c.args.text.now c.args.sink.now c.write.new.sink c.requires.room c.write.ensures in
+    record {
+      room = omega (
+        arith,
+        room,
+        ap length c.bounded_bytes.ensures.same,
+        c.write_bytes.ensures.spare,
+        length_of_run c.bounded_bytes.result.now,
+        ap length c.bounded_bytes-2.ensures.same,
+      );
+    }
 
 pub returns-clause-written : goal.returns-clause-written
 returns-clause-written c =

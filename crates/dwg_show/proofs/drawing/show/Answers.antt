@@ -1,6 +1,6 @@
 use Rattle.std.proofs.Common.{ap}
 use Rattle.dwg_show.specs.DrawingText.{show_text}
-use Rattle.dwg_show.proofs.Telling.{◌▷◌, told_whole}
+use Rattle.dwg_page.proofs.Telling.{◌▷◌, told_whole}
 use Rattle.dwg_show.proofs.drawing.show.Goals as goal
 
 pub returns-clause-bytes : goal.returns-clause-bytes

@@ -1,6 +1,6 @@
 use Rattle.dwg_show.proofs.FewBits.{all_of_any}
 use Rattle.dwg_text.specs.Classes.{classes_text}
-use Rattle.dwg_show.proofs.Telling.{◌▷◌}
+use Rattle.dwg_page.proofs.Telling.{◌▷◌}
 use Rattle.dwg_show.proofs.drawing.tell_classes.Goals as goal
 
 pub returns : goal.returns

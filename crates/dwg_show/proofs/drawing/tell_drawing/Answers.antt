@@ -7,8 +7,8 @@ use Rattle.dwg_file.specs.Contents.{other_value}
 use Rattle.dwg_object.specs.Objects.{value_of}
 use Rattle.dwg_text.specs.Classes.{classes_text}
 use Rattle.dwg_show.specs.DrawingText.{variables_line, other_line, objects_text, show_text}
-use Rattle.dwg_show.specs.Telling.{Tells}
-use Rattle.dwg_show.proofs.Telling.{◌▷◌}
+use Rattle.dwg_page.specs.Telling.{Tells}
+use Rattle.dwg_page.proofs.Telling.{◌▷◌}
 use Rattle.dwg_show.proofs.drawing.tell_drawing.Goals as goal
 
 pub returns : goal.returns

@@ -1,5 +1,5 @@
 use Rattle.dwg_show.specs.DrawingText.{drawing_line}
-use Rattle.dwg_show.proofs.Telling.{◌▷◌}
+use Rattle.dwg_page.proofs.Telling.{◌▷◌}
 use Rattle.dwg_show.proofs.drawing.tell_drawing_line.Goals as goal
 
 pub returns : goal.returns

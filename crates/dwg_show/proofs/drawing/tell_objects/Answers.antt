@@ -7,9 +7,9 @@ use Rattle.dwg_object.specs.Objects.{value_of}
 use Rattle.dwg_text.specs.Lines.{line}
 use Rattle.dwg_show.specs.DrawingText.{objects_text}
 use Rattle.dwg_show.specs.ObjectText.{object_text}
-use Rattle.dwg_show.specs.Telling.{Tells}
-use Rattle.dwg_show.proofs.Elements.{told_of_seen}
-use Rattle.dwg_show.proofs.Telling.{◌▷◌}
+use Rattle.dwg_page.specs.Telling.{Tells}
+use Rattle.dwg_page.proofs.Elements.{told_of_seen}
+use Rattle.dwg_page.proofs.Telling.{◌▷◌}
 use Rattle.dwg_show.proofs.drawing.tell_objects.Goals as goal
 
 pub returns : goal.returns

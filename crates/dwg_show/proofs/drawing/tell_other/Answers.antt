@@ -1,5 +1,5 @@
 use Rattle.dwg_show.specs.DrawingText.{other_line}
-use Rattle.dwg_show.proofs.Telling.{◌▷◌}
+use Rattle.dwg_page.proofs.Telling.{◌▷◌}
 use Rattle.dwg_show.proofs.drawing.tell_other.Goals as goal
 
 pub returns : goal.returns

@@ -2,8 +2,8 @@ use Rattle.dwg_show.proofs.FewBits.{all_of_any}
 use Rattle.std.proofs.Common.{subst}
 use Rattle.dwg_file.specs.Contents.{other_value}
 use Rattle.dwg_show.specs.DrawingText.{other_line}
-use Rattle.dwg_show.specs.Telling.{Tells}
-use Rattle.dwg_show.proofs.Elements.{told_of_seen}
+use Rattle.dwg_page.specs.Telling.{Tells}
+use Rattle.dwg_page.proofs.Elements.{told_of_seen}
 use Rattle.dwg_show.proofs.drawing.tell_others.Goals as goal
 
 pub returns : goal.returns

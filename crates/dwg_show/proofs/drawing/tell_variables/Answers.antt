@@ -1,5 +1,5 @@
 use Rattle.dwg_show.specs.DrawingText.{variables_line}
-use Rattle.dwg_show.proofs.Telling.{◌▷◌}
+use Rattle.dwg_page.proofs.Telling.{◌▷◌}
 use Rattle.dwg_show.proofs.drawing.tell_variables.Goals as goal
 
 pub returns : goal.returns

@@ -1,9 +1,9 @@
 use Rattle.std.proofs.Common.{sym, ◌∙◌, ap, subst, Some}
 use Rattle.std.proofs.lemmas.Option.{slice_get-get_or}
 use Rattle.dwg_base.proofs.OneOfAll.{one_of_all}
-use Rattle.dwg_show.specs.Telling.{Tells}
-use Rattle.dwg_show.proofs.Elements.{more_paragraphs}
-use Rattle.dwg_show.proofs.Telling.{◌▷◌}
+use Rattle.dwg_page.specs.Telling.{Tells}
+use Rattle.dwg_page.proofs.Elements.{more_paragraphs}
+use Rattle.dwg_page.proofs.Telling.{◌▷◌}
 use Rattle.dwg_show.proofs.paragraphs.tell_all.Goals as goal
 
 pub along-preserved : goal.along-preserved

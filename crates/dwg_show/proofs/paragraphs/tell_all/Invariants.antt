@@ -1,6 +1,6 @@
 use Rattle.std.proofs.Common.{take}
 use Rattle.std.specs.Prelude.{flat_map}
-use Rattle.dwg_show.specs.Telling.{Tells}
+use Rattle.dwg_page.specs.Telling.{Tells}
 use Rattle.dwg_show.proofs.paragraphs.tell_all.Given as goal
 
 -- those so far are told

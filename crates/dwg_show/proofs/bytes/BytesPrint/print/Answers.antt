@@ -1,5 +1,5 @@
 use Rattle.dwg_show.specs.Fields.{field_line}
-use Rattle.dwg_show.proofs.Telling.{◌▷◌}
+use Rattle.dwg_page.proofs.Telling.{◌▷◌}
 use Rattle.dwg_show.proofs.bytes.BytesPrint.print.Goals as goal
 
 pub returns : goal.returns

@@ -1,5 +1,5 @@
 use Rattle.dwg_show.specs.EntitiesFields.{attdef_fields}
-use Rattle.dwg_show.proofs.Telling.{◌▷◌}
+use Rattle.dwg_page.proofs.Telling.{◌▷◌}
 use Rattle.dwg_show.proofs.entities.AttdefPrint.print.Goals as goal
 
 pub returns : goal.returns

@@ -1,5 +1,5 @@
 use Rattle.dwg_show.specs.EntitiesFields.{attrib_fields}
-use Rattle.dwg_show.proofs.Telling.{◌▷◌}
+use Rattle.dwg_page.proofs.Telling.{◌▷◌}
 use Rattle.dwg_show.proofs.entities.AttribPrint.print.Goals as goal
 
 pub returns : goal.returns

@@ -1,5 +1,5 @@
 use Rattle.dwg_show.specs.ObjectText.{object_text}
-use Rattle.dwg_show.proofs.Telling.{◌▷◌}
+use Rattle.dwg_page.proofs.Telling.{◌▷◌}
 use Rattle.dwg_show.proofs.object.ObjectTell.tell.Goals as goal
 
 pub returns : goal.returns

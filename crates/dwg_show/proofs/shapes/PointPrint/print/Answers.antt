@@ -1,5 +1,5 @@
 use Rattle.dwg_show.specs.ShapesFields.{point_fields}
-use Rattle.dwg_show.proofs.Telling.{◌▷◌}
+use Rattle.dwg_page.proofs.Telling.{◌▷◌}
 use Rattle.dwg_show.proofs.shapes.PointPrint.print.Goals as goal
 
 pub returns : goal.returns

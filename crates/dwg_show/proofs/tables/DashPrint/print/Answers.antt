@@ -1,5 +1,5 @@
 use Rattle.dwg_show.specs.TablesFields.{dash_fields}
-use Rattle.dwg_show.proofs.Telling.{◌▷◌}
+use Rattle.dwg_page.proofs.Telling.{◌▷◌}
 use Rattle.dwg_show.proofs.tables.DashPrint.print.Goals as goal
 
 pub returns : goal.returns

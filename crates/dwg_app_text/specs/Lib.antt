@@ -1,0 +1,2 @@
+-- The text of the extended data of a drawing.
+pub mod AppText

@@ -1,0 +1,4 @@
+pub mod Telling
+pub mod Words
+pub mod Digits
+pub mod Elements
