@@ -1,9 +1,10 @@
-pub mod AppShort
+pub mod UntilReading
+pub mod ChainReading
 pub mod AppReading
 pub mod AppWriting
-pub mod ObjectParts
 pub mod TwoRefsReading
 pub mod SizedParts
 pub mod MemberLemmas
+pub mod MemberLoops
 pub mod PointReading
 pub mod TextReading

@@ -1,5 +1,5 @@
 -- The application data of an object, which stand in its main bits (Open Design Specification, "Extended object data").
-use Rattle.std.specs.Prelude.{◌≡◌, ◌==◌, ℕ, ◌^◌, ◌<◌, ◌≤◌, Bool, true, List, length}
+use Rattle.std.specs.Prelude.{◌≡◌, ◌==◌, ℕ, ◌^◌, ◌<◌, ◌≤◌, Bool, true, List, ◌++◌, length}
 use Rattle.dwg_base.specs.Bytes.{AreBytes}
 use Rattle.dwg_grammar.specs.Codes.{bs, rc}
 use Rattle.dwg_grammar.specs.Combinators.{seq, items, until, shaped}
@@ -24,3 +24,7 @@ app_item base size =
 -- BS size, at least 1, and an item of that size, as often as there are items; then BS 0
 unfoldable pub app_list : ℕ → Grammar Bool (List AppData)
 app_list base = until bs 0 (λ size. size == 0) (app_item base) (λ item. length item.bytes) (IsAppData base)
+
+-- what is written of an item behind its size
+abbrev pub item_short : ℕ → AppData → List Bool
+item_short base item = bs.short (length item.bytes) ++ (app_item base (length item.bytes)).short item

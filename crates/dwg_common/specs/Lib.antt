@@ -8,8 +8,6 @@ pub mod AppList
 pub mod Entities
 -- What all objects have that are no entities.
 pub mod NonEntities
--- What is written of application data, item by item.
-pub mod AppShort
 -- Application data are a code.
 pub mod AppListLaws
 -- The common parts meet the laws of bodies.

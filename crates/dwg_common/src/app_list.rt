@@ -4,11 +4,10 @@ ghost use Rattle.std.specs.Prelude.{◌≡◌, ◌<◌, ◌≤◌, ◌^◌, ◌�
 ghost use Rattle.dwg_base.specs.Bytes.{AreBytes};
 ghost use Rattle.dwg_bits.specs.Sink.{Extends};
 ghost use Rattle.dwg_common.specs.Parsing.{Keeps, Parses};
-ghost use Rattle.dwg_common.specs.AppList.{IsAppData, app_item, app_list};
-ghost use Rattle.dwg_common.specs.AppShort.{item_short, items_short};
+ghost use Rattle.dwg_common.specs.AppList.{IsAppData, app_item, app_list, item_short};
 
 use crate::app_data::AppData;
-use crate::parts::{parse_bytes, parse_ref};
+use crate::parts::{parse_bytes, parse_code, parse_ref};
 use dwg_base::{Handle, Items, NoMemory};
 use dwg_bits::{BitCursor, BitSink};
 use dwg_codes::{BitCode, CodeBS, bytes_length, write_bytes};
@@ -38,7 +37,7 @@ fn read_item(
 }
 
 /// Reads items up to their mark. None exactly where no front of the rest spells them; the only refusal is want of memory.
-#[tactic(auto, using(crate::proofs::AppReading::none_begun))]
+#[tactic(auto, unfolding(crate::specs::AppList::app_list, dwg_grammar::specs::Combinators::until), using(crate::proofs::UntilReading::behind_none))]
 pub(crate) fn read_items(
     alloc: Global,
     cursor: &mut BitCursor<'_>,
@@ -49,7 +48,7 @@ pub(crate) fn read_items(
 {
     let mut found = Items::new(alloc);
     'along: loop {
-        let Some(size) = CodeBS::read(&(), cursor) else {
+        let Some(size) = parse_code::<CodeBS>(&(), cursor) else {
             return Ok(None);
         };
         if size == MARK {
@@ -87,7 +86,7 @@ fn item_fits(item: &AppData, base: Handle) -> bool
 
 /// Whether application data have a spelling in the object of the handle `base`: each item has 1 to 65,535 bytes, and the code
 /// of its reference reaches the application.
-#[tactic(auto, using(crate::proofs::AppWriting::none_tried, crate::proofs::AppWriting::one_fails, crate::proofs::AppWriting::all_tried))]
+#[tactic(auto, unfolding(crate::specs::AppList::app_list, dwg_grammar::specs::Combinators::until))]
 pub(crate) fn app_fits(app: &[AppData], base: Handle) -> bool
     ensures { IsTrue result ↔ (app_list base).IsValue app.now }
 {
@@ -113,21 +112,21 @@ fn item_bits(item: &AppData, base: Handle) -> u64
 }
 
 /// How many bits application data are written by in the object of the handle `base`, fewer than 2^62.
-#[tactic(auto, using(crate::proofs::AppWriting::none_counted, crate::proofs::AppWriting::counted_within, crate::proofs::AppWriting::all_counted))]
+#[tactic(auto, unfolding(crate::specs::AppList::app_list, dwg_grammar::specs::Combinators::until))]
 pub(crate) fn app_length(app: &[AppData], base: Handle) -> u64
     requires value { (app_list base).IsValue app.now }
     requires few { length ((app_list base).short app.now) < 2 ^ 62 }
     ensures { result ≡ length ((app_list base).short app.now) }
 {
-    let mut bits = CodeBS::length(&(), &MARK);
+    let mut bits = 0;
     'along: for item in app {
         bits += item_bits(item, base);
     }
-    bits
+    bits + CodeBS::length(&(), &MARK)
 }
 
 /// Writes an item behind its size.
-#[tactic(auto, using(crate::proofs::AppWriting::length_of_item))]
+#[tactic(auto, unfolding(dwg_grammar::specs::Combinators::chain), using(crate::proofs::AppWriting::length_of_item))]
 fn write_item(item: &AppData, base: Handle, sink: &mut BitSink)
     requires item { IsAppData base item.now }
     requires room { length (item_short base item.now) ≤ sink.old.spare }
@@ -139,24 +138,15 @@ fn write_item(item: &AppData, base: Handle, sink: &mut BitSink)
     write_bytes(bytes, sink);
 }
 
-/// Writes items, each behind its size.
-#[tactic(auto, using(crate::proofs::AppWriting::none_so_far, crate::proofs::AppWriting::room_at, crate::proofs::AppWriting::all_so_far))]
-fn write_items(app: &[AppData], base: Handle, sink: &mut BitSink)
-    requires value { (app_list base).IsValue app.now }
-    requires room { length (items_short base app.now) ≤ sink.old.spare }
-    ensures { Extends sink.old sink.new (items_short base app.now) }
-{
-    'along: for item in app {
-        write_item(item, base, sink);
-    }
-}
-
-/// Writes application data in the object of the handle `base`, and the mark behind them.
+/// Writes application data in the object of the handle `base`, each item behind its size, and the mark behind them.
+#[tactic(auto, unfolding(crate::specs::AppList::app_list, dwg_grammar::specs::Combinators::until))]
 pub(crate) fn write_app(app: &[AppData], base: Handle, sink: &mut BitSink)
     requires value { (app_list base).IsValue app.now }
     requires room { length ((app_list base).short app.now) ≤ sink.old.spare }
     ensures { Extends sink.old sink.new ((app_list base).short app.now) }
 {
-    write_items(app, base, sink);
+    'along: for item in app {
+        write_item(item, base, sink);
+    }
     CodeBS::write(&(), &MARK, sink);
 }

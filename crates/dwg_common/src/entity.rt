@@ -1,6 +1,6 @@
 //! What all entities have.
 
-ghost use Rattle.std.specs.Prelude.{◌≡◌, IfOk};
+ghost use Rattle.std.specs.Prelude.{◌≡◌};
 ghost use Rattle.dwg_common.specs.CommonLaws.{entity_is_body};
 ghost use Rattle.dwg_common.specs.Entities.{entity_common, entity_of, main_of_entity};
 

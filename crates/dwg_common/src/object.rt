@@ -1,6 +1,5 @@
 //! What all objects have that are no entities.
 
-ghost use Rattle.std.specs.Prelude.{◌≡◌, IfOk};
 ghost use Rattle.dwg_common.specs.CommonLaws.{object_is_body};
 ghost use Rattle.dwg_common.specs.NonEntities.{object_common};
 
@@ -61,7 +60,7 @@ impl BodyCode for ObjectCommon {
         }))
     }
 
-    #[tactic(auto, using(crate::proofs::ObjectParts::fits_of_parts, crate::proofs::ObjectParts::parts_of_fits))]
+    #[tactic(auto, unfolding(crate::specs::NonEntities::object_common, dwg_grammar::specs::ReferenceCodes::reference, dwg_grammar::specs::Combinators::chain))]
     fn fits(&self, base: Handle) -> bool {
         let reactors = self.reactors.as_slice();
         if !app_fits(self.app.as_slice(), base) {
@@ -79,7 +78,7 @@ impl BodyCode for ObjectCommon {
         self.xdict.fits(base)
     }
 
-    #[tactic(auto, using(crate::proofs::ObjectParts::parts_of_fits, crate::proofs::ObjectParts::length_of_main, crate::proofs::ObjectParts::length_of_refs))]
+    #[tactic(auto, unfolding(crate::specs::NonEntities::object_common, dwg_grammar::specs::ReferenceCodes::reference, dwg_grammar::specs::Combinators::chain))]
     fn lengths(&self, base: Handle) -> Lengths {
         let reactors = self.reactors.as_slice();
         let count = reactors.len() as u32;
@@ -91,14 +90,14 @@ impl BodyCode for ObjectCommon {
         }
     }
 
-    #[tactic(auto, using(crate::proofs::ObjectParts::parts_of_fits, crate::proofs::ObjectParts::length_of_main))]
+    #[tactic(auto, unfolding(crate::specs::NonEntities::object_common, dwg_grammar::specs::ReferenceCodes::reference, dwg_grammar::specs::Combinators::chain))]
     fn write_main(&self, base: Handle, sink: &mut BitSink) {
         let count = self.reactors.as_slice().len() as u32;
         write_app(self.app.as_slice(), base, sink);
         CodeBL::write(&(), &count, sink);
     }
 
-    #[tactic(auto, using(crate::proofs::ObjectParts::parts_of_fits, crate::proofs::ObjectParts::length_of_refs))]
+    #[tactic(auto, unfolding(crate::specs::NonEntities::object_common, dwg_grammar::specs::ReferenceCodes::reference, dwg_grammar::specs::Combinators::chain))]
     fn write_refs(&self, base: Handle, sink: &mut BitSink) {
         write_ref(self.owner, base, sink);
         write_refs(self.reactors.as_slice(), base, sink);

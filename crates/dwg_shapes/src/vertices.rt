@@ -35,7 +35,7 @@ fn read_vertex(before: Option<Point2>, cursor: &mut BitCursor<'_>) -> Option<Poi
 }
 
 /// Reads so many points, as they are parsed. The only refusal is want of memory, which is taken only for points that are there.
-#[tactic(auto, using(crate::proofs::ChainReading::none_begun))]
+#[tactic(auto, using(dwg_common::proofs::ChainReading::none_begun))]
 pub(crate) fn read_vertices(
     alloc: Global,
     count: u32,
@@ -86,7 +86,7 @@ fn vertex_bits(before: Option<Point2>, point: &Point2) -> u64
 }
 
 /// How many bits points are written by.
-#[tactic(auto, using(crate::proofs::VertexLoops::none_counted, crate::proofs::VertexLoops::all_counted))]
+#[tactic(auto, unfolding(dwg_grammar::specs::Combinators::chain))]
 pub(crate) fn vertices_bits(points: &[Point2]) -> u64
     requires value { (vertices (length points.now)).IsValue points.now }
     requires few { length ((vertices (length points.now)).short points.now) < 2 ^ 62 }
@@ -117,7 +117,7 @@ fn write_vertex(before: Option<Point2>, point: &Point2, sink: &mut BitSink)
 }
 
 /// Writes points, each behind the one before it.
-#[tactic(auto, using(crate::proofs::VertexLoops::all_written))]
+#[tactic(auto, unfolding(dwg_grammar::specs::Combinators::chain))]
 pub(crate) fn write_vertices(points: &[Point2], sink: &mut BitSink)
     requires value { (vertices (length points.now)).IsValue points.now }
     requires room { length ((vertices (length points.now)).short points.now) ≤ sink.old.spare }

@@ -2,7 +2,7 @@ use Rattle.std.proofs.Common.{Some, None, rules}
 use Rattle.dwg_grammar.specs.Combinators.{chain}
 use Rattle.dwg_grammar.specs.declared.points.Point2.{Point2}
 use Rattle.dwg_shapes.specs.LwPolylines.{vertex}
-use Rattle.dwg_shapes.proofs.ChainReading.{one_begun, one_missing, all_begun}
+use Rattle.dwg_common.proofs.ChainReading.{one_begun, one_missing, all_begun}
 use Rattle.dwg_shapes.proofs.vertices.read_vertices.Goals as goal
 
 pub returns-in_default-clause-parsed : goal.returns-in_default-clause-parsed

@@ -3,7 +3,7 @@ use Rattle.dwg_bits.specs.Cursor.{rest}
 use Rattle.dwg_common.specs.Parsing.{Keeps}
 use Rattle.dwg_grammar.specs.declared.points.Point2.{Point2}
 use Rattle.dwg_shapes.specs.LwPolylines.{vertex}
-use Rattle.dwg_shapes.proofs.ChainReading.{IsBegun}
+use Rattle.dwg_common.proofs.ChainReading.{IsBegun}
 use Rattle.dwg_shapes.proofs.vertices.read_vertices.Given as goal
 
 -- so many points as turns are read

@@ -1,49 +1,37 @@
 -- A chain of values read one behind the other, each by what the one before leads to.
-use Rattle.std.proofs.Common.{◌≡◌, refl, sym, ◌∙◌, ap, ℕ, zero, suc, ◌+◌, ◌<◌, ◌≤◌, Bool, List, [], ◌∷◌, ◌++◌, Option, Some, None, arith}
+use Rattle.std.proofs.Common.{◌≡◌, refl, ◌∙◌, ap, ℕ, zero, suc, ◌+◌, ◌<◌, ◌≤◌, Bool, List, [], ◌∷◌, ◌++◌, length, Option, Some, None, arith}
 use Rattle.std.specs.Prelude.{option_and_then}
 use Rattle.std.specs.Option.{option_map}
-use Rattle.std.proofs.lemmas.List.{append_assoc, append-nil}
+use Rattle.std.proofs.lemmas.List.{append-nil, length-append}
 use Rattle.dwg_grammar.specs.Combinators.{parse_chain}
 use Rattle.dwg_grammar.specs.Grammar.{Grammar}
-
--- values that are found behind others
-abbrev pub found_behind : {V : Type 0} → List V → List V × List Bool → List V × List Bool
-found_behind {V} found others = (found ++ others.0, others.1)
+use Rattle.dwg_common.proofs.UntilReading.{found_behind, behind_none, behind_more}
 
 -- some values of a chain were read, and so many are left: what is parsed of the chain is what is parsed of those that are left, behind those that were found
 pub record IsBegun {S V : Type 0} (code : S → Grammar Bool V) (next : V → S) (first state : S) (count done : ℕ) (found : List V) (old now : List Bool) : Type 0 where
   pub left : ℕ
   pub counted : done + left ≡ count
+  pub found_so_many : length found ≡ done
   pub goes_on : parse_chain code next first count old ≡ option_map (found_behind found) (parse_chain code next state left now)
-
--- behind none, nothing changes
-behind_none : {V : Type 0} (parsed : Option (List V × List Bool)) → parsed ≡ option_map (found_behind []) parsed
-behind_none None = refl
-behind_none (Some others) = refl
-
--- behind a value more
-behind_more : {V : Type 0} (found more : List V) (value : V) (parsed : Option (List V × List Bool)) → more ≡ found ++ value ∷ []
-    → option_map (found_behind found) (option_map (λ (others : List V × List Bool). (value ∷ others.0, others.1)) parsed) ≡ option_map (found_behind more) parsed
-behind_more found more value None same = refl
-behind_more {V} found more value (Some others) same =
-    ap (λ (all : List V). Some (all, others.1)) (sym (append_assoc found (value ∷ []) others.0) ∙ ap (λ (front : List V). front ++ others.0) (sym same))
 
 -- before the first value none is read
 pub none_begun : {S V : Type 0} (code : S → Grammar Bool V) (next : V → S) (first : S) (count : ℕ) (bits : List Bool) → IsBegun code next first first count 0 [] bits bits
 none_begun code next first count bits = record {
   left = count;
   counted = omega arith;
+  found_so_many = refl;
   goes_on = behind_none (parse_chain code next first count bits);
 }
 
 -- a value more is read
 one_more : {S V : Type 0} (code : S → Grammar Bool V) (next : V → S) (first state : S) (count done left : ℕ) (found more : List V) (value : V) (old now new : List Bool)
-    → done + left ≡ count → done < count → more ≡ found ++ value ∷ [] → (code state).parse now ≡ Some (value, new)
+    → done + left ≡ count → done < count → length found ≡ done → more ≡ found ++ value ∷ [] → (code state).parse now ≡ Some (value, new)
     → parse_chain code next first count old ≡ option_map (found_behind found) (parse_chain code next state left now) → IsBegun code next first (next value) count (done + 1) more old new
-one_more code next first state count done zero found more value old now new counted fewer pushed was so_far = absurd (omega arith)
-one_more {S} {V} code next first state count done (suc left) found more value old now new counted fewer pushed was so_far = record {
+one_more code next first state count done zero found more value old now new counted fewer so_many pushed was so_far = absurd (omega arith)
+one_more {S} {V} code next first state count done (suc left) found more value old now new counted fewer so_many pushed was so_far = record {
   left = left;
   counted = omega (arith, counted);
+  found_so_many = omega (arith, so_many, ap length pushed, length-append found (value ∷ []));
   goes_on = so_far
       ∙ ap (λ (one : Option (V × List Bool)). option_map (found_behind found) (option_and_then
       (λ (one : V × List Bool). option_map (λ (others : List V × List Bool). (one.0 ∷ others.0, others.1)) (parse_chain code next (next one.0) left one.1)) one)) was
@@ -54,7 +42,8 @@ pub one_begun : {S V : Type 0} (code : S → Grammar Bool V) (next : V → S) (f
     → done < count → more ≡ found ++ value ∷ [] → read ≡ Some value → (code state).parse now ≡ option_map (λ (one : V). (one, new)) read
     → IsBegun code next first state count done found old now → IsBegun code next first (next value) count (done + 1) more old new
 one_begun {S} {V} code next first state count done found more read value old now new fewer pushed same was so_far =
-    one_more code next first state count done so_far.left found more value old now new so_far.counted fewer pushed (was ∙ ap (option_map (λ (one : V). (one, new))) same) so_far.goes_on
+    one_more code next first state count done so_far.left found more value old now new so_far.counted fewer so_far.found_so_many pushed
+    (was ∙ ap (option_map (λ (one : V). (one, new))) same) so_far.goes_on
 
 -- where a value isn't there, the chain isn't
 none_more : {S V : Type 0} (code : S → Grammar Bool V) (next : V → S) (first state : S) (count done left : ℕ) (found : List V) (old now : List Bool)

@@ -1,6 +1,6 @@
 use Rattle.std.proofs.Common.{drop}
 use Rattle.dwg_common.proofs.AppWriting.{AreWrittenSoFar}
-use Rattle.dwg_common.proofs.app_list.write_items.Given as goal
+use Rattle.dwg_common.proofs.app_list.write_app.Given as goal
 
 -- what is written so far and the items that are left give the whole
 abbrev pub invariant-along : goal.invariant-along
