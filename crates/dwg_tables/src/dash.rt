@@ -93,7 +93,6 @@ fn known_stroke(dash: &Dash)
 }
 
 /// So it is with those of many dashes.
-#[tactic(auto, using(crate::proofs::MemberLoops::none_tried, crate::proofs::MemberLoops::all_tried))]
 pub(crate) fn known_strokes(dashes: &[Dash])
     ensures { AreValues stroke (map stroke_of dashes.now) }
 {
