@@ -1,5 +1,4 @@
 pub mod DictionaryLemmas
 pub mod ItemReading
-pub mod PartWriting
 pub mod ItemFitting
 pub mod EndReading
