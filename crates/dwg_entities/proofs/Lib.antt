@@ -1,2 +1,3 @@
+pub mod BehindTexts
 pub mod ScaleReading
 pub mod InsertReading

@@ -1,21 +1,15 @@
 -- The definition of an attribute (Open Design Specification, "ATTDEF").
-use Rattle.std.specs.Prelude.{ℕ, Bool, List}
+use Rattle.std.specs.Prelude.{ℕ}
 use Rattle.dwg_grammar.specs.Codes.{tv}
 use Rattle.dwg_grammar.specs.Combinators.{seq}
-use Rattle.dwg_grammar.specs.Grammar.{Grammar}
 use Rattle.dwg_grammar.specs.Bodies.{BodyGrammar}
 use Rattle.dwg_grammar.specs.MakingBodies.{body}
 use Rattle.dwg_grammar.specs.References.{one_ref}
 use Rattle.dwg_entities.specs.declared.attdef.Attdef.{Attdef}
-use Rattle.dwg_entities.specs.declared.attrib.Label.{Label}
 use Rattle.dwg_entities.specs.AttribBody.{attrib_main, label_of, attrib_of}
 
--- the main bits of its attribute; TV prompt
-abbrev pub attdef_main : Grammar Bool (Label × List ℕ)
-attdef_main = seq attrib_main (λ label. tv)
-
--- the main bits, and among the references the style of its attribute's text
+-- the main bits of its attribute; TV prompt; and among the references the style of its attribute's text
 unfoldable pub attdef_body : ℕ → BodyGrammar Attdef
 attdef_body base =
-    body attdef_main (λ told. one_ref base) (λ told style. record { attrib = attrib_of told.0 style; prompt = told.1 })
+    body (seq attrib_main (λ label. tv)) (λ told. one_ref base) (λ told style. record { attrib = attrib_of told.0 style; prompt = told.1 })
     (λ attdef. (label_of attdef.attrib, attdef.prompt)) (λ attdef. attdef.attrib.text.style)

@@ -1,15 +1,14 @@
 //! An attribute of an insert.
 
 ghost use Rattle.std.specs.Prelude.{◌≡◌, IfOk};
-ghost use Rattle.dwg_entities.specs.AttribBody.{attrib_body, attrib_of};
+ghost use Rattle.dwg_entities.specs.AttribBody.{attrib_body};
 ghost use Rattle.dwg_entities.specs.BodiesLaws.{attrib_is_body};
 
-use crate::label::{label_bits, label_fits, read_label, write_label};
-use crate::text::{Inscription, Text, text_of};
+use crate::text::Text;
 use dwg_base::{ByteRun, Handle, NoMemory};
 use dwg_bits::{BitCursor, BitSink};
-use dwg_common::{BodyCode, Lengths, parse_ref};
-use dwg_handles::{Ref, ref_bits, write_ref};
+use dwg_codes::{BitCode, CodeBS, CodeRC};
+use dwg_common::{BodyCode, Lengths, parse_code, parse_tv, tv_bits, tv_fits, write_tv};
 use std::alloc::Global;
 
 /// An attribute of an insert (Open Design Specification, "ATTRIB").
@@ -25,74 +24,70 @@ pub struct Attrib {
     pub flags: u8,
 }
 
-/// What the main bits of an attribute tell.
-#[derive(Drop)]
-pub(crate) struct Label {
-    /// What those of its text tell.
-    pub(crate) inscription: Inscription,
-    /// Its name.
-    pub(crate) tag: ByteRun,
-    /// The length of its field.
-    pub(crate) length: u16,
-    /// What is told of it by single bits.
-    pub(crate) flags: u8,
-}
-
-/// An attribute from what its main bits tell and from the style of its text.
-pub(crate) fn attrib_of(label: Label, style: Ref) -> Attrib
-    ensures { result ≡ attrib_of label style }
-{
-    Attrib {
-        text: text_of(label.inscription, style),
-        tag: label.tag,
-        length: label.length,
-        flags: label.flags,
-    }
-}
-
 impl BodyCode for Attrib {
     ghost grammar = { attrib_body };
 
-    #[tactic(auto, unfolding(crate::specs::AttribBody::attrib_body))]
+    #[tactic(auto, using(crate::proofs::BehindTexts::attrib_parsed))]
     fn parse(
         alloc: Global,
         main: &mut BitCursor<'_>,
         refs: &mut BitCursor<'_>,
         base: Handle,
     ) -> Result<Option<Attrib>, NoMemory> {
-        let Some(label) = read_label(alloc, main)? else {
+        let Some(text) = Text::parse(alloc, main, refs, base)? else {
             return Ok(None);
         };
-        let Some(style) = parse_ref(refs, base) else {
+        let Some(tag) = parse_tv(alloc, main)? else {
             return Ok(None);
         };
-        Ok(Some(attrib_of(label, style)))
+        let Some(length) = parse_code::<CodeBS>(&(), main) else {
+            return Ok(None);
+        };
+        let Some(flags) = parse_code::<CodeRC>(&(), main) else {
+            return Ok(None);
+        };
+        Ok(Some(Attrib {
+            text,
+            tag,
+            length,
+            flags,
+        }))
     }
 
-    #[tactic(auto, unfolding(crate::specs::AttribBody::attrib_body, dwg_grammar::specs::ReferenceCodes::reference))]
+    #[tactic(auto, unfolding(crate::specs::AttribBody::attrib_body, crate::specs::AttribBody::attrib_main, crate::specs::TextBody::text_body))]
     fn fits(&self, base: Handle) -> bool {
-        if !label_fits(self) {
+        // Their codes tell every number of their types.
+        let _length = self.length;
+        let _flags = self.flags;
+        if !tv_fits(self.tag.as_slice()) {
             return false;
         }
-        self.text.style.fits(base)
+        self.text.fits(base)
     }
 
-    #[tactic(auto, unfolding(crate::specs::AttribBody::attrib_body, dwg_grammar::specs::ReferenceCodes::reference))]
+    #[tactic(auto, unfolding(crate::specs::AttribBody::attrib_body, crate::specs::AttribBody::attrib_main, crate::specs::TextBody::text_body))]
     fn lengths(&self, base: Handle) -> Lengths {
+        let text = self.text.lengths(base);
         Lengths {
-            main: label_bits(self),
-            refs: ref_bits(self.text.style, base),
+            main: text.main
+                + tv_bits(self.tag.as_slice())
+                + CodeBS::length(&(), &self.length)
+                + CodeRC::length(&(), &self.flags),
+            refs: text.refs,
         }
     }
 
-    #[tactic(auto, unfolding(crate::specs::AttribBody::attrib_body))]
-    fn write_main(&self, _base: Handle, sink: &mut BitSink) {
-        write_label(self, sink);
+    #[tactic(auto, unfolding(crate::specs::AttribBody::attrib_body, crate::specs::AttribBody::attrib_main, crate::specs::TextBody::text_body))]
+    fn write_main(&self, base: Handle, sink: &mut BitSink) {
+        self.text.write_main(base, sink);
+        write_tv(self.tag.as_slice(), sink);
+        CodeBS::write(&(), &self.length, sink);
+        CodeRC::write(&(), &self.flags, sink);
     }
 
-    #[tactic(auto, unfolding(crate::specs::AttribBody::attrib_body, dwg_grammar::specs::ReferenceCodes::reference))]
+    #[tactic(auto, unfolding(crate::specs::AttribBody::attrib_body, crate::specs::AttribBody::attrib_main, crate::specs::TextBody::text_body))]
     fn write_refs(&self, base: Handle, sink: &mut BitSink) {
-        write_ref(self.text.style, base, sink);
+        self.text.write_refs(base, sink);
     }
 
     ghost laws = { λ base small. attrib_is_body base small };

@@ -1,16 +1,15 @@
 //! An insert of a block.
 
-ghost use Rattle.std.specs.Prelude.{◌≡◌, length, ◌<◌};
-ghost use Rattle.dwg_common.specs.Parsing.{Keeps, Parses};
+ghost use Rattle.std.specs.Prelude.{◌≡◌, ◌<◌, length};
 ghost use Rattle.dwg_entities.specs.BodiesLaws.{insert_is_body};
-ghost use Rattle.dwg_entities.specs.InsertBody.{insert_body, insert_main, insert_refs, setting_of};
+ghost use Rattle.dwg_entities.specs.InsertBody.{insert_body};
 
 use crate::attributes::{CodeAttributes, attributes_fit_where_there};
 use crate::scale::CodeScale;
 use dwg_base::{Handle, NoMemory};
 use dwg_bits::{BitCursor, BitSink};
 use dwg_codes::{BitCode, Code3BD, CodeB, CodeBD, Point3, length_when, write_when};
-use dwg_common::{BodyCode, Lengths, parse_code, parse_ref, parse_when};
+use dwg_common::{BodyCode, Lengths, known_point, parse_code, parse_ref, parse_when};
 use dwg_handles::{CodeH, Ref};
 use std::alloc::Global;
 
@@ -42,75 +41,6 @@ pub struct Insert {
     pub attributes: Option<Attributes>,
 }
 
-/// What the main bits of an insert tell.
-#[derive(Clone, Copy)]
-pub(crate) struct Setting {
-    /// Where it stands.
-    pub(crate) place: Point3,
-    /// By how much it is scaled along each axis.
-    pub(crate) scale: Point3,
-    /// How it is turned.
-    pub(crate) rotation: u64,
-    /// Which way is up.
-    pub(crate) extrusion: Point3,
-    /// Whether it has attributes.
-    pub(crate) attributes: bool,
-}
-
-/// What the main bits of an insert tell.
-fn setting_of(insert: &Insert) -> Setting
-    ensures { result ≡ setting_of insert.now }
-{
-    Setting {
-        place: insert.place,
-        scale: insert.scale,
-        rotation: insert.rotation,
-        extrusion: insert.extrusion,
-        attributes: insert.attributes.is_some(),
-    }
-}
-
-/// Reads what the main bits of an insert tell, as it is parsed.
-fn read_setting(cursor: &mut BitCursor<'_>) -> Option<Setting>
-    ensures parsed { Parses insert_main result cursor.old cursor.new }
-    ensures kept { Keeps cursor.old cursor.new }
-{
-    let place = parse_code::<Code3BD>(&(), cursor)?;
-    let scale = parse_code::<CodeScale>(&(), cursor)?;
-    let rotation = parse_code::<CodeBD>(&(), cursor)?;
-    let extrusion = parse_code::<Code3BD>(&(), cursor)?;
-    let attributes = parse_code::<CodeB>(&(), cursor)?;
-    Some(Setting {
-        place,
-        scale,
-        rotation,
-        extrusion,
-        attributes,
-    })
-}
-
-/// Reads what an insert names, as it is parsed: its attributes where it has some.
-fn read_names(
-    cursor: &mut BitCursor<'_>,
-    base: Handle,
-    setting: Setting,
-) -> Option<(Ref, Option<Attributes>)>
-    ensures parsed { Parses (insert_refs base setting).grammar result cursor.old cursor.new }
-    ensures kept { Keeps cursor.old cursor.new }
-{
-    let block = parse_ref(cursor, base)?;
-    let attributes = parse_when::<CodeAttributes>(&base, setting.attributes, cursor)?;
-    Some((block, attributes))
-}
-
-/// The main bits of every insert can be told: their codes tell every number of their types.
-#[tactic(auto, unfolding(crate::specs::Scale::scale))]
-fn setting_fits(setting: Setting)
-    ensures { insert_main.IsValue setting }
-{
-    let _setting = setting;
-}
-
 impl BodyCode for Insert {
     ghost grammar = { insert_body };
 
@@ -121,25 +51,44 @@ impl BodyCode for Insert {
         refs: &mut BitCursor<'_>,
         base: Handle,
     ) -> Result<Option<Insert>, NoMemory> {
-        let Some(setting) = read_setting(main) else {
+        let Some(place) = parse_code::<Code3BD>(&(), main) else {
             return Ok(None);
         };
-        let Some(named) = read_names(refs, base, setting) else {
+        let Some(scale) = parse_code::<CodeScale>(&(), main) else {
+            return Ok(None);
+        };
+        let Some(rotation) = parse_code::<CodeBD>(&(), main) else {
+            return Ok(None);
+        };
+        let Some(extrusion) = parse_code::<Code3BD>(&(), main) else {
+            return Ok(None);
+        };
+        let Some(there) = parse_code::<CodeB>(&(), main) else {
+            return Ok(None);
+        };
+        let Some(block) = parse_ref(refs, base) else {
+            return Ok(None);
+        };
+        let Some(attributes) = parse_when::<CodeAttributes>(&base, there, refs) else {
             return Ok(None);
         };
         Ok(Some(Insert {
-            place: setting.place,
-            scale: setting.scale,
-            rotation: setting.rotation,
-            extrusion: setting.extrusion,
-            block: named.0,
-            attributes: named.1,
+            place,
+            scale,
+            rotation,
+            extrusion,
+            block,
+            attributes,
         }))
     }
 
-    #[tactic(auto, unfolding(crate::specs::InsertBody::insert_body, dwg_grammar::specs::ReferenceCodes::reference))]
+    #[tactic(auto, unfolding(crate::specs::InsertBody::insert_body, crate::specs::Scale::scale, dwg_grammar::specs::ReferenceCodes::reference))]
     fn fits(&self, base: Handle) -> bool {
-        setting_fits(setting_of(self));
+        // The codes of the main bits tell every number of their types.
+        known_point(&self.place);
+        known_point(&self.scale);
+        let _rotation = self.rotation;
+        known_point(&self.extrusion);
         if !self.block.fits(base) {
             return false;
         }

@@ -8,15 +8,10 @@ mod attributes;
 mod block;
 mod closing;
 mod flags;
-mod inscription;
 mod insert;
-mod label;
 mod laws;
-mod lettering;
-mod placing;
 mod scale;
 mod text;
-mod wording;
 
 pub use attdef::Attdef;
 pub use attrib::Attrib;

@@ -1,14 +1,22 @@
 //! A line of text.
 
-ghost use Rattle.std.specs.Prelude.{◌≡◌, IfOk};
+ghost use Rattle.std.specs.Prelude.{◌≡◌, ◌≤◌, ◌↔◌, length, IfOk, IsTrue};
+ghost use Rattle.dwg_bits.specs.Sink.{Extends};
+ghost use Rattle.dwg_grammar.specs.Points.{dd2};
 ghost use Rattle.dwg_entities.specs.BodiesLaws.{text_is_body};
-ghost use Rattle.dwg_entities.specs.TextBody.{text_body, text_of};
+ghost use Rattle.dwg_entities.specs.Flags.{unless};
+ghost use Rattle.dwg_entities.specs.TextBody.{flags_of, lettering_of, placing_of, text_body, text_lettering, text_placing};
 
-use crate::inscription::{inscription_bits, inscription_fits, read_inscription, write_inscription};
+use crate::flags::{
+    has, length_unless, number_fits, parse_unless, word_fits, worth_unless, write_unless,
+};
 use dwg_base::{ByteRun, Handle, NoMemory};
 use dwg_bits::{BitCursor, BitSink};
-use dwg_codes::{Point2, Point3};
-use dwg_common::{BodyCode, Lengths, parse_ref};
+use dwg_codes::{BitCode, CodeBE, CodeBS, CodeBT, CodeRC, CodeRD, Point2, Point3};
+use dwg_common::{
+    BodyCode, Code2DD, Code2RD, Lengths, known_point, parse_code, parse_ref, parse_tv, tv_bits,
+    tv_fits, write_tv,
+};
 use dwg_handles::{Ref, ref_bits, write_ref};
 use std::alloc::Global;
 
@@ -45,118 +53,225 @@ pub struct Text {
     pub style: Ref,
 }
 
-/// Where a text stands.
-#[derive(Clone, Copy)]
-pub(crate) struct Placing {
-    /// How high above the plane it stands.
-    pub(crate) elevation: Option<u64>,
-    /// Where it begins.
-    pub(crate) insertion: Point2,
-    /// Where it is aligned to.
-    pub(crate) alignment: Option<Point2>,
-    /// Which way is up.
-    pub(crate) extrusion: Point3,
-    /// How thick it is.
-    pub(crate) thickness: u64,
-}
+/// What the flag of a text without an elevation is worth.
+const NO_ELEVATION: u8 = 0x01;
 
-/// The form of the letters of a text.
-#[derive(Clone, Copy)]
-pub(crate) struct Lettering {
-    /// How oblique they are.
-    pub(crate) oblique: Option<u64>,
-    /// How they are turned.
-    pub(crate) rotation: Option<u64>,
-    /// How high they are.
-    pub(crate) height: u64,
-    /// How wide they are for their height.
-    pub(crate) width: Option<u64>,
-}
+/// Of one without an alignment.
+const NO_ALIGNMENT: u8 = 0x02;
 
-/// The words of a text.
-#[derive(Drop)]
-pub(crate) struct Wording {
-    /// Their bytes.
-    pub(crate) text: ByteRun,
-    /// How they are mirrored, by single bits.
-    pub(crate) generation: Option<u16>,
-    /// How they are aligned along their line.
-    pub(crate) horizontal: Option<u16>,
-    /// How they are aligned across their line.
-    pub(crate) vertical: Option<u16>,
-}
+/// Of one without an oblique angle.
+const NO_OBLIQUE: u8 = 0x04;
 
-/// What the main bits of a text tell.
-#[derive(Drop)]
-pub(crate) struct Inscription {
-    /// Where it stands.
-    pub(crate) placing: Placing,
-    /// The form of its letters.
-    pub(crate) lettering: Lettering,
-    /// Its words.
-    pub(crate) wording: Wording,
-}
+/// Of one without a rotation.
+const NO_ROTATION: u8 = 0x08;
 
-/// A text from what its main bits tell and from its style.
-pub(crate) fn text_of(told: Inscription, style: Ref) -> Text
-    ensures { result ≡ text_of told style }
+/// Of one without a width.
+const NO_WIDTH: u8 = 0x10;
+
+/// Of one without a generation.
+const NO_GENERATION: u8 = 0x20;
+
+/// Of one without a horizontal alignment.
+const NO_HORIZONTAL: u8 = 0x40;
+
+/// Of one without a vertical alignment.
+const NO_VERTICAL: u8 = 0x80;
+
+/// The flags of a text: each is set exactly where its part is missing.
+#[tactic(auto, unfolding(crate::specs::TextBody::flags_of))]
+fn flags_of(text: &Text) -> u8
+    ensures { result ≡ flags_of text.now }
 {
-    Text {
-        elevation: told.placing.elevation,
-        insertion: told.placing.insertion,
-        alignment: told.placing.alignment,
-        extrusion: told.placing.extrusion,
-        thickness: told.placing.thickness,
-        oblique: told.lettering.oblique,
-        rotation: told.lettering.rotation,
-        height: told.lettering.height,
-        width: told.lettering.width,
-        text: told.wording.text,
-        generation: told.wording.generation,
-        horizontal: told.wording.horizontal,
-        vertical: told.wording.vertical,
-        style,
+    worth_unless(&text.elevation, NO_ELEVATION)
+        + worth_unless(&text.alignment, NO_ALIGNMENT)
+        + worth_unless(&text.oblique, NO_OBLIQUE)
+        + worth_unless(&text.rotation, NO_ROTATION)
+        + worth_unless(&text.width, NO_WIDTH)
+        + worth_unless(&text.generation, NO_GENERATION)
+        + worth_unless(&text.horizontal, NO_HORIZONTAL)
+        + worth_unless(&text.vertical, NO_VERTICAL)
+}
+
+/// Whether an alignment is there exactly where its flag isn't set.
+fn alignment_fits(flags: u8, insertion: Point2, alignment: Option<Point2>) -> bool
+    ensures { IsTrue result ↔ (unless flags 0x02 (dd2 insertion)).IsValue alignment }
+{
+    let missing = has(flags, NO_ALIGNMENT);
+    match alignment {
+        Some(_) => !missing,
+        None => missing,
     }
+}
+
+/// Writes where a text stands behind its flags.
+fn write_placing(flags: u8, text: &Text, sink: &mut BitSink)
+    requires value { (text_placing flags).IsValue (placing_of text.now) }
+    requires room { length ((text_placing flags).short (placing_of text.now)) ≤ sink.old.spare }
+    ensures { Extends sink.old sink.new ((text_placing flags).short (placing_of text.now)) }
+{
+    write_unless::<CodeRD>(&(), flags, NO_ELEVATION, &text.elevation, sink);
+    Code2RD::write(&(), &text.insertion, sink);
+    write_unless::<Code2DD>(&text.insertion, flags, NO_ALIGNMENT, &text.alignment, sink);
+    CodeBE::write(&(), &text.extrusion, sink);
+    CodeBT::write(&(), &text.thickness, sink);
+}
+
+/// Writes the form of its letters.
+fn write_lettering(flags: u8, text: &Text, sink: &mut BitSink)
+    requires value { (text_lettering flags).IsValue (lettering_of text.now) }
+    requires room { length ((text_lettering flags).short (lettering_of text.now)) ≤ sink.old.spare }
+    ensures { Extends sink.old sink.new ((text_lettering flags).short (lettering_of text.now)) }
+{
+    write_unless::<CodeRD>(&(), flags, NO_OBLIQUE, &text.oblique, sink);
+    write_unless::<CodeRD>(&(), flags, NO_ROTATION, &text.rotation, sink);
+    CodeRD::write(&(), &text.height, sink);
+    write_unless::<CodeRD>(&(), flags, NO_WIDTH, &text.width, sink);
 }
 
 impl BodyCode for Text {
     ghost grammar = { text_body };
 
-    #[tactic(auto, unfolding(crate::specs::TextBody::text_body))]
+    #[tactic(auto, unfolding(crate::specs::TextBody::text_body, crate::specs::TextBody::text_main))]
     fn parse(
         alloc: Global,
         main: &mut BitCursor<'_>,
         refs: &mut BitCursor<'_>,
         base: Handle,
     ) -> Result<Option<Text>, NoMemory> {
-        let Some(told) = read_inscription(alloc, main)? else {
+        let Some(flags) = parse_code::<CodeRC>(&(), main) else {
+            return Ok(None);
+        };
+        let Some(elevation) = parse_unless::<CodeRD>(&(), flags, NO_ELEVATION, main) else {
+            return Ok(None);
+        };
+        let Some(insertion) = parse_code::<Code2RD>(&(), main) else {
+            return Ok(None);
+        };
+        let Some(alignment) = parse_unless::<Code2DD>(&insertion, flags, NO_ALIGNMENT, main) else {
+            return Ok(None);
+        };
+        let Some(extrusion) = parse_code::<CodeBE>(&(), main) else {
+            return Ok(None);
+        };
+        let Some(thickness) = parse_code::<CodeBT>(&(), main) else {
+            return Ok(None);
+        };
+        let Some(oblique) = parse_unless::<CodeRD>(&(), flags, NO_OBLIQUE, main) else {
+            return Ok(None);
+        };
+        let Some(rotation) = parse_unless::<CodeRD>(&(), flags, NO_ROTATION, main) else {
+            return Ok(None);
+        };
+        let Some(height) = parse_code::<CodeRD>(&(), main) else {
+            return Ok(None);
+        };
+        let Some(width) = parse_unless::<CodeRD>(&(), flags, NO_WIDTH, main) else {
+            return Ok(None);
+        };
+        let Some(text) = parse_tv(alloc, main)? else {
+            return Ok(None);
+        };
+        let Some(generation) = parse_unless::<CodeBS>(&(), flags, NO_GENERATION, main) else {
+            return Ok(None);
+        };
+        let Some(horizontal) = parse_unless::<CodeBS>(&(), flags, NO_HORIZONTAL, main) else {
+            return Ok(None);
+        };
+        let Some(vertical) = parse_unless::<CodeBS>(&(), flags, NO_VERTICAL, main) else {
             return Ok(None);
         };
         let Some(style) = parse_ref(refs, base) else {
             return Ok(None);
         };
-        Ok(Some(text_of(told, style)))
+        Ok(Some(Text {
+            elevation,
+            insertion,
+            alignment,
+            extrusion,
+            thickness,
+            oblique,
+            rotation,
+            height,
+            width,
+            text,
+            generation,
+            horizontal,
+            vertical,
+            style,
+        }))
     }
 
-    #[tactic(auto, unfolding(crate::specs::TextBody::text_body, dwg_grammar::specs::ReferenceCodes::reference))]
+    #[tactic(auto, unfolding(crate::specs::TextBody::text_body, crate::specs::TextBody::text_main, dwg_grammar::specs::ReferenceCodes::reference))]
     fn fits(&self, base: Handle) -> bool {
-        if !inscription_fits(self) {
+        // Their codes tell every number of their types.
+        let _x = self.insertion.x;
+        let _y = self.insertion.y;
+        known_point(&self.extrusion);
+        let _thickness = self.thickness;
+        let _height = self.height;
+        let flags = flags_of(self);
+        if !word_fits(flags, NO_ELEVATION, self.elevation) {
+            return false;
+        }
+        if !alignment_fits(flags, self.insertion, self.alignment) {
+            return false;
+        }
+        if !word_fits(flags, NO_OBLIQUE, self.oblique) {
+            return false;
+        }
+        if !word_fits(flags, NO_ROTATION, self.rotation) {
+            return false;
+        }
+        if !word_fits(flags, NO_WIDTH, self.width) {
+            return false;
+        }
+        if !tv_fits(self.text.as_slice()) {
+            return false;
+        }
+        if !number_fits(flags, NO_GENERATION, self.generation) {
+            return false;
+        }
+        if !number_fits(flags, NO_HORIZONTAL, self.horizontal) {
+            return false;
+        }
+        if !number_fits(flags, NO_VERTICAL, self.vertical) {
             return false;
         }
         self.style.fits(base)
     }
 
-    #[tactic(auto, unfolding(crate::specs::TextBody::text_body, dwg_grammar::specs::ReferenceCodes::reference))]
+    #[tactic(auto, unfolding(crate::specs::TextBody::text_body, crate::specs::TextBody::text_main, dwg_grammar::specs::ReferenceCodes::reference))]
     fn lengths(&self, base: Handle) -> Lengths {
+        let flags = flags_of(self);
         Lengths {
-            main: inscription_bits(self),
+            main: CodeRC::length(&(), &flags)
+                + length_unless::<CodeRD>(&(), flags, NO_ELEVATION, &self.elevation)
+                + Code2RD::length(&(), &self.insertion)
+                + length_unless::<Code2DD>(&self.insertion, flags, NO_ALIGNMENT, &self.alignment)
+                + CodeBE::length(&(), &self.extrusion)
+                + CodeBT::length(&(), &self.thickness)
+                + length_unless::<CodeRD>(&(), flags, NO_OBLIQUE, &self.oblique)
+                + length_unless::<CodeRD>(&(), flags, NO_ROTATION, &self.rotation)
+                + CodeRD::length(&(), &self.height)
+                + length_unless::<CodeRD>(&(), flags, NO_WIDTH, &self.width)
+                + tv_bits(self.text.as_slice())
+                + length_unless::<CodeBS>(&(), flags, NO_GENERATION, &self.generation)
+                + length_unless::<CodeBS>(&(), flags, NO_HORIZONTAL, &self.horizontal)
+                + length_unless::<CodeBS>(&(), flags, NO_VERTICAL, &self.vertical),
             refs: ref_bits(self.style, base),
         }
     }
 
-    #[tactic(auto, unfolding(crate::specs::TextBody::text_body))]
+    #[tactic(auto, unfolding(crate::specs::TextBody::text_body, crate::specs::TextBody::text_main))]
     fn write_main(&self, _base: Handle, sink: &mut BitSink) {
-        write_inscription(self, sink);
+        let flags = flags_of(self);
+        CodeRC::write(&(), &flags, sink);
+        write_placing(flags, self, sink);
+        write_lettering(flags, self, sink);
+        write_tv(self.text.as_slice(), sink);
+        write_unless::<CodeBS>(&(), flags, NO_GENERATION, &self.generation, sink);
+        write_unless::<CodeBS>(&(), flags, NO_HORIZONTAL, &self.horizontal, sink);
+        write_unless::<CodeBS>(&(), flags, NO_VERTICAL, &self.vertical, sink);
     }
 
     #[tactic(auto, unfolding(crate::specs::TextBody::text_body, dwg_grammar::specs::ReferenceCodes::reference))]

@@ -3,6 +3,7 @@ pub mod BodyReading
 pub mod Bounds
 pub mod ByteRunLemmas
 pub mod CodeLemmas
+pub mod CodeRules
 pub mod CombinatorLemmas
 pub mod CountedLemmas
 pub mod DefaultLemmas
