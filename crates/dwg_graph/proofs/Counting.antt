@@ -1,18 +1,17 @@
 -- One slot is counted at the place of its target.
-use Rattle.std.proofs.Common.{◌≡◌, ◌≢◌, refl, sym, subst, ◌∙◌, ap, ◌<◌, ◌+◌, ℕ, zero, suc, List, [], ◌∷◌, length, map, get_or, Option, Some, None, Bool, true, false, inl, inr, arith}
+use Rattle.std.proofs.Common.{◌≡◌, ◌≢◌, refl, sym, subst, ◌∙◌, ap, ◌<◌, ◌≤◌, ◌+◌, ℕ, zero, suc, List, [], ◌∷◌, length, map, get_or, Option, Some, None, Bool, true, false, inl, inr, arith}
 use Rattle.std.specs.Prelude.{◌==◌, ◌&&◌, ◌⊎◌, if◌then◌else◌}
 use Rattle.std.specs.List.{slice_get, count_by}
 use Rattle.std.specs.Option.{option_map}
-use Rattle.std.proofs.lemmas.Bool.{cases_order}
+use Rattle.std.proofs.Math.Bool.{and-true, and-false}
+use Rattle.std.proofs.lemmas.Bool.{cases_order, false_from_ne_true}
 use Rattle.std.proofs.lemmas.Bool.Decides.{nat_tests}
 use Rattle.std.proofs.lemmas.List.{length-map, length-set, get_or-set_same, get_or-set_other}
-use Rattle.std.proofs.lemmas.List.Sums.{sum_by-cons}
+use Rattle.std.proofs.lemmas.List.Sums.{count_by-le-length, length-filter, sum_by-cons}
 use Rattle.std.proofs.lemmas.Option.{same_Some, slice_get-map, slice_get_read, slice_get_within}
-use Rattle.dwg_graph.specs.declared.owner.SpaceHandles.{SpaceHandles}
 use Rattle.dwg_graph.specs.declared.slot.Slot.{Slot}
-use Rattle.dwg_graph.specs.Claimed.{Adds, leads_to, leads_down, claiming, raised}
+use Rattle.dwg_graph.specs.Claimed.{Adds, leads_to, claiming, raised}
 use Rattle.dwg_graph.specs.Graph.{claims_by}
-use Rattle.dwg_graph.specs.Owners.{owner_of}
 use Rattle.dwg_graph.specs.Placed.{place_in}
 use Rattle.dwg_graph.specs.Places.{Ascend, handles_of}
 use Rattle.dwg_graph.proofs.PlacedObjects.{at_place, found_there}
@@ -24,11 +23,6 @@ use Rattle.dwg_object.specs.declared.object.Object as declared
 count_one : {A : Type 0} (test : A → Bool) (x : A) → count_by test (x ∷ []) ≡ (if test x then 1 else 0)
 count_one {A} test x = sum_by-cons (λ y. if test y then 1 else 0) x [] ∙ omega arith
 
--- a test that can't hold fails
-fails_where : (test : Bool) → (test ≡ true → ⊥) → test ≡ false
-fails_where true never = absurd (never refl)
-fails_where false never = refl
-
 -- a slot that claims
 claiming_one : (kind : Kind) (slot : Slot) → claims_by kind slot.field ≡ true → claiming kind (slot ∷ []) ≡ slot ∷ []
 unfolding claiming
@@ -38,6 +32,12 @@ claiming_one kind slot is = rw is refl
 claiming_none : (kind : Kind) (slot : Slot) → claims_by kind slot.field ≡ false → claiming kind (slot ∷ []) ≡ []
 unfolding claiming
 claiming_none kind slot is = rw is refl
+
+-- slots that claim are no more than all
+pub claiming_few : (kind : Kind) (held : List Slot) → length (claiming kind held) ≤ length held
+unfolding claiming
+claiming_few kind held =
+    omega (arith, length-filter (λ (slot : Slot). claims_by kind slot.field) held, count_by-le-length (λ (slot : Slot). claims_by kind slot.field) held)
 
 -- nothing is counted
 pub adds_nothing : (objects : List ObjectValue) (test : ObjectValue → Slot → Bool) (counts : List ℕ) → Adds objects test [] counts counts
@@ -83,94 +83,61 @@ adds_at objects test slot target more before after long is here elsewhere = reco
     each place x stands (inr (inl less)) = at_other place x stands (λ same. omega (arith, same, less))
     each place x stands (inr (inr more_than)) = at_other place x stands (λ same. omega (arith, same, more_than))
 
--- the place of an object is that of its handle
-place_of_object : (objects : List ObjectValue) (handles : List ℕ) (place : ℕ) (x : ObjectValue) → handles ≡ handles_of objects → Ascend (handles_of objects) → slice_get objects place ≡ Some x
-    → place_in handles (handle_of x) ≡ Some place
-place_of_object objects handles place x is ascend stands =
-    let handle : slice_get (handles_of objects) place ≡ Some (handle_of x) = slice_get-map handle_of objects place ∙ ap (option_map handle_of) stands in
-    ap (λ (all : List ℕ). place_in all (handle_of x)) is ∙ found_there (handles_of objects) (handle_of x) place ascend handle
-
 -- a slot leads only to what stands at the place of its target
-leads_there : (objects : List ObjectValue) (handles : List ℕ) (slot : Slot) (found : Option ℕ) (place : ℕ) (x : ObjectValue) → handles ≡ handles_of objects → Ascend (handles_of objects)
-    → found ≡ place_in handles slot.target → slice_get objects place ≡ Some x → leads_to x slot ≡ true → found ≡ Some place
-leads_there objects handles slot found place x is ascend at stands leads =
+leads_there : (objects : List ObjectValue) (slot : Slot) (place : ℕ) (x : ObjectValue) → Ascend (handles_of objects) → slice_get objects place ≡ Some x → leads_to x slot ≡ true
+    → place_in (handles_of objects) slot.target ≡ Some place
+leads_there objects slot place x ascend stands leads =
     let same : slot.target ≡ handle_of x = grind (arith, nat_tests, leads) in
-    at ∙ ap (place_in handles) same ∙ place_of_object objects handles place x is ascend stands
-
--- what stands at the place of its target
-leads_here : (objects : List ObjectValue) (handles : List ℕ) (slot : Slot) (place : ℕ) (x : ObjectValue) → handles ≡ handles_of objects → Some place ≡ place_in handles slot.target
-    → slice_get objects place ≡ Some x → leads_to x slot ≡ true
-leads_here objects handles slot place x is at stands =
     let handle : slice_get (handles_of objects) place ≡ Some (handle_of x) = slice_get-map handle_of objects place ∙ ap (option_map handle_of) stands in
-    let found : slice_get (handles_of objects) place ≡ Some slot.target = at_place (handles_of objects) slot.target place (ap (λ (all : List ℕ). place_in all slot.target) (sym is) ∙ sym at) in
-    let same : handle_of x ≡ slot.target = same_Some (handle_of x) slot.target (sym handle ∙ found) in
+    ap (place_in (handles_of objects)) same ∙ found_there (handles_of objects) (handle_of x) place ascend handle
+
+-- and leads to that
+leads_here : (objects : List ObjectValue) (slot : Slot) (place : ℕ) (x : ObjectValue) → place_in (handles_of objects) slot.target ≡ Some place → slice_get objects place ≡ Some x
+    → leads_to x slot ≡ true
+leads_here objects slot place x at stands =
+    let handle : slice_get (handles_of objects) place ≡ Some (handle_of x) = slice_get-map handle_of objects place ∙ ap (option_map handle_of) stands in
+    let same : handle_of x ≡ slot.target = same_Some (handle_of x) slot.target (sym handle ∙ at_place (handles_of objects) slot.target place at) in
     grind (arith, nat_tests, same)
+
+-- a slot leads to an object that passes a test
+abbrev pub leads_where : (ObjectValue → Bool) → ObjectValue → Slot → Bool
+leads_where test x slot = test x && leads_to x slot
+
+-- it leads to none that stands elsewhere
+leads_nowhere : (objects : List ObjectValue) (test : ObjectValue → Bool) (slot : Slot) (place : ℕ) (x : ObjectValue) → Ascend (handles_of objects) → slice_get objects place ≡ Some x
+    → (place_in (handles_of objects) slot.target ≡ Some place → ⊥) → leads_where test x slot ≡ false
+leads_nowhere objects test slot place x ascend stands elsewhere =
+    ap (λ leads. test x && leads) (false_from_ne_true (leads_to x slot) (λ leads. elsewhere (leads_there objects slot place x ascend stands leads))) ∙ and-false (test x)
 
 -- a slot that claims nothing
 pub no_claim : (objects : List ObjectValue) (test : ObjectValue → Slot → Bool) (kind : Kind) (slot : Slot) (counts : List ℕ) → claims_by kind slot.field ≡ false
     → Adds objects test (claiming kind (slot ∷ [])) counts counts
 no_claim objects test kind slot counts is = rw (claiming_none kind slot is) (adds_nothing objects test counts)
 
--- a test that needs another that fails
-both_fail : (one other : Bool) → other ≡ false → (one && other) ≡ false
-both_fail true other is = is
-both_fail false other is = refl
-
 -- a slot whose target isn't there
-pub no_target_all : (objects : List ObjectValue) (handles : List ℕ) (kind : Kind) (slot : Slot) (counts : List ℕ) → handles ≡ handles_of objects → Ascend (handles_of objects)
-    → claims_by kind slot.field ≡ true → None ≡ place_in handles slot.target → Adds objects leads_to (claiming kind (slot ∷ [])) counts counts
-no_target_all objects handles kind slot counts is ascend claims at =
+pub no_target : (objects : List ObjectValue) (test : ObjectValue → Bool) (kind : Kind) (slot : Slot) (counts : List ℕ) → Ascend (handles_of objects) → claims_by kind slot.field ≡ true
+    → place_in (handles_of objects) slot.target ≡ None → Adds objects (leads_where test) (claiming kind (slot ∷ [])) counts counts
+no_target objects test kind slot counts ascend claims at =
     rw (claiming_one kind slot claims)
-    (adds_no_test objects leads_to slot counts (λ place x stands.
-    fails_where (leads_to x slot) (λ leads. absurd (cc (leads_there objects handles slot None place x is ascend at stands leads)))))
-
-pub no_target_own : (objects : List ObjectValue) (handles : List ℕ) (known : Option SpaceHandles) (holder : ℕ) (kind : Kind) (slot : Slot) (counts : List ℕ) → handles ≡ handles_of objects
-    → Ascend (handles_of objects) → claims_by kind slot.field ≡ true → None ≡ place_in handles slot.target → Adds objects (leads_down known holder) (claiming kind (slot ∷ [])) counts counts
-no_target_own objects handles known holder kind slot counts is ascend claims at =
-    rw (claiming_one kind slot claims)
-    (adds_no_test objects (leads_down known holder) slot counts (λ place x stands.
-    both_fail (holder == owner_of known x) (leads_to x slot)
-    (fails_where (leads_to x slot) (λ leads. absurd (cc (leads_there objects handles slot None place x is ascend at stands leads))))))
+    (adds_no_test objects (leads_where test) slot counts (λ place x stands. leads_nowhere objects test slot place x ascend stands (λ there. absurd (cc (at, there)))))
 
 -- a slot whose target is there
-pub one_all : (objects : List ObjectValue) (handles : List ℕ) (kind : Kind) (slot : Slot) (target : ℕ) (before after : List ℕ) → handles ≡ handles_of objects → Ascend (handles_of objects)
-    → length before ≡ length objects → claims_by kind slot.field ≡ true → Some target ≡ place_in handles slot.target → after ≡ raised before target 1
-    → Adds objects leads_to (claiming kind (slot ∷ [])) before after
-one_all objects handles kind slot target before after is ascend long claims at grown =
+pub one_target : (objects : List ObjectValue) (test : ObjectValue → Bool) (kind : Kind) (slot : Slot) (target : ℕ) (object : ObjectValue) (before after : List ℕ) → Ascend (handles_of objects)
+    → claims_by kind slot.field ≡ true → place_in (handles_of objects) slot.target ≡ Some target → slice_get objects target ≡ Some object → length before ≡ length objects
+    → after ≡ raised before target (if test object then 1 else 0) → Adds objects (leads_where test) (claiming kind (slot ∷ [])) before after
+one_target objects test kind slot target object before after ascend claims at there long grown =
     rw (claiming_one kind slot claims)
-    (adds_at objects leads_to slot target 1 before after long grown
-    (λ x stands. ap (λ b. if b then 1 else 0) (leads_here objects handles slot target x is at stands))
-    (λ place x stands other. fails_where (leads_to x slot) (λ leads.
-    other (sym (same_Some target place (leads_there objects handles slot (Some target) place x is ascend at stands leads))))))
-
-pub one_own : (objects : List ObjectValue) (handles : List ℕ) (known : Option SpaceHandles) (holder : ℕ) (kind : Kind) (slot : Slot) (target : ℕ) (object : ObjectValue) (before after : List ℕ)
-    → handles ≡ handles_of objects → Ascend (handles_of objects) → length before ≡ length objects → claims_by kind slot.field ≡ true → Some target ≡ place_in handles slot.target
-    → slice_get objects target ≡ Some object → (owned : Bool) → owned ≡ (owner_of known object == holder) → after ≡ raised before target (if owned then 1 else 0)
-    → Adds objects (leads_down known holder) (claiming kind (slot ∷ [])) before after
-one_own objects handles known holder kind slot target object before after is ascend long claims at there owned told grown =
-    rw (claiming_one kind slot claims)
-    (adds_at objects (leads_down known holder) slot target (if owner_of known object == holder then 1 else 0) before after long
-    (grown ∙ ap (λ (b : Bool). raised before target (if b then 1 else 0)) told)
-    (λ x stands. here x (same_Some object x (sym there ∙ stands)) (leads_here objects handles slot target x is at stands))
-    (λ place x stands other. both_fail (holder == owner_of known x) (leads_to x slot) (fails_where (leads_to x slot) (λ leads.
-    other (sym (same_Some target place (leads_there objects handles slot (Some target) place x is ascend at stands leads)))))))
+    (adds_at objects (leads_where test) slot target (if test object then 1 else 0) before after long grown
+    (λ x stands. ap (λ b. if b then 1 else 0) (here x (same_Some object x (sym there ∙ stands)) (leads_here objects slot target x at stands)))
+    (λ place x stands other. leads_nowhere objects test slot place x ascend stands (λ found. other (same_Some place target (sym found ∙ at)))))
   where
-    turned : (one other : ℕ) → (one == other) ≡ (other == one)
-    turned one other = grind (arith, nat_tests)
-
-    last : (one other : Bool) → other ≡ true → (one && other) ≡ one
-    last true other is = is
-    last false other is = refl
-
-    here : (x : ObjectValue) → object ≡ x → leads_to x slot ≡ true → ◌≡◌ {A = ℕ} (if leads_down known holder x slot then 1 else 0) (if owner_of known object == holder then 1 else 0)
-    here x same leads =
-        ap (λ b. if b then 1 else 0) (last (holder == owner_of known x) (leads_to x slot) leads ∙ (turned holder (owner_of known x) ∙ ap (λ (y : ObjectValue). owner_of known y == holder) (sym same)))
+    here : (x : ObjectValue) → object ≡ x → leads_to x slot ≡ true → leads_where test x slot ≡ test object
+    here x same leads = ap (λ b. test x && b) leads ∙ and-true (test x) ∙ ap test (sym same)
 
 -- the place of a target is one of an object
-pub target_within : (objects : List declared.Object) (handles : List ℕ) (handle place : ℕ) → handles ≡ handles_of (map value_of objects) → Some place ≡ place_in handles handle → place < length objects
-target_within objects handles handle place is at =
-    let found : slice_get (handles_of (map value_of objects)) place ≡ Some handle =
-    at_place (handles_of (map value_of objects)) handle place (ap (λ (all : List ℕ). place_in all handle) (sym is) ∙ sym at) in
+pub target_within : (objects : List declared.Object) (handle place : ℕ) → place_in (handles_of (map value_of objects)) handle ≡ Some place → place < length objects
+target_within objects handle place at =
+    let found = at_place (handles_of (map value_of objects)) handle place at in
     omega (arith, slice_get_within (handles_of (map value_of objects)) place handle found, length-map (map value_of objects) handle_of, length-map objects value_of)
 
 -- the value of the object at a place

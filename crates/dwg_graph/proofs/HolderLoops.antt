@@ -15,7 +15,7 @@ use Rattle.dwg_graph.specs.Counts.{by_holder}
 use Rattle.dwg_graph.specs.Graph.{Claim, claims, claims_of, claims_by, is_claim}
 use Rattle.dwg_graph.specs.Owners.{owner_of}
 use Rattle.dwg_graph.specs.Slots.{slots}
-use Rattle.dwg_graph.proofs.Counting.{stands_there, value_there}
+use Rattle.dwg_graph.proofs.Counting.{claiming_few, stands_there, value_there}
 use Rattle.dwg_object.specs.Objects.{ObjectValue, handle_of, kind_of, value_of}
 use Rattle.dwg_object.specs.declared.object.Object as declared
 
@@ -39,110 +39,62 @@ counts_begin objects one = record {
   each = λ place x stands. get_or-replicate (length objects) place 0 0 (slice_get_within objects place x stands);
 }
 
--- a test that holds counts one more
-count_yes : {A : Type 0} (test : A → Bool) (x : A) (more : List A) → test x ≡ true → count_by test (x ∷ more) ≡ 1 + count_by test more
-count_yes {A} test x more is =
-    let one : ◌≡◌ {A = ℕ} (if test x then 1 else 0) 1 = ap (λ b. if b then 1 else 0) is in
-    omega (arith, sum_by-cons (λ y. if test y then 1 else 0) x more, one)
-
--- a test that fails counts none
-count_no : {A : Type 0} (test : A → Bool) (x : A) (more : List A) → test x ≡ false → count_by test (x ∷ more) ≡ count_by test more
-count_no {A} test x more is =
-    let none : ◌≡◌ {A = ℕ} (if test x then 1 else 0) 0 = ap (λ b. if b then 1 else 0) is in
-    omega (arith, sum_by-cons (λ y. if test y then 1 else 0) x more, none)
-
--- a test that holds lets the thing pass
-filter_yes : {A : Type 0} (test : A → Bool) (x : A) (more : List A) → test x ≡ true → filter test (x ∷ more) ≡ x ∷ filter test more
-filter_yes {A} test x more is = rw is refl
-
--- a test that fails doesn't
-filter_no : {A : Type 0} (test : A → Bool) (x : A) (more : List A) → test x ≡ false → filter test (x ∷ more) ≡ filter test more
-filter_no {A} test x more is = rw is refl
-
--- things of which a test counts those that pass another
-count_passing : {A : Type 0} (one other : A → Bool) (things : List A) → count_by other (filter one things) ≡ length (filter (λ x. one x && other x) things)
-count_passing {A} one other [] = refl
-count_passing {A} one other (x ∷ more) = go (one x) refl (other x) refl (count_passing one other more)
+-- of what passes one test, another keeps what passes both
+filter_twice : {A : Type 0} (one other : A → Bool) (things : List A) → filter other (filter one things) ≡ filter (λ x. one x && other x) things
+filter_twice {A} one other [] = refl
+filter_twice {A} one other (x ∷ more) = by_test (filter_twice one other more) (one x) refl
   where
-    both : A → Bool
-    both y = one y && other y
+    by_test : filter other (filter one more) ≡ filter (λ y. one y && other y) more → (passes : Bool) → one x ≡ passes
+        → filter other (filter one (x ∷ more)) ≡ filter (λ y. one y && other y) (x ∷ more)
+    by_test rest true is = rw is (ap (λ kept. if other x then x ∷ kept else kept) rest)
+    by_test rest false is = rw is rest
 
-    go : (first : Bool) → one x ≡ first → (second : Bool) → other x ≡ second → count_by other (filter one more) ≡ length (filter both more)
-        → count_by other (filter one (x ∷ more)) ≡ length (filter both (x ∷ more))
-    go false is second also rest =
-        let fails : both x ≡ false = ap (λ b. b && other x) is in
-        ap (count_by other) (filter_no one x more is) ∙ (rest ∙ ap length (sym (filter_no both x more fails)))
-    go true is false also rest =
-        let fails : both x ≡ false = ap (λ b. b && other x) is ∙ also in
-        ap (count_by other) (filter_yes one x more is) ∙ (count_no other x (filter one more) also ∙ (rest ∙ ap length (sym (filter_no both x more fails))))
-    go true is true also rest =
-        let holds : both x ≡ true = ap (λ b. b && other x) is ∙ also in
-        let left : count_by other (filter one (x ∷ more)) ≡ 1 + count_by other (filter one more) = ap (count_by other) (filter_yes one x more is) ∙ count_yes other x (filter one more) also in
-        let right : length (filter both (x ∷ more)) ≡ 1 + length (filter both more) = ap length (filter_yes both x more holds) ∙ omega arith in
-        omega (arith, left, right, rest)
+-- and counts so many
+count_passing : {A : Type 0} (one other : A → Bool) (things : List A) → count_by other (filter one things) ≡ count_by (λ x. one x && other x) things
+count_passing one other things =
+    sym (length-filter other (filter one things)) ∙ ap length (filter_twice one other things) ∙ length-filter (λ x. one x && other x) things
 
--- all things that are seen pass
-all_pass : {A B : Type 0} (test : B → Bool) (view : A → B) (things : List A) → ((x : A) → test (view x) ≡ true) → length (filter test (map view things)) ≡ length things
-all_pass {A} {B} test view [] passes = refl
-all_pass {A} {B} test view (x ∷ more) passes =
-    let rest : length (filter test (map view more)) ≡ length more = all_pass test view more passes in
-    ap length (filter_yes test (view x) (map view more) (passes x)) ∙ omega (arith, rest)
+-- of what is seen of things, a test counts those of which it holds
+count_seen : {A B : Type 0} (test : B → Bool) (view : A → B) (things : List A) → count_by test (map view things) ≡ count_by (λ x. test (view x)) things
+count_seen {A} {B} test view [] = refl
+count_seen {A} {B} test view (x ∷ more) =
+    omega (arith, sum_by-cons (λ y. if test y then 1 else 0) (view x) (map view more), sum_by-cons (λ y. if test (view y) then 1 else 0) x more, count_seen test view more)
 
--- none pass
-none_pass : {A B : Type 0} (test : B → Bool) (view : A → B) (things : List A) → ((x : A) → test (view x) ≡ false) → length (filter test (map view things)) ≡ 0
-none_pass {A} {B} test view [] fails = refl
-none_pass {A} {B} test view (x ∷ more) fails = ap length (filter_no test (view x) (map view more) (fails x)) ∙ none_pass test view more fails
+-- tests that say the same count the same
+count_same : {A : Type 0} (one other : A → Bool) (things : List A) → ((x : A) → one x ≡ other x) → count_by one things ≡ count_by other things
+count_same {A} one other [] same = refl
+count_same {A} one other (x ∷ more) same = grind (arith, sum_by-cons, same x, count_same one other more same)
 
--- nothing passes a test that never holds
-count_never : {A : Type 0} (things : List A) → count_by (λ x. false) things ≡ 0
-count_never {A} [] = refl
-count_never {A} (x ∷ more) = count_no (λ y. false) x more refl ∙ count_never more
+-- the last of three tests moved to the middle
+turned : (one two three : Bool) → (one && (two && three)) ≡ ((one && three) && two)
+turned one two three = grind arith
 
--- a claim of a holder
-abbrev made : ℕ → Slot → Claim
-made holder slot = record { holder = holder; slot = slot }
-
--- the slots by which a holder claims an object
-abbrev claimed_by : ObjectValue → ObjectValue → List Slot
-claimed_by x holder = filter (is_claim (kind_of holder) (handle_of x)) (slots holder)
-
--- the claims of a holder are as many as those slots
-all_length : (x holder : ObjectValue) → all_of x holder ≡ length (claimed_by x holder)
-unfolding all_of claims_of
-all_length x holder = length-map (claimed_by x holder) (made (handle_of holder))
-
--- the slots that claim and lead to an object
-claiming_length : (x holder : ObjectValue) → count_by (leads_to x) (claiming (kind_of holder) (slots holder)) ≡ length (claimed_by x holder)
-unfolding claiming
-claiming_length x holder = count_passing (λ (slot : Slot). claims_by (kind_of holder) slot.field) (leads_to x) (slots holder)
-
--- the slots that lead to an object are the claims on it
+-- the slots of a holder that lead to an object are its claims on it
 all_counted : (x holder : ObjectValue) → count_by (leads_to x) (claiming (kind_of holder) (slots holder)) ≡ all_of x holder
-all_counted x holder = claiming_length x holder ∙ sym (all_length x holder)
+unfolding all_of claims_of claiming
+all_counted x holder =
+    count_passing (λ (slot : Slot). claims_by (kind_of holder) slot.field) (leads_to x) (slots holder)
+    ∙ sym (length-map (filter (is_claim (kind_of holder) (handle_of x)) (slots holder)) (λ slot. record { holder = handle_of holder; slot = slot })
+    ∙ length-filter (is_claim (kind_of holder) (handle_of x)) (slots holder))
 
 -- and so are those of its owner
 own_counted : (known : Option SpaceHandles) (x holder : ObjectValue) → count_by (leads_down known (handle_of holder) x) (claiming (kind_of holder) (slots holder)) ≡ own_of known x holder
-unfolding own_of claims_of
-own_counted known x holder = go (handle_of holder == owner_of known x) refl
-  where
-    test : Claim → Bool
-    test claim = claim.holder == owner_of known x
-
-    held : List Slot
-    held = claiming (kind_of holder) (slots holder)
-
-    go : (owns : Bool) → (handle_of holder == owner_of known x) ≡ owns → count_by (leads_down known (handle_of holder) x) held ≡ length (filter test (map (made (handle_of holder)) (claimed_by x holder)))
-    go true is =
-        ap (λ (b : Bool). count_by (λ slot. b && leads_to x slot) held) is
-        ∙ (claiming_length x holder ∙ sym (all_pass test (made (handle_of holder)) (claimed_by x holder) (λ slot. is)))
-    go false is =
-        ap (λ (b : Bool). count_by (λ slot. b && leads_to x slot) held) is
-        ∙ (count_never held ∙ sym (none_pass test (made (handle_of holder)) (claimed_by x holder) (λ slot. is)))
+unfolding own_of claims_of claiming
+own_counted known x holder =
+    let claim : Slot → Claim = λ slot. record { holder = handle_of holder; slot = slot } in
+    let claims_it : Slot → Bool = is_claim (kind_of holder) (handle_of x) in
+    let owns : Bool = handle_of holder == owner_of known x in
+    count_passing (λ (slot : Slot). claims_by (kind_of holder) slot.field) (leads_down known (handle_of holder) x) (slots holder)
+    ∙ count_same _ (λ slot. claims_it slot && owns) (slots holder) (λ slot. turned (claims_by (kind_of holder) slot.field) owns (leads_to x slot))
+    ∙ sym (length-filter (by_holder (owner_of known x)) (map claim (filter claims_it (slots holder)))
+    ∙ count_seen (by_holder (owner_of known x)) claim (filter claims_it (slots holder))
+    ∙ count_passing claims_it (λ slot. owns) (slots holder))
 
 -- a holder has no more claims on an object than slots
 all_few : (x holder : ObjectValue) → all_of x holder ≤ length (slots holder)
 all_few x holder =
-    omega (arith, all_length x holder, length-filter (is_claim (kind_of holder) (handle_of x)) (slots holder), count_by-le-length (is_claim (kind_of holder) (handle_of x)) (slots holder))
+    let claims = claiming (kind_of holder) (slots holder) in
+    omega (arith, all_counted x holder, count_by-le-length (leads_to x) claims, claiming_few (kind_of holder) (slots holder))
 
 -- nor where it owns it
 own_few : (known : Option SpaceHandles) (x holder : ObjectValue) → own_of known x holder ≤ length (slots holder)

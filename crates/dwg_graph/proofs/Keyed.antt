@@ -1,6 +1,7 @@
 -- Things with keys: where steps and tests over keys say what they say over the things that have them, so do paths and chains.
 use Rattle.std.proofs.Common.{◌≡◌, sym, refl, ap, ◌∙◌, subst, ⊎_elim}
 use Rattle.std.specs.Prelude.{◌↔◌, ℕ, zero, suc, Bool, List, [], ◌∷◌, map, Option, Some, IsTrue, Contains}
+use Rattle.dwg_graph.proofs.ListLemmas.{contains_map}
 use Rattle.dwg_graph.specs.ObjectPaths.{IsChainOf}
 use Rattle.dwg_paths.specs.Paths.{AreDistinct, Follows, Begins, Ends, IsChain, HasPath, HasRank, HasChain}
 use Rattle.dwg_paths.proofs.MemberLemmas.{contains_none, contains_first, contains_behind, contains_cases}
@@ -49,14 +50,6 @@ path_keyed all key step_key step_thing goal_key goal_thing keyed agree x inside 
       path_of_rank step_key goal_key (key x) ranked.0 (rank_back all key step_key step_thing goal_key goal_thing keyed agree x ranked.0 inside ranked.1),
 )
 
--- the key of what a list contains is among the keys
-pub key_inside : {A K : Type 0} (key : A → K) (xs : List A) (x : A) → Contains xs x → Contains (map key xs) (key x)
-key_inside key [] x inside = absurd (contains_none x inside)
-key_inside {A} key (y ∷ ys) x inside = ⊎_elim
-    (λ same. subst (λ (z : A). Contains (map key (y ∷ ys)) (key z)) same (contains_first (key y) (map key ys)))
-    (λ behind. contains_behind (key y) (map key ys) (key x) (key_inside key ys x behind))
-    (contains_cases y ys x inside)
-
 -- what is among the keys is that of something that the list contains
 thing_inside : {A K : Type 0} (key : A → K) (xs : List A) (k : K) → Contains (map key xs) k → (x : A) × Contains xs x × (key x ≡ k)
 thing_inside key [] k inside = absurd (contains_none k inside)
@@ -69,7 +62,7 @@ thing_inside key (y ∷ ys) k inside = ⊎_elim
 distinct_over : {A K : Type 0} (key : A → K) (xs : List A) → AreDistinct (map key xs) → AreDistinct xs
 unfolding AreDistinct
 distinct_over key [] distinct = tt
-distinct_over key (x ∷ xs) distinct = (λ again. distinct.0 (key_inside key xs x again), distinct_over key xs distinct.1)
+distinct_over key (x ∷ xs) distinct = (λ again. distinct.0 (contains_map key xs x again), distinct_over key xs distinct.1)
 
 -- the things of a list are all among others
 abbrev pub AreWithin : {A : Type 0} → List A → List A → Type 0
@@ -138,7 +131,7 @@ whole_over : {A K : Type 0} (all : List A) (key : A → K) (member_key : K → B
 whole_over {A} all key member_key member_thing one agree xs within whole x = (
   λ is. let listed = thing_inside key xs (key x) ((whole (key x)).0 (agree x is.0 ∙ is.1)) in
       subst (λ (y : A). Contains xs y) (one listed.0 x (within listed.0 listed.1) is.0 listed.2) listed.1,
-  λ inside. (within x inside, sym (agree x (within x inside)) ∙ (whole (key x)).1 (key_inside key xs x inside)),
+  λ inside. (within x inside, sym (agree x (within x inside)) ∙ (whole (key x)).1 (contains_map key xs x inside)),
 )
 
 -- the keys of the members are those listed, where the members are the things listed
@@ -146,7 +139,7 @@ whole_back : {A K : Type 0} (all : List A) (key : A → K) (member_key : K → B
 whole_back {A} {K} all key member_key member_thing keys agree xs whole k = (
   λ is. let member = keys k is in
       let passes : IsTrue (member_thing member.0) = sym (agree member.0 member.1) ∙ (ap member_key member.2 ∙ is) in
-      subst (λ (j : K). Contains (map key xs) j) member.2 (key_inside key xs member.0 ((whole member.0).0 (member.1, passes))),
+      subst (λ (j : K). Contains (map key xs) j) member.2 (contains_map key xs member.0 ((whole member.0).0 (member.1, passes))),
   λ inside. let listed = thing_inside key xs k inside in
       let member = (whole listed.0).1 listed.1 in
       subst (λ (j : K). IsTrue (member_key j)) listed.2 (agree listed.0 member.0 ∙ member.1),

@@ -3,7 +3,7 @@ pub mod SoleSpaces
 pub mod Passing
 pub mod HeldSlots
 pub mod SlotCounts
-pub mod SlotOrder
+pub mod FieldLists
 pub mod Keyed
 pub mod ObjectPaths
 pub mod ListLemmas

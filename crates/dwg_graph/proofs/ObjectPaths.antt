@@ -1,15 +1,16 @@
 -- Owner paths and chains over handles are those over objects, where handles are distinct.
-use Rattle.std.proofs.Common.{◌≡◌, sym, refl, ap, ◌∙◌, subst, ⊎_elim, ℕ, suc, Bool, true, false, List, [], ◌∷◌, Option, Some, None, inl, inr, arith}
-use Rattle.std.specs.Prelude.{◌==◌, ◌⊎◌, ◌↔◌, is_some, Contains, if◌then◌else◌}
+use Rattle.std.proofs.Common.{◌≡◌, sym, refl, ap, ◌∙◌, subst, ⊎_elim, ℕ, suc, Bool, true, false, List, [], ◌∷◌, Option, Some, None, arith}
+use Rattle.std.specs.Prelude.{◌==◌, ◌↔◌, is_some, Contains, if◌then◌else◌}
 use Rattle.std.specs.Option.{option_and_then, option_map_or}
-use Rattle.std.proofs.lemmas.Bool.{cases_Bool}
+use Rattle.std.proofs.lemmas.Bool.{both_ways, false_from_ne_true}
 use Rattle.std.proofs.lemmas.Bool.Decides.{Decides-eqb}
 use Rattle.std.proofs.lemmas.Option.{cond_some}
 use Rattle.dwg_graph.specs.Graph.{object_at, there, is_root, is_member, owner_step, next_step, root_at, member_at, EndHandles, ends_of, HasOwnerPath, HasMemberChain, HasChainBetween}
 use Rattle.dwg_graph.specs.ObjectPaths.{owner_object, next_object, HasObjectPath, HasObjectChain, HasObjectChainBetween}
 use Rattle.dwg_graph.specs.Owners.{spaces, owner_of, next_of}
 use Rattle.dwg_graph.specs.Places.{Ascend, handles_of}
-use Rattle.dwg_graph.proofs.Keyed.{AreKeyed, AreKeys, KeysAgree, key_inside, path_keyed, chain_keyed}
+use Rattle.dwg_graph.proofs.Keyed.{AreKeyed, AreKeys, KeysAgree, path_keyed, chain_keyed}
+use Rattle.dwg_graph.proofs.ListLemmas.{contains_map}
 use Rattle.dwg_object.specs.Objects.{ObjectValue, handle_of}
 use Rattle.dwg_paths.specs.Paths.{AreDistinct}
 use Rattle.dwg_paths.proofs.MemberLemmas.{contains_cases, contains_none}
@@ -31,10 +32,10 @@ one_of_handle [] distinct x y here there same = absurd (contains_none x here)
 one_of_handle (z ∷ zs) distinct x y here there same = ⊎_elim
     (λ first. ⊎_elim
     (λ also. sym first ∙ also)
-    (λ behind. absurd (distinct.0 (subst (λ (h : ℕ). Contains (handles_of zs) h) (sym (ap handle_of first ∙ same)) (key_inside handle_of zs y behind))))
+    (λ behind. absurd (distinct.0 (subst (λ (h : ℕ). Contains (handles_of zs) h) (sym (ap handle_of first ∙ same)) (contains_map handle_of zs y behind))))
     (contains_cases z zs y there))
     (λ behind. ⊎_elim
-    (λ first. absurd (distinct.0 (subst (λ (h : ℕ). Contains (handles_of zs) h) (same ∙ sym (ap handle_of first)) (key_inside handle_of zs x behind))))
+    (λ first. absurd (distinct.0 (subst (λ (h : ℕ). Contains (handles_of zs) h) (same ∙ sym (ap handle_of first)) (contains_map handle_of zs x behind))))
     (λ also. one_of_handle zs distinct.1 x y behind also same)
     (contains_cases z zs y there))
     (contains_cases z zs x here)
@@ -103,12 +104,16 @@ tests_keyed : (objects : List ObjectValue) (test : ObjectValue → Bool) → Are
 tests_keyed objects test distinct x inside = ap (λ o. option_map_or test o false) (found_standing objects distinct x inside)
 
 -- what passes, if it is there, is there
+pub passing_of_map_or : {A : Type 0} (test : A → Bool) (found : Option A) → option_map_or test found false ≡ true → (x : A) × (found ≡ Some x) × (test x ≡ true)
+passing_of_map_or test None is = absurd (cc is)
+passing_of_map_or test (Some x) is = (x, refl, is)
+
+-- so is an object that passes by its handle
 passing_there : (objects : List ObjectValue) (test : ObjectValue → Bool) → AreKeys objects handle_of (test_at objects test)
-passing_there objects test handle is = go (object_at objects handle) refl
-  where
-    go : (found : Option ObjectValue) → object_at objects handle ≡ found → (x : ObjectValue) × Contains objects x × (handle_of x ≡ handle)
-    go None none = absurd (cc (sym is ∙ ap (λ o. option_map_or test o false) none))
-    go (Some x) found = let stands = stands_found objects handle x found in (x, stands.0, stands.1)
+passing_there objects test handle is =
+    let found = passing_of_map_or test (object_at objects handle) is in
+    let stands = stands_found objects handle found.0 found.1 in
+    (found.0, stands.0, stands.1)
 
 -- an object has an owner path over handles exactly where it has one over objects
 pub paths_are_of_objects : (objects : List ObjectValue) (x : ObjectValue) → AreDistinct (handles_of objects) → Contains objects x → HasOwnerPath objects x ↔ HasObjectPath objects x
@@ -121,14 +126,10 @@ paths_are_of_objects objects x distinct inside =
 none_keyed : (objects : List ObjectValue) (test : ObjectValue → Bool) → AreDistinct (handles_of objects) → ((handle : ℕ) → test_at objects test handle ≡ false) ↔ ((x : ObjectValue) → Contains objects x → test x ≡ false)
 none_keyed objects test distinct = (
   λ none x inside. sym (tests_keyed objects test distinct x inside) ∙ none (handle_of x),
-  λ none handle. either none handle (cases_Bool (test_at objects test handle)),
+  λ none handle. false_from_ne_true (test_at objects test handle) (λ is.
+      let member = passing_there objects test handle is in
+      both_ways (test member.0) (none member.0 member.1) (sym (ap (test_at objects test) (sym member.2) ∙ tests_keyed objects test distinct member.0 member.1) ∙ is)),
 )
-  where
-    either : ((x : ObjectValue) → Contains objects x → test x ≡ false) → (handle : ℕ) → (test_at objects test handle ≡ true) ⊎ (test_at objects test handle ≡ false) → test_at objects test handle ≡ false
-    either none handle (inl is) =
-        let member = passing_there objects test handle is in
-        ap (test_at objects test) (sym member.2) ∙ tests_keyed objects test distinct member.0 member.1 ∙ none member.0 member.1
-    either none handle (inr fails) = fails
 
 -- members have a chain over handles between such ends exactly where they have one over objects
 between_are_of_objects : (objects : List ObjectValue) (header : ObjectValue) (ends : Option EndHandles) → AreDistinct (handles_of objects) → HasChainBetween objects header ends ↔ HasObjectChainBetween objects header ends

@@ -1,15 +1,15 @@
 -- Walks along lists of slots.
-use Rattle.std.proofs.Common.{zero, suc, ◌≡◌, refl, sym, ◌∙◌, ap, subst, ◌<◌, ◌≤◌, ◌+◌, ◌-◌, ℕ, List, [], ◌∷◌, ◌++◌, length, drop, Some, arith}
+use Rattle.std.proofs.Common.{zero, suc, ◌≡◌, refl, sym, ◌∙◌, ap, subst, ◌<◌, ◌≤◌, ◌+◌, ◌-◌, ℕ, List, [], ◌∷◌, ◌++◌, length, get_or, drop, Some, arith}
 use Rattle.std.specs.Prelude.{map}
 use Rattle.std.specs.List.{slice_get}
-use Rattle.std.proofs.lemmas.List.{append_assoc, append-nil}
+use Rattle.std.proofs.lemmas.List.{append_assoc, append-nil, drop_more}
 use Rattle.std.proofs.Math.ListN.{drop_of_length-le}
 use Rattle.std.proofs.lemmas.Option.{same_Some, slice_get_within}
 use Rattle.dwg_graph.specs.declared.walk.Walk.{Walk}
 use Rattle.dwg_graph.specs.declared.walk.Walk.TheVariants.{Found, Left, Gathered, Short}
 use Rattle.dwg_graph.specs.declared.slot.Slot.{Slot}
-use Rattle.dwg_graph.specs.SlotWalks.{IsBehind, IsGathered, Passes, pass}
-use Rattle.dwg_graph.specs.Slots.{slots_from, listed}
+use Rattle.dwg_graph.specs.SlotWalks.{IsBehind, IsGathered, Passes, PassesField, PassesFields, pass}
+use Rattle.dwg_graph.specs.Slots.{FieldReferences, slots_from, slots_of}
 use Rattle.dwg_grammar.specs.Reference.{Reference}
 use Rattle.dwg_kinds.specs.declared.field.Field.{Field}
 
@@ -48,9 +48,37 @@ behind_both (Left count) middle last slots more is goes_on = searched_both count
 behind_both (Gathered before) middle last slots more is goes_on = gathered_both before slots more middle last is goes_on
 behind_both Short middle last slots more is goes_on = subst (λ walk. IsBehind walk more last) is goes_on
 
-infixl 60 ◌▷◌
-pub ◌▷◌ : {first middle last : Walk} {slots more : List Slot} → Passes first slots middle → Passes middle more last → Passes first (slots ++ more) last
-◌▷◌ {first} {middle} {last} {slots} {more} is goes_on = record { behind = behind_both first middle last slots more is.behind goes_on.behind }
+-- a walk along a field is one to those who go on along others
+pub passes_field : (first middle : Walk) (held : FieldReferences) → IsBehind first (slots_from held.field 0 held.references) middle → PassesField first held middle
+unfolding slots_of
+passes_field first middle held is = record {
+  goes_on = λ more last goes_on. record { behind = behind_both first middle last (slots_from held.field 0 held.references) (slots_of more) is goes_on.behind };
+}
+
+-- so is one that stands still where the field has no references
+pub passes_nothing : (walk : Walk) (field : Field) → PassesField walk (record { field = field; references = [] }) walk
+unfolding slots_from
+passes_nothing walk field = passes_field walk walk (record { field = field; references = [] }) (behind_none walk)
+
+-- a walk along no fields
+pub passes_end : (walk : Walk) → PassesFields walk [] walk
+unfolding slots_of
+passes_end walk = record { behind = behind_none walk }
+
+-- the slots of fields and of others stand one behind the other
+slots_of_both : (some more : List FieldReferences) → slots_of (some ++ more) ≡ slots_of some ++ slots_of more
+unfolding slots_of
+slots_of_both [] more = refl
+slots_of_both (held ∷ some) more =
+    ap (λ slots. slots_from held.field 0 held.references ++ slots) (slots_of_both some more)
+    ∙ sym (append_assoc (slots_from held.field 0 held.references) (slots_of some) (slots_of more))
+
+-- a walk along fields and then along others
+pub passes_both : {first middle last : Walk} (some more : List FieldReferences) → PassesFields first some middle → PassesFields middle more last → PassesFields first (some ++ more) last
+passes_both {first} {middle} {last} some more is goes_on =
+    record {
+      behind = subst (λ slots. IsBehind first slots last) (sym (slots_of_both some more)) (behind_both first middle last (slots_of some) (slots_of more) is.behind goes_on.behind);
+    }
 
 -- the slots of a field are as many as its references
 pub length_of_slots : (field : Field) (at : ℕ) (references : List Reference) → length (slots_from field at references) ≡ length references
@@ -82,45 +110,24 @@ passed_to {T} refers field (suc count) at (first ∷ items) item here =
 -- a search ends in a list that holds its place
 pub listed_to : {T : Type 0} (refers : T → Reference) (field : Field) (place : ℕ) (items : List T) (item : T) (target : ℕ)
     → slice_get items place ≡ Some item → target ≡ (refers item).target
-    → Found (record { field = field; position = place; target = target }) ≡ pass place (listed field (map refers items))
+    → Found (record { field = field; position = place; target = target }) ≡ pass place (slots_from field 0 (map refers items))
 listed_to {T} refers field place items item target here to =
     sym (passed_to refers field place 0 items item here
     ∙ ap (λ (n : ℕ). Found (record { field = field; position = n; target = (refers item).target })) (omega arith)
     ∙ ap (λ (n : ℕ). Found (record { field = field; position = place; target = n })) (sym to))
 
--- what is left of the slots of a list at a place begins with that of the item there
-slots_at : {T : Type 0} (refers : T → Reference) (field : Field) (at place : ℕ) (items : List T) (item : T) → slice_get items place ≡ Some item
-    → slots_from field (at + place) (map refers (drop place items))
-    ≡ record { field = field; position = at + place; target = (refers item).target } ∷ slots_from field (at + suc place) (map refers (drop (suc place) items))
-unfolding slots_from
-slots_at {T} refers field at place [] item here = absurd cc
-slots_at {T} refers field at zero (first ∷ items) item here =
-    ap (λ (one : T). record { field = field; position = at + 0; target = (refers one).target } ∷ slots_from field (at + 0 + 1) (map refers items)) (same_Some first item here)
-    ∙ ap (λ (n : ℕ). record { field = field; position = at + 0; target = (refers item).target } ∷ slots_from field n (map refers items)) (omega arith)
-slots_at {T} refers field at (suc place) (first ∷ items) item here =
-    let shifted : (at + 1) + place ≡ at + suc place = omega arith in
-    let further : (at + 1) + suc place ≡ at + suc (suc place) = omega arith in
-    ap (λ (n : ℕ). slots_from field n (map refers (drop place items))) (sym shifted)
-    ∙ slots_at refers field (at + 1) place items item here
-    ∙ ap (λ (n : ℕ). record { field = field; position = n; target = (refers item).target } ∷ slots_from field ((at + 1) + suc place) (map refers (drop (suc place) items))) shifted
-    ∙ ap (λ (n : ℕ). record { field = field; position = at + suc place; target = (refers item).target } ∷ slots_from field n (map refers (drop (suc place) items))) further
-
 -- one slot more is gathered
-pub gathered_further : {T : Type 0} (refers : T → Reference) (field : Field) (place next : ℕ) (items : List T) (item : T) (target : ℕ) (before after whole : List Slot)
-    → slice_get items place ≡ Some item → next ≡ suc place → target ≡ (refers item).target → before ++ slots_from field place (map refers (drop place items)) ≡ whole
+pub gathered_further : {T : Type 0} (refers : T → Reference) (field : Field) (place : ℕ) (items : List T) (item : T) (target : ℕ) (before after whole : List Slot)
+    → place < length items → item ≡ get_or items place item → target ≡ (refers item).target → before ++ slots_from field place (map refers (drop place items)) ≡ whole
     → after ≡ before ++ record { field = field; position = place; target = target } ∷ []
-    → after ++ slots_from field next (map refers (drop next items)) ≡ whole
-gathered_further {T} refers field place next items item target before after whole here further to is new =
-    let slot : Slot = record { field = field; position = place; target = target } in
-    let rest : List Slot = slots_from field (suc place) (map refers (drop (suc place) items)) in
-    ap (λ (n : ℕ). after ++ slots_from field n (map refers (drop n items))) further
-    ∙ ap (λ front. front ++ rest) new
-    ∙ append_assoc before (slot ∷ []) rest
-    ∙ ap (λ (n : ℕ). before ++ record { field = field; position = place; target = n } ∷ rest) to
-    ∙ ap (λ (n : ℕ). before ++ record { field = field; position = n; target = (refers item).target } ∷ slots_from field (suc place) (map refers (drop (suc place) items))) (omega arith)
-    ∙ ap (λ (n : ℕ). before ++ record { field = field; position = 0 + place; target = (refers item).target } ∷ slots_from field n (map refers (drop (suc place) items))) (omega arith)
-    ∙ ap (λ back. before ++ back) (sym (slots_at refers field 0 place items item here))
-    ∙ ap (λ (n : ℕ). before ++ slots_from field n (map refers (drop place items))) (omega arith)
+    → after ++ slots_from field (place + 1) (map refers (drop (place + 1) items)) ≡ whole
+unfolding slots_from
+gathered_further {T} refers field place items item target before after whole within here to is new =
+    let rest : List Slot = slots_from field (place + 1) (map refers (drop (place + 1) items)) in
+    ap (λ front. front ++ rest) new
+    ∙ append_assoc before (record { field = field; position = place; target = target } ∷ []) rest
+    ∙ ap (λ (n : ℕ). before ++ record { field = field; position = place; target = n } ∷ rest) (to ∙ ap (λ (one : T). (refers one).target) here)
+    ∙ ap (λ (left : List T). before ++ slots_from field place (map refers left)) (sym (drop_more items place item within))
     ∙ is
 
 -- behind all items nothing is left to gather

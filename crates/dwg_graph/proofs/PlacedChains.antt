@@ -3,8 +3,9 @@ use Rattle.std.proofs.Common.{◌≡◌, refl, sym, ap, ◌∙◌, subst, ℕ, B
 use Rattle.std.specs.Prelude.{◌==◌, ◌<◌, ◌⊎◌, ◌↔◌, ◌&&◌, not, IsTrue, if◌then◌else◌}
 use Rattle.std.specs.List.{slice_get, slice_index_or}
 use Rattle.std.specs.Option.{option_map, option_map_or, option_and_then}
-use Rattle.std.proofs.lemmas.Bool.{cases_Bool, cases_eq}
-use Rattle.std.proofs.lemmas.Bool.Decides.{nat_tests}
+use Rattle.std.proofs.Math.Bool.{and-true, and-false}
+use Rattle.std.proofs.lemmas.Bool.{cases_eq, false_from_ne_true}
+use Rattle.std.proofs.lemmas.Bool.Decides.{Decides-eqb, nat_tests, same_from_decides}
 use Rattle.std.proofs.lemmas.Option.{same_Some, slice_get-map, slice_get_within, slice_get-get_or}
 use Rattle.dwg_graph.specs.declared.owner.SpaceHandles.{SpaceHandles}
 use Rattle.dwg_graph.specs.Graph.{is_header, is_raw, is_member, is_member_kind, next_step, member_at, EndHandles, ends_of, HasMemberChain, HasChainBetween}
@@ -23,13 +24,8 @@ use Rattle.dwg_paths.specs.declared.tables.ChainEnds.{ChainEnds}
 
 -- two tests for being one agree where each is so exactly where the other is
 same_tests : (a b c d : ℕ) → (a ≡ b → c ≡ d) → (c ≡ d → a ≡ b) → (a == b) ≡ (c == d)
-same_tests a b c d forth back = either (cases_Bool (a == b)) (cases_Bool (c == d))
-  where
-    either : ((a == b) ≡ true) ⊎ ((a == b) ≡ false) → ((c == d) ≡ true) ⊎ ((c == d) ≡ false) → (a == b) ≡ (c == d)
-    either (inl one) (inl also) = one ∙ sym also
-    either (inr apart) (inr neither) = apart ∙ sym neither
-    either (inl one) (inr neither) = absurd (let same : a ≡ b = grind (arith, nat_tests, one) in let other : c ≡ d = forth same in grind (arith, nat_tests, neither, other))
-    either (inr apart) (inl also) = absurd (let other : c ≡ d = grind (arith, nat_tests, also) in let same : a ≡ b = back other in grind (arith, nat_tests, apart, same))
+same_tests a b c d forth back =
+    same_from_decides (a == b) (c == d) (Decides-eqb a b) (λ is. back ((Decides-eqb c d).0 is), λ same. (Decides-eqb c d).1 (forth same))
 
 -- a test with what fails at its end fails
 fails_last : (a b c : Bool) → (a && (b && (c && false))) ≡ false
@@ -48,14 +44,6 @@ home_by_test : (test : Bool) (q i : ℕ) (same : Bool) → (q == i) ≡ same →
 home_by_test true q i same is = is
 home_by_test false q i same is = refl
 
-both_true : (test : Bool) → (test && true) ≡ test
-both_true true = refl
-both_true false = refl
-
-not_both : (test : Bool) → (test && false) ≡ false
-not_both true = refl
-not_both false = refl
-
 -- a place lives at the home of the block of which the object there is a member
 lives_where_member : (objects : List ObjectValue) (known : Option SpaceHandles) (i p : ℕ) (x y : ObjectValue) → Ascend (handles_of objects) → slice_get objects i ≡ Some x → slice_get objects p ≡ Some y
     → lives_at (home_table objects known) i p ≡ is_member known x y
@@ -65,11 +53,7 @@ lives_where_member objects known i p x y ascend at also = ap (λ (o : Option ℕ
     handle_there = slice_get-map handle_of objects i ∙ ap (option_map handle_of) at
 
     other_owner : (owner_of known y ≡ handle_of x → ⊥) → is_member known x y ≡ false
-    other_owner differ = no_member known x y (either (cases_Bool (owner_of known y == handle_of x)))
-      where
-        either : ((owner_of known y == handle_of x) ≡ true) ⊎ ((owner_of known y == handle_of x) ≡ false) → (owner_of known y == handle_of x) ≡ false
-        either (inl same) = absurd (differ (grind (arith, nat_tests, same)))
-        either (inr other) = other
+    other_owner differ = no_member known x y (false_from_ne_true (owner_of known y == handle_of x) (λ is. differ ((Decides-eqb (owner_of known y) (handle_of x)).0 is)))
 
     at_home : (q : ℕ) (z : ObjectValue) → owner_place objects known y ≡ Some q → slice_get objects q ≡ Some z → handle_of z ≡ owner_of known y → is_at (home_place objects known y) i ≡ is_member known x y
     at_home q z place stands owns = home ∙ either (cases_eq q i)
@@ -81,10 +65,10 @@ lives_where_member objects known i p x y ascend at also = ap (λ (o : Option ℕ
         either : (q ≡ i) ⊎ (q ≡ i → ⊥) → is_at (if is_member known z y then Some q else None) i ≡ is_member known x y
         either (inl here) =
             let one : z ≡ x = same_Some z x (sym stands ∙ ap (slice_get objects) here ∙ at) in
-            home_by_test (is_member known z y) q i true (grind (arith, nat_tests, here)) ∙ both_true (is_member known z y) ∙ ap (λ (h : ObjectValue). is_member known h y) one
+            home_by_test (is_member known z y) q i true (grind (arith, nat_tests, here)) ∙ and-true (is_member known z y) ∙ ap (λ (h : ObjectValue). is_member known h y) one
         either (inr apart) =
             let handle_z : slice_get (handles_of objects) q ≡ Some (handle_of z) = slice_get-map handle_of objects q ∙ ap (option_map handle_of) stands in
-            home_by_test (is_member known z y) q i false (grind (arith, nat_tests, apart)) ∙ not_both (is_member known z y)
+            home_by_test (is_member known z y) q i false (grind (arith, nat_tests, apart)) ∙ and-false (is_member known z y)
             ∙ sym (other_owner (λ same. apart (one_place (handles_of objects) (handle_of x) q i ascend (handle_z ∙ ap Some (owns ∙ same)) handle_there)))
 
     go : (place : Option ℕ) → owner_place objects known y ≡ place → is_at (home_place objects known y) i ≡ is_member known x y
@@ -99,14 +83,8 @@ end_where_handle : (objects : List ObjectValue) (end : ℕ) → Ascend (handles_
 end_where_handle objects end ascend p h at = go (place_in (handles_of objects) end) refl
   where
     go : (place : Option ℕ) → place_in (handles_of objects) end ≡ place → is_at (place_in (handles_of objects) end) p ≡ (h == end)
-    go None missing = ap (λ (o : Option ℕ). is_at o p) missing ∙ sym (either (cases_Bool (h == end)))
-      where
-        either : ((h == end) ≡ true) ⊎ ((h == end) ≡ false) → (h == end) ≡ false
-        either (inl same) =
-            let one : h ≡ end = grind (arith, nat_tests, same) in
-            let found = is_found (handles_of objects) end p (at ∙ ap Some one) in
-            absurd (cc (sym missing ∙ found.1))
-        either (inr other) = other
+    go None missing = ap (λ (o : Option ℕ). is_at o p) missing ∙ sym (false_from_ne_true (h == end) (λ is.
+        let found = is_found (handles_of objects) end p (at ∙ ap Some ((Decides-eqb h end).0 is)) in absurd (cc (sym missing ∙ found.1))))
     go (Some q) found = ap (λ (o : Option ℕ). is_at o p) found ∙ same_tests q p h end
         (λ here. same_Some h end (sym at ∙ subst (λ (n : ℕ). slice_get (handles_of objects) n ≡ Some end) here (at_place (handles_of objects) end q found)))
         (λ one. one_place (handles_of objects) end q p ascend (at_place (handles_of objects) end q found) (at ∙ ap Some one))
@@ -167,28 +145,15 @@ ends_in_table objects i x at =
 -- no place lives at a home exactly where no handle is a member's
 none_lives : (objects : List ObjectValue) (known : Option SpaceHandles) (i : ℕ) (x : ObjectValue) → Ascend (handles_of objects) → slice_get objects i ≡ Some x
     → ((p : ℕ) → lives_at (home_table objects known) i p ≡ false) ↔ ((h : ℕ) → member_at objects known x h ≡ false)
-none_lives objects known i x ascend at = (forth, back)
-  where
-    agree : TestsAgree (handles_of objects) (lives_at (home_table objects known) i) (member_at objects known x)
-    agree = members_agree objects known i x ascend at
-
-    forth : ((p : ℕ) → lives_at (home_table objects known) i p ≡ false) → (h : ℕ) → member_at objects known x h ≡ false
-    forth none h = either (cases_Bool (member_at objects known x h))
-      where
-        either : (member_at objects known x h ≡ true) ⊎ (member_at objects known x h ≡ false) → member_at objects known x h ≡ false
-        either (inl is) =
-            let there = place_of_contained (handles_of objects) h (members_among objects known x h is) in
-            absurd (cc (sym is ∙ sym (agree there.0 h there.1) ∙ none there.0))
-        either (inr other) = other
-
-    back : ((h : ℕ) → member_at objects known x h ≡ false) → (p : ℕ) → lives_at (home_table objects known) i p ≡ false
-    back none p = either (cases_Bool (lives_at (home_table objects known) i p))
-      where
-        either : (lives_at (home_table objects known) i p ≡ true) ⊎ (lives_at (home_table objects known) i p ≡ false) → lives_at (home_table objects known) i p ≡ false
-        either (inl lives) =
-            let there = handle_within (handles_of objects) p (lives_within objects known i p lives) in
-            absurd (cc (sym lives ∙ agree p there.0 there.1 ∙ none there.0))
-        either (inr other) = other
+none_lives objects known i x ascend at =
+    let agree = members_agree objects known i x ascend at in (
+      λ none h. false_from_ne_true (member_at objects known x h) (λ is.
+          let there = place_of_contained (handles_of objects) h (members_among objects known x h is) in
+          absurd (cc (sym is ∙ sym (agree there.0 h there.1) ∙ none there.0))),
+      λ none p. false_from_ne_true (lives_at (home_table objects known) i p) (λ lives.
+          let there = handle_within (handles_of objects) p (lives_within objects known i p lives) in
+          absurd (cc (sym lives ∙ agree p there.0 there.1 ∙ none there.0))),
+    )
 
 -- the chain of a block over places is that over handles
 pub chain_placed : (objects : List ObjectValue) (i : ℕ) (x : ObjectValue) → Ascend (handles_of objects) → slice_get objects i ≡ Some x

@@ -1,11 +1,11 @@
 -- Owner paths and chains over tables of places say what those over objects say.
-use Rattle.std.proofs.Common.{◌≡◌, refl, sym, ap, ◌∙◌, subst, ℕ, Bool, true, false, List, length, map, Option, Some, None, inl, inr}
-use Rattle.std.specs.Prelude.{◌<◌, ◌⊎◌, ◌↔◌, is_some, unwrap_or, IsTrue, Contains, if◌then◌else◌}
+use Rattle.std.proofs.Common.{◌≡◌, refl, sym, ap, ◌∙◌, subst, ℕ, Bool, false, List, length, map, Option, Some, None}
+use Rattle.std.specs.Prelude.{◌<◌, ◌↔◌, is_some, unwrap_or, IsTrue, if◌then◌else◌}
 use Rattle.std.specs.List.{slice_get}
 use Rattle.std.specs.Option.{option_map, option_map_or, option_and_then}
-use Rattle.std.proofs.lemmas.Bool.{cases_Bool}
+use Rattle.std.proofs.lemmas.Bool.Decides.{same_from_decides}
 use Rattle.std.proofs.lemmas.List.{length-map}
-use Rattle.std.proofs.lemmas.Option.{same_Some, slice_get-map, slice_get_within}
+use Rattle.std.proofs.lemmas.Option.{cond_some, slice_get-map, slice_get_within}
 use Rattle.dwg_graph.specs.declared.owner.SpaceHandles.{SpaceHandles}
 use Rattle.dwg_graph.specs.Graph.{object_at, there, is_root, is_member, owner_step, root_at}
 use Rattle.dwg_graph.specs.Owners.{owner_of}
@@ -21,16 +21,15 @@ use Rattle.dwg_paths.specs.Paths.{HasPath}
 use Rattle.dwg_paths.specs.ThingsAtPlaces.{IsSeen, TestsAgree}
 use Rattle.dwg_paths.proofs.PlaceLaws.{path_seen, contains_of_place}
 use Rattle.dwg_paths.proofs.RankLemmas.{path_of_rank, rank_of_path}
+use Rattle.dwg_paths.proofs.WayLemmas.{option_map_found, option_then_found}
 use Rattle.dwg_paths.specs.Tables.{leads, marked, RankIs, AreWithin}
 use Rattle.dwg_paths.specs.Ways.{has_path}
 
 -- the object that has the handle at a place
 pub object_of_place : (objects : List ObjectValue) (i handle : ℕ) → slice_get (handles_of objects) i ≡ Some handle → (x : ObjectValue) × (slice_get objects i ≡ Some x) × (handle_of x ≡ handle)
-object_of_place objects i handle at = go (slice_get objects i) refl
-  where
-    go : (found : Option ObjectValue) → slice_get objects i ≡ found → (x : ObjectValue) × (slice_get objects i ≡ Some x) × (handle_of x ≡ handle)
-    go None is = absurd (cc (sym at ∙ slice_get-map handle_of objects i ∙ ap (option_map handle_of) is))
-    go (Some x) is = (x, is, same_Some (handle_of x) handle (sym (slice_get-map handle_of objects i ∙ ap (option_map handle_of) is) ∙ at))
+object_of_place objects i handle at =
+    let found = option_map_found handle_of (slice_get objects i) handle (sym (slice_get-map handle_of objects i) ∙ at) in
+    (found.0, found.1, sym found.2)
 
 -- what a table of all objects says at a place
 pub in_table : (objects : List ObjectValue) (f : ObjectValue → Option ℕ) (i : ℕ) (x : ObjectValue) → slice_get objects i ≡ Some x → leads (map f objects) i ≡ f x
@@ -55,71 +54,60 @@ not_there objects handle missing =
 abbrev pub table_to : List ObjectValue → (ObjectValue → ℕ) → List (Option ℕ)
 table_to objects target = map (λ x. place_in (handles_of objects) (target x)) objects
 
+-- the object that has the handle at a place is found by that handle
+object_found_of : (objects : List ObjectValue) (i handle : ℕ) → Ascend (handles_of objects) → slice_get (handles_of objects) i ≡ Some handle
+    → (x : ObjectValue) × (slice_get objects i ≡ Some x) × (object_at objects handle ≡ Some x)
+object_found_of objects i handle ascend at =
+    let stands = object_of_place objects i handle at in
+    (stands.0, stands.1, subst (λ (n : ℕ). object_at objects n ≡ Some stands.0) stands.2 (object_there objects stands.0 i ascend stands.1))
+
 -- the table says where the steps lead
 pub steps_seen : (objects : List ObjectValue) (target : ObjectValue → ℕ) → Ascend (handles_of objects) → IsSeen (handles_of objects) (leads (table_to objects target)) (step_to objects target)
-steps_seen objects target ascend = record { goes_on = goes_on; stops = stops }
-  where
-    goes_on : (i h j : ℕ) → slice_get (handles_of objects) i ≡ Some h → leads (table_to objects target) i ≡ Some j → (y : ℕ) × (slice_get (handles_of objects) j ≡ Some y) × (step_to objects target h ≡ Some y)
-    goes_on i h j at leads_on =
-        let stands = object_of_place objects i h at in
-        let x : ObjectValue = stands.0 in
-        let place : place_in (handles_of objects) (target x) ≡ Some j = sym (in_table objects (λ y. place_in (handles_of objects) (target y)) i x stands.1) ∙ leads_on in
-        let object : object_at objects h ≡ Some x = subst (λ (n : ℕ). object_at objects n ≡ Some x) stands.2 (object_there objects x i ascend stands.1) in
-        (target x, at_place (handles_of objects) (target x) j place, ap (option_and_then (λ y. there objects (target y))) object ∙ there_at objects (target x) j place)
-
-    stops : (i h : ℕ) → slice_get (handles_of objects) i ≡ Some h → leads (table_to objects target) i ≡ None → step_to objects target h ≡ None
-    stops i h at leads_off =
-        let stands = object_of_place objects i h at in
-        let x : ObjectValue = stands.0 in
-        let place : place_in (handles_of objects) (target x) ≡ None = sym (in_table objects (λ y. place_in (handles_of objects) (target y)) i x stands.1) ∙ leads_off in
-        let object : object_at objects h ≡ Some x = subst (λ (n : ℕ). object_at objects n ≡ Some x) stands.2 (object_there objects x i ascend stands.1) in
-        ap (option_and_then (λ y. there objects (target y))) object ∙ not_there objects (target x) place
+steps_seen objects target ascend = record {
+  goes_on = λ i h j at leads_on.
+      let stands = object_found_of objects i h ascend at in
+      let place = sym (in_table objects (λ y. place_in (handles_of objects) (target y)) i stands.0 stands.1) ∙ leads_on in (
+        target stands.0,
+        at_place (handles_of objects) (target stands.0) j place,
+        ap (option_and_then (λ y. there objects (target y))) stands.2 ∙ there_at objects (target stands.0) j place,
+      );
+  stops = λ i h at leads_off.
+      let stands = object_found_of objects i h ascend at in
+      let place = sym (in_table objects (λ y. place_in (handles_of objects) (target y)) i stands.0 stands.1) ∙ leads_off in
+      ap (option_and_then (λ y. there objects (target y))) stands.2 ∙ not_there objects (target stands.0) place;
+}
 
 -- steps lead to handles of objects alone
 pub steps_closed : (objects : List ObjectValue) (target : ObjectValue → ℕ) → IsClosed (handles_of objects) (step_to objects target)
-steps_closed objects target h next inside leads_on = go (object_at objects h) refl
-  where
-    go : (found : Option ObjectValue) → object_at objects h ≡ found → Contains (handles_of objects) next
-    go None is = absurd (cc (sym leads_on ∙ ap (option_and_then (λ x. there objects (target x))) is))
-    go (Some x) is = there_inside objects (target x) next (sym (ap (option_and_then (λ y. there objects (target y))) is) ∙ leads_on)
+steps_closed objects target h next inside leads_on =
+    let step = option_then_found (λ x. there objects (target x)) (object_at objects h) next leads_on in there_inside objects (target step.0) next step.2
 
 -- a test of objects says at places what it says at their handles
 pub tests_agree : (objects : List ObjectValue) (test : ObjectValue → Bool) → Ascend (handles_of objects)
     → TestsAgree (handles_of objects) (marked (map test objects)) (λ handle. option_map_or test (object_at objects handle) false)
 tests_agree objects test ascend i h at =
-    let stands = object_of_place objects i h at in
-    let x : ObjectValue = stands.0 in
-    let object : object_at objects h ≡ Some x = subst (λ (n : ℕ). object_at objects n ≡ Some x) stands.2 (object_there objects x i ascend stands.1) in
-    ap (λ o. unwrap_or o false) (slice_get-map test objects i ∙ ap (option_map test) stands.1) ∙ sym (ap (λ o. option_map_or test o false) object)
+    let stands = object_found_of objects i h ascend at in
+    ap (λ o. unwrap_or o false) (slice_get-map test objects i ∙ ap (option_map test) stands.1) ∙ sym (ap (λ o. option_map_or test o false) stands.2)
+
+-- a rank tells that a path leads from a place, and that it has none, that none does
+rank_decides : (up : List (Option ℕ)) (goals : List Bool) (i : ℕ) (rank : Option ℕ) → RankIs up goals i rank → IsTrue (is_some rank) ↔ HasPath (leads up) (marked goals) i
+rank_decides up goals i None unranked = (λ is. absurd (cc is), λ has. let ranked = rank_of_path (leads up) (marked goals) i has in absurd (unranked ranked.0 ranked.1))
+rank_decides up goals i (Some r) ranked = (λ is. path_of_rank (leads up) (marked goals) i r ranked, λ has. refl)
 
 -- the rank of an object's place tells whether a path leads from it
 pub path_placed : (objects : List ObjectValue) (known : Option SpaceHandles) (i : ℕ) (x : ObjectValue) (rank : Option ℕ) → Ascend (handles_of objects) → slice_get objects i ≡ Some x
     → RankIs (owner_table objects known) (root_table objects known) i rank
     → is_some rank ≡ has_path (handles_of objects) (owner_step objects known) (root_at objects known) (handle_of x)
 unfolding owner_step root_at
-path_placed objects known i x rank ascend at is = go rank is
-  where
-    inside : slice_get (handles_of objects) i ≡ Some (handle_of x)
-    inside = slice_get-map handle_of objects i ∙ ap (option_map handle_of) at
-
-    seen : HasPath (leads (owner_table objects known)) (marked (root_table objects known)) i ↔ HasPath (owner_step objects known) (root_at objects known) (handle_of x)
-    seen = path_seen (handles_of objects) (leads (owner_table objects known)) (owner_step objects known) (marked (root_table objects known)) (root_at objects known)
-        (steps_seen objects (owner_of known) ascend) (tests_agree objects (is_root known) ascend) i (handle_of x) inside
-
-    decided : IsTrue (has_path (handles_of objects) (owner_step objects known) (root_at objects known) (handle_of x)) ↔ HasPath (owner_step objects known) (root_at objects known) (handle_of x)
-    decided = path_decided (handles_of objects) (owner_step objects known) (root_at objects known) (handle_of x) (steps_closed objects (owner_of known)) (contains_of_place (handles_of objects) i (handle_of x) inside)
-
-    go : (rank : Option ℕ) → RankIs (owner_table objects known) (root_table objects known) i rank
-        → is_some rank ≡ has_path (handles_of objects) (owner_step objects known) (root_at objects known) (handle_of x)
-    go (Some r) ranked = sym (decided.1 (seen.0 (path_of_rank (leads (owner_table objects known)) (marked (root_table objects known)) i r ranked)))
-    go None unranked = either (cases_Bool (has_path (handles_of objects) (owner_step objects known) (root_at objects known) (handle_of x)))
-      where
-        either : (has_path (handles_of objects) (owner_step objects known) (root_at objects known) (handle_of x) ≡ true) ⊎ (has_path (handles_of objects) (owner_step objects known) (root_at objects known) (handle_of x) ≡ false)
-            → false ≡ has_path (handles_of objects) (owner_step objects known) (root_at objects known) (handle_of x)
-        either (inl found) =
-            let ranked = rank_of_path (leads (owner_table objects known)) (marked (root_table objects known)) i (seen.1 (decided.0 found)) in
-            absurd (unranked ranked.0 ranked.1)
-        either (inr none) = sym none
+path_placed objects known i x rank ascend at is =
+    let inside = slice_get-map handle_of objects i ∙ ap (option_map handle_of) at in
+    let seen = path_seen (handles_of objects) (leads (owner_table objects known)) (owner_step objects known) (marked (root_table objects known)) (root_at objects known)
+    (steps_seen objects (owner_of known) ascend) (tests_agree objects (is_root known) ascend) i (handle_of x) inside in
+    let decided = path_decided (handles_of objects) (owner_step objects known) (root_at objects known) (handle_of x) (steps_closed objects (owner_of known))
+    (contains_of_place (handles_of objects) i (handle_of x) inside) in
+    let ranked = rank_decides (owner_table objects known) (root_table objects known) i rank is in
+    same_from_decides (is_some rank) (has_path (handles_of objects) (owner_step objects known) (root_at objects known) (handle_of x))
+    (λ has. seen.0 (ranked.0 has), λ has. ranked.1 (seen.1 has)) decided
 
 -- a place that was found is one of as many as there are handles
 pub found_within : (handles : List ℕ) (handle place : ℕ) → place_in handles handle ≡ Some place → place < length handles
@@ -127,11 +115,10 @@ found_within handles handle place found = slice_get_within handles place handle 
 
 -- each place that a table of all objects names is one of as many as there are objects
 pub table_within : (objects : List ObjectValue) (f : ObjectValue → Option ℕ) → ((x : ObjectValue) (to : ℕ) → f x ≡ Some to → to < length objects) → AreWithin (length objects) (map f objects)
-table_within objects f within place to leads_on = go (slice_get objects place) refl
-  where
-    go : (found : Option ObjectValue) → slice_get objects place ≡ found → to < length objects
-    go None missing = absurd (cc (sym leads_on ∙ ap (option_and_then (λ t. t)) (slice_get-map f objects place ∙ ap (option_map f) missing)))
-    go (Some x) at = within x to (sym (in_table objects f place x at) ∙ leads_on)
+table_within objects f within place to leads_on =
+    let row = option_then_found (λ there. there) (slice_get (map f objects) place) to leads_on in
+    let x = option_map_found f (slice_get objects place) row.0 (sym (slice_get-map f objects place) ∙ row.1) in
+    within x.0 to (sym x.2 ∙ row.2)
 
 -- so are the owners' places and the homes
 pub owners_within : (objects : List ObjectValue) (known : Option SpaceHandles) → AreWithin (length objects) (owner_table objects known)
@@ -139,30 +126,10 @@ owners_within objects known = table_within objects (owner_place objects known)
     (λ x to found. subst (λ n. to < n) (length-map objects handle_of) (found_within (handles_of objects) (owner_of known x) to found))
 
 pub homes_within : (objects : List ObjectValue) (known : Option SpaceHandles) → AreWithin (length objects) (home_table objects known)
-homes_within objects known = table_within objects (home_place objects known) (λ x to found. at_home x to found)
-  where
-    at_home : (x : ObjectValue) (to : ℕ) → home_place objects known x ≡ Some to → to < length objects
-    at_home x to found = by_place (owner_place objects known x) refl
-      where
-        by_place : (place : Option ℕ) → owner_place objects known x ≡ place → to < length objects
-        by_place None missing = absurd (cc (sym found ∙ ap (option_and_then (home_at objects known x)) missing))
-        by_place (Some p) at = by_object (slice_get objects p) refl
-          where
-            kept : option_and_then (λ owner. if is_member known owner x then Some p else None) (slice_get objects p) ≡ Some to
-            kept = sym (ap (option_and_then (home_at objects known x)) at) ∙ found
-
-            by_object : (owner : Option ObjectValue) → slice_get objects p ≡ owner → to < length objects
-            by_object None missing = absurd (cc (sym kept ∙ ap (option_and_then (λ owner. if is_member known owner x then Some p else None)) missing))
-            by_object (Some owner) stands = by_test (is_member known owner x) refl
-              where
-                told : (if is_member known owner x then Some p else None) ≡ Some to
-                told = sym (ap (option_and_then (λ o. if is_member known o x then Some p else None)) stands) ∙ kept
-
-                by_test : (test : Bool) → is_member known owner x ≡ test → to < length objects
-                by_test true is =
-                    let same : p ≡ to = same_Some p to (sym (ap (λ t. if t then Some p else None) is) ∙ told) in
-                    subst (λ n. n < length objects) same (slice_get_within objects p owner stands)
-                by_test false is = absurd (cc (sym (ap (λ t. if t then Some p else None) is) ∙ told))
+homes_within objects known = table_within objects (home_place objects known) (λ x to found.
+    let place = option_then_found (home_at objects known x) (owner_place objects known x) to found in
+    let owner = option_then_found (λ y. if is_member known y x then Some place.0 else None) (slice_get objects place.0) to place.2 in
+    subst (λ n. n < length objects) (cond_some (is_member known owner.0 x) place.0 to owner.2).1 (slice_get_within objects place.0 owner.0 owner.1))
 
 -- and so they are in the tables in hand
 pub owners_fit : (objects : List ObjectValue) (known : Option SpaceHandles) (owners : List (Option ℕ)) → owners ≡ owner_table objects known → AreWithin (length owners) owners

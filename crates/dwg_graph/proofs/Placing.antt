@@ -1,7 +1,8 @@
 -- A handle has one place among handles that ascend.
-use Rattle.std.proofs.Common.{◌≡◌, refl, sym, ◌∙◌, ◌<◌, ℕ, zero, suc, List, [], ◌∷◌, length, Option, Some, None, Bool, true, false, arith}
+use Rattle.std.proofs.Common.{◌≡◌, refl, sym, ◌∙◌, ◌<◌, ℕ, zero, suc, List, [], ◌∷◌, length, Option, Some, None, true, false, arith}
 use Rattle.std.specs.Prelude.{◌==◌, Contains}
 use Rattle.std.specs.List.{slice_index_or}
+use Rattle.std.proofs.lemmas.Bool.{false_from_ne_true}
 use Rattle.std.proofs.lemmas.Bool.Decides.{nat_tests}
 use Rattle.std.proofs.lemmas.List.{get_or_default}
 use Rattle.std.proofs.lemmas.Option.{slice_get_within, get_or_from_slice_get}
@@ -32,15 +33,10 @@ first_missing (x ∷ more) handle nowhere =
 before_fails : (handles : List ℕ) (handle place k : ℕ) → Ascend handles → place < length handles → slice_index_or handles place 0 ≡ handle → k < place → (slice_index_or handles k 0 == handle) ≡ false
 before_fails handles handle place k ascend within here before = grind (arith, nat_tests, ascend k place 0 before within, here)
 
--- a test that can't hold fails
-fails_where : (test : Bool) → (test ≡ true → ⊥) → test ≡ false
-fails_where true never = absurd (never refl)
-fails_where false never = refl
-
 -- a handle that is missing stands nowhere
 missing_fails : (handles : List ℕ) (handle k : ℕ) → (Contains handles handle → ⊥) → k < length handles → (slice_index_or handles k 0 == handle) ≡ false
 missing_fails handles handle k missing within =
-    fails_where (slice_index_or handles k 0 == handle) (λ holds.
+    false_from_ne_true (slice_index_or handles k 0 == handle) (λ holds.
     let here : slice_index_or handles k 0 ≡ handle = grind (arith, nat_tests, holds) in
     missing (k, within, get_or_default handles k handle 0 within ∙ here))
 

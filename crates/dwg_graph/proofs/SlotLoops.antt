@@ -4,7 +4,7 @@ use Rattle.std.specs.Prelude.{if◌then◌else◌}
 use Rattle.std.specs.List.{slice_get, count_by}
 use Rattle.std.proofs.lemmas.List.{take_more, take_all, length-take-le}
 use Rattle.std.proofs.lemmas.List.Elements.{filter-append}
-use Rattle.std.proofs.lemmas.List.Sums.{sum_by-append, count_by-le-length, length-filter}
+use Rattle.std.proofs.lemmas.List.Sums.{sum_by-append, count_by-le-length}
 use Rattle.std.proofs.lemmas.Option.{slice_get_within, get_or_from_slice_get}
 use Rattle.dwg_graph.specs.declared.claims.Claimed.{Claimed}
 use Rattle.dwg_graph.specs.declared.owner.SpaceHandles.{SpaceHandles}
@@ -12,7 +12,7 @@ use Rattle.dwg_graph.specs.declared.slot.Slot.{Slot}
 use Rattle.dwg_graph.specs.Claimed.{Adds, AddsBoth, AreBothOpen, IsOpen, claiming, leads_down, leads_to}
 use Rattle.dwg_graph.specs.Graph.{claims_by}
 use Rattle.dwg_graph.specs.Slots.{slots}
-use Rattle.dwg_graph.proofs.Counting.{adds_nothing, stands_there}
+use Rattle.dwg_graph.proofs.Counting.{adds_nothing, claiming_few, stands_there}
 use Rattle.dwg_kinds.specs.declared.kind.Kind.{Kind}
 use Rattle.dwg_object.specs.Objects.{ObjectValue, handle_of, kind_of}
 
@@ -40,12 +40,6 @@ one_more objects test kind held i slot before between after at is adds =
     let more : take (i + 1) held ≡ take i held ++ slot ∷ [] = take_more held i slot within ∙ ap (λ (s : Slot). take i held ++ s ∷ []) (get_or_from_slice_get held i slot slot at) in
     let split : claiming kind (take (i + 1) held) ≡ claiming kind (take i held) ++ claiming kind (slot ∷ []) = ap (claiming kind) more ∙ claiming_both kind (take i held) (slot ∷ []) in
     subst (λ counted. Adds objects test counted before after) (sym split) (adds_both objects test (claiming kind (take i held)) (claiming kind (slot ∷ [])) before between after is adds)
-
--- slots that claim are no more than all
-claiming_few : (kind : Kind) (held : List Slot) → length (claiming kind held) ≤ length held
-unfolding claiming
-claiming_few kind held =
-    omega (arith, length-filter (λ (slot : Slot). claims_by kind slot.field) held, count_by-le-length (λ (slot : Slot). claims_by kind slot.field) held)
 
 -- there is room for one more
 room_for_one : (objects : List ObjectValue) (test : ObjectValue → Slot → Bool) (kind : Kind) (held : List Slot) (i : ℕ) (before after : List ℕ) → i < length held

@@ -13,7 +13,7 @@ use Rattle.dwg_graph.specs.Places.{Ascend, handles_of}
 use Rattle.dwg_graph.specs.Sound.{IsOfKind, Meets, MeetsSome, IsExempt, IsSoleClaim, IsOwnedBy, IsClaimed}
 use Rattle.dwg_graph.specs.Tests.{is_attributed, meets, kind_at, is_met, is_exempt, is_sole_claim, is_unclaimed, is_claimed}
 use Rattle.dwg_graph.proofs.ListLemmas.{contains_map, pairs_of_map}
-use Rattle.dwg_graph.proofs.ObjectPaths.{ascending_are_distinct, stands_found, found_standing, found_there}
+use Rattle.dwg_graph.proofs.ObjectPaths.{ascending_are_distinct, stands_found, found_standing, found_there, passing_of_map_or}
 use Rattle.dwg_kinds.specs.declared.field.Need.{Need}
 use Rattle.dwg_kinds.specs.declared.field.Need.TheVariants.{Null, Any, NullOrAny, Entity, NullOrEntity, Is, NullOrIs, Attributed}
 use Rattle.dwg_kinds.specs.declared.kind.Kind.{Kind}
@@ -40,11 +40,6 @@ object_found objects handle x ascend = (
   λ found. stands_found objects handle x found,
   λ stands. subst (λ (h : ℕ). object_at objects h ≡ Some x) stands.1 (found_standing objects (ascending_are_distinct (handles_of objects) ascend) x stands.0),
 )
-
--- what passes, if it is there, is there
-passing_of_map_or : {A : Type 0} (test : A → Bool) (found : Option A) → option_map_or test found false ≡ true → (x : A) × (found ≡ Some x) × (test x ≡ true)
-passing_of_map_or test None is = absurd (cc is)
-passing_of_map_or test (Some x) is = (x, refl, is)
 
 -- what is there and passes, passes if it is there
 map_or_of_passing : {A : Type 0} (test : A → Bool) (found : Option A) (x : A) → found ≡ Some x → test x ≡ true → option_map_or test found false ≡ true

@@ -3,6 +3,7 @@ use Rattle.std.specs.Prelude.{◌≡◌, ⊤, ℕ, zero, suc, List, [], ◌∷�
 use Rattle.dwg_graph.specs.declared.walk.Walk.{Walk}
 use Rattle.dwg_graph.specs.declared.walk.Walk.TheVariants.{Found, Left, Gathered, Short}
 use Rattle.dwg_graph.specs.declared.slot.Slot.{Slot}
+use Rattle.dwg_graph.specs.Slots.{FieldReferences, slots_from, slots_of}
 
 -- so many slots are passed along a list
 abbrev pub pass : ℕ → List Slot → Walk
@@ -27,3 +28,11 @@ IsBehind Short slots walk = walk ≡ Short
 -- a walk goes on along a list
 pub record Passes (first : Walk) (slots : List Slot) (last : Walk) : Type 0 where
   pub behind : IsBehind first slots last
+
+-- a walk goes on along fields
+pub record PassesFields (first : Walk) (all : List FieldReferences) (last : Walk) : Type 0 where
+  pub behind : IsBehind first (slots_of all) last
+
+-- a walk goes on along one field: whoever goes on from there along others has gone along all
+pub record PassesField (first : Walk) (held : FieldReferences) (middle : Walk) : Type 0 where
+  pub goes_on : (more : List FieldReferences) (last : Walk) → PassesFields middle more last → PassesFields first (held ∷ more) last

@@ -1,9 +1,8 @@
 -- The references that an object holds beside that to its owner, in the order of the fields (Open Design Specification, the listed objects; the order is a rule of this project).
-use Rattle.std.specs.Prelude.{ℕ, ◌+◌, List, [], ◌∷◌, ◌++◌, map, Option, Some, None}
+use Rattle.std.specs.Prelude.{ℕ, ◌+◌, List, [], ◌∷◌, ◌++◌, map, Option}
+use Rattle.std.specs.Option.{option_map, option_map_or}
 use Rattle.dwg_common.specs.declared.entity.EntityCommon.{EntityCommon}
-use Rattle.dwg_common.specs.declared.entity.Links.{Links}
 use Rattle.dwg_common.specs.declared.object.ObjectCommon.{ObjectCommon}
-use Rattle.dwg_entities.specs.declared.insert.Attributes.{Attributes}
 use Rattle.dwg_graph.specs.declared.slot.Slot.{Slot}
 use Rattle.dwg_grammar.specs.Reference.{Reference}
 use Rattle.dwg_kinds.specs.declared.field.Field.{Field}
@@ -13,96 +12,88 @@ use Rattle.dwg_object.specs.declared.body.Body.{Body}
 use Rattle.dwg_object.specs.declared.common.Common.TheVariants as commons
 use Rattle.dwg_object.specs.declared.common.Common.{Common}
 use Rattle.dwg_object.specs.Objects.{ObjectValue, TypedValue, PlainValue, RawValue}
-use Rattle.dwg_tables.specs.declared.block_header.Ends.{Ends}
+
+-- a field of an object, and its references in their order
+pub record FieldReferences : Type 0 where
+  pub field : Field
+  pub references : List Reference
+
+-- a field that is a list
+abbrev pub listed : Field → List Reference → FieldReferences
+listed field references = record { field = field; references = references }
+
+-- a field that is one reference
+abbrev pub one : Field → Reference → FieldReferences
+one field reference = listed field (reference ∷ [])
+
+-- a field that may be there
+abbrev pub maybe : Field → Option Reference → FieldReferences
+maybe field reference = listed field (option_map_or (λ there. there ∷ []) reference [])
+
+-- what all entities hold
+unfoldable pub held_by_entity : EntityCommon → List FieldReferences
+held_by_entity common =
+    listed Application (map (λ app. app.application) common.app)
+    ∷ listed Reactor common.reactors
+    ∷ one Xdict common.xdict
+    ∷ maybe Previous (option_map (λ links. links.previous) common.links)
+    ∷ maybe Next (option_map (λ links. links.next) common.links)
+    ∷ one Layer common.layer
+    ∷ maybe Linetype common.linetype
+    ∷ maybe Plotstyle common.plotstyle ∷ []
+
+-- what all other objects hold
+unfoldable pub held_by_object : ObjectCommon → List FieldReferences
+held_by_object common = listed Application (map (λ app. app.application) common.app) ∷ listed Reactor common.reactors ∷ one Xdict common.xdict ∷ []
+
+-- what the common part of an object holds
+unfoldable pub held_by_common : Common → List FieldReferences
+held_by_common (commons.Entity common) = held_by_entity common
+held_by_common (commons.Object common) = held_by_object common
+
+-- what the kinds hold of their own; those that aren't listed refer to nothing
+unfoldable pub held_by_body : Body → List FieldReferences
+held_by_body (bodies.Text body) = one Style body.style ∷ []
+held_by_body (bodies.Attrib body) = one Style body.text.style ∷ []
+held_by_body (bodies.Attdef body) = one Style body.attrib.text.style ∷ []
+held_by_body (bodies.Insert body) =
+    one Block body.block
+    ∷ maybe First (option_map (λ attributes. attributes.first) body.attributes)
+    ∷ maybe Last (option_map (λ attributes. attributes.last) body.attributes)
+    ∷ maybe Seqend (option_map (λ attributes. attributes.seqend) body.attributes) ∷ []
+held_by_body (bodies.Dictionary body) = listed Item (map (λ item. item.target) body.items) ∷ []
+held_by_body (bodies.BlockControl body) = listed Entry body.entries ∷ one Model body.model ∷ one Paper body.paper ∷ []
+held_by_body (bodies.BlockHeader body) =
+    one Block body.block
+    ∷ maybe First (option_map (λ ends. ends.first) body.ends)
+    ∷ maybe Last (option_map (λ ends. ends.last) body.ends)
+    ∷ one Xref body.entry.xref
+    ∷ one Endblk body.endblk
+    ∷ listed Insert (map (λ mark. mark.target) body.inserts)
+    ∷ one Layout body.layout ∷ []
+held_by_body (bodies.LayerControl body) = listed Entry body.entries ∷ []
+held_by_body (bodies.Layer body) = one Linetype body.linetype ∷ one Plotstyle body.plotstyle ∷ one Xref body.entry.xref ∷ []
+held_by_body (bodies.StyleControl body) = listed Entry body.entries ∷ []
+held_by_body (bodies.Style body) = one Xref body.entry.xref ∷ []
+held_by_body (bodies.LtypeControl body) = listed Entry body.entries ∷ listed Extra (body.first ∷ body.second ∷ []) ∷ []
+held_by_body (bodies.Ltype body) = listed Style (map (λ dash. dash.style) body.dashes) ∷ one Xref body.entry.xref ∷ []
+held_by_body (bodies.AppIdControl body) = listed Entry body.entries ∷ []
+held_by_body (bodies.AppId body) = one Xref body.entry.xref ∷ []
+held_by_body (bodies.XRecord body) = listed Target body.targets ∷ []
+held_by_body other = []
 
 -- the slots of one field, from a position on
 unfoldable pub slots_from : Field → ℕ → List Reference → List Slot
 slots_from field at [] = []
 slots_from field at (reference ∷ more) = record { field = field; position = at; target = reference.target } ∷ slots_from field (at + 1) more
 
--- the slots of a field that is a list
-abbrev pub listed : Field → List Reference → List Slot
-listed field references = slots_from field 0 references
-
--- the slot of a field that is one reference
-abbrev pub one : Field → Reference → List Slot
-one field reference = listed field (reference ∷ [])
-
--- the slot of a field that may be there
-abbrev pub maybe : Field → Option Reference → List Slot
-maybe field None = []
-maybe field (Some reference) = one field reference
-
--- the entities before and behind an entity
-abbrev pub link_slots : Option Links → List Slot
-link_slots None = []
-link_slots (Some links) = one Previous links.previous ++ one Next links.next
-
--- what all entities hold
-unfoldable pub entity_slots : EntityCommon → List Slot
-entity_slots common =
-    listed Application (map (λ app. app.application) common.app)
-    ++ listed Reactor common.reactors
-    ++ one Xdict common.xdict
-    ++ link_slots common.links
-    ++ one Layer common.layer
-    ++ maybe Linetype common.linetype
-    ++ maybe Plotstyle common.plotstyle
-
--- what all other objects hold
-unfoldable pub object_slots : ObjectCommon → List Slot
-object_slots common = listed Application (map (λ app. app.application) common.app) ++ listed Reactor common.reactors ++ one Xdict common.xdict
-
--- what the common part of an object holds
-unfoldable pub common_slots : Common → List Slot
-common_slots (commons.Entity common) = entity_slots common
-common_slots (commons.Object common) = object_slots common
-
--- the attributes of an insert, and their end
-abbrev pub attribute_slots : Option Attributes → List Slot
-attribute_slots None = []
-attribute_slots (Some attributes) = one First attributes.first ++ one Last attributes.last ++ one Seqend attributes.seqend
-
--- the first and the last entity of a block
-abbrev pub end_slots : Option Ends → List Slot
-end_slots None = []
-end_slots (Some ends) = one First ends.first ++ one Last ends.last
-
--- what the kinds hold of their own
-unfoldable pub body_slots : Body → List Slot
-body_slots (bodies.Text body) = one Style body.style
-body_slots (bodies.Attrib body) = one Style body.text.style
-body_slots (bodies.Attdef body) = one Style body.attrib.text.style
-body_slots (bodies.Block body) = []
-body_slots (bodies.EndBlk body) = []
-body_slots (bodies.SeqEnd body) = []
-body_slots (bodies.Insert body) = one Block body.block ++ attribute_slots body.attributes
-body_slots (bodies.Arc body) = []
-body_slots (bodies.Circle body) = []
-body_slots (bodies.Line body) = []
-body_slots (bodies.Point body) = []
-body_slots (bodies.LwPolyline body) = []
-body_slots (bodies.Dictionary body) = listed Item (map (λ item. item.target) body.items)
-body_slots (bodies.BlockControl body) = listed Entry body.entries ++ one Model body.model ++ one Paper body.paper
-body_slots (bodies.BlockHeader body) =
-    one Block body.block
-    ++ end_slots body.ends
-    ++ one Xref body.entry.xref
-    ++ one Endblk body.endblk
-    ++ listed Insert (map (λ mark. mark.target) body.inserts)
-    ++ one Layout body.layout
-body_slots (bodies.LayerControl body) = listed Entry body.entries
-body_slots (bodies.Layer body) = one Linetype body.linetype ++ one Plotstyle body.plotstyle ++ one Xref body.entry.xref
-body_slots (bodies.StyleControl body) = listed Entry body.entries
-body_slots (bodies.Style body) = one Xref body.entry.xref
-body_slots (bodies.LtypeControl body) = listed Entry body.entries ++ listed Extra (body.first ∷ body.second ∷ [])
-body_slots (bodies.Ltype body) = listed Style (map (λ dash. dash.style) body.dashes) ++ one Xref body.entry.xref
-body_slots (bodies.AppIdControl body) = listed Entry body.entries
-body_slots (bodies.AppId body) = one Xref body.entry.xref
-body_slots (bodies.XRecord body) = listed Target body.targets
+-- the slots of fields, one field behind the other
+unfoldable pub slots_of : List FieldReferences → List Slot
+slots_of [] = []
+slots_of (held ∷ more) = slots_from held.field 0 held.references ++ slots_of more
 
 -- the slots of an object: those of a Typed one; of any other nothing is known but its common part, and none are told
 unfoldable pub slots : ObjectValue → List Slot
-slots (TypedValue number handle common body) = common_slots common ++ body_slots body
+slots (TypedValue number handle common body) = slots_of (held_by_common common ++ held_by_body body)
 slots (PlainValue number handle common rest refs) = []
 slots (RawValue number handle bytes) = []

@@ -88,9 +88,9 @@ fn is_owned(
     place: usize,
 ) -> bool
     requires within { place < length objects.now }
-    ensures { (x : ObjectValue) → slice_get (map value_of objects.now) place ≡ Some x → result ≡ (owner_of known.now x == handle_of (value_of holder.now)) }
+    ensures { (x : ObjectValue) → slice_get (map value_of objects.now) place ≡ Some x → result ≡ (handle_of (value_of holder.now) == owner_of known.now x) }
 {
-    owner_of(&objects[place], *known) == holder.handle()
+    holder.handle() == owner_of(&objects[place], *known)
 }
 
 /// Counts what a slot of a holder claims, by where its target stands.

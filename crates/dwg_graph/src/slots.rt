@@ -3,56 +3,39 @@
 
 ghost use Rattle.std.specs.Prelude.{◌≡◌, ◌<◌, ◌^◌, ◌++◌, Some, IfOk, length};
 ghost use Rattle.std.specs.List.{slice_get};
-ghost use Rattle.dwg_graph.specs.SlotWalks.{Passes};
+ghost use Rattle.dwg_graph.specs.SlotWalks.{Passes, PassesFields};
 ghost use Rattle.dwg_graph.specs.Slots as tables;
-ghost use Rattle.dwg_object.specs.declared.body.Body.TheVariants as bodies;
 ghost use Rattle.dwg_object.specs.Objects.{value_of};
 
 use crate::slot::Slot;
 use crate::walk::Walk;
 use dwg_base::{Items, NoMemory};
-use dwg_common::{EntityCommon, Links, ObjectCommon};
-use dwg_dicts::{BlockControl, LtypeControl};
-use dwg_entities::{Attributes, Insert};
+use dwg_common::{EntityCommon, ObjectCommon};
 use dwg_kinds::Field;
 use dwg_object::{Body, Common, Object};
-use dwg_tables::{BlockHeader, Ends, Layer, Ltype};
 
 /// More slots than any object has: a search that is to pass so many counts them.
 const MANY: u64 = 1 << 62;
 
-/// The entities before and behind an entity.
-#[tactic(auto, using(crate::proofs::Passing::passes_none))]
-fn link_slots(walk: Walk, links: &Option<Links>) -> Walk
-    ensures { Passes walk (tables.link_slots links.now) result }
-{
-    match links {
-        Some(links) => walk
-            .one(Field::Previous, links.previous)
-            .one(Field::Next, links.next),
-        None => walk,
-    }
-}
-
 /// What all entities hold.
-#[tactic(auto, unfolding(crate::specs::Slots::entity_slots))]
+#[tactic(auto, using(crate::proofs::Passing::passes_end), unfolding(crate::specs::Slots::held_by_entity))]
 fn entity_slots(walk: Walk, common: &EntityCommon) -> Walk
-    ensures { Passes walk (tables.entity_slots common.now) result }
+    ensures { PassesFields walk (tables.held_by_entity common.now) result }
 {
-    let begun = walk
-        .listed(Field::Application, &common.app)
+    walk.listed(Field::Application, &common.app)
         .references(Field::Reactor, &common.reactors)
-        .one(Field::Xdict, common.xdict);
-    link_slots(begun, &common.links)
+        .one(Field::Xdict, common.xdict)
+        .maybe(Field::Previous, common.links.map(|links| links.previous))
+        .maybe(Field::Next, common.links.map(|links| links.next))
         .one(Field::Layer, common.layer)
         .maybe(Field::Linetype, common.linetype)
         .maybe(Field::Plotstyle, common.plotstyle)
 }
 
 /// What all other objects hold.
-#[tactic(auto, unfolding(crate::specs::Slots::object_slots))]
+#[tactic(auto, using(crate::proofs::Passing::passes_end), unfolding(crate::specs::Slots::held_by_object))]
 fn object_slots(walk: Walk, common: &ObjectCommon) -> Walk
-    ensures { Passes walk (tables.object_slots common.now) result }
+    ensures { PassesFields walk (tables.held_by_object common.now) result }
 {
     walk.listed(Field::Application, &common.app)
         .references(Field::Reactor, &common.reactors)
@@ -60,9 +43,9 @@ fn object_slots(walk: Walk, common: &ObjectCommon) -> Walk
 }
 
 /// What the common part of an object holds.
-#[tactic(auto, unfolding(crate::specs::Slots::common_slots))]
+#[tactic(auto, unfolding(crate::specs::Slots::held_by_common))]
 fn common_slots(walk: Walk, common: &Common) -> Walk
-    ensures { Passes walk (tables.common_slots common.now) result }
+    ensures { PassesFields walk (tables.held_by_common common.now) result }
 {
     match common {
         Common::Entity(common) => entity_slots(walk, common),
@@ -70,123 +53,56 @@ fn common_slots(walk: Walk, common: &Common) -> Walk
     }
 }
 
-/// The attributes of an insert, and their end.
-#[tactic(auto, using(crate::proofs::Passing::passes_none))]
-fn attribute_slots(walk: Walk, attributes: &Option<Attributes>) -> Walk
-    ensures { Passes walk (tables.attribute_slots attributes.now) result }
-{
-    match attributes {
-        Some(attributes) => walk
-            .one(Field::First, attributes.first)
-            .one(Field::Last, attributes.last)
-            .one(Field::Seqend, attributes.seqend),
-        None => walk,
-    }
-}
-
-/// What an insert holds of its own.
-#[tactic(auto, unfolding(crate::specs::Slots::body_slots))]
-fn insert_slots(walk: Walk, body: &Insert) -> Walk
-    ensures { Passes walk (tables.body_slots (bodies.Insert body.now)) result }
-{
-    attribute_slots(walk.one(Field::Block, body.block), &body.attributes)
-}
-
-/// What the table of the blocks holds of its own.
-#[tactic(auto, unfolding(crate::specs::Slots::body_slots))]
-fn block_control_slots(walk: Walk, body: &BlockControl) -> Walk
-    ensures { Passes walk (tables.body_slots (bodies.BlockControl body.now)) result }
-{
-    walk.references(Field::Entry, &body.entries)
-        .one(Field::Model, body.model)
-        .one(Field::Paper, body.paper)
-}
-
-/// The first and the last entity of a block.
-#[tactic(auto, using(crate::proofs::Passing::passes_none))]
-fn end_slots(walk: Walk, ends: &Option<Ends>) -> Walk
-    ensures { Passes walk (tables.end_slots ends.now) result }
-{
-    match ends {
-        Some(ends) => walk
-            .one(Field::First, ends.first)
-            .one(Field::Last, ends.last),
-        None => walk,
-    }
-}
-
-/// What a block in its table holds of its own.
-#[tactic(auto, unfolding(crate::specs::Slots::body_slots))]
-fn block_header_slots(walk: Walk, body: &BlockHeader) -> Walk
-    ensures { Passes walk (tables.body_slots (bodies.BlockHeader body.now)) result }
-{
-    end_slots(walk.one(Field::Block, body.block), &body.ends)
-        .one(Field::Xref, body.entry.xref)
-        .one(Field::Endblk, body.endblk)
-        .listed(Field::Insert, &body.inserts)
-        .one(Field::Layout, body.layout)
-}
-
-/// What a layer holds of its own.
-#[tactic(auto, unfolding(crate::specs::Slots::body_slots))]
-fn layer_slots(walk: Walk, body: &Layer) -> Walk
-    ensures { Passes walk (tables.body_slots (bodies.Layer body.now)) result }
-{
-    walk.one(Field::Linetype, body.linetype)
-        .one(Field::Plotstyle, body.plotstyle)
-        .one(Field::Xref, body.entry.xref)
-}
-
-/// What the table of the linetypes holds of its own.
-#[tactic(auto, unfolding(crate::specs::Slots::body_slots))]
-fn ltype_control_slots(walk: Walk, body: &LtypeControl) -> Walk
-    ensures { Passes walk (tables.body_slots (bodies.LtypeControl body.now)) result }
-{
-    walk.references(Field::Entry, &body.entries)
-        .pair(Field::Extra, body.first, body.second)
-}
-
-/// What a linetype holds of its own.
-#[tactic(auto, unfolding(crate::specs::Slots::body_slots))]
-fn ltype_slots(walk: Walk, body: &Ltype) -> Walk
-    ensures { Passes walk (tables.body_slots (bodies.Ltype body.now)) result }
-{
-    walk.listed(Field::Style, &body.dashes)
-        .one(Field::Xref, body.entry.xref)
-}
-
-/// What the kinds hold of their own.
-#[tactic(auto, using(crate::proofs::Passing::passes_none), unfolding(crate::specs::Slots::body_slots))]
+/// What the kinds hold of their own; those that aren't listed refer to nothing.
+#[tactic(auto, using(crate::proofs::Passing::passes_end), unfolding(crate::specs::Slots::held_by_body))]
 fn body_slots(walk: Walk, body: &Body) -> Walk
-    ensures { Passes walk (tables.body_slots body.now) result }
+    ensures { PassesFields walk (tables.held_by_body body.now) result }
 {
     match body {
         Body::Text(body) => walk.one(Field::Style, body.style),
         Body::Attrib(body) => walk.one(Field::Style, body.text.style),
         Body::Attdef(body) => walk.one(Field::Style, body.attrib.text.style),
-        Body::Insert(body) => insert_slots(walk, body),
+        Body::Insert(body) => walk
+            .one(Field::Block, body.block)
+            .maybe(Field::First, body.attributes.map(|named| named.first))
+            .maybe(Field::Last, body.attributes.map(|named| named.last))
+            .maybe(Field::Seqend, body.attributes.map(|named| named.seqend)),
         Body::Dictionary(body) => walk.listed(Field::Item, &body.items),
-        Body::BlockControl(body) => block_control_slots(walk, body),
-        Body::BlockHeader(body) => block_header_slots(walk, body),
+        Body::BlockControl(body) => walk
+            .references(Field::Entry, &body.entries)
+            .one(Field::Model, body.model)
+            .one(Field::Paper, body.paper),
+        Body::BlockHeader(body) => walk
+            .one(Field::Block, body.block)
+            .maybe(Field::First, body.ends.map(|ends| ends.first))
+            .maybe(Field::Last, body.ends.map(|ends| ends.last))
+            .one(Field::Xref, body.entry.xref)
+            .one(Field::Endblk, body.endblk)
+            .listed(Field::Insert, &body.inserts)
+            .one(Field::Layout, body.layout),
         Body::LayerControl(body) => walk.references(Field::Entry, &body.entries),
-        Body::Layer(body) => layer_slots(walk, body),
+        Body::Layer(body) => walk
+            .one(Field::Linetype, body.linetype)
+            .one(Field::Plotstyle, body.plotstyle)
+            .one(Field::Xref, body.entry.xref),
         Body::StyleControl(body) => walk.references(Field::Entry, &body.entries),
         Body::Style(body) => walk.one(Field::Xref, body.entry.xref),
-        Body::LtypeControl(body) => ltype_control_slots(walk, body),
-        Body::Ltype(body) => ltype_slots(walk, body),
+        Body::LtypeControl(body) => walk
+            .references(Field::Entry, &body.entries)
+            .pair(Field::Extra, body.first, body.second),
+        Body::Ltype(body) => walk
+            .listed(Field::Style, &body.dashes)
+            .one(Field::Xref, body.entry.xref),
         Body::AppIdControl(body) => walk.references(Field::Entry, &body.entries),
         Body::AppId(body) => walk.one(Field::Xref, body.entry.xref),
         Body::XRecord(body) => walk.references(Field::Target, &body.targets),
-        Body::Block(_) | Body::EndBlk(_) | Body::SeqEnd(_) => walk,
-        Body::Arc(_) | Body::Circle(_) | Body::Line(_) | Body::Point(_) | Body::LwPolyline(_) => {
-            walk
-        }
+        _ => walk,
     }
 }
 
-/// A walk along the slots of a common part and a body.
+/// What a common part and a body hold.
 fn typed_slots(walk: Walk, common: &Common, body: &Body) -> Walk
-    ensures { Passes walk (tables.common_slots common.now ++ tables.body_slots body.now) result }
+    ensures { PassesFields walk (tables.held_by_common common.now ++ tables.held_by_body body.now) result }
 {
     body_slots(common_slots(walk, common), body)
 }

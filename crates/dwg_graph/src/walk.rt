@@ -1,7 +1,7 @@
 //! Walks along the slots of an object: a search for one by its place, or a gathering of all.
 
 ghost use Rattle.std.specs.Prelude.{◌≡◌, ◌++◌, [], ◌∷◌, map};
-ghost use Rattle.dwg_graph.specs.SlotWalks.{IsGathered, Passes, pass};
+ghost use Rattle.dwg_graph.specs.SlotWalks.{IsGathered, PassesField, pass};
 ghost use Rattle.dwg_graph.specs.Slots as tables;
 ghost use Rattle.dwg_grammar.specs.Reference.{Reference};
 
@@ -82,7 +82,7 @@ pub(crate) enum Walk {
 
 /// Searches on along the slots of a field that is a list.
 fn searched<T: Refers>(place: u64, field: Field, items: &[T]) -> Walk
-    ensures { result ≡ pass place (tables.listed field (map T.refers items.now)) }
+    ensures { result ≡ pass place (tables.slots_from field 0 (map T.refers items.now)) }
 {
     let count = items.len() as u64;
     if count <= place {
@@ -98,7 +98,7 @@ fn searched<T: Refers>(place: u64, field: Field, items: &[T]) -> Walk
 /// Gathers the slots of a field that is a list behind those so far.
 #[inline(always)]
 fn gathered<T: Refers>(slots: Items<Slot>, field: Field, items: &[T]) -> Walk
-    ensures { IsGathered (slots ++ tables.listed field (map T.refers items.now)) result }
+    ensures { IsGathered (slots ++ tables.slots_from field 0 (map T.refers items.now)) result }
 {
     let mut slots = slots;
     'along: for position in 0..items.len() {
@@ -117,10 +117,10 @@ fn gathered<T: Refers>(slots: Items<Slot>, field: Field, items: &[T]) -> Walk
 
 impl Walk {
     /// Goes on along the slots of a field that is a list.
-    #[tactic(auto, unfolding(crate::specs::SlotWalks::IsBehind))]
+    #[tactic(auto, using(crate::proofs::Passing::passes_field), unfolding(crate::specs::SlotWalks::IsBehind))]
     #[inline(always)]
     fn along<T: Refers>(self, field: Field, items: &[T]) -> Walk
-        ensures { Passes self (tables.listed field (map T.refers items.now)) result }
+        ensures { PassesField self (tables.listed field (map T.refers items.now)) result }
     {
         match self {
             Walk::Found(slot) => Walk::Found(slot),
@@ -133,7 +133,7 @@ impl Walk {
     /// Goes on along the slots of a field that is a list.
     #[inline(always)]
     pub(crate) fn listed<T: Refers>(self, field: Field, items: &Items<T>) -> Walk
-        ensures { Passes self (tables.listed field (map T.refers items.now)) result }
+        ensures { PassesField self (tables.listed field (map T.refers items.now)) result }
     {
         self.along(field, items.as_slice())
     }
@@ -142,7 +142,7 @@ impl Walk {
     #[tactic(auto, using(crate::proofs::Passing::all_themselves))]
     #[inline(always)]
     pub(crate) fn references(self, field: Field, items: &Items<Ref>) -> Walk
-        ensures { Passes self (tables.listed field items.now) result }
+        ensures { PassesField self (tables.listed field items.now) result }
     {
         self.listed(field, items)
     }
@@ -150,7 +150,7 @@ impl Walk {
     /// Goes on along the slots of a field that is two references.
     #[inline(always)]
     pub(crate) fn pair(self, field: Field, first: Ref, second: Ref) -> Walk
-        ensures { Passes self (tables.listed field (first ∷ second ∷ [])) result }
+        ensures { PassesField self (tables.listed field (first ∷ second ∷ [])) result }
     {
         self.along(field, &[first, second])
     }
@@ -158,16 +158,16 @@ impl Walk {
     /// Goes on along the slot of a field that is one reference.
     #[inline(always)]
     pub(crate) fn one(self, field: Field, reference: Ref) -> Walk
-        ensures { Passes self (tables.one field reference) result }
+        ensures { PassesField self (tables.one field reference) result }
     {
         self.along(field, &[reference])
     }
 
     /// Goes on along the slot of a field that may be there.
-    #[tactic(auto, using(crate::proofs::Passing::passes_none))]
+    #[tactic(auto, using(crate::proofs::Passing::passes_nothing))]
     #[inline(always)]
     pub(crate) fn maybe(self, field: Field, reference: Option<Ref>) -> Walk
-        ensures { Passes self (tables.maybe field reference) result }
+        ensures { PassesField self (tables.maybe field reference) result }
     {
         match reference {
             Some(reference) => self.one(field, reference),

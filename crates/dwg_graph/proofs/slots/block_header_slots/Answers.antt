@@ -1,7 +1,0 @@
-use Rattle.dwg_graph.specs.Slots.{body_slots}
-use Rattle.dwg_graph.proofs.Passing.{◌▷◌}
-use Rattle.dwg_graph.proofs.slots.block_header_slots.Goals as goal
-
-pub returns : goal.returns
-unfolding body_slots
-returns c = c.one.ensures ▷ c.end_slots.ensures ▷ c.one-2.ensures ▷ c.one-3.ensures ▷ c.listed.ensures ▷ c.one-4.ensures
