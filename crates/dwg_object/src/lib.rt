@@ -10,7 +10,6 @@ mod object;
 mod own;
 mod reading;
 mod span;
-mod variant;
 mod writing;
 
 pub use body::Body;

@@ -1,6 +1,7 @@
 use Rattle.std.proofs.Common.{◌≡◌, ◌+◌, length, arith}
 use Rattle.dwg_object.specs.Written.{front_bits, refs_bits}
-use Rattle.dwg_object.proofs.FrameWriting.{object_long, object_small, object_counted, front_long, refs_long}
+use Rattle.dwg_object.proofs.FrameWriting.{object_small, object_counted}
+use Rattle.dwg_object.proofs.WrittenLemmas.{front_long, refs_long, object_long}
 use Rattle.dwg_object.proofs.writing.object_lengths.Goals as goal
 
 pub lengths-shared-requires-clause-few : goal.lengths-shared-requires-clause-few

@@ -1,6 +1,6 @@
 use Rattle.std.proofs.Common.{arith}
-use Rattle.dwg_object.proofs.WrittenLemmas.{head_as_long}
-use Rattle.dwg_object.proofs.FrameWriting.{front_long, front_written}
+use Rattle.dwg_object.proofs.WrittenLemmas.{head_as_long, front_long}
+use Rattle.dwg_object.proofs.FrameWriting.{front_written}
 use Rattle.dwg_object.proofs.writing.write_front.Goals as goal
 
 pub write_head-requires-clause-room : goal.write_head-requires-clause-room

@@ -1,5 +1,6 @@
 use Rattle.std.proofs.Common.{arith}
-use Rattle.dwg_object.proofs.FrameWriting.{refs_long, refs_written}
+use Rattle.dwg_object.proofs.FrameWriting.{refs_written}
+use Rattle.dwg_object.proofs.WrittenLemmas.{refs_long}
 use Rattle.dwg_object.proofs.writing.write_references.Goals as goal
 
 pub write_refs-requires-clause-few : goal.write_refs-requires-clause-few

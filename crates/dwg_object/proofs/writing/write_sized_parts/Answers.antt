@@ -5,7 +5,8 @@ use Rattle.dwg_bits.proofs.WholeBytes.{whole_are_bytes}
 use Rattle.dwg_bits.specs.Sink.{padding}
 use Rattle.dwg_grammar.specs.ModularCodes.{ms}
 use Rattle.dwg_object.specs.Written.{front_bits, refs_bits, object_bits, object_bytes}
-use Rattle.dwg_object.proofs.FrameWriting.{object_small, object_long, object_whole, object_written, fill_long, sized_room, sized_written, aligned_behind, room_behind_size}
+use Rattle.dwg_object.proofs.WrittenLemmas.{object_long}
+use Rattle.dwg_object.proofs.FrameWriting.{object_small, object_whole, object_written, fill_long, sized_room, sized_written, aligned_behind, room_behind_size}
 use Rattle.dwg_object.proofs.writing.write_sized_parts.Goals as goal
 
 pub write_ms-requires-clause-room : goal.write_ms-requires-clause-room
