@@ -1,5 +1,5 @@
 -- Reading a body in its forms, by its head, its common part and what stands behind it.
-use Rattle.std.proofs.Common.{◌≡◌, ◌≢◌, sym, ◌∙◌, ap, ap₂, subst, ℕ, ◌*◌, ◌≤◌, Bool, List, ◌++◌, length, Some, None, inl, inr, arith}
+use Rattle.std.proofs.Common.{◌≡◌, sym, ◌∙◌, ap, ap₂, subst, ℕ, ◌*◌, ◌≤◌, Bool, List, ◌++◌, length, None, inl, inr, arith}
 use Rattle.std.specs.Prelude.{◌⊎◌}
 use Rattle.std.proofs.lemmas.List.{append_assoc, length-append}
 use Rattle.dwg_bits.specs.Bits.{bits}

@@ -138,6 +138,14 @@ object_whole number handle common own own_refs =
       object_long number handle common own own_refs,
     )
 
+-- behind their length they take the room of both
+pub object_room : (number handle : ℕ) (common : Common) (own own_refs : List Bool)
+    → 8 * length (sized (object_bytes number handle common own own_refs))
+    ≡ length (bits (ms.short (length (object_bytes number handle common own own_refs))))
+    + (length (front_bits number handle common own) + length (refs_bits handle common own_refs) + length (padding (object_bits number handle common own own_refs)))
+object_room number handle common own own_refs =
+    omega (arith, sized_room (object_bytes number handle common own own_refs), object_whole number handle common own own_refs)
+
 -- behind whole bytes, bytes end at a whole byte
 pub aligned_behind : (old new : Written) (bytes : List ℕ) → length old.written % 8 ≡ 0 → Extends old new (bits bytes) → length new.written % 8 ≡ 0
 aligned_behind old new bytes whole grew = omega (arith, whole, ap length grew.bits, length-append old.written (bits bytes), length_of_bits bytes)

@@ -1,5 +1,5 @@
 -- Kind by kind: what it has of its own is a body, and is of that kind.
-use Rattle.std.proofs.Common.{◌≡◌, refl, ap, ℕ, ◌^◌, ◌<◌, Bool, List}
+use Rattle.std.proofs.Common.{◌≡◌, refl, ℕ, ◌^◌, ◌<◌, Bool, List, rules}
 use Rattle.dwg_grammar.specs.Bodies.{IsBody}
 use Rattle.dwg_grammar.proofs.BodyLemmas.{lawful_of_body}
 use Rattle.dwg_grammar.proofs.MadeBodies.{variant_is_body}
@@ -60,10 +60,7 @@ own_is_body kind base small = no_is_body base
 -- what is spelled of a kind is of that kind
 pub own_of_kind : (kind : Kind) (base : ℕ) (value : Body) (main references : List Bool) (over : ℕ) → (own_body kind base).Spells value main references over → body_kind value ≡ kind
 unfolding own_body
-own_of_kind kinds.PlainEntity base value main references over spelled = absurd spelled
-own_of_kind kinds.PlainObject base value main references over spelled = absurd spelled
-own_of_kind kinds.Unknown base value main references over spelled = absurd spelled
-own_of_kind kind base value main references over spelled = ap body_kind spelled.1
+own_of_kind kind base value main references over spelled = search rules
 
 -- so it is
 pub own_is_lawful : OwnBodiesAreLawful

@@ -1,5 +1,5 @@
 -- Plain forms: a body has one at the most, and whether it has one follows from its bits.
-use Rattle.std.proofs.Common.{◌≡◌, refl, ap₂, subst, ℕ, Bool, List, ◌++◌, inl, inr, arith}
+use Rattle.std.proofs.Common.{◌≡◌, refl, ap₂, subst, ℕ, Bool, List, inl, inr, arith}
 use Rattle.std.specs.Prelude.{◌≢◌, ◌⊎◌}
 use Rattle.dwg_bits.specs.Bits.{bits}
 use Rattle.dwg_classes.specs.declared.class.Class.{Class}
@@ -13,7 +13,7 @@ use Rattle.dwg_grammar.proofs.ReferenceLemmas.{reference_is_code, reference_leas
 use Rattle.dwg_kinds.specs.declared.kind.Kind.{Kind}
 use Rattle.dwg_kinds.specs.declared.kind.Kind.TheVariants as kinds
 use Rattle.dwg_object.specs.declared.common.Common.{Common}
-use Rattle.dwg_object.specs.Objects.{HeadParts, ObjectValue, PlainValue}
+use Rattle.dwg_object.specs.Objects.{HeadParts, PlainValue}
 use Rattle.dwg_object.specs.Forms.{CommonForm, HasCommonForm, PlainForm, HasPlainForm, kind_under}
 use Rattle.dwg_object.specs.Heads.{HasHead}
 use Rattle.dwg_object.proofs.CommonForms.{Parts, has_common, common_forms_same, fits_of_common, decided_behind}

@@ -1,6 +1,6 @@
 -- The span at a place, by the length that is read there.
 use Rattle.std.proofs.Common.{◌≡◌, sym, ◌∙◌, ap, ℕ, ◌+◌, ◌<◌, ◌≤◌, false, List, ◌++◌, length, take, drop, get_or, Some, None, inr, arith}
-use Rattle.std.specs.Prelude.{nat_lt, not, Ok, Err, if◌then◌else◌}
+use Rattle.std.specs.Prelude.{nat_lt, not, Err, if◌then◌else◌}
 use Rattle.std.proofs.lemmas.Bool.Decides.{nat_tests}
 use Rattle.std.proofs.lemmas.List.{length-take-le, take-append-drop}
 use Rattle.dwg_base.proofs.ByteLists.{are_bytes}

@@ -9,10 +9,10 @@ use Rattle.dwg_grammar.proofs.BodyLemmas.{unique_body, body_unread}
 use Rattle.dwg_kinds.specs.declared.kind.Kind.{Kind}
 use Rattle.dwg_object.specs.declared.body.Body.{Body}
 use Rattle.dwg_object.specs.declared.common.Common.{Common}
-use Rattle.dwg_object.specs.Objects.{HeadParts, ObjectValue, TypedValue}
+use Rattle.dwg_object.specs.Objects.{HeadParts, TypedValue}
 use Rattle.dwg_object.specs.Forms.{CommonForm, HasCommonForm, TypedForm, HasTypedForm, kind_under}
 use Rattle.dwg_object.specs.Heads.{HasHead}
-use Rattle.dwg_object.proofs.CommonForms.{Parts, parts_of, has_common, common_forms_same, fits_of_common, decided_behind}
+use Rattle.dwg_object.proofs.CommonForms.{Parts, has_common, common_forms_same, fits_of_common, decided_behind}
 use Rattle.dwg_object.specs.OwnBodies.{own_body}
 use Rattle.dwg_object.proofs.OwnLaws.{own_is_body}
 use Rattle.dwg_object.specs.OwnBits.{AreOwn, HasOwn}

@@ -1,5 +1,5 @@
 -- Typed objects as they are written: what is read is valid and written no longer, and what is written is read again.
-use Rattle.std.proofs.Common.{◌≡◌, sym, subst, ℕ, ◌^◌, ◌<◌, ◌≤◌, Bool, List, ◌++◌, length, arith}
+use Rattle.std.proofs.Common.{◌≡◌, sym, subst, ℕ, ◌^◌, ◌<◌, ◌≤◌, Bool, List, length, arith}
 use Rattle.std.proofs.lemmas.List.{length-append}
 use Rattle.dwg_bits.proofs.PaddingLaw.{padding_fills}
 use Rattle.dwg_bits.specs.Sink.{padding}

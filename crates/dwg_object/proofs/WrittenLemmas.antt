@@ -16,7 +16,7 @@ use Rattle.dwg_object.specs.declared.common.Common.{Common}
 use Rattle.dwg_object.specs.Objects.{HeadParts, is_of_entity}
 use Rattle.dwg_object.proofs.CommonForms.{common_is_body, common_of_entity, common_may_follow, fits_of_common}
 use Rattle.dwg_object.specs.Forms.{CommonForm, kind_under, common_part}
-use Rattle.dwg_object.specs.Heads.{IsHead, head}
+use Rattle.dwg_object.specs.Heads.{head}
 use Rattle.dwg_object.proofs.HeadLemmas.{head_is_code}
 use Rattle.dwg_object.specs.Written.{common_main, common_refs, written_head, front_bits, refs_bits, object_bits, object_bytes}
 

@@ -1,5 +1,5 @@
 -- What the kinds of objects have of their own behind their common part (Open Design Specification, the sections named by the kinds). Which kinds have a body is a rule of this project.
-use Rattle.std.specs.Prelude.{⊤, ℕ, [], Option, Some, None}
+use Rattle.std.specs.Prelude.{⊤, ℕ, [], Some, None}
 use Rattle.dwg_grammar.specs.Bodies.{BodyGrammar}
 use Rattle.dwg_grammar.specs.MakingBodies.{variant}
 use Rattle.dwg_dicts.specs.Dictionaries.{dictionary_body}

@@ -1,14 +1,12 @@
 //! What an object has of its own, by its kind.
 
-ghost use Rattle.std.specs.Prelude.{◌≡◌, ◌^◌, ◌<◌, ◌≤◌, length, IfOk};
-ghost use Rattle.dwg_bits.specs.Sink.{Extends};
+ghost use Rattle.std.specs.Prelude.{◌≡◌, IfOk};
 ghost use Rattle.dwg_common.specs.Parsing.{ParsesBody};
 ghost use Rattle.dwg_object.specs.OwnBodies.{body_kind, own_body};
-ghost use Rattle.dwg_object.specs.Written.{own_main, own_refs};
 
 use dwg_base::{Handle, NoMemory};
-use dwg_bits::{BitCursor, BitSink};
-use dwg_common::{BodyCode, Lengths};
+use dwg_bits::BitCursor;
+use dwg_common::BodyCode;
 use dwg_dicts::{
     AppIdControl, BlockControl, Dictionary, LayerControl, LtypeControl, StyleControl, XRecord,
 };
@@ -136,39 +134,5 @@ impl Body {
         ensures { result ≡ body_kind self.now }
     {
         by_kind!(kind self)
-    }
-
-    /// How many bits it is written by in the object of the handle `base`.
-    #[tactic(auto, unfolding(crate::specs::OwnBodies::own_body))]
-    pub(crate) fn lengths(&self, base: Handle) -> Lengths
-        requires fits { (own_body (body_kind self.now) base).Fits self.now }
-        requires few { length (own_main base self.now) < 2 ^ 62 }
-        requires refs_few { length (own_refs base self.now) < 2 ^ 62 }
-        ensures main { result.main ≡ length (own_main base self.now) }
-        ensures refs { result.refs ≡ length (own_refs base self.now) }
-    {
-        by_kind!(body self, body => body.lengths(base))
-    }
-
-    /// Writes the bits that stand before the references.
-    #[tactic(auto, unfolding(crate::specs::OwnBodies::own_body))]
-    pub(crate) fn write_main(&self, base: Handle, sink: &mut BitSink)
-        requires fits { (own_body (body_kind self.now) base).Fits self.now }
-        requires few { length (own_main base self.now) < 2 ^ 62 }
-        requires room { length (own_main base self.now) ≤ sink.old.spare }
-        ensures { Extends sink.old sink.new (own_main base self.now) }
-    {
-        by_kind!(body self, body => body.write_main(base, sink))
-    }
-
-    /// Writes the references.
-    #[tactic(auto, unfolding(crate::specs::OwnBodies::own_body))]
-    pub(crate) fn write_refs(&self, base: Handle, sink: &mut BitSink)
-        requires fits { (own_body (body_kind self.now) base).Fits self.now }
-        requires few { length (own_refs base self.now) < 2 ^ 62 }
-        requires room { length (own_refs base self.now) ≤ sink.old.spare }
-        ensures { Extends sink.old sink.new (own_refs base self.now) }
-    {
-        by_kind!(body self, body => body.write_refs(base, sink))
     }
 }

@@ -1,15 +1,12 @@
 //! The common part of an object, whether it is an entity or not.
 
-ghost use Rattle.std.specs.Prelude.{◌≡◌, ◌^◌, ◌<◌, ◌≤◌, length, IfOk};
-ghost use Rattle.dwg_bits.specs.Sink.{Extends};
+ghost use Rattle.std.specs.Prelude.{IfOk};
 ghost use Rattle.dwg_common.specs.Parsing.{ParsesBody};
 ghost use Rattle.dwg_object.specs.Forms.{common_part};
-ghost use Rattle.dwg_object.specs.Objects.{is_of_entity};
-ghost use Rattle.dwg_object.specs.Written.{common_main, common_refs};
 
 use dwg_base::{Handle, NoMemory};
-use dwg_bits::{BitCursor, BitSink};
-use dwg_common::{BodyCode, EntityCommon, Lengths, ObjectCommon};
+use dwg_bits::BitCursor;
+use dwg_common::{BodyCode, EntityCommon, ObjectCommon};
 use std::alloc::Global;
 
 /// What all entities have, or what all other objects have (Open Design Specification, "Common entity data" and "Common
@@ -45,46 +42,6 @@ impl Common {
                 Some(common) => Ok(Some(Common::Object(common))),
                 None => Ok(None),
             }
-        }
-    }
-
-    /// How many bits the common part is written by in the object of the handle `base`.
-    pub(crate) fn lengths(&self, base: Handle) -> Lengths
-        requires fits { (common_part (is_of_entity self.now) base).Fits self.now }
-        requires few { length (common_main base self.now) < 2 ^ 62 }
-        requires refs_few { length (common_refs base self.now) < 2 ^ 62 }
-        ensures main { result.main ≡ length (common_main base self.now) }
-        ensures refs { result.refs ≡ length (common_refs base self.now) }
-    {
-        match self {
-            Common::Entity(common) => common.lengths(base),
-            Common::Object(common) => common.lengths(base),
-        }
-    }
-
-    /// Writes the bits that stand before the references.
-    pub(crate) fn write_main(&self, base: Handle, sink: &mut BitSink)
-        requires fits { (common_part (is_of_entity self.now) base).Fits self.now }
-        requires few { length (common_main base self.now) < 2 ^ 62 }
-        requires room { length (common_main base self.now) ≤ sink.old.spare }
-        ensures { Extends sink.old sink.new (common_main base self.now) }
-    {
-        match self {
-            Common::Entity(common) => common.write_main(base, sink),
-            Common::Object(common) => common.write_main(base, sink),
-        }
-    }
-
-    /// Writes the bits that stand among the references.
-    pub(crate) fn write_refs(&self, base: Handle, sink: &mut BitSink)
-        requires fits { (common_part (is_of_entity self.now) base).Fits self.now }
-        requires few { length (common_refs base self.now) < 2 ^ 62 }
-        requires room { length (common_refs base self.now) ≤ sink.old.spare }
-        ensures { Extends sink.old sink.new (common_refs base self.now) }
-    {
-        match self {
-            Common::Entity(common) => common.write_refs(base, sink),
-            Common::Object(common) => common.write_refs(base, sink),
         }
     }
 }

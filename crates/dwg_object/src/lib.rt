@@ -7,7 +7,7 @@ mod frame;
 mod head;
 mod laws;
 mod object;
-mod own;
+mod part;
 mod reading;
 mod span;
 mod writing;
