@@ -1,7 +1,7 @@
-//! Kinds as values: which are entities, and the names that are printed of them.
+//! Kinds as values: the numbers that stand for them, the names that are printed of them, and which are entities.
 
 ghost use Rattle.std.specs.Prelude.{◌≡◌};
-ghost use Rattle.dwg_kinds.specs.Kinds.{is_entity_kind, kind_name, same_kind};
+ghost use Rattle.dwg_kinds.specs.Kinds.{fixed_kind_of, is_entity_kind, kind_name, same_kind};
 ghost use Rattle.dwg_kinds.specs.Needs.{owner_need};
 
 use crate::field::Need;
@@ -66,6 +66,62 @@ pub enum Kind {
     Unknown,
 }
 
+/// All kinds, a row for each: the number that stands for it, its name, as it is printed, whether it is one of entities, and what
+/// must own an object of it. Behind them stand the kinds that no number of theirs stands for.
+///
+/// - `by_row!(kind number; ..)`: the kind of a number, and behind the `;` the arms for numbers of no row;
+/// - `by_row!(row kind)`: the row of a kind.
+macro_rules! by_row {
+    (kind $of:ident; $($others:tt)*) => {
+        by_row!(rows kind_of [$of $($others)*])
+    };
+    (row $of:ident) => {
+        by_row!(rows row_of [$of])
+    };
+    (rows $then:ident [$($given:tt)*]) => {
+        by_row!($then [$($given)*]
+            1 Text "TEXT" true Some(Need::Is(Kind::BlockHeader));
+            2 Attrib "ATTRIB" true Some(Need::Attributed);
+            3 Attdef "ATTDEF" true Some(Need::Is(Kind::BlockHeader));
+            4 Block "BLOCK" true Some(Need::Is(Kind::BlockHeader));
+            5 EndBlk "ENDBLK" true Some(Need::Is(Kind::BlockHeader));
+            6 SeqEnd "SEQEND" true Some(Need::Attributed);
+            7 Insert "INSERT" true Some(Need::Is(Kind::BlockHeader));
+            17 Arc "ARC" true Some(Need::Is(Kind::BlockHeader));
+            18 Circle "CIRCLE" true Some(Need::Is(Kind::BlockHeader));
+            19 Line "LINE" true Some(Need::Is(Kind::BlockHeader));
+            27 Point "POINT" true Some(Need::Is(Kind::BlockHeader));
+            42 Dictionary "DICTIONARY" false Some(Need::NullOrAny);
+            48 BlockControl "BLOCK CONTROL" false Some(Need::Null);
+            49 BlockHeader "BLOCK HEADER" false Some(Need::Is(Kind::BlockControl));
+            50 LayerControl "LAYER CONTROL" false Some(Need::Null);
+            51 Layer "LAYER" false Some(Need::Is(Kind::LayerControl));
+            52 StyleControl "STYLE CONTROL" false Some(Need::Null);
+            53 Style "STYLE" false Some(Need::Is(Kind::StyleControl));
+            56 LtypeControl "LTYPE CONTROL" false Some(Need::Null);
+            57 Ltype "LTYPE" false Some(Need::Is(Kind::LtypeControl));
+            66 AppIdControl "APPID CONTROL" false Some(Need::Null);
+            67 AppId "APPID" false Some(Need::Is(Kind::AppIdControl));
+            77 LwPolyline "LWPOLYLINE" true Some(Need::Is(Kind::BlockHeader));
+            79 XRecord "XRECORD" false Some(Need::Any);
+        )
+    };
+    (kind_of [$of:ident $($others:tt)*] $($number:literal $kind:ident $name:literal $is_entity:literal $owner:expr;)*) => {
+        match $of {
+            $($number => Kind::$kind,)*
+            $($others)*
+        }
+    };
+    (row_of [$of:ident] $($number:literal $kind:ident $name:literal $is_entity:literal $owner:expr;)*) => {
+        match $of {
+            $(Kind::$kind => row($name, $is_entity, $owner),)*
+            Kind::PlainEntity => row("ENTITY", true, None),
+            Kind::PlainObject => row("OBJECT", false, None),
+            Kind::Unknown => row("UNKNOWN", false, None),
+        }
+    };
+}
+
 /// What is told of a kind: its name, as it is printed, whether it is one of entities, and what must own an object of it.
 #[derive(Clone, Copy)]
 struct KindRow {
@@ -94,35 +150,19 @@ fn row_of(kind: Kind) -> KindRow
     ensures is_entity { result.is_entity ≡ is_entity_kind kind }
     ensures owner { result.owner ≡ owner_need kind }
 {
-    match kind {
-        Kind::Text => row("TEXT", true, Some(Need::Is(Kind::BlockHeader))),
-        Kind::Attrib => row("ATTRIB", true, Some(Need::Attributed)),
-        Kind::Attdef => row("ATTDEF", true, Some(Need::Is(Kind::BlockHeader))),
-        Kind::Block => row("BLOCK", true, Some(Need::Is(Kind::BlockHeader))),
-        Kind::EndBlk => row("ENDBLK", true, Some(Need::Is(Kind::BlockHeader))),
-        Kind::SeqEnd => row("SEQEND", true, Some(Need::Attributed)),
-        Kind::Insert => row("INSERT", true, Some(Need::Is(Kind::BlockHeader))),
-        Kind::Arc => row("ARC", true, Some(Need::Is(Kind::BlockHeader))),
-        Kind::Circle => row("CIRCLE", true, Some(Need::Is(Kind::BlockHeader))),
-        Kind::Line => row("LINE", true, Some(Need::Is(Kind::BlockHeader))),
-        Kind::Point => row("POINT", true, Some(Need::Is(Kind::BlockHeader))),
-        Kind::Dictionary => row("DICTIONARY", false, Some(Need::NullOrAny)),
-        Kind::BlockControl => row("BLOCK CONTROL", false, Some(Need::Null)),
-        Kind::BlockHeader => row("BLOCK HEADER", false, Some(Need::Is(Kind::BlockControl))),
-        Kind::LayerControl => row("LAYER CONTROL", false, Some(Need::Null)),
-        Kind::Layer => row("LAYER", false, Some(Need::Is(Kind::LayerControl))),
-        Kind::StyleControl => row("STYLE CONTROL", false, Some(Need::Null)),
-        Kind::Style => row("STYLE", false, Some(Need::Is(Kind::StyleControl))),
-        Kind::LtypeControl => row("LTYPE CONTROL", false, Some(Need::Null)),
-        Kind::Ltype => row("LTYPE", false, Some(Need::Is(Kind::LtypeControl))),
-        Kind::AppIdControl => row("APPID CONTROL", false, Some(Need::Null)),
-        Kind::AppId => row("APPID", false, Some(Need::Is(Kind::AppIdControl))),
-        Kind::LwPolyline => row("LWPOLYLINE", true, Some(Need::Is(Kind::BlockHeader))),
-        Kind::XRecord => row("XRECORD", false, Some(Need::Any)),
-        Kind::PlainEntity => row("ENTITY", true, None),
-        Kind::PlainObject => row("OBJECT", false, None),
-        Kind::Unknown => row("UNKNOWN", false, None),
-    }
+    by_row!(row kind)
+}
+
+/// The kind of a number that no class can have.
+#[tactic(auto, unfolding(crate::specs::Kinds::fixed_kind_of, crate::specs::Kinds::TYPED_KINDS, crate::specs::Kinds::PLAIN_ENTITIES, crate::specs::Kinds::PLAIN_OBJECTS))]
+pub(crate) fn fixed_kind(number: u16) -> Kind
+    ensures { result ≡ fixed_kind_of number }
+{
+    by_row!(kind number;
+        8 | 10..=16 | 20..=26 | 28..=41 | 43..=47 | 74 | 78 | 498 => Kind::PlainEntity,
+        60..=65 | 68..=72 => Kind::PlainObject,
+        _ => Kind::Unknown,
+    )
 }
 
 /// The name of a kind, as it is printed.

@@ -1,9 +1,9 @@
 //! Type numbers: the kind that each stands for.
 
 ghost use Rattle.std.specs.Prelude.{◌≡◌, ◌<◌};
-ghost use Rattle.dwg_kinds.specs.Kinds.{fixed_kind_of, hinted_kind_of, kind_at};
+ghost use Rattle.dwg_kinds.specs.Kinds.{hinted_kind_of, kind_at};
 
-use crate::kind::Kind;
+use crate::kind::{Kind, fixed_kind};
 
 /// What the classes of a drawing say of a type number from 500 on.
 #[derive(Clone, Copy, Debug, PartialEq, Eq)]
@@ -24,42 +24,6 @@ pub enum ClassHint {
 
 /// The least number that a class can have.
 const LEAST_CLASS_NUMBER: u16 = 500;
-
-/// The kind of a number that no class can have.
-#[tactic(auto, unfolding(crate::specs::Kinds::fixed_kind_of, crate::specs::Kinds::TYPED_KINDS, crate::specs::Kinds::PLAIN_ENTITIES, crate::specs::Kinds::PLAIN_OBJECTS))]
-fn fixed_kind(number: u16) -> Kind
-    ensures { result ≡ fixed_kind_of number }
-{
-    match number {
-        1 => Kind::Text,
-        2 => Kind::Attrib,
-        3 => Kind::Attdef,
-        4 => Kind::Block,
-        5 => Kind::EndBlk,
-        6 => Kind::SeqEnd,
-        7 => Kind::Insert,
-        17 => Kind::Arc,
-        18 => Kind::Circle,
-        19 => Kind::Line,
-        27 => Kind::Point,
-        42 => Kind::Dictionary,
-        48 => Kind::BlockControl,
-        49 => Kind::BlockHeader,
-        50 => Kind::LayerControl,
-        51 => Kind::Layer,
-        52 => Kind::StyleControl,
-        53 => Kind::Style,
-        56 => Kind::LtypeControl,
-        57 => Kind::Ltype,
-        66 => Kind::AppIdControl,
-        67 => Kind::AppId,
-        77 => Kind::LwPolyline,
-        79 => Kind::XRecord,
-        8 | 10..=16 | 20..=26 | 28..=41 | 43..=47 | 74 | 78 | 498 => Kind::PlainEntity,
-        60..=65 | 68..=72 => Kind::PlainObject,
-        _ => Kind::Unknown,
-    }
-}
 
 /// The kind of a number that a class can have, by what its class says.
 #[tactic(auto, unfolding(crate::specs::Kinds::hinted_kind_of))]

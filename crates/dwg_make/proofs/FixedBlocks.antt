@@ -14,7 +14,7 @@ use Rattle.dwg_file.proofs.ObjectSize.{IsSmall}
 use Rattle.dwg_grammar.specs.ReferenceCodes.{reference}
 use Rattle.dwg_kinds.specs.Kinds.{TYPED_KINDS, fixed_kind_of, kind_at, is_entity_kind}
 use Rattle.dwg_object.specs.declared.body.Body.TheVariants as bodies
-use Rattle.dwg_object.specs.OwnBodies.{own_body, attrib_inside, attdef_inside, block_inside, endblk_inside, seqend_inside, insert_inside, line_inside, blockheader_inside}
+use Rattle.dwg_object.specs.OwnBodies.{own_body}
 use Rattle.dwg_shapes.specs.Lines.{line_body}
 use Rattle.dwg_tables.specs.BlockHeaderBody.{count_of, target_of, block_header_body}
 use Rattle.dwg_tables.specs.InsertMarks.{mark_counts}
@@ -52,7 +52,7 @@ header_small handle name has_attributes inserts block first last endblk some sma
   small = small;
   kind = refl;
   entity = refl;
-  made = variant_made bodies.BlockHeader blockheader_inside (block_header_body handle) _ refl
+  made = variant_made bodies.BlockHeader _ (block_header_body handle) _ refl
       (header_made handle name has_attributes inserts block first last endblk word are.counts are.counts_few are.targets are.targets_few
       (omega (arith, a)) (omega (arith, b)) (omega (arith, c)) (omega (arith, d)));
 })
@@ -66,7 +66,7 @@ begin_own handle name some small word = record {
   small = small;
   kind = refl;
   entity = refl;
-  made = variant_made bodies.Block block_inside (block_body handle) _ refl (block_made handle name word);
+  made = variant_made bodies.Block _ (block_body handle) _ refl (block_made handle name word);
 }
 
 end_own : (handle : ℕ) → 0 < handle → handle < 2 ^ 32 → IsOwn true 5 handle (bodies.EndBlk (record {}))
@@ -77,7 +77,7 @@ end_own handle some small = record {
   small = small;
   kind = refl;
   entity = refl;
-  made = variant_made bodies.EndBlk endblk_inside (endblk_body handle) _ refl (endblk_made handle);
+  made = variant_made bodies.EndBlk _ (endblk_body handle) _ refl (endblk_made handle);
 }
 
 seqend_own : (handle : ℕ) → 0 < handle → handle < 2 ^ 32 → IsOwn true 6 handle (bodies.SeqEnd (record {}))
@@ -88,7 +88,7 @@ seqend_own handle some small = record {
   small = small;
   kind = refl;
   entity = refl;
-  made = variant_made bodies.SeqEnd seqend_inside (seqend_body handle) _ refl (seqend_made handle);
+  made = variant_made bodies.SeqEnd _ (seqend_body handle) _ refl (seqend_made handle);
 }
 
 -- both spaces
@@ -123,7 +123,7 @@ definition_small = owned_small 3 0x22 0x20 0 0x23 _ (omega arith) (omega arith) 
   small = omega arith;
   kind = refl;
   entity = refl;
-  made = variant_made bodies.Attdef attdef_inside (attdef_body 0x22) _ refl
+  made = variant_made bodies.Attdef _ (attdef_body 0x22) _ refl
       (attdef_made 0x22 (flat_point 0 0) ONE [] (codes "NO") (codes "Number") (record { x = omega arith; y = omega arith }) (omega arith)
       no_word (word_passed (codes "NO") refl refl) (word_passed (codes "Number") refl refl));
 })
@@ -136,7 +136,7 @@ line_small = owned_small 19 0x23 0x20 0x22 0 _ (omega arith) (omega arith) (omeg
   small = omega arith;
   kind = refl;
   entity = refl;
-  made = variant_made bodies.Line line_inside (line_body 0x23) _ refl
+  made = variant_made bodies.Line _ (line_body 0x23) _ refl
       (line_made 0x23 (record { start = ORIGIN; end = point ONE 0 0; thickness = 0; extrusion = UPWARD })
       (point_fits 0 0 0 (omega arith) (omega arith) (omega arith)) (point_fits ONE 0 0 (omega arith) (omega arith) (omega arith)) (omega arith)
       (point_fits 0 0 ONE (omega arith) (omega arith) (omega arith)));
@@ -169,7 +169,7 @@ attribute_small = owned_small 2 0x2E 0x30 0 0 _ (omega arith) (omega arith) (ome
   small = omega arith;
   kind = refl;
   entity = refl;
-  made = variant_made bodies.Attrib attrib_inside (attrib_body 0x2E) _ refl
+  made = variant_made bodies.Attrib _ (attrib_body 0x2E) _ refl
       (attrib_made 0x2E (flat_point 0 0) ONE (codes "A1") (codes "NO") (record { x = omega arith; y = omega arith }) (omega arith)
       (word_passed (codes "A1") refl refl) (word_passed (codes "NO") refl refl));
 })
@@ -182,7 +182,7 @@ insert_small = linked_small 7 0x30 0 0x31 0x10 _ (omega arith) (omega arith) (om
   small = omega arith;
   kind = refl;
   entity = refl;
-  made = variant_made bodies.Insert insert_inside (insert_body 0x30) _ refl (insert_made 0x30 0x20 0x2E 0x2F (omega arith) (omega arith) (omega arith));
+  made = variant_made bodies.Insert _ (insert_body 0x30) _ refl (insert_made 0x30 0x20 0x2E 0x2F (omega arith) (omega arith) (omega arith));
 })
 
 pub tag_insert_small : AllByRecursion (IsSmall [] MOST_BYTES) tag_insert

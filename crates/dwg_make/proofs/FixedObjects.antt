@@ -10,7 +10,7 @@ use Rattle.dwg_dicts.specs.XRecords.{xrecord_body}
 use Rattle.dwg_file.proofs.ObjectSize.{IsSmall}
 use Rattle.dwg_kinds.specs.Kinds.{TYPED_KINDS, fixed_kind_of, kind_at, is_entity_kind}
 use Rattle.dwg_object.specs.declared.body.Body.TheVariants as bodies
-use Rattle.dwg_object.specs.OwnBodies.{own_body, dictionary_inside, blockcontrol_inside, layercontrol_inside, layer_inside, stylecontrol_inside, style_inside, ltypecontrol_inside, ltype_inside, appidcontrol_inside, appid_inside, xrecord_inside}
+use Rattle.dwg_object.specs.OwnBodies.{own_body}
 use Rattle.dwg_tables.specs.AppIdBody.{app_id_body}
 use Rattle.dwg_tables.specs.LayerBody.{layer_body}
 use Rattle.dwg_tables.specs.LtypeBody.{ltype_body}
@@ -31,7 +31,7 @@ block_control_small = other_small 48 0x1 0 _ (omega arith) (record {
   small = omega arith;
   kind = refl;
   entity = refl;
-  made = variant_made bodies.BlockControl blockcontrol_inside (block_control_body 0x1) _ refl (block_control_made 0x1 (soft_owner 0x20 ∷ []) 0x18 0x1B (one_owner 0x1 0x20 (omega arith)) (omega arith) (omega arith));
+  made = variant_made bodies.BlockControl _ (block_control_body 0x1) _ refl (block_control_made 0x1 (soft_owner 0x20 ∷ []) 0x18 0x1B (one_owner 0x1 0x20 (omega arith)) (omega arith) (omega arith));
 })
 
 layer_control_small : IsSmall [] MOST_BYTES layer_control
@@ -42,7 +42,7 @@ layer_control_small = other_small 50 0x2 0 _ (omega arith) (record {
   small = omega arith;
   kind = refl;
   entity = refl;
-  made = variant_made bodies.LayerControl layercontrol_inside (layer_control_body 0x2) _ refl (layer_control_made 0x2 (soft_owner 0x10 ∷ soft_owner 0x17 ∷ []) (two_owners 0x2 0x10 0x17 (omega arith) (omega arith)));
+  made = variant_made bodies.LayerControl _ (layer_control_body 0x2) _ refl (layer_control_made 0x2 (soft_owner 0x10 ∷ soft_owner 0x17 ∷ []) (two_owners 0x2 0x10 0x17 (omega arith) (omega arith)));
 })
 
 style_control_small : IsSmall [] MOST_BYTES style_control
@@ -53,7 +53,7 @@ style_control_small = other_small 52 0x3 0 _ (omega arith) (record {
   small = omega arith;
   kind = refl;
   entity = refl;
-  made = variant_made bodies.StyleControl stylecontrol_inside (style_control_body 0x3) _ refl (style_control_made 0x3 (soft_owner 0x11 ∷ []) (one_owner 0x3 0x11 (omega arith)));
+  made = variant_made bodies.StyleControl _ (style_control_body 0x3) _ refl (style_control_made 0x3 (soft_owner 0x11 ∷ []) (one_owner 0x3 0x11 (omega arith)));
 })
 
 ltype_control_small : IsSmall [] MOST_BYTES ltype_control
@@ -64,7 +64,7 @@ ltype_control_small = other_small 56 0x5 0 _ (omega arith) (record {
   small = omega arith;
   kind = refl;
   entity = refl;
-  made = variant_made bodies.LtypeControl ltypecontrol_inside (ltype_control_body 0x5) _ refl (ltype_control_made 0x5 (soft_owner 0x16 ∷ []) 0x14 0x15 (one_owner 0x5 0x16 (omega arith)) (omega arith) (omega arith));
+  made = variant_made bodies.LtypeControl _ (ltype_control_body 0x5) _ refl (ltype_control_made 0x5 (soft_owner 0x16 ∷ []) 0x14 0x15 (one_owner 0x5 0x16 (omega arith)) (omega arith) (omega arith));
 })
 
 appid_control_small : IsSmall [] MOST_BYTES appid_control
@@ -75,7 +75,7 @@ appid_control_small = other_small 66 0x9 0 _ (omega arith) (record {
   small = omega arith;
   kind = refl;
   entity = refl;
-  made = variant_made bodies.AppIdControl appidcontrol_inside (appid_control_body 0x9) _ refl (appid_control_made 0x9 (soft_owner 0x12 ∷ []) (one_owner 0x9 0x12 (omega arith)));
+  made = variant_made bodies.AppIdControl _ (appid_control_body 0x9) _ refl (appid_control_made 0x9 (soft_owner 0x12 ∷ []) (one_owner 0x9 0x12 (omega arith)));
 })
 
 pub controls_small : AllByRecursion (IsSmall [] MOST_BYTES) controls
@@ -91,7 +91,7 @@ dictionary_small handle owner name item some small near far word = other_small 4
   small = small;
   kind = refl;
   entity = refl;
-  made = variant_made bodies.Dictionary dictionary_inside (dictionary_body handle) _ refl (dictionary_made handle name item word (omega (arith, far)));
+  made = variant_made bodies.Dictionary _ (dictionary_body handle) _ refl (dictionary_made handle name item word (omega (arith, far)));
 })
 
 xrecord_small : IsSmall [] MOST_BYTES xrecord
@@ -102,7 +102,7 @@ xrecord_small = other_small 79 0xE 0xD _ (omega arith) (record {
   small = omega arith;
   kind = refl;
   entity = refl;
-  made = variant_made bodies.XRecord xrecord_inside (xrecord_body 0xE) _ refl (xrecord_made 0xE 0x10 (omega arith));
+  made = variant_made bodies.XRecord _ (xrecord_body 0xE) _ refl (xrecord_made 0xE 0x10 (omega arith));
 })
 
 pub dictionaries_small : AllByRecursion (IsSmall [] MOST_BYTES) dictionaries
@@ -124,7 +124,7 @@ layer_small handle name colour some small range word = other_small 51 handle 0x2
   small = small;
   kind = refl;
   entity = refl;
-  made = variant_made bodies.Layer layer_inside (layer_body handle) _ refl (layer_made handle name colour word range);
+  made = variant_made bodies.Layer _ (layer_body handle) _ refl (layer_made handle name colour word range);
 })
 
 style_small : IsSmall [] MOST_BYTES style
@@ -135,7 +135,7 @@ style_small = other_small 53 0x11 0x3 _ (omega arith) (record {
   small = omega arith;
   kind = refl;
   entity = refl;
-  made = variant_made bodies.Style style_inside (style_body 0x11) _ refl (style_made 0x11 (codes "STANDARD") (codes "txt") (word_passed (codes "STANDARD") refl refl) (word_passed (codes "txt") refl refl));
+  made = variant_made bodies.Style _ (style_body 0x11) _ refl (style_made 0x11 (codes "STANDARD") (codes "txt") (word_passed (codes "STANDARD") refl refl) (word_passed (codes "txt") refl refl));
 })
 
 appid_small : IsSmall [] MOST_BYTES appid
@@ -146,7 +146,7 @@ appid_small = other_small 67 0x12 0x9 _ (omega arith) (record {
   small = omega arith;
   kind = refl;
   entity = refl;
-  made = variant_made bodies.AppId appid_inside (app_id_body 0x12) _ refl (appid_made 0x12 (codes "ACAD") (word_passed (codes "ACAD") refl refl));
+  made = variant_made bodies.AppId _ (app_id_body 0x12) _ refl (appid_made 0x12 (codes "ACAD") (word_passed (codes "ACAD") refl refl));
 })
 
 ltype_small : (handle : ℕ) (name : List ℕ) → 0 < handle → handle < 2 ^ 32 → IsWord name → IsSmall [] MOST_BYTES (ltype handle name)
@@ -157,7 +157,7 @@ ltype_small handle name some small word = other_small 57 handle 0x5 _ (omega ari
   small = small;
   kind = refl;
   entity = refl;
-  made = variant_made bodies.Ltype ltype_inside (ltype_body handle) _ refl (ltype_made handle name word);
+  made = variant_made bodies.Ltype _ (ltype_body handle) _ refl (ltype_made handle name word);
 })
 
 pub entries_small : AllByRecursion (IsSmall [] MOST_BYTES) table_entries

@@ -15,16 +15,15 @@ use Rattle.dwg_grammar.proofs.MadeBodies.{variant_is_body}
 use Rattle.dwg_common.specs.NonEntities.{object_common}
 use Rattle.dwg_kinds.specs.Kinds.{is_entity_kind}
 use Rattle.dwg_object.specs.declared.common.Common.{Common}
-use Rattle.dwg_object.specs.declared.common.Common.TheVariants.{Entity, Object}
 use Rattle.dwg_object.specs.Objects.{HeadParts, is_of_entity}
-use Rattle.dwg_object.specs.Forms.{CommonForm, HasCommonForm, kind_under, entity_inside, object_inside, common_part}
+use Rattle.dwg_object.specs.Forms.{CommonForm, HasCommonForm, kind_under, common_part}
 use Rattle.dwg_object.specs.Heads.{head, HasHead, IsHead}
 use Rattle.dwg_object.proofs.HeadLemmas.{head_is_code}
 
 -- the common part of an object is a body
 pub common_is_body : (entity : Bool) (base : ℕ) → base < 2 ^ 63 → IsBody base (common_part entity base)
-common_is_body true base small = variant_is_body base Entity entity_inside (entity_common base) (entity_is_body base small) (λ common. refl)
-common_is_body false base small = variant_is_body base Object object_inside (object_common base) (object_is_body base small) (λ common. refl)
+common_is_body true base small = variant_is_body base _ _ _ (entity_is_body base small) (λ common. refl)
+common_is_body false base small = variant_is_body base _ _ _ (object_is_body base small) (λ common. refl)
 
 -- what is spelled of an entity is an entity's
 pub common_of_entity : (entity : Bool) (base : ℕ) (common : Common) (main references : List Bool) (over : ℕ) → (common_part entity base).Spells common main references over → is_of_entity common ≡ entity
@@ -44,15 +43,6 @@ pub record AreParted (letters : List Bool) (parts : HeadParts) (main references 
   pub whole : letters ≡ (front ++ main) ++ references
   pub size : length (front ++ main) ≡ parts.size
 
--- a body that is cut has that head
-pub cut_head : (letters : List Bool) (parts : HeadParts) (main references : List Bool) → AreParted letters parts main references → HasHead letters parts
-cut_head letters parts main references cut = record {
-  front = cut.front;
-  rest = main ++ references;
-  spelled = cut.spelled;
-  whole = cut.whole ∙ append_assoc cut.front main references;
-}
-
 -- lists that begin alike and have as many letters in front are joined of the same
 pub same_fronts : {A : Type 0} (front back other other_back : List A) → front ++ back ≡ other ++ other_back → length front ≡ length other → (front ≡ other) × (back ≡ other_back)
 same_fronts {A} front back other other_back same long =
@@ -61,10 +51,10 @@ same_fronts {A} front back other other_back same long =
     (fronts, append_cancel_left front back other_back (same ∙ ap (λ first. first ++ other_back) (sym fronts)))
 
 -- it is cut in one way
-pub cut_same : (letters : List Bool) (parts other : HeadParts) (main references other_main other_references : List Bool)
+cut_same : {letters : List Bool} {parts other : HeadParts} {main references other_main other_references : List Bool}
     → AreParted letters parts main references → AreParted letters other other_main other_references
     → (parts ≡ other) × (main ≡ other_main) × (references ≡ other_references)
-cut_same letters parts other main references other_main other_references is was =
+cut_same {letters} {parts} {other} {main} {references} {other_main} {other_references} is was =
     let joined : is.front ++ (main ++ references) ≡ was.front ++ (other_main ++ other_references) =
     sym (append_assoc is.front main references) ∙ sym is.whole ∙ was.whole ∙ append_assoc was.front other_main other_references in
     let heads = unique_of_code AnyLetters head head_is_code parts other is.front was.front (main ++ references) (other_main ++ other_references) is.spelled was.spelled joined in
@@ -73,26 +63,30 @@ cut_same letters parts other main references other_main other_references is was 
     (heads.0, append_cancel_left is.front main other_main (pieces.0 ∙ ap (λ first. first ++ other_main) (sym heads.1)), pieces.1)
 
 -- the own handle of a head is that of a handle
-pub own_small : (letters : List Bool) (parts : HeadParts) (main references : List Bool) → AreParted letters parts main references → (0 < parts.own) × (parts.own < 2 ^ 63)
+pub own_small : {letters : List Bool} {parts : HeadParts} {main references : List Bool} → AreParted letters parts main references → parts.own < 2 ^ 63
 unfolding head
-own_small letters parts main references cut = let fits : IsHead parts = head_is_code.value cut.front parts cut.spelled in (fits.positive, fits.own)
+own_small cut = let fits : IsHead _ = head_is_code.value cut.front _ cut.spelled in fits.own
 
 -- a body in that form is cut behind its head and at its bit size
-form_cut : (classes : List Class) (body : List ℕ) (number handle : ℕ) (common : Common) (own behind : List Bool) (is : CommonForm classes body number handle common own behind)
+form_cut : {classes : List Class} {body : List ℕ} {number handle : ℕ} {common : Common} {own behind : List Bool} (is : CommonForm classes body number handle common own behind)
     → AreParted (bits body) (record { number = number; size = is.size; own = handle }) (is.common_main ++ own) (is.common_refs ++ behind)
-form_cut classes body number handle common own behind is = record { front = is.head_bits; spelled = is.head_spelled; whole = is.whole; size = is.filled }
+form_cut is = record { front = is.head_bits; spelled = is.head_spelled; whole = is.whole; size = is.filled }
 
 -- so it has a head
-pub head_of_common : (classes : List Class) (body : List ℕ) (number handle : ℕ) (common : Common) (own behind : List Bool) (is : CommonForm classes body number handle common own behind)
+pub head_of_common : {classes : List Class} {body : List ℕ} {number handle : ℕ} {common : Common} {own behind : List Bool} (is : CommonForm classes body number handle common own behind)
     → HasHead (bits body) (record { number = number; size = is.size; own = handle })
-head_of_common classes body number handle common own behind is =
-    cut_head (bits body) (record { number = number; size = is.size; own = handle }) (is.common_main ++ own) (is.common_refs ++ behind) (form_cut classes body number handle common own behind is)
+head_of_common {own = own} {behind = behind} is = record {
+  front = is.head_bits;
+  rest = (is.common_main ++ own) ++ (is.common_refs ++ behind);
+  spelled = is.head_spelled;
+  whole = is.whole ∙ append_assoc is.head_bits (is.common_main ++ own) (is.common_refs ++ behind);
+}
 
 -- whose parts lie in their ranges
-pub fits_of_common : (classes : List Class) (body : List ℕ) (number handle : ℕ) (common : Common) (own behind : List Bool) (is : CommonForm classes body number handle common own behind)
+pub fits_of_common : {classes : List Class} {body : List ℕ} {number handle : ℕ} {common : Common} {own behind : List Bool} (is : CommonForm classes body number handle common own behind)
     → IsHead (record { number = number; size = is.size; own = handle })
 unfolding head
-fits_of_common classes body number handle common own behind is = head_is_code.value is.head_bits (record { number = number; size = is.size; own = handle }) is.head_spelled
+fits_of_common is = head_is_code.value is.head_bits _ is.head_spelled
 
 -- main bits and reference bits begin with the common part of an object of these numbers
 abbrev pub BeginsWithCommon : List Class → ℕ → ℕ → Common → List Bool → List Bool → List Bool → List Bool → Type 0
@@ -100,12 +94,12 @@ BeginsWithCommon classes number handle common main own references behind =
     BeginsWithBody (common_part (is_entity_kind (kind_under classes number)) handle) common main own references behind
 
 -- in any cutting of the body stand the parts of its form
-pub common_in_cut : (classes : List Class) (body : List ℕ) (parts : HeadParts) (main references : List Bool) (number handle : ℕ) (common : Common) (own behind : List Bool)
-    → AreParted (bits body) parts main references → CommonForm classes body number handle common own behind
-    → (number ≡ parts.number) × (handle ≡ parts.own) × BeginsWithCommon classes parts.number parts.own common main own references behind
-common_in_cut classes body parts main references number handle common own behind cut is =
-    let same = cut_same (bits body) _ parts (is.common_main ++ own) (is.common_refs ++ behind) main references (form_cut classes body number handle common own behind is) cut in
-    let begins : BeginsWithCommon classes number handle common (is.common_main ++ own) own (is.common_refs ++ behind) behind = record {
+pub common_in_cut : {classes : List Class} {body : List ℕ} {parts : HeadParts} {main references : List Bool} → AreParted (bits body) parts main references → (has : HasCommonForm classes body)
+    → (has.number ≡ parts.number) × (has.handle ≡ parts.own) × BeginsWithCommon classes parts.number parts.own has.common main has.own references has.behind
+common_in_cut {classes} {main = main} {references = references} cut has =
+    let is = has.form in
+    let same = cut_same (form_cut is) cut in
+    let begins : BeginsWithCommon classes has.number has.handle has.common (is.common_main ++ has.own) has.own (is.common_refs ++ has.behind) has.behind = record {
       main_front = is.common_main;
       reference_front = is.common_refs;
       spelled = is.common_spelled;
@@ -114,16 +108,16 @@ common_in_cut classes body parts main references number handle common own behind
     } in (
       ap (λ (p : HeadParts). p.number) same.0,
       ap (λ (p : HeadParts). p.own) same.0,
-      subst (λ (p : HeadParts). BeginsWithCommon classes p.number p.own common main own references behind) same.0
-          (subst (λ (m : List Bool). BeginsWithCommon classes number handle common m own references behind) same.1
-          (subst (λ (r : List Bool). BeginsWithCommon classes number handle common (is.common_main ++ own) own r behind) same.2 begins)),
+      subst (λ (p : HeadParts). BeginsWithCommon classes p.number p.own has.common main has.own references has.behind) same.0
+          (subst (λ (m : List Bool). BeginsWithCommon classes has.number has.handle has.common m has.own references has.behind) same.1
+          (subst (λ (r : List Bool). BeginsWithCommon classes has.number has.handle has.common (is.common_main ++ has.own) has.own r has.behind) same.2 begins)),
     )
 
 -- and a cutting in which they stand is that form
-pub common_of_cut : (classes : List Class) (body : List ℕ) (parts : HeadParts) (main references : List Bool) (common : Common) (own behind : List Bool)
+pub common_of_cut : {classes : List Class} {body : List ℕ} {parts : HeadParts} {main references : List Bool} {common : Common} {own behind : List Bool}
     → AreParted (bits body) parts main references → BeginsWithCommon classes parts.number parts.own common main own references behind
     → CommonForm classes body parts.number parts.own common own behind
-common_of_cut classes body parts main references common own behind cut begins = record {
+common_of_cut {parts = parts} cut begins = record {
   size = parts.size;
   head_bits = cut.front;
   common_main = begins.main_front;
@@ -134,33 +128,46 @@ common_of_cut classes body parts main references common own behind cut begins = 
   filled = ap (λ main. length (cut.front ++ main)) (sym begins.main_whole) ∙ cut.size;
 }
 
+-- the parts of a body in that form
+pub record Parts : Type 0 where
+  pub number : ℕ
+  pub handle : ℕ
+  pub common : Common
+  pub own : List Bool
+  pub behind : List Bool
+
+abbrev pub parts_of : {classes : List Class} {body : List ℕ} → HasCommonForm classes body → Parts
+parts_of has = record { number = has.number; handle = has.handle; common = has.common; own = has.own; behind = has.behind }
+
+-- a body in a form with a common part has that
+abbrev pub has_common : {classes : List Class} {body : List ℕ} {number handle : ℕ} {common : Common} {own behind : List Bool} → CommonForm classes body number handle common own behind → HasCommonForm classes body
+has_common {classes} {body} {number} {handle} {common} {own} {behind} is = record { number = number; handle = handle; common = common; own = own; behind = behind; form = is }
+
 -- a body is so cut in one way at the most
-pub common_forms_same : (classes : List Class) (body : List ℕ) (number other_number handle other_handle : ℕ) (common other : Common) (own other_own behind other_behind : List Bool)
-    → CommonForm classes body number handle common own behind → CommonForm classes body other_number other_handle other other_own other_behind
-    → (number ≡ other_number) × (handle ≡ other_handle) × (common ≡ other) × (own ≡ other_own) × (behind ≡ other_behind)
-common_forms_same classes body number other_number handle other_handle common other own other_own behind other_behind is was =
-    let cut = form_cut classes body other_number other_handle other other_own other_behind was in
-    let main : List Bool = was.common_main ++ other_own in
-    let references : List Bool = was.common_refs ++ other_behind in
-    let parts = common_in_cut classes body _ main references number handle common own behind cut is in
-    let others = common_in_cut classes body _ main references other_number other_handle other other_own other_behind cut was in
-    let small = (own_small (bits body) _ main references cut).1 in
-    let alike = unique_body other_handle (common_part (is_entity_kind (kind_under classes other_number)) other_handle) (common_is_body (is_entity_kind (kind_under classes other_number)) other_handle small)
-    common other main own other_own references behind other_behind parts.2 others.2 in
-    (parts.0, parts.1, alike.0, alike.1, alike.2)
+pub common_forms_same : {classes : List Class} {body : List ℕ} (is was : HasCommonForm classes body) → parts_of is ≡ parts_of was
+common_forms_same {classes} is was =
+    let cut = form_cut was.form in
+    let parts = common_in_cut cut is in
+    let others = common_in_cut cut was in
+    let entity : Bool = is_entity_kind (kind_under classes was.number) in
+    let alike = unique_body was.handle (common_part entity was.handle) (common_is_body entity was.handle (own_small cut)) is.common was.common _ is.own was.own _ is.behind was.behind parts.2 others.2 in
+    ap₂ (λ (n h : ℕ). record { number = n; handle = h; common = is.common; own = is.own; behind = is.behind }) parts.0 parts.1
+    ∙ ap (λ (c : Common). record { number = was.number; handle = was.handle; common = c; own = is.own; behind = is.behind }) alike.0
+    ∙ ap₂ (λ (o b : List Bool). record { number = was.number; handle = was.handle; common = was.common; own = o; behind = b }) alike.1 alike.2
 
 -- its bit size is behind the head and within the body
 pub record IsSizeWithin (letters front : List Bool) (size : ℕ) : Type 0 where
   pub behind : length front ≤ size
   pub within : size ≤ length letters
 
-pub size_of_common : (classes : List Class) (body : List ℕ) (parts : HeadParts) (has_head : HasHead (bits body) parts) → HasCommonForm classes body → IsSizeWithin (bits body) has_head.front parts.size
-size_of_common classes body parts has_head has =
+pub size_of_common : {classes : List Class} {body : List ℕ} {parts : HeadParts} (begins : HasHead (bits body) parts) → HasCommonForm classes body → IsSizeWithin (bits body) begins.front parts.size
+unfolding head_of_common
+size_of_common {parts = parts} begins has =
     let is = has.form in
     let main : List Bool = is.common_main ++ has.own in
     let references : List Bool = is.common_refs ++ has.behind in
-    let heads = unique_of_code AnyLetters head head_is_code _ parts is.head_bits has_head.front (main ++ references) has_head.rest is.head_spelled has_head.spelled
-    (sym (append_assoc is.head_bits main references) ∙ sym is.whole ∙ has_head.whole) in
+    let own_head = head_of_common is in
+    let heads = unique_of_code AnyLetters head head_is_code _ parts is.head_bits begins.front _ begins.rest is.head_spelled begins.spelled (sym own_head.whole ∙ begins.whole) in
     let sizes : is.size ≡ parts.size = ap (λ (p : HeadParts). p.size) heads.0 in
     record {
       behind = omega (arith, sizes, is.filled, length-append is.head_bits main, ap length heads.1);
@@ -168,9 +175,9 @@ size_of_common classes body parts has_head has =
     }
 
 -- a body is cut where its bit size is so
-pub cut_of_size : (letters : List Bool) (parts : HeadParts) (has : HasHead letters parts) → IsSizeWithin letters has.front parts.size
+cut_of_size : {letters : List Bool} {parts : HeadParts} (has : HasHead letters parts) → IsSizeWithin letters has.front parts.size
     → AreParted letters parts (take (parts.size - length has.front) has.rest) (drop (parts.size - length has.front) has.rest)
-cut_of_size letters parts has size =
+cut_of_size {parts = parts} has size =
     let many : ℕ = parts.size - length has.front in
     let enough : many ≤ length has.rest = omega (arith, size.within, size.behind, ap length has.whole, length-append has.front has.rest) in
     record {
@@ -190,53 +197,45 @@ size_or_not letters front size = by_tests (nat_lt size (length front)) (nat_lt (
     by_tests false true is any = inr (λ within. let more : length letters < size = grind (arith, nat_tests) in omega (arith, more, within.within))
     by_tests false false is any = inl (record { behind = grind (arith, nat_tests); within = grind (arith, nat_tests) })
 
--- main bits and reference bits begin with the common part of an object of these numbers
-pub record HasCommonPart (classes : List Class) (number handle : ℕ) (main references : List Bool) : Type 0 where
-  pub common : Common
-  pub own : List Bool
-  pub behind : List Bool
-  pub begins : BeginsWithCommon classes number handle common main own references behind
+-- a body that is cut has no common part where none is parsed
+pub common_unread : {classes : List Class} {body : List ℕ} {parts : HeadParts} {main references : List Bool} (entity : Bool) → AreParted (bits body) parts main references
+    → entity ≡ is_entity_kind (kind_under classes parts.number) → (common_part entity parts.own).parse main references ≡ None → HasCommonForm classes body → ⊥
+common_unread {parts = parts} {main = main} {references = references} entity cut same none has =
+    (body_unread parts.own (common_part entity parts.own) main references (common_is_body entity parts.own (own_small cut)) none).0 has.common has.own has.behind
+    (subst (λ (e : Bool). BeginsWithBody (common_part e parts.own) has.common main has.own references has.behind) (sym same) (common_in_cut cut has).2)
 
--- whether they do follows from them
-common_decided : (classes : List Class) (number handle : ℕ) (main references : List Bool) → handle < 2 ^ 63
-    → HasCommonPart classes number handle main references ⊎ (HasCommonPart classes number handle main references → ⊥)
-common_decided classes number handle main references small = by_parse ((common_part entity handle).parse main references) refl
-  where
-    entity : Bool
-    entity = is_entity_kind (kind_under classes number)
-
-    is : IsBody handle (common_part entity handle)
-    is = common_is_body entity handle small
-
-    by_parse : (found : Option (Common × (List Bool × List Bool))) → (common_part entity handle).parse main references ≡ found
-        → HasCommonPart classes number handle main references ⊎ (HasCommonPart classes number handle main references → ⊥)
-    by_parse None same = inr (λ has. (body_unread handle (common_part entity handle) main references is same).0 has.common has.own has.behind has.begins)
-    by_parse (Some (common, (own, behind))) same = inl (record { common = common; own = own; behind = behind; begins = is.sound main own references behind common same })
+-- and has the one that is
+pub common_read : {classes : List Class} {body : List ℕ} {parts : HeadParts} {main references own behind : List Bool} {common : Common} (entity : Bool) → AreParted (bits body) parts main references
+    → entity ≡ is_entity_kind (kind_under classes parts.number) → (common_part entity parts.own).parse main references ≡ Some (common, (own, behind))
+    → CommonForm classes body parts.number parts.own common own behind
+common_read {parts = parts} {main = main} {references = references} {own = own} {behind = behind} {common = common} entity cut same parsed =
+    common_of_cut cut
+    (subst (λ (e : Bool). BeginsWithBody (common_part e parts.own) common main own references behind) same
+    ((common_is_body entity parts.own (own_small cut)).sound main own references behind common parsed))
 
 -- whether a body with a head is so cut follows from its bits
-pub common_form_decided : (classes : List Class) (body : List ℕ) (parts : HeadParts) → HasHead (bits body) parts → HasCommonForm classes body ⊎ (HasCommonForm classes body → ⊥)
-common_form_decided classes body parts has = by_test (size_or_not (bits body) has.front parts.size)
+common_form_decided : {classes : List Class} {body : List ℕ} {parts : HeadParts} → HasHead (bits body) parts → HasCommonForm classes body ⊎ (HasCommonForm classes body → ⊥)
+common_form_decided {classes} {body} {parts} has = by_test (size_or_not (bits body) has.front parts.size)
   where
-    by_part : (main references : List Bool) → AreParted (bits body) parts main references
-        → HasCommonPart classes parts.number parts.own main references ⊎ (HasCommonPart classes parts.number parts.own main references → ⊥)
-        → HasCommonForm classes body ⊎ (HasCommonForm classes body → ⊥)
-    by_part main references cut (inl part) = inl (record {
-      number = parts.number;
-      handle = parts.own;
-      common = part.common;
-      own = part.own;
-      behind = part.behind;
-      form = common_of_cut classes body parts main references part.common part.own part.behind cut part.begins;
-    })
-    by_part main references cut (inr none) = inr (λ form. none (record {
-      common = form.common;
-      own = form.own;
-      behind = form.behind;
-      begins = (common_in_cut classes body parts main references form.number form.handle form.common form.own form.behind cut form.form).2;
-    }))
+    by_parse : (main references : List Bool) (found : Option (Common × (List Bool × List Bool))) → AreParted (bits body) parts main references
+        → (common_part (is_entity_kind (kind_under classes parts.number)) parts.own).parse main references ≡ found → HasCommonForm classes body ⊎ (HasCommonForm classes body → ⊥)
+    by_parse main references None cut none = inr (common_unread _ cut refl none)
+    by_parse main references (Some (common, (own, behind))) cut parsed = inl (has_common (common_read _ cut refl parsed))
 
     by_test : IsSizeWithin (bits body) has.front parts.size ⊎ (IsSizeWithin (bits body) has.front parts.size → ⊥) → HasCommonForm classes body ⊎ (HasCommonForm classes body → ⊥)
-    by_test (inr outside) = inr (λ form. outside (size_of_common classes body parts has form))
-    by_test (inl size) =
-        let cut = cut_of_size (bits body) parts has size in
-        by_part _ _ cut (common_decided classes parts.number parts.own _ _ (own_small (bits body) parts _ _ cut).1)
+    by_test (inr outside) = inr (λ form. outside (size_of_common has form))
+    by_test (inl size) = by_parse _ _ _ (cut_of_size has size) refl
+
+-- a form is decided where common parts are its own, and whether they are so follows from them
+pub decided_behind : {classes : List Class} {body : List ℕ} {parts : HeadParts} (Has : Type 0) (At : HasCommonForm classes body → Type 0) → HasHead (bits body) parts
+    → (Has → HasCommonForm classes body) → ((form : HasCommonForm classes body) → Has → At form) → ((form : HasCommonForm classes body) → At form → Has)
+    → ((form : HasCommonForm classes body) → At form ⊎ (At form → ⊥)) → Has ⊎ (Has → ⊥)
+decided_behind {classes} {body} Has At begins common there back decide = by_form (common_form_decided begins)
+  where
+    by_parts : (form : HasCommonForm classes body) → At form ⊎ (At form → ⊥) → Has ⊎ (Has → ⊥)
+    by_parts form (inl at) = inl (back form at)
+    by_parts form (inr none) = inr (λ has. none (there form has))
+
+    by_form : HasCommonForm classes body ⊎ (HasCommonForm classes body → ⊥) → Has ⊎ (Has → ⊥)
+    by_form (inl form) = by_parts form (decide form)
+    by_form (inr none) = inr (λ has. none (common has))

@@ -1,5 +1,5 @@
 -- Forms of a body: one object at the most, which is found from its head; and that of a body that is written is the object itself.
-use Rattle.std.proofs.Common.{◌≡◌, refl, sym, ◌∙◌, ap, subst, ℕ, ◌+◌, ◌^◌, ◌<◌, Bool, List, ◌++◌, length, Option, Some, None, inl, inr, arith}
+use Rattle.std.proofs.Common.{◌≡◌, refl, sym, ◌∙◌, ap, ap₂, subst, ℕ, ◌+◌, ◌^◌, ◌<◌, Bool, List, ◌++◌, length, Option, Some, None, inl, inr, arith}
 use Rattle.std.specs.Prelude.{◌⊎◌}
 use Rattle.std.specs.Int.{w16, to_le_bytes}
 use Rattle.std.proofs.lemmas.List.{length-append}
@@ -13,109 +13,60 @@ use Rattle.dwg_grammar.specs.ModularCodes.{ms}
 use Rattle.dwg_grammar.proofs.ModularLemmas.{ms_is_code, ms_has}
 use Rattle.dwg_grammar.proofs.NumberLemmas.{bytes_of_number}
 use Rattle.dwg_grammar.specs.ToEnd.{short_all}
-use Rattle.dwg_grammar.specs.Reference.{Reference}
 use Rattle.dwg_grammar.specs.ReferenceCodes.{reference}
-use Rattle.dwg_object.specs.declared.common.Common.{Common}
-use Rattle.dwg_object.specs.declared.body.Body.{Body}
 use Rattle.dwg_object.proofs.CommonForms.{head_of_common}
 use Rattle.dwg_object.specs.Objects.{HeadParts, ObjectValue, TypedValue, PlainValue, RawValue, number_of, handle_of}
-use Rattle.dwg_object.specs.Forms.{TypedForm, HasTypedForm, PlainForm, HasPlainForm, FormOf}
+use Rattle.dwg_object.specs.Forms.{HasTypedForm, HasPlainForm, FormOf}
 use Rattle.dwg_object.specs.Heads.{head, HasHead, BeginsWithHead}
 use Rattle.dwg_object.specs.Written.{own_main, own_refs, object_bits, body_bytes, PartsFit, IsValidObject}
 use Rattle.dwg_object.specs.Frames.{frame_bytes}
 use Rattle.dwg_object.proofs.LengthLemmas.{bytes_joined, length_is_bytes}
 use Rattle.dwg_object.proofs.HeadLemmas.{head_begins, begins_head, begins_same, heads_same, head_fits, head_parsed, head_unparsed}
-use Rattle.dwg_object.proofs.PlainLemmas.{plain_forms_same, plain_decided}
+use Rattle.dwg_object.proofs.PlainLemmas.{has_plain, plain_forms_same, plain_decided}
 use Rattle.dwg_object.proofs.PlainWritten.{plain_short, plain_valid, plain_form_written}
-use Rattle.dwg_object.proofs.TypedLemmas.{typed_forms_same, typed_decided}
+use Rattle.dwg_object.proofs.TypedLemmas.{has_typed, typed_forms_same, typed_decided}
 use Rattle.dwg_object.proofs.TypedWritten.{typed_short, typed_valid, typed_form_written}
 use Rattle.dwg_object.specs.FormLaws.{FormsAreOne, FormsAreValid, FormsHaveHeads, HeadsHaveForms, ValidObjectsAreForms, WrittenFramesAreBytes, WrittenFramesStand}
 
--- Raw objects of one number, one handle and one body are one
-raw_same : (number other handle other_handle : ℕ) (bytes others : List ℕ) → number ≡ other → handle ≡ other_handle → bytes ≡ others → RawValue number handle bytes ≡ RawValue other other_handle others
-raw_same number other handle other_handle bytes others a b c =
-    ap (λ (n : ℕ). RawValue n handle bytes) a ∙ ap (λ (n : ℕ). RawValue other n bytes) b ∙ ap (RawValue other other_handle) c
-
--- Plain objects of the same parts are one
-plain_same : (number other handle other_handle : ℕ) (common other_common : Common) (rest other_rest : List Bool) (refs others : List Reference)
-    → number ≡ other → handle ≡ other_handle → common ≡ other_common → rest ≡ other_rest → refs ≡ others
-    → PlainValue number handle common rest refs ≡ PlainValue other other_handle other_common other_rest others
-plain_same number other handle other_handle common other_common rest other_rest refs others a b c d e =
-    ap (λ (n : ℕ). PlainValue n handle common rest refs) a ∙ ap (λ (n : ℕ). PlainValue other n common rest refs) b
-    ∙ ap (λ (one : Common). PlainValue other other_handle one rest refs) c ∙ ap (λ (some : List Bool). PlainValue other other_handle other_common some refs) d
-    ∙ ap (PlainValue other other_handle other_common other_rest) e
-
--- Typed objects of the same parts are one
-typed_same : (number other handle other_handle : ℕ) (common other_common : Common) (value other_value : Body)
-    → number ≡ other → handle ≡ other_handle → common ≡ other_common → value ≡ other_value
-    → TypedValue number handle common value ≡ TypedValue other other_handle other_common other_value
-typed_same number other handle other_handle common other_common value other_value a b c d =
-    ap (λ (n : ℕ). TypedValue n handle common value) a ∙ ap (λ (n : ℕ). TypedValue other n common value) b
-    ∙ ap (λ (one : Common). TypedValue other other_handle one value) c ∙ ap (TypedValue other other_handle other_common) d
-
--- a body in a form has it
-has_typed : {classes : List Class} {body : List ℕ} {number handle : ℕ} {common : Common} {value : Body} → TypedForm classes body number handle common value → HasTypedForm classes body
-has_typed {classes} {body} {number} {handle} {common} {value} is = record { number = number; handle = handle; common = common; value = value; form = is }
-
-has_plain : {classes : List Class} {body : List ℕ} {number handle : ℕ} {common : Common} {rest : List Bool} {refs : List Reference} → PlainForm classes body number handle common rest refs
-    → HasPlainForm classes body
-has_plain {classes} {body} {number} {handle} {common} {rest} {refs} is = record { number = number; handle = handle; common = common; rest = rest; refs = refs; form = is }
-
 -- so it is
 pub forms_same : FormsAreOne
-forms_same classes body (TypedValue number handle common value) (TypedValue other other_handle other_common other_value) is was =
-    let parts = typed_forms_same classes body number other handle other_handle common other_common value other_value is was in
-    typed_same number other handle other_handle common other_common value other_value parts.0 parts.1 parts.2 parts.3
+forms_same classes body (TypedValue number handle common value) (TypedValue other other_handle other_common other_value) is was = typed_forms_same (has_typed is) (has_typed was)
 forms_same classes body (TypedValue number handle common value) (PlainValue other other_handle other_common other_rest others) is was = absurd (was.1 (has_typed is))
 forms_same classes body (TypedValue number handle common value) (RawValue other other_handle others) is was = absurd (was.2 (has_typed is))
 forms_same classes body (PlainValue number handle common rest refs) (TypedValue other other_handle other_common value) is was = absurd (is.1 (has_typed was))
-forms_same classes body (PlainValue number handle common rest refs) (PlainValue other other_handle other_common other_rest others) is was =
-    let parts = plain_forms_same classes body number other handle other_handle common other_common rest other_rest refs others is.0 was.0 in
-    plain_same number other handle other_handle common other_common rest other_rest refs others parts.0 parts.1 parts.2 parts.3 parts.4
+forms_same classes body (PlainValue number handle common rest refs) (PlainValue other other_handle other_common other_rest others) is was = plain_forms_same (has_plain is.0) (has_plain was.0)
 forms_same classes body (PlainValue number handle common rest refs) (RawValue other other_handle others) is was = absurd (was.1 (has_plain is.0))
 forms_same classes body (RawValue number handle bytes) (TypedValue other other_handle other_common value) is was = absurd (is.2 (has_typed was))
 forms_same classes body (RawValue number handle bytes) (PlainValue other other_handle other_common other_rest others) is was = absurd (is.1 (has_plain was.0))
 forms_same classes body (RawValue number handle bytes) (RawValue other other_handle others) is was =
     let heads = begins_same (bits body) number handle other other_handle is.0.begins was.0.begins in
-    raw_same number other handle other_handle bytes others heads.0 heads.1 (is.0.same ∙ sym was.0.same)
+    ap₂ (λ (n h : ℕ). RawValue n h bytes) heads.0 heads.1 ∙ ap (RawValue other other_handle) (is.0.same ∙ sym was.0.same)
 
 -- so it has
 pub head_of_form : FormsHaveHeads
-head_of_form classes body (TypedValue number handle common value) is =
-    (record { number = number; size = is.form.size; own = handle }, head_of_common classes body number handle common is.own (is.own_refs ++ is.left) is.form, refl, refl)
-head_of_form classes body (PlainValue number handle common rest refs) is = (
-  record { number = number; size = is.0.form.size; own = handle },
-  head_of_common classes body number handle common rest (is.0.refs_bits ++ is.0.left) is.0.form,
-  refl,
-  refl,
-)
-head_of_form classes body (RawValue number handle bytes) is =
-    (record { number = number; size = is.0.begins.size; own = handle }, head_begins (bits body) number handle is.0.begins, refl, refl)
+head_of_form classes body (TypedValue number handle common value) is = (_, head_of_common is.form, refl, refl)
+head_of_form classes body (PlainValue number handle common rest refs) is = (_, head_of_common is.0.form, refl, refl)
+head_of_form classes body (RawValue number handle bytes) is = (_, head_begins (bits body) number handle is.0.begins, refl, refl)
 
 -- so it is
 pub form_of_head : HeadsHaveForms
-form_of_head classes body parts is = by_typed (typed_decided classes body parts is)
+form_of_head classes body parts is = by_typed (typed_decided is)
   where
-    alike : (classes : List Class) (body : List ℕ) (parts other : HeadParts) → HasHead (bits body) parts → HasHead (bits body) other → (other.number ≡ parts.number) × (other.own ≡ parts.own)
-    alike classes body parts other is was =
-        let heads = heads_same (bits body) other parts was is in
-        (ap (λ (p : HeadParts). p.number) heads, ap (λ (p : HeadParts). p.own) heads)
+    of_form : (value : ObjectValue) → FormOf classes body value → (value : ObjectValue) × FormOf classes body value × (number_of value ≡ parts.number) × (handle_of value ≡ parts.own)
+    of_form value form =
+        let has = head_of_form classes body value form in
+        let heads = heads_same (bits body) has.0 parts has.1 is in
+        (value, form, has.2 ∙ ap (λ (p : HeadParts). p.number) heads, has.3 ∙ ap (λ (p : HeadParts). p.own) heads)
 
     by_plain : (HasTypedForm classes body → ⊥) → HasPlainForm classes body ⊎ (HasPlainForm classes body → ⊥)
         → (value : ObjectValue) × FormOf classes body value × (number_of value ≡ parts.number) × (handle_of value ≡ parts.own)
-    by_plain untyped (inl has) =
-        let form = has.form in
-        let same = alike classes body parts _ is (head_of_common classes body has.number has.handle has.common has.rest (form.refs_bits ++ form.left) form.form) in
-        (PlainValue has.number has.handle has.common has.rest has.refs, (form, untyped), same.0, same.1)
-    by_plain untyped (inr none) = (RawValue parts.number parts.own body, (record { begins = begins_head (bits body) parts is; same = refl }, none, untyped), refl, refl)
+    by_plain untyped (inl has) = of_form (PlainValue has.number has.handle has.common has.rest has.refs) (has.form, untyped)
+    by_plain untyped (inr none) = of_form (RawValue parts.number parts.own body) (record { begins = begins_head (bits body) parts is; same = refl }, none, untyped)
 
     by_typed : HasTypedForm classes body ⊎ (HasTypedForm classes body → ⊥)
         → (value : ObjectValue) × FormOf classes body value × (number_of value ≡ parts.number) × (handle_of value ≡ parts.own)
-    by_typed (inl has) =
-        let form = has.form in
-        let same = alike classes body parts _ is (head_of_common classes body has.number has.handle has.common form.own (form.own_refs ++ form.left) form.form) in
-        (TypedValue has.number has.handle has.common has.value, form, same.0, same.1)
-    by_typed (inr untyped) = by_plain untyped (plain_decided classes body parts is)
+    by_typed (inl has) = of_form (TypedValue has.number has.handle has.common has.value) has.form
+    by_typed (inr untyped) = by_plain untyped (plain_decided is)
 
 -- the object that a body is read as, by what is parsed of its head
 form_found : (classes : List Class) (body : List ℕ) (found : Option (HeadParts × List Bool)) → head.parse (bits body) ≡ found → ObjectValue
@@ -147,11 +98,11 @@ form_at_same classes body value is =
 -- so it is
 pub form_is_valid : FormsAreValid
 form_is_valid classes body (TypedValue number handle common value) are small is =
-    let short = typed_short classes body number handle common value is in
-    ((typed_valid classes body number handle common value is, omega (arith, short, small)), short)
+    let short = typed_short is in
+    ((typed_valid is, omega (arith, short, small)), short)
 form_is_valid classes body (PlainValue number handle common rest refs) are small is =
-    let short = plain_short classes body number handle common rest refs is.0 in
-    ((plain_valid classes body number handle common rest refs small is.0 is.1, omega (arith, short, small)), short)
+    let short = plain_short is.0 in
+    ((plain_valid small is.0 is.1, omega (arith, short, small)), short)
 form_is_valid classes body (RawValue number handle bytes) are small is =
     let fits = head_fits (bits body) _ (head_begins (bits body) number handle is.0.begins) in
     let same : body ≡ bytes = sym is.0.same in (

@@ -6,6 +6,7 @@ use Rattle.std.proofs.lemmas.Bool.Decides.{nat_tests}
 use Rattle.std.proofs.lemmas.List.{length-append, append_cancel_left}
 use Rattle.dwg_base.specs.Bytes.{AreBytes, StandsAt}
 use Rattle.dwg_base.specs.Refusals.{Tried}
+use Rattle.dwg_base.specs.declared.refusal.Refusal.{Refusal}
 use Rattle.dwg_bits.specs.Bits.{bits}
 use Rattle.dwg_check.specs.CheckWord.{FRAME_START, check_word}
 use Rattle.dwg_check.proofs.CheckWordLaws.{check_word_fits}
@@ -138,21 +139,26 @@ frame_of_head : (bytes : List ℕ) (place index : ℕ) (span : Span) → IsFrame
 frame_of_head bytes place index span is (Some parts) found = (is, found)
 frame_of_head bytes place index span is None none = inr (inr (record { span = span; framed = is; headless = none; line = refl }))
 
+-- a span whose check word is wrong refuses its frame
+pub check_refused : (bytes : List ℕ) (place index : ℕ) (span : Span) (refusal : Refusal) → SpanAt bytes span → span.from ≡ place → has_check_word bytes span ≡ false
+    → refusal ≡ frame_refusal 30 index place → TellsFrame bytes place index (Err refusal)
+check_refused bytes place index span refusal is from failed line = inr (inl (record {
+  span = span;
+  stands = is;
+  from = from;
+  unframed = λ frame. passes_not (sym failed ∙ tested_where bytes span is (subst (λ n. FrameAt bytes n (span_body bytes span) span.end) (sym from) frame));
+  line = line;
+}))
+  where
+    passes_not : false ≡ true → ⊥
+    passes_not same = cc
+
 -- what is told of a span, by its check word
 frame_of_span : (bytes : List ℕ) (place index : ℕ) (span : Span) → AreBytes bytes → SpanAt bytes span → span.from ≡ place → (right : Bool) → has_check_word bytes span ≡ right
     → TellsFrame bytes place index (if not right then Err (frame_refusal 30 index place) else head_tried place index span (head_at bytes span))
 frame_of_span bytes place index span are is from true passed =
     frame_of_head bytes place index span (framed_at bytes place span are is from passed) (head_at bytes span) (head_told (bits (span_body bytes span)))
-frame_of_span bytes place index span are is from false failed = inr (inl (record {
-  span = span;
-  stands = is;
-  from = from;
-  unframed = λ frame. passes_not (sym failed ∙ tested_where bytes span is (subst (λ n. FrameAt bytes n (span_body bytes span) span.end) (sym from) frame));
-  line = refl;
-}))
-  where
-    passes_not : false ≡ true → ⊥
-    passes_not same = cc
+frame_of_span bytes place index span are is from false failed = check_refused bytes place index span _ is from failed refl
 
 -- what is told of what was tried of a span
 frame_of_tried : (bytes : List ℕ) (place index : ℕ) (tried : Tried Span) → AreBytes bytes → TellsSpan bytes place index tried → TellsFrame bytes place index (frame_checked place index bytes tried)
@@ -165,7 +171,7 @@ unfolding tried_frame
 frame_told bytes place index are = frame_of_tried bytes place index (tried_span place index bytes) are (span_told bytes place index are)
 
 -- what is checked of a span whose check word is right and of whose head this is told
-pub checked_head : (bytes : List ℕ) (place index : ℕ) (span : Span) (found : Option HeadParts) → IsFramed bytes place span → TellsHead (bits (span_body bytes span)) found
+checked_head : (bytes : List ℕ) (place index : ℕ) (span : Span) (found : Option HeadParts) → IsFramed bytes place span → TellsHead (bits (span_body bytes span)) found
     → frame_checked place index bytes (Ok span) ≡ head_tried place index span found
 checked_head bytes place index span found is told =
     let passed : has_check_word bytes span ≡ true = tested_where bytes span is.stands (subst (λ n. FrameAt bytes n (span_body bytes span) span.end) (sym is.from) is.frame) in

@@ -18,36 +18,13 @@ use Rattle.dwg_object.specs.Frames.{frame_bytes, sized}
 use Rattle.dwg_object.proofs.FormLaws.{length_of_frame}
 use Rattle.dwg_object.proofs.LengthLemmas.{bytes_joined, length_is_bytes}
 use Rattle.dwg_object.specs.Objects.{ObjectValue}
-use Rattle.dwg_object.proofs.WrittenLemmas.{head_as_long, bytes_padded, bits_padded}
+use Rattle.dwg_object.proofs.WrittenLemmas.{front_long, object_long, bytes_padded, bits_padded}
 use Rattle.dwg_object.specs.Written.{common_main, common_refs, written_head, front_bits, refs_bits, object_bits, object_bytes, body_bytes}
 
 -- bytes that were written one behind the other
 both_written : (first second third : Written) (some others : List ℕ) → Extends first second (bits some) → Extends second third (bits others) → Extends first third (bits (some ++ others))
 both_written first second third some others by_some by_others =
     subst (Extends first third) (sym (bits_joined some others)) (extends_by_both first second third (bits some) (bits others) by_some by_others)
-
--- how long the bits before the references are
-pub front_long : (number handle : ℕ) (common : Common) (own : List Bool)
-    → length (front_bits number handle common own) ≡ length (head.short (record { number = number; size = 0; own = handle })) + length (common_main handle common) + length own
-unfolding front_bits written_head
-front_long number handle common own =
-    let size : ℕ = length (head.short (record { number = number; size = 0; own = handle })) + length (common_main handle common ++ own) in
-    omega (
-      arith,
-      length-append (head.short (record { number = number; size = size; own = handle })) (common_main handle common ++ own),
-      length-append (common_main handle common) own,
-      head_as_long number handle size 0,
-    )
-
--- and the references
-pub refs_long : (handle : ℕ) (common : Common) (own_refs : List Bool) → length (refs_bits handle common own_refs) ≡ length (common_refs handle common) + length own_refs
-unfolding refs_bits
-refs_long handle common own_refs = length-append (common_refs handle common) own_refs
-
--- and all of it
-pub object_long : (number handle : ℕ) (common : Common) (own own_refs : List Bool)
-    → length (object_bits number handle common own own_refs) ≡ length (front_bits number handle common own) + length (refs_bits handle common own_refs)
-object_long number handle common own own_refs = length-append (front_bits number handle common own) (refs_bits handle common own_refs)
 
 -- whole bytes that hold so many bits
 pub padded_long : (letters : List Bool) (count : ℕ) → count ≡ length letters → (count + 7) / 8 ≡ length (whole_bytes (letters ++ padding letters))
@@ -160,6 +137,14 @@ object_whole number handle common own own_refs =
       length-append letters (padding letters),
       object_long number handle common own own_refs,
     )
+
+-- behind their length they take the room of both
+pub object_room : (number handle : ℕ) (common : Common) (own own_refs : List Bool)
+    → 8 * length (sized (object_bytes number handle common own own_refs))
+    ≡ length (bits (ms.short (length (object_bytes number handle common own own_refs))))
+    + (length (front_bits number handle common own) + length (refs_bits handle common own_refs) + length (padding (object_bits number handle common own own_refs)))
+object_room number handle common own own_refs =
+    omega (arith, sized_room (object_bytes number handle common own own_refs), object_whole number handle common own own_refs)
 
 -- behind whole bytes, bytes end at a whole byte
 pub aligned_behind : (old new : Written) (bytes : List ℕ) → length old.written % 8 ≡ 0 → Extends old new (bits bytes) → length new.written % 8 ≡ 0

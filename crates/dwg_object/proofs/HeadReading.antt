@@ -1,88 +1,53 @@
 -- Reading a head, part by part.
-use Rattle.std.proofs.Common.{◌≡◌, refl, sym, ◌∙◌, ap, subst, ℕ, ◌+◌, ◌-◌, ◌*◌, ◌≤◌, Bool, List, ◌++◌, length, Option, Some, None, arith}
+use Rattle.std.proofs.Common.{◌≡◌, sym, ◌∙◌, ap, ℕ, ◌+◌, ◌*◌, Bool, List, ◌++◌, length, Option, Some, None, arith}
+use Rattle.std.specs.Prelude.{option_map}
 use Rattle.std.proofs.lemmas.List.{length-append}
 use Rattle.dwg_bits.specs.Bits.{bits}
 use Rattle.dwg_bits.proofs.BitLaws.{bits_between_all, length_of_bits, length_of_bits_between}
-use Rattle.dwg_bits.specs.Cursor.{bits_between}
-use Rattle.dwg_grammar.specs.Grammar.{Grammar, BeginsWith, Reads}
+use Rattle.dwg_bits.specs.Cursor.{bits_between, rest}
+use Rattle.dwg_bits.specs.declared.cursor.BitCursor.{BitCursor}
+use Rattle.dwg_common.specs.Parsing.{Keeps}
+use Rattle.dwg_grammar.proofs.BodyReading.{parsed}
+use Rattle.dwg_grammar.proofs.OwnLemmas.{own_is_code}
 use Rattle.dwg_grammar.specs.Codes.{bs, rl}
-use Rattle.dwg_grammar.specs.Combinators.{seq}
-use Rattle.dwg_grammar.proofs.NumberLemmas.{rl_is_code}
-use Rattle.dwg_grammar.proofs.TableLemmas.{bs_is_code}
+use Rattle.dwg_grammar.specs.Grammar.{Reads}
 use Rattle.dwg_grammar.specs.ReferenceCodes.{own_handle}
-use Rattle.dwg_codes.proofs.SeqReading.{seq_read, first_unread, second_unread}
 use Rattle.dwg_object.specs.Objects.{HeadParts}
 use Rattle.dwg_object.specs.Heads.{head, HasHead, IsHeadAt, own_of}
-use Rattle.dwg_object.proofs.HeadLemmas.{own_told}
+use Rattle.dwg_object.proofs.HeadLemmas.{head_is_code, own_told, head_unparsed}
 
--- a bit size and an own handle
-abbrev size_and_own : Grammar Bool (ℕ × ℕ)
-size_and_own = seq rl (λ size. own_handle)
+-- what was read of an own handle is what is parsed
+pub own_parsed : (found : Option ℕ) (old new : List Bool) → Reads own_handle found old new → own_handle.parse old ≡ option_map (λ (value : ℕ). (value, new)) found
+own_parsed found old new read = parsed own_handle found old new own_is_code read
 
--- a number, a bit size and an own handle that were read are a head
-pub head_read : (number size own : ℕ) (old behind_number behind_size new : List Bool) → Reads bs (Some number) old behind_number → Reads rl (Some size) behind_number behind_size
-    → Reads own_handle (Some own) behind_size new → Reads head (Some (record { number = number; size = size; own = own })) old new
-unfolding head
-head_read number size own old behind_number behind_size new one two three =
-    let others = seq_read rl (λ size. own_handle) size own behind_number behind_size new two three in
-    let all = seq_read bs (λ number. size_and_own) number (size, own) old behind_number new one others in
-    (all.0, ((number, (size, own)), refl, all.1), all.2)
+-- all bits of a body are left for a cursor that stands at its first bit
+whole_rest : (body : List ℕ) (cursor : BitCursor) → cursor.bytes.now ≡ body → cursor.place ≡ 0 → cursor.end ≡ 8 * length body → rest cursor ≡ bits body
+whole_rest body cursor same from to =
+    ap (λ (some : List ℕ). bits_between some cursor.place cursor.end) same ∙ ap (λ (n : ℕ). bits_between body n cursor.end) from ∙ bits_between_all body cursor.end to
 
--- where these aren't there, there is no head
-none_read : (result : Option HeadParts) (old : List Bool) → result ≡ None → (BeginsWith (seq bs (λ number. size_and_own)) old → ⊥) → Reads head result old old
-unfolding head
-none_read result old none unread = subst (λ (one : Option HeadParts). Reads head one old old) (sym none) (begins, refl)
-  where
-    begins : BeginsWith head old → ⊥
-    begins (parts, front, rest, spelled, whole) = unread (spelled.0, front, rest, spelled.2, whole)
-
--- there is no number
-pub number_unread : (result : Option HeadParts) (old left : List Bool) → result ≡ None → Reads bs None old left → Reads head result old old
-number_unread result old left none one = none_read result old none (first_unread bs (λ number. size_and_own) old one.0)
-
--- there is no bit size behind it
-pub size_unread : (number : ℕ) (result : Option HeadParts) (old behind_number left : List Bool) → result ≡ None → Reads bs (Some number) old behind_number → Reads rl None behind_number left
-    → Reads head result old old
-size_unread number result old behind_number left none one two =
-    none_read result old none (second_unread bs (λ number. size_and_own) number old behind_number bs_is_code one (first_unread rl (λ size. own_handle) behind_number two.0))
-
--- there is no own handle behind these
-pub own_unread : (number size : ℕ) (result : Option HeadParts) (old behind_number behind_size left : List Bool) → result ≡ None
-    → Reads bs (Some number) old behind_number → Reads rl (Some size) behind_number behind_size → Reads own_handle None behind_size left → Reads head result old old
-own_unread number size result old behind_number behind_size left none one two three =
-    none_read result old none
-    (second_unread bs (λ number. size_and_own) number old behind_number bs_is_code one (second_unread rl (λ size. own_handle) size behind_number behind_size rl_is_code two three.0))
-
--- what was read from the first bit of a body is its head, behind which the cursor stands
-pub body_begins : (body bytes left_bytes : List ℕ) (place end at left_end : ℕ) (parts : HeadParts) → bytes ≡ body → place ≡ 0 → end ≡ 8 * length body
-    → left_bytes ≡ bytes → left_end ≡ end → at ≤ left_end → Reads head (Some parts) (bits_between bytes place end) (bits_between left_bytes at left_end) → IsHeadAt (bits body) parts at
-body_begins body bytes left_bytes place end at left_end parts same from to left_same left_to ordered (front, spelled, whole) =
-    let all : bits_between bytes place end ≡ bits body =
-    ap (λ (some : List ℕ). bits_between some place end) same ∙ ap (λ (n : ℕ). bits_between body n end) from ∙ bits_between_all body end to in
-    let left : length (bits_between left_bytes at left_end) ≡ left_end - at =
-    length_of_bits_between left_bytes at left_end (omega (arith, left_to, to, ap length left_same, ap length same)) in
+-- what is parsed from there is the head of the body, behind which the cursor stands
+pub body_begins : (body : List ℕ) (old new : BitCursor) (parts : HeadParts) → old.bytes.now ≡ body → old.place ≡ 0 → old.end ≡ 8 * length body → Keeps old new
+    → head.parse (rest old) ≡ Some (parts, rest new) → IsHeadAt (bits body) parts new.place
+body_begins body old new parts same from to kept found =
+    let is = head_is_code.sound (bits body) (rest new) parts tt (ap head.parse (sym (whole_rest body old same from to)) ∙ found) in
     record {
-      has = record { front = front; rest = bits_between left_bytes at left_end; spelled = spelled; whole = sym all ∙ whole };
+      has = record { front = is.0; rest = rest new; spelled = is.1; whole = is.2 };
       far = omega (
         arith,
-        left,
-        ap length whole,
-        ap length all,
+        length_of_bits_between new.bytes.now new.place new.end new.within,
+        ap length is.2,
         length_of_bits body,
-        length-append front (bits_between left_bytes at left_end),
-        left_to,
+        length-append is.0 (rest new),
+        kept.end,
         to,
-        ordered,
+        new.ordered,
       );
     }
 
--- where none was read from the first bit of a body, it has none
-pub body_begins_not : (body bytes : List ℕ) (place end : ℕ) (left : List Bool) → bytes ≡ body → place ≡ 0 → end ≡ 8 * length body
-    → Reads head None (bits_between bytes place end) left → (parts : HeadParts) → HasHead (bits body) parts → ⊥
-body_begins_not body bytes place end left same from to (none, unmoved) = λ parts is. none (parts, is.front, is.rest, is.spelled, all ∙ is.whole)
-  where
-    all : bits_between bytes place end ≡ bits body
-    all = ap (λ (some : List ℕ). bits_between some place end) same ∙ ap (λ (n : ℕ). bits_between body n end) from ∙ bits_between_all body end to
+-- where none is parsed from there, it has none
+pub body_begins_not : (body : List ℕ) (old : BitCursor) → old.bytes.now ≡ body → old.place ≡ 0 → old.end ≡ 8 * length body → head.parse (rest old) ≡ None
+    → (parts : HeadParts) → HasHead (bits body) parts → ⊥
+body_begins_not body old same from to none = head_unparsed (bits body) (ap head.parse (sym (whole_rest body old same from to)) ∙ none)
 
 -- a head is as long as its parts
 pub head_long : (number own a b c : ℕ) → a ≡ length (bs.short number) → b ≡ length (rl.short 0) → c ≡ length (own_handle.short own)

@@ -1,6 +1,6 @@
 -- Plain objects as they are written: what is read is written no longer, and what is written is read again, with no stronger form.
-use Rattle.std.proofs.Common.{◌≡◌, ◌≢◌, refl, sym, subst, ℕ, ◌^◌, ◌<◌, ◌≤◌, Bool, List, ◌++◌, length, arith}
-use Rattle.std.proofs.lemmas.List.{length-append}
+use Rattle.std.proofs.Common.{◌≡◌, ◌≢◌, sym, ◌∙◌, subst, ℕ, ◌^◌, ◌<◌, ◌≤◌, Bool, List, ◌++◌, length, arith}
+use Rattle.std.proofs.lemmas.List.{append-nil, length-append}
 use Rattle.dwg_bits.proofs.PaddingLaw.{padding_fills}
 use Rattle.dwg_bits.specs.Sink.{padding}
 use Rattle.dwg_classes.specs.declared.class.Class.{Class}
@@ -11,25 +11,26 @@ use Rattle.dwg_grammar.specs.Reference.{Reference}
 use Rattle.dwg_grammar.specs.ReferenceCodes.{reference}
 use Rattle.dwg_grammar.proofs.ReferenceLemmas.{reference_is_code, reference_least}
 use Rattle.dwg_kinds.specs.Kinds.{is_entity_kind}
+use Rattle.dwg_kinds.specs.declared.kind.Kind.{Kind}
 use Rattle.dwg_kinds.specs.declared.kind.Kind.TheVariants.{Unknown}
 use Rattle.dwg_object.specs.declared.common.Common.{Common}
-use Rattle.dwg_object.proofs.CommonForms.{common_forms_same, fits_of_common}
+use Rattle.dwg_object.proofs.CommonForms.{fits_of_common}
 use Rattle.dwg_object.specs.Forms.{HasTypedForm, PlainForm, kind_under}
 use Rattle.dwg_object.specs.Objects.{PlainValue, is_of_entity}
 use Rattle.dwg_object.specs.OwnBodies.{own_body}
 use Rattle.dwg_object.proofs.OwnLaws.{own_is_body}
-use Rattle.dwg_object.proofs.PlainLemmas.{refs_cut}
-use Rattle.dwg_object.proofs.TypedLemmas.{typed_of_same}
+use Rattle.dwg_object.proofs.PlainLemmas.{has_plain, common_of_plain, refs_cut}
+use Rattle.dwg_object.proofs.TypedLemmas.{own_of_typed, has_typed}
 use Rattle.dwg_object.specs.Written.{object_bits, body_bytes, IsValidPlain}
 use Rattle.dwg_object.proofs.WrittenLemmas.{AreWritten, object_short, common_fits, common_form_written}
 
 -- what is read as a Plain object is written by no more bytes
-pub plain_short : (classes : List Class) (body : List ℕ) (number handle : ℕ) (common : Common) (rest : List Bool) (refs : List Reference)
+pub plain_short : {classes : List Class} {body : List ℕ} {number handle : ℕ} {common : Common} {rest : List Bool} {refs : List Reference}
     → PlainForm classes body number handle common rest refs → length (body_bytes (PlainValue number handle common rest refs)) ≤ length body
-plain_short classes body number handle common rest refs is =
-    let small = (fits_of_common classes body number handle common rest (is.refs_bits ++ is.left) is.form).own in
-    object_short classes body number handle common rest (is.refs_bits ++ is.left) rest (short_all (reference handle) refs) is.form (omega arith)
-    (omega (arith, least_all AnyLetters (reference handle) refs is.refs_bits (reference_is_code handle small) is.refs_spelled, length-append is.refs_bits is.left))
+plain_short {handle = handle} {rest = rest} {refs = refs} is =
+    let code = reference_is_code handle (fits_of_common is.form).own in
+    object_short rest (short_all (reference handle) refs) is.form (omega arith)
+    (omega (arith, least_all AnyLetters (reference handle) refs is.refs_bits code is.refs_spelled, length-append is.refs_bits is.left))
 
 -- what is written of an object by a common part, bits and references has the Plain form of it
 pub plain_written : (classes : List Class) (number handle : ℕ) (common : Common) (rest : List Bool) (refs : List Reference) → AreWritten number handle common
@@ -48,51 +49,46 @@ plain_written classes number handle common rest refs are known entity values sma
     }
 
 -- where other references spell the own references of a Plain object that are those of a Typed form, the object has a Typed form: so it had one before it was written, where it has one as it is written
-pub plain_stays_plain : (classes : List Class) (body other : List ℕ) (number handle : ℕ) (common : Common) (rest : List Bool) (refs : List Reference)
+plain_stays_plain : {classes : List Class} {body other : List ℕ} {number handle : ℕ} {common : Common} {rest : List Bool} {refs : List Reference}
     → PlainForm classes body number handle common rest refs → PlainForm classes other number handle common rest refs → HasTypedForm classes other → HasTypedForm classes body
-plain_stays_plain classes body other number handle common rest refs is was has =
-    let alike = common_forms_same classes other has.number number has.handle handle has.common common has.form.own rest _ _ has.form.form was.form in
-    let typed = typed_of_same classes other has.number number has.handle handle has.common common has.value alike.0 alike.1 alike.2 has.form in
-    let again = common_forms_same classes other number number handle handle common common typed.own rest _ _ typed.form was.form in
-    let small = (fits_of_common classes other number handle common rest _ was.form).own in
-    let part = own_is_body (kind_under classes number) handle small in
-    let spelled : (own_body (kind_under classes number) handle).Spells has.value rest typed.own_refs (length typed.left) =
-    subst (λ (own : List Bool). (own_body (kind_under classes number) handle).Spells has.value own typed.own_refs (length typed.left)) again.3 typed.own_spelled in
-    let names : List Reference = (own_body (kind_under classes number) handle).references has.value in
-    let named : SpellsToEnd 8 (reference handle) names (typed.own_refs ++ typed.left) typed.left =
-    record { front = typed.own_refs; spelled = part.listed has.value rest typed.own_refs (length typed.left) spelled; whole = refl; short = typed.few } in
+plain_stays_plain {classes} {number = number} {handle = handle} {common = common} {rest = rest} {refs = refs} is was has =
+    let kind : Kind = kind_under classes number in
+    let form = common_of_plain (has_plain was) in
+    let are = own_of_typed form has in
+    let own_refs : List Bool = are.begins.reference_front in
+    let left : List Bool = has.form.left in
+    let small = (fits_of_common was.form).own in
+    let part = own_is_body kind handle small in
+    let spelled : (own_body kind handle).Spells has.value rest own_refs (length left) =
+    subst (λ (own : List Bool). (own_body kind handle).Spells has.value own own_refs (length left)) (sym (are.begins.main_whole ∙ append-nil are.begins.main_front)) are.begins.spelled in
+    let names : List Reference = (own_body kind handle).references has.value in
+    let named : SpellsToEnd 8 (reference handle) names (was.refs_bits ++ was.left) left =
+    record { front = own_refs; spelled = part.listed has.value rest own_refs (length left) spelled; whole = are.begins.references_whole; short = are.few } in
     let same : names ≡ refs =
-    (cut_uniquely AnyLetters 8 (reference handle) (reference_is_code handle small) (reference_least handle) names refs (was.refs_bits ++ was.left) typed.left was.left
-    (subst (λ (behind : List Bool). SpellsToEnd 8 (reference handle) names behind typed.left) again.4 named)
-    (refs_cut classes other number handle common rest refs was)).0 in
-    record {
-      number = number;
-      handle = handle;
-      common = common;
-      value = has.value;
-      form = record {
-        own = rest;
-        own_refs = is.refs_bits;
-        left = is.left;
-        form = is.form;
-        own_spelled =
-            part.respelled has.value rest typed.own_refs is.refs_bits (length typed.left) (length is.left) spelled
-            (subst (λ (some : List Reference). SpellsAll (reference handle) some is.refs_bits) (sym same) is.refs_spelled)
-            (part.padded (length is.left) is.few);
-        few = is.few;
-      };
-    }
+    (cut_uniquely AnyLetters 8 (reference handle) (reference_is_code handle small) (reference_least handle) names refs (was.refs_bits ++ was.left) left was.left
+    named (refs_cut form (has_plain was))).0 in
+    has_typed (record {
+      own = rest;
+      own_refs = is.refs_bits;
+      left = is.left;
+      form = is.form;
+      own_spelled =
+          part.respelled has.value rest own_refs is.refs_bits (length left) (length is.left) spelled
+          (subst (λ (some : List Reference). SpellsAll (reference handle) some is.refs_bits) (sym same) is.refs_spelled)
+          (part.padded (length is.left) is.few);
+      few = is.few;
+    })
 
 -- what is read as a Plain object, and has no stronger form, can be written
-pub plain_valid : (classes : List Class) (body : List ℕ) (number handle : ℕ) (common : Common) (rest : List Bool) (refs : List Reference)
+pub plain_valid : {classes : List Class} {body : List ℕ} {number handle : ℕ} {common : Common} {rest : List Bool} {refs : List Reference}
     → length body < 2 ^ 29 → PlainForm classes body number handle common rest refs → (HasTypedForm classes body → ⊥) → IsValidPlain classes number handle common rest refs
-plain_valid classes body number handle common rest refs small is untyped =
-    let head_fits = fits_of_common classes body number handle common rest (is.refs_bits ++ is.left) is.form in
-    let fitting = common_fits classes body number handle common rest (is.refs_bits ++ is.left) is.form in
+plain_valid {classes} {number = number} {handle = handle} {common = common} {rest = rest} {refs = refs} small is untyped =
+    let head_fits = fits_of_common is.form in
+    let fitting = common_fits is.form in
     let values = value_all AnyLetters (reference handle) refs is.refs_bits (reference_is_code handle head_fits.own) is.refs_spelled in
     let are : AreWritten number handle common =
     record { number_fits = head_fits.number; positive = head_fits.positive; handle_fits = head_fits.own; common_fits = fitting.fits } in
-    let short = plain_short classes body number handle common rest refs is in
+    let short = plain_short is in
     let written = plain_written classes number handle common rest refs are is.known fitting.same values (omega (arith, short, small)) in
     record {
       whole = (head_fits.positive, fitting.fits, values);
@@ -100,7 +96,7 @@ plain_valid classes body number handle common rest refs small is untyped =
       handle_fits = head_fits.own;
       known = is.known;
       entity = fitting.same;
-      untyped = λ typed. untyped (plain_stays_plain classes body _ number handle common rest refs is written typed);
+      untyped = λ typed. untyped (plain_stays_plain is written typed);
     }
 
 -- what is written of a valid one has the Plain form of it

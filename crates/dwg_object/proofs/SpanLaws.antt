@@ -35,7 +35,7 @@ body_left rest long enough = (
 )
 
 -- where a length is spelled whose frame is in the input, its span stands at the place
-span_found : (bytes : List ℕ) (place long wide : ℕ) (front rest : List ℕ) → place < length bytes → ms.Spells long front → drop place bytes ≡ front ++ rest
+pub span_found : (bytes : List ℕ) (place long wide : ℕ) (front rest : List ℕ) → place < length bytes → ms.Spells long front → drop place bytes ≡ front ++ rest
     → wide ≡ length front → place + wide + long + 2 ≤ length bytes → SpanAt bytes (span_of place wide long)
 span_found bytes place long wide front rest inside spelled same is_wide enough =
     let left : long + 2 ≤ length rest = omega (arith, ap length same, length-append front rest, length-drop place bytes) in
@@ -58,7 +58,7 @@ span_found bytes place long wide front rest inside spelled same is_wide enough =
     }
 
 -- where the frame of the length that is spelled passes the end, so does that of every length that is
-all_pass : (bytes : List ℕ) (place long wide : ℕ) (front : List ℕ) → ms.Spells long front → StandsAt bytes place front → wide ≡ length front
+pub all_pass : (bytes : List ℕ) (place long wide : ℕ) (front : List ℕ) → ms.Spells long front → StandsAt bytes place front → wide ≡ length front
     → length bytes < place + wide + long + 2 → PassesEnd bytes place
 all_pass bytes place long wide front spelled stands is_wide passes other size other_spelled others =
     let same = lengths_same bytes place long other front size spelled other_spelled stands others in

@@ -1,5 +1,5 @@
 -- Typed objects as they are written: what is read is valid and written no longer, and what is written is read again.
-use Rattle.std.proofs.Common.{◌≡◌, sym, subst, ℕ, ◌^◌, ◌<◌, ◌≤◌, Bool, List, ◌++◌, length, arith}
+use Rattle.std.proofs.Common.{◌≡◌, sym, subst, ℕ, ◌^◌, ◌<◌, ◌≤◌, Bool, List, length, arith}
 use Rattle.std.proofs.lemmas.List.{length-append}
 use Rattle.dwg_bits.proofs.PaddingLaw.{padding_fills}
 use Rattle.dwg_bits.specs.Sink.{padding}
@@ -17,44 +17,38 @@ use Rattle.dwg_object.specs.Written.{own_main, own_refs, object_bits, body_bytes
 use Rattle.dwg_object.proofs.WrittenLemmas.{object_short, common_fits, common_form_written}
 
 -- the body of a Typed form is of the kind of its number
-kind_of_form : (classes : List Class) (body : List ℕ) (number handle : ℕ) (common : Common) (value : Body) → TypedForm classes body number handle common value → body_kind value ≡ kind_under classes number
-kind_of_form classes body number handle common value is = own_of_kind (kind_under classes number) handle value is.own is.own_refs (length is.left) is.own_spelled
+kind_of_form : {classes : List Class} {body : List ℕ} {number handle : ℕ} {common : Common} {value : Body} → TypedForm classes body number handle common value → body_kind value ≡ kind_under classes number
+kind_of_form {classes} {number = number} {handle = handle} {value = value} is = own_of_kind (kind_under classes number) handle value is.own is.own_refs (length is.left) is.own_spelled
 
 -- what is read as a Typed object is written by no more bytes
-pub typed_short : (classes : List Class) (body : List ℕ) (number handle : ℕ) (common : Common) (value : Body)
+pub typed_short : {classes : List Class} {body : List ℕ} {number handle : ℕ} {common : Common} {value : Body}
     → TypedForm classes body number handle common value → length (body_bytes (TypedValue number handle common value)) ≤ length body
-typed_short classes body number handle common value is =
-    let same = kind_of_form classes body number handle common value is in
-    let small = (fits_of_common classes body number handle common is.own (is.own_refs ++ is.left) is.form).own in
-    let part = own_is_body (kind_under classes number) handle small in
+typed_short {classes} {number = number} {handle = handle} {value = value} is =
+    let same = sym (kind_of_form is) in
+    let part = own_is_body (kind_under classes number) handle (fits_of_common is.form).own in
     let main : length (own_main handle value) ≤ length is.own =
-    subst (λ (k : Kind). length ((own_body k handle).short_main value) ≤ length is.own) (sym same) (part.least_main value is.own is.own_refs (length is.left) is.own_spelled) in
+    subst (λ (k : Kind). length ((own_body k handle).short_main value) ≤ length is.own) same (part.least_main value is.own is.own_refs (length is.left) is.own_spelled) in
     let refs : length (own_refs handle value) ≤ length is.own_refs =
-    subst (λ (k : Kind). length ((own_body k handle).short_references value) ≤ length is.own_refs) (sym same)
-    (part.least_references value is.own is.own_refs (length is.left) is.own_spelled) in
-    object_short classes body number handle common is.own (is.own_refs ++ is.left) (own_main handle value) (own_refs handle value) is.form main
-    (omega (arith, refs, length-append is.own_refs is.left))
+    subst (λ (k : Kind). length ((own_body k handle).short_references value) ≤ length is.own_refs) same (part.least_references value is.own is.own_refs (length is.left) is.own_spelled) in
+    object_short (own_main handle value) (own_refs handle value) is.form main (omega (arith, refs, length-append is.own_refs is.left))
 
 -- and it can be written
-pub typed_valid : (classes : List Class) (body : List ℕ) (number handle : ℕ) (common : Common) (value : Body)
+pub typed_valid : {classes : List Class} {body : List ℕ} {number handle : ℕ} {common : Common} {value : Body}
     → TypedForm classes body number handle common value → IsValidTyped classes number handle common value
-typed_valid classes body number handle common value is =
-    let same = kind_of_form classes body number handle common value is in
-    let head_fits = fits_of_common classes body number handle common is.own (is.own_refs ++ is.left) is.form in
-    let fitting = common_fits classes body number handle common is.own (is.own_refs ++ is.left) is.form in
+typed_valid {classes} {number = number} {handle = handle} {common = common} {value = value} is =
+    let same = sym (kind_of_form is) in
+    let head_fits = fits_of_common is.form in
+    let fitting = common_fits is.form in
+    let part = own_is_body (kind_under classes number) handle head_fits.own in
+    let own_fits = part.value value is.own is.own_refs (length is.left) is.own_spelled in
     record {
       whole = (
-        (
-          head_fits.positive,
-          fitting.fits,
-          subst (λ (k : Kind). (own_body k handle).Fits value) (sym same)
-              ((own_is_body (kind_under classes number) handle head_fits.own).value value is.own is.own_refs (length is.left) is.own_spelled),
-        ),
-        subst (λ (k : Kind). is_of_entity common ≡ is_entity_kind k) (sym same) fitting.same,
+        (head_fits.positive, fitting.fits, subst (λ (k : Kind). (own_body k handle).Fits value) same own_fits),
+        subst (λ (k : Kind). is_of_entity common ≡ is_entity_kind k) same fitting.same,
       );
       number_fits = head_fits.number;
       handle_fits = head_fits.own;
-      kind = sym same;
+      kind = same;
     }
 
 -- what is written of a valid one has the Typed form of it

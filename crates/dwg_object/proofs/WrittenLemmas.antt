@@ -16,7 +16,7 @@ use Rattle.dwg_object.specs.declared.common.Common.{Common}
 use Rattle.dwg_object.specs.Objects.{HeadParts, is_of_entity}
 use Rattle.dwg_object.proofs.CommonForms.{common_is_body, common_of_entity, common_may_follow, fits_of_common}
 use Rattle.dwg_object.specs.Forms.{CommonForm, kind_under, common_part}
-use Rattle.dwg_object.specs.Heads.{IsHead, head}
+use Rattle.dwg_object.specs.Heads.{head}
 use Rattle.dwg_object.proofs.HeadLemmas.{head_is_code}
 use Rattle.dwg_object.specs.Written.{common_main, common_refs, written_head, front_bits, refs_bits, object_bits, object_bytes}
 
@@ -35,22 +35,35 @@ head_as_long number handle size other =
       length_of_rl other,
     )
 
--- how many bits an object is written by
+-- how many bits stand before the references: as many as the head says
+pub front_long : (number handle : ℕ) (common : Common) (own : List Bool)
+    → length (front_bits number handle common own) ≡ length (head.short (record { number = number; size = 0; own = handle })) + length (common_main handle common) + length own
+unfolding front_bits written_head
+front_long number handle common own =
+    let size : ℕ = length (head.short (record { number = number; size = 0; own = handle })) + length (common_main handle common ++ own) in
+    omega (
+      arith,
+      length-append (head.short (record { number = number; size = size; own = handle })) (common_main handle common ++ own),
+      length-append (common_main handle common) own,
+      head_as_long number handle size 0,
+    )
+
+-- how many are the references
+pub refs_long : (handle : ℕ) (common : Common) (own_refs : List Bool) → length (refs_bits handle common own_refs) ≡ length (common_refs handle common) + length own_refs
+unfolding refs_bits
+refs_long handle common own_refs = length-append (common_refs handle common) own_refs
+
+-- and both
+pub object_long : (number handle : ℕ) (common : Common) (own own_refs : List Bool)
+    → length (object_bits number handle common own own_refs) ≡ length (front_bits number handle common own) + length (refs_bits handle common own_refs)
+object_long number handle common own own_refs = length-append (front_bits number handle common own) (refs_bits handle common own_refs)
+
 pub length_of_object : (number handle : ℕ) (common : Common) (own own_refs : List Bool)
     → length (object_bits number handle common own own_refs)
     ≡ length (head.short (record { number = number; size = 0; own = handle })) + length (common_main handle common) + length own
     + length (common_refs handle common) + length own_refs
-unfolding front_bits refs_bits written_head
 length_of_object number handle common own own_refs =
-    let front : List Bool = head.short (written_head number handle (length (common_main handle common ++ own))) in
-    omega (
-      arith,
-      length-append (front ++ (common_main handle common ++ own)) (common_refs handle common ++ own_refs),
-      length-append front (common_main handle common ++ own),
-      length-append (common_main handle common) own,
-      length-append (common_refs handle common) own_refs,
-      head_as_long number handle (length (head.short (record { number = number; size = 0; own = handle })) + length (common_main handle common ++ own)) 0,
-    )
+    omega (arith, object_long number handle common own own_refs, front_long number handle common own, refs_long handle common own_refs)
 
 -- whole bytes hold the bits that fill them and fewer than eight more
 pub record IsPadded (count : ℕ) (bytes : List ℕ) : Type 0 where
@@ -70,29 +83,46 @@ pub bits_padded : (letters : List Bool) → bits (whole_bytes (letters ++ paddin
 bits_padded letters =
     bits_of_whole (letters ++ padding letters) (ap (λ n. n % 8) (length-append letters (padding letters)) ∙ (padding_fills letters).0)
 
--- what own bits and own references were read as is written by no more bytes than the body, where they are written by no more bits
-pub object_short : (classes : List Class) (body : List ℕ) (number handle : ℕ) (common : Common) (own behind written written_refs : List Bool)
-    → CommonForm classes body number handle common own behind → length written ≤ length own → length written_refs ≤ length behind
-    → length (object_bytes number handle common written written_refs) ≤ length body
-object_short classes body number handle common own behind written written_refs is fewer fewer_refs =
+-- a common part that was read fits, and is an entity's where the kind is; it is written by no more bits
+pub record IsFittingCommon (entity : Bool) (handle : ℕ) (common : Common) (main references : List Bool) : Type 0 where
+  pub same : is_of_entity common ≡ entity
+  pub fits : (common_part (is_of_entity common) handle).Fits common
+  pub fewer : length (common_main handle common) ≤ length main
+  pub fewer_refs : length (common_refs handle common) ≤ length references
+
+pub common_fits : {classes : List Class} {body : List ℕ} {number handle : ℕ} {common : Common} {own behind : List Bool} (is : CommonForm classes body number handle common own behind)
+    → IsFittingCommon (is_entity_kind (kind_under classes number)) handle common is.common_main is.common_refs
+common_fits {classes} {number = number} {handle = handle} {common = common} {behind = behind} is =
     let entity : Bool = is_entity_kind (kind_under classes number) in
-    let fits : IsHead (record { number = number; size = is.size; own = handle }) = fits_of_common classes body number handle common own behind is in
-    let part = common_is_body entity handle fits.own in
+    let part = common_is_body entity handle (fits_of_common is).own in
     let over : ℕ = length behind in
     let same : is_of_entity common ≡ entity = common_of_entity entity handle common is.common_main is.common_refs over is.common_spelled in
-    let main : length (common_main handle common) ≤ length is.common_main =
-    subst (λ (e : Bool). length ((common_part e handle).short_main common) ≤ length is.common_main) (sym same) (part.least_main common is.common_main is.common_refs over is.common_spelled) in
-    let names : length (common_refs handle common) ≤ length is.common_refs =
-    subst (λ (e : Bool). length ((common_part e handle).short_references common) ≤ length is.common_refs) (sym same)
-    (part.least_references common is.common_main is.common_refs over is.common_spelled) in
+    record {
+      same = same;
+      fits = subst (λ (e : Bool). (common_part e handle).Fits common) (sym same) (part.value common is.common_main is.common_refs over is.common_spelled);
+      fewer =
+          subst (λ (e : Bool). length ((common_part e handle).short_main common) ≤ length is.common_main) (sym same)
+          (part.least_main common is.common_main is.common_refs over is.common_spelled);
+      fewer_refs =
+          subst (λ (e : Bool). length ((common_part e handle).short_references common) ≤ length is.common_refs) (sym same)
+          (part.least_references common is.common_main is.common_refs over is.common_spelled);
+    }
+
+-- what own bits and own references were read as is written by no more bytes than the body, where they are written by no more bits
+pub object_short : {classes : List Class} {body : List ℕ} {number handle : ℕ} {common : Common} {own behind : List Bool} (written written_refs : List Bool)
+    → CommonForm classes body number handle common own behind → length written ≤ length own → length written_refs ≤ length behind
+    → length (object_bytes number handle common written written_refs) ≤ length body
+object_short {classes} {body} {number} {handle} {common} {own} {behind} written written_refs is fewer fewer_refs =
+    let common_fewer = common_fits is in
+    let padded = bytes_padded (object_bits number handle common written written_refs) in
     let bits_fewer : length (object_bits number handle common written written_refs) ≤ 8 * length body =
     omega (
       arith,
       length_of_object number handle common written written_refs,
       head_as_long number handle is.size 0,
       head_is_code.least is.head_bits (record { number = number; size = is.size; own = handle }) is.head_spelled,
-      main,
-      names,
+      common_fewer.fewer,
+      common_fewer.fewer_refs,
       fewer,
       fewer_refs,
       length_of_bits body,
@@ -102,24 +132,7 @@ object_short classes body number handle common own behind written written_refs i
       length-append is.common_main own,
       length-append is.common_refs behind,
     ) in
-    let padded = bytes_padded (object_bits number handle common written written_refs) in
     omega (arith, padded.few, bits_fewer)
-
--- a common part that was read fits, and is an entity's where the kind is
-pub record IsFittingCommon (entity : Bool) (handle : ℕ) (common : Common) : Type 0 where
-  pub same : is_of_entity common ≡ entity
-  pub fits : (common_part (is_of_entity common) handle).Fits common
-
-pub common_fits : (classes : List Class) (body : List ℕ) (number handle : ℕ) (common : Common) (own behind : List Bool) → CommonForm classes body number handle common own behind
-    → IsFittingCommon (is_entity_kind (kind_under classes number)) handle common
-common_fits classes body number handle common own behind is =
-    let entity : Bool = is_entity_kind (kind_under classes number) in
-    let part = common_is_body entity handle (fits_of_common classes body number handle common own behind is).own in
-    let same : is_of_entity common ≡ entity = common_of_entity entity handle common is.common_main is.common_refs (length behind) is.common_spelled in
-    record {
-      same = same;
-      fits = subst (λ (e : Bool). (common_part e handle).Fits common) (sym same) (part.value common is.common_main is.common_refs (length behind) is.common_spelled);
-    }
 
 -- the bits that are written, with those that fill them up, in their parts
 written_whole : (number handle : ℕ) (common : Common) (own own_refs fill : List Bool)
@@ -136,11 +149,8 @@ written_whole number handle common own own_refs fill =
 written_filled : (number handle : ℕ) (common : Common) (own : List Bool)
     → length (head.short (written_head number handle (length (common_main handle common ++ own))) ++ (common_main handle common ++ own))
     ≡ (written_head number handle (length (common_main handle common ++ own))).size
-unfolding written_head
-written_filled number handle common own =
-    let behind : ℕ = length (common_main handle common ++ own) in
-    let size : ℕ = length (head.short (record { number = number; size = 0; own = handle })) + behind in
-    length-append (head.short (record { number = number; size = size; own = handle })) (common_main handle common ++ own) ∙ ap (λ n. n + behind) (head_as_long number handle size 0)
+unfolding front_bits written_head
+written_filled number handle common own = omega (arith, front_long number handle common own, length-append (common_main handle common) own)
 
 -- the parts of an object that is written by them lie in their ranges
 pub record AreWritten (number handle : ℕ) (common : Common) : Type 0 where

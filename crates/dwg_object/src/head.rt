@@ -2,15 +2,16 @@
 
 ghost use Rattle.std.specs.Prelude.{◌≡◌, ◌^◌, ◌<◌, ◌≤◌, ℕ, length, option_map, IfSome, IfNone};
 ghost use Rattle.dwg_bits.specs.Bits.{bits};
-ghost use Rattle.dwg_bits.specs.Cursor.{rest};
-ghost use Rattle.dwg_grammar.specs.Grammar.{Reads};
 ghost use Rattle.dwg_bits.specs.Sink.{Extends};
+ghost use Rattle.dwg_common.specs.Parsing.{Keeps, Parses};
+ghost use Rattle.dwg_grammar.specs.ReferenceCodes.{own_handle};
 ghost use Rattle.dwg_object.specs.Heads.{BeginsWithHead, HasHead, head, IsHeadAt, own_of};
 ghost use Rattle.dwg_object.specs.Objects.{HeadParts, parts_of};
 
 use dwg_base::Handle;
 use dwg_bits::{BitCursor, BitSink};
 use dwg_codes::{BitCode, CodeBS, CodeRL};
+use dwg_common::parse_code;
 use dwg_handles::{own_bits, read_own, write_own};
 
 /// What the head of an object says (Open Design Specification, "R13 to R2000 file layout, object data").
@@ -24,18 +25,24 @@ pub(crate) struct Head {
     pub(crate) own: Handle,
 }
 
-/// Reads a head: BS type number, RL bit size, H own handle. None, with nothing moved, exactly where no front of the rest
-/// spells one.
-pub(crate) fn read_head(cursor: &mut BitCursor<'_>) -> Option<Head>
-    ensures reads { Reads head (option_map parts_of result) (rest cursor.old) (rest cursor.new) }
-    ensures same_bytes { cursor.new.bytes.now ≡ cursor.old.bytes.now }
-    ensures same_end { cursor.new.end ≡ cursor.old.end }
+/// Reads an own handle as it is parsed.
+#[tactic(auto, using(crate::proofs::HeadReading::own_parsed))]
+fn parse_own(cursor: &mut BitCursor<'_>) -> Option<Handle>
+    ensures parsed { Parses own_handle result cursor.old cursor.new }
+    ensures kept { Keeps cursor.old cursor.new }
 {
-    let mut ahead = *cursor;
-    let number = CodeBS::read(&(), &mut ahead)?;
-    let size = CodeRL::read(&(), &mut ahead)?;
-    let own = read_own(&mut ahead)?;
-    *cursor = ahead;
+    read_own(cursor)
+}
+
+/// Reads a head as it is parsed: BS type number, RL bit size, H own handle. None exactly where no front of the rest spells one.
+#[tactic(auto, unfolding(crate::specs::Heads::head))]
+fn read_head(cursor: &mut BitCursor<'_>) -> Option<Head>
+    ensures parsed { Parses head (option_map parts_of result) cursor.old cursor.new }
+    ensures kept { Keeps cursor.old cursor.new }
+{
+    let number = parse_code::<CodeBS>(&(), cursor)?;
+    let size = parse_code::<CodeRL>(&(), cursor)?;
+    let own = parse_own(cursor)?;
     Some(Head { number, size, own })
 }
 

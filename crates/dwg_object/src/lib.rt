@@ -7,10 +7,9 @@ mod frame;
 mod head;
 mod laws;
 mod object;
-mod own;
+mod part;
 mod reading;
 mod span;
-mod variant;
 mod writing;
 
 pub use body::Body;

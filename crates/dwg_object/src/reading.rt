@@ -69,7 +69,7 @@ fn read_front<'a>(
     let own = found.head.own;
     let mut main = BitCursor::new(body, found.end, size);
     let mut refs = BitCursor::new(body, size, end);
-    let Some(common) = Common::read(alloc, is_entity(kind), &mut main, &mut refs, own)? else {
+    let Some(common) = Common::parse(alloc, is_entity(kind), &mut main, &mut refs, own)? else {
         return Ok(None);
     };
     Ok(Some(Front { common, main, refs }))
@@ -184,7 +184,7 @@ fn read_kind<'a>(
     let _base = own.value();
     let mut main = front.main;
     let mut refs = front.refs;
-    match Body::read(alloc, kind, &mut main, &mut refs, own)? {
+    match Body::parse(alloc, kind, &mut main, &mut refs, own)? {
         Some(value) if is_read_out(&main, &refs) => Ok(Object::Typed(Typed {
             number,
             handle: own,

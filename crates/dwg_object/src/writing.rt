@@ -14,7 +14,7 @@ ghost use Rattle.dwg_object.specs.Written.{PartsFit, body_bytes, front_bits, obj
 use crate::common::Common;
 use crate::head::{head_length, write_head};
 use crate::object::Object;
-use crate::own::OwnPart;
+use crate::part::Part;
 use crate::span::CHECK_SIZE;
 use dwg_base::{Handle, bounded_bytes, bytes_behind};
 use dwg_bits::BitSink;
@@ -31,22 +31,18 @@ struct ObjectLengths {
 }
 
 /// What an object is written by.
-fn object_lengths<O: OwnPart>(
-    number: u16,
-    handle: Handle,
-    common: &Common,
-    own: &O,
-) -> ObjectLengths
+#[tactic(auto, using(crate::proofs::WrittenLemmas::front_long, crate::proofs::WrittenLemmas::refs_long, crate::proofs::WrittenLemmas::object_long, crate::proofs::FrameWriting::object_small))]
+fn object_lengths<P: Part>(number: u16, handle: Handle, common: &Common, own: &P) -> ObjectLengths
     requires positive { 0 < handle }
     requires common { (common_part (is_of_entity common.now) handle).Fits common.now }
-    requires own { O.OwnFits handle own.now }
-    requires few { length (object_bytes number handle common.now (O.main handle own.now) (O.refs handle own.now)) < 2 ^ 29 }
-    ensures front { result.front ≡ length (front_bits number handle common.now (O.main handle own.now)) }
+    requires own { P.PartFits handle own.now }
+    requires few { length (object_bytes number handle common.now (P.main handle own.now) (P.refs handle own.now)) < 2 ^ 29 }
+    ensures front { result.front ≡ length (front_bits number handle common.now (P.main handle own.now)) }
     ensures few { result.front < 2 ^ 32 }
-    ensures bytes { result.bytes ≡ length (object_bytes number handle common.now (O.main handle own.now) (O.refs handle own.now)) }
+    ensures bytes { result.bytes ≡ length (object_bytes number handle common.now (P.main handle own.now) (P.refs handle own.now)) }
 {
     let shared = common.lengths(handle);
-    let owned = own.own_lengths(handle);
+    let owned = own.lengths(handle);
     let front = head_length(number, handle) + shared.main + owned.main;
     let refs = shared.refs + owned.refs;
     ObjectLengths {
@@ -56,67 +52,71 @@ fn object_lengths<O: OwnPart>(
 }
 
 /// Writes what stands before the references: head, common part, its own bits; together as many bits as the head says.
-fn write_front<O: OwnPart>(
+#[tactic(auto, using(crate::proofs::WrittenLemmas::front_long, crate::proofs::WrittenLemmas::head_as_long))]
+fn write_front<P: Part>(
     number: u16,
     handle: Handle,
     common: &Common,
-    own: &O,
+    own: &P,
     size: u32,
     sink: &mut BitSink,
 )
     requires positive { 0 < handle }
     requires common { (common_part (is_of_entity common.now) handle).Fits common.now }
-    requires own { O.OwnFits handle own.now }
-    requires size { size ≡ length (front_bits number handle common.now (O.main handle own.now)) }
-    requires room { length (front_bits number handle common.now (O.main handle own.now)) ≤ sink.old.spare }
-    ensures { Extends sink.old sink.new (front_bits number handle common.now (O.main handle own.now)) }
+    requires own { P.PartFits handle own.now }
+    requires size { size ≡ length (front_bits number handle common.now (P.main handle own.now)) }
+    requires room { length (front_bits number handle common.now (P.main handle own.now)) ≤ sink.old.spare }
+    ensures { Extends sink.old sink.new (front_bits number handle common.now (P.main handle own.now)) }
 {
     write_head(number, size, handle, sink);
     common.write_main(handle, sink);
-    own.write_own_bits(handle, sink);
+    own.write_main(handle, sink);
 }
 
 /// Writes the references: those of the common part, and its own.
-fn write_references<O: OwnPart>(handle: Handle, common: &Common, own: &O, sink: &mut BitSink)
+#[tactic(auto, using(crate::proofs::WrittenLemmas::refs_long))]
+fn write_references<P: Part>(handle: Handle, common: &Common, own: &P, sink: &mut BitSink)
     requires common { (common_part (is_of_entity common.now) handle).Fits common.now }
-    requires own { O.OwnFits handle own.now }
-    requires few { length (refs_bits handle common.now (O.refs handle own.now)) < 2 ^ 32 }
-    requires room { length (refs_bits handle common.now (O.refs handle own.now)) ≤ sink.old.spare }
-    ensures { Extends sink.old sink.new (refs_bits handle common.now (O.refs handle own.now)) }
+    requires own { P.PartFits handle own.now }
+    requires few { length (refs_bits handle common.now (P.refs handle own.now)) < 2 ^ 32 }
+    requires room { length (refs_bits handle common.now (P.refs handle own.now)) ≤ sink.old.spare }
+    ensures { Extends sink.old sink.new (refs_bits handle common.now (P.refs handle own.now)) }
 {
     common.write_refs(handle, sink);
-    own.write_own_refs(handle, sink);
+    own.write_refs(handle, sink);
 }
 
 /// How many bytes an object is written by.
-fn parts_length<O: OwnPart>(number: u16, handle: Handle, common: &Common, own: &O) -> u64
+#[tactic(auto, using(dwg_bits::proofs::WholeBytes::whole_are_bytes))]
+fn parts_length<P: Part>(number: u16, handle: Handle, common: &Common, own: &P) -> u64
     requires positive { 0 < handle }
     requires common { (common_part (is_of_entity common.now) handle).Fits common.now }
-    requires own { O.OwnFits handle own.now }
-    requires few { length (object_bytes number handle common.now (O.main handle own.now) (O.refs handle own.now)) < 2 ^ 29 }
-    ensures length { result ≡ length (object_bytes number handle common.now (O.main handle own.now) (O.refs handle own.now)) }
-    ensures bytes { AreBytes (object_bytes number handle common.now (O.main handle own.now) (O.refs handle own.now)) }
+    requires own { P.PartFits handle own.now }
+    requires few { length (object_bytes number handle common.now (P.main handle own.now) (P.refs handle own.now)) < 2 ^ 29 }
+    ensures length { result ≡ length (object_bytes number handle common.now (P.main handle own.now) (P.refs handle own.now)) }
+    ensures bytes { AreBytes (object_bytes number handle common.now (P.main handle own.now) (P.refs handle own.now)) }
 {
     object_lengths(number, handle, common, own).bytes
 }
 
 /// Writes an object at a whole byte, behind its length in the fewest units and with zero bits up to a whole byte. It is measured
 /// once.
-fn write_sized_parts<O: OwnPart>(
+#[tactic(auto, using(crate::proofs::FrameWriting::object_small, crate::proofs::WrittenLemmas::object_long, crate::proofs::FrameWriting::object_room, crate::proofs::FrameWriting::room_behind_size, dwg_bits::proofs::BitLaws::length_of_bits, dwg_bits::proofs::WholeBytes::whole_are_bytes))]
+fn write_sized_parts<P: Part>(
     number: u16,
     handle: Handle,
     common: &Common,
-    own: &O,
+    own: &P,
     sink: &mut BitSink,
 )
     requires positive { 0 < handle }
     requires common { (common_part (is_of_entity common.now) handle).Fits common.now }
-    requires own { O.OwnFits handle own.now }
-    requires few { length (object_bytes number handle common.now (O.main handle own.now) (O.refs handle own.now)) < 2 ^ 29 }
+    requires own { P.PartFits handle own.now }
+    requires few { length (object_bytes number handle common.now (P.main handle own.now) (P.refs handle own.now)) < 2 ^ 29 }
     requires aligned { length sink.old.written % 8 ≡ 0 }
-    requires room { 8 * length (sized (object_bytes number handle common.now (O.main handle own.now) (O.refs handle own.now))) ≤ sink.old.spare }
-    ensures written { Extends sink.old sink.new (bits (sized (object_bytes number handle common.now (O.main handle own.now) (O.refs handle own.now)))) }
-    ensures bytes { AreBytes (object_bytes number handle common.now (O.main handle own.now) (O.refs handle own.now)) }
+    requires room { 8 * length (sized (object_bytes number handle common.now (P.main handle own.now) (P.refs handle own.now))) ≤ sink.old.spare }
+    ensures written { Extends sink.old sink.new (bits (sized (object_bytes number handle common.now (P.main handle own.now) (P.refs handle own.now)))) }
+    ensures bytes { AreBytes (object_bytes number handle common.now (P.main handle own.now) (P.refs handle own.now)) }
 {
     let lengths = object_lengths(number, handle, common, own);
     write_ms(lengths.bytes, sink);
@@ -126,6 +126,7 @@ fn write_sized_parts<O: OwnPart>(
 }
 
 /// Writes bytes at a whole byte, behind their length in the fewest units.
+#[tactic(auto, using(crate::proofs::FrameWriting::sized_room, dwg_bits::proofs::BitLaws::length_of_bits))]
 fn write_sized_bytes(bytes: &[u8], sink: &mut BitSink)
     requires few { length bytes.now < 2 ^ 29 }
     requires room { 8 * length (sized bytes.now) ≤ sink.old.spare }
@@ -144,7 +145,12 @@ impl Object<'_> {
         ensures bytes { AreBytes (body_bytes (value_of self.now)) }
     {
         match self {
-            Object::Typed(typed) => parts_length(typed.number, typed.handle, &typed.common, typed),
+            Object::Typed(typed) => parts_length(
+                typed.number,
+                typed.handle,
+                &typed.common,
+                &typed.body,
+            ),
             Object::Plain(plain) => parts_length(plain.number, plain.handle, &plain.common, plain),
             Object::Raw(raw) => bounded_bytes(raw.bytes.as_slice()).len() as u64,
         }
@@ -161,7 +167,7 @@ impl Object<'_> {
     {
         match self {
             Object::Typed(typed) => {
-                write_sized_parts(typed.number, typed.handle, &typed.common, typed, sink)
+                write_sized_parts(typed.number, typed.handle, &typed.common, &typed.body, sink)
             }
             Object::Plain(plain) => {
                 write_sized_parts(plain.number, plain.handle, &plain.common, plain, sink)
@@ -184,6 +190,7 @@ pub fn frame_length(object: &Object<'_>) -> u64
 }
 
 /// The check word of what was written behind so many whole bytes.
+#[tactic(auto, using(crate::proofs::FrameWriting::sink_bytes, dwg_bits::proofs::BitLaws::length_of_bits))]
 fn word_behind(sink: &BitSink, from: u64) -> u16
     requires aligned { length sink.now.written % 8 ≡ 0 }
     requires within { 8 * from ≤ length sink.now.written }
@@ -196,6 +203,7 @@ fn word_behind(sink: &BitSink, from: u64) -> u16
 }
 
 /// Writes the frame of an object at a whole byte: a length in the fewest units, the body, a check word.
+#[tactic(auto, using(crate::proofs::FrameWriting::frame_room, dwg_bits::proofs::BitLaws::length_of_bits, crate::proofs::FrameWriting::aligned_behind))]
 pub fn write_frame(object: &Object<'_>, sink: &mut BitSink)
     requires fits { PartsFit (value_of object.now) }
     requires few { length (body_bytes (value_of object.now)) < 2 ^ 29 }
