@@ -194,7 +194,7 @@ classes 0
 objects 2
 object 1 UNKNOWN raw 200
   bytes 72000000000040402a00
-object 2 ENTITY plain 35
+object 2 ENTITY plain 45
   mode 2
   reactors[0] 4.5
   xdict 3.0

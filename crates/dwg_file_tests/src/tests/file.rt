@@ -22,7 +22,7 @@ use std::test::Fail;
 /// - an entity, an object of a class, an entity whose mode is 3, and one of type 8 with every part;
 /// - an entity of five bits of its own, behind whose references seven bits are left, and a record of one target, behind which six are;
 ///   the same with ones in these places;
-/// - a class of polylines, a line, a line with one further bit, entities of type 35 and 200, a block inserted with an attribute, and a
+/// - a class of polylines, a line, a line with one further bit, entities of type 45 and 200, a block inserted with an attribute, and a
 ///   polyline of the class without points;
 /// - two unknown sections, the first of them empty;
 /// - lead, mark, code page, header variables, a class, two objects and an unknown section; the same with its parts in another order,
@@ -49,7 +49,7 @@ const FILES: &str = "\
     typed | '00 F401 '10 '01 01 41 '01 01 42 '01 0A 4C57504F4C594C494E45 '0 '00 F201 | \
       19 80 : ENTITY '1 0000D1B1DAE95040 '00 0000FC40CC9C5040 '00 '1 '1 / 3.0 5.10 ; \
       19 81 : ENTITY '1 0000D1B1DAE95040 '00 0000FC40CC9C5040 '00 '1 '1 '1 / 3.0 5.10 ; \
-      35 82 : ENTITY '101 / 3.0 5.10 ; \
+      45 82 : ENTITY '101 / 3.0 5.10 ; \
       200 83 : ENTITY '101 / 3.0 5.10 ; \
       7 84 : ENTITY '01 '10 '10 '10 0000000000000040 '10 '10 '10 '01 '1 / 3.0 5.10 5.12 5.86 5.86 3.87 ; \
       500 85 : ENTITY '10 '10 / 3.0 5.10\n\

@@ -29,14 +29,14 @@ fn an_entity_of_a_kind_with_fields_is_read_by_them(rt: HostRuntime) -> Result<()
 #[test]
 fn an_object_is_read_in_the_strongest_form_that_it_has(rt: HostRuntime) -> Result<(), Fail> {
     // The line: its type number in 18 bits and the words of its end in full; with ones behind its references; with one further bit
-    // before them; with one further reference. Entities of type 35 and 200 with three bits of their own; and one of type 500, of which
+    // before them; with one further reference. Entities of type 45 and 200 with three bits of their own; and one of type 500, of which
     // no class speaks, with the four bits of a polyline.
     let cases = "\
         3000 04C018C040000060257421D800068D8ED74A82060001A363B5D2A0800001F8819938A08180007E20664E2820660A2200 026B => 19 80 LINE typed 4050E9DAB1D10000 40509CCC40FC0000 0 4050E9DAB1D10000 40509CCC40FC0000 0 52\n\
         19 80 : ENTITY '1 0000D1B1DAE95040 '00 0000FC40CC9C5040 '00 '1 '1 / 3.0 5.10 '11111 => 19 80 LINE typed 4050E9DAB1D10000 40509CCC40FC0000 0 4050E9DAB1D10000 40509CCC40FC0000 0 35\n\
         19 80 : ENTITY '1 0000D1B1DAE95040 '00 0000FC40CC9C5040 '00 '1 '1 '1 / 3.0 5.10 => 19 80 LINE plain 136 0 35\n\
         19 80 : ENTITY '1 0000D1B1DAE95040 '00 0000FC40CC9C5040 '00 '1 '1 / 3.0 5.10 3.0 => 19 80 LINE plain 135 1 36\n\
-        35 80 : ENTITY '101 / 3.0 5.10 => 35 80 ENTITY plain 3 0 18\n\
+        45 80 : ENTITY '101 / 3.0 5.10 => 45 80 ENTITY plain 3 0 18\n\
         200 80 : ENTITY '101 / 3.0 5.10 => 200 80 UNKNOWN raw 14 18\n\
         500 80 : ENTITY '10 '10 / 3.0 5.10 => 500 80 UNKNOWN raw 15 19\n";
     hold::<Frames>(&rt, rt.alloc(), cases);
