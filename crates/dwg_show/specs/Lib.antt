@@ -2,14 +2,8 @@
 pub mod Fields
 -- The fields of the common parts of objects, in the order of their structs.
 pub mod CommonFields
--- The fields of shapes, in the order of their structs.
-pub mod ShapesFields
--- The fields of texts, attributes, inserts and the marks of blocks, in the order of their structs.
-pub mod EntitiesFields
--- The fields of entries of tables, in the order of their structs.
-pub mod TablesFields
--- The fields of controls, dictionaries and records, in the order of their structs.
-pub mod DictsFields
+-- The fields of the bodies of all kinds, in the order of their structs.
+pub mod BodyFields
 -- Objects of which few enough own bits are kept to be counted and padded.
 pub mod FewBits
 -- The text of an object.

@@ -4,50 +4,18 @@ use Rattle.dwg_bits.specs.Sink.{padding}
 use Rattle.dwg_bits.specs.WholeBytes.{whole_bytes}
 use Rattle.dwg_kinds.specs.Kinds.{kind_name}
 use Rattle.dwg_object.specs.Objects.{ObjectValue, TypedValue, PlainValue, RawValue, handle_of, number_of, kind_of}
-use Rattle.dwg_object.specs.declared.body.Body.{Body}
-use Rattle.dwg_object.specs.declared.body.Body.TheVariants as bodies
 use Rattle.dwg_object.specs.declared.common.Common.{Common}
 use Rattle.dwg_object.specs.declared.common.Common.TheVariants as commons
 use Rattle.dwg_text.specs.Lines.{line}
 use Rattle.dwg_page.specs.Values.{upper_digits}
 use Rattle.dwg_show.specs.Fields.{Printer, member, number, bytes, reference, listed}
 use Rattle.dwg_show.specs.CommonFields.{entity_common_fields, object_common_fields}
-use Rattle.dwg_show.specs.ShapesFields.{line_fields, point_fields, circle_fields, arc_fields, lwpolyline_fields}
-use Rattle.dwg_show.specs.EntitiesFields.{text_fields, attrib_fields, attdef_fields, insert_fields, block_fields, endblk_fields, seqend_fields}
-use Rattle.dwg_show.specs.TablesFields.{layer_fields, style_fields, ltype_fields, app_id_fields, block_header_fields}
-use Rattle.dwg_show.specs.DictsFields.{block_control_fields, layer_control_fields, style_control_fields, ltype_control_fields, appid_control_fields, dictionary_fields, xrecord_fields}
+use Rattle.dwg_show.specs.BodyFields.{body_fields}
 
 -- the fields of a common part
 unfoldable pub common_fields : Printer Common
 common_fields path (commons.Entity common) = entity_common_fields path common
 common_fields path (commons.Object common) = object_common_fields path common
-
--- the fields of a body
-unfoldable pub body_fields : Printer Body
-body_fields path (bodies.Text body) = text_fields path body
-body_fields path (bodies.Attrib body) = attrib_fields path body
-body_fields path (bodies.Attdef body) = attdef_fields path body
-body_fields path (bodies.Block body) = block_fields path body
-body_fields path (bodies.EndBlk body) = endblk_fields path body
-body_fields path (bodies.SeqEnd body) = seqend_fields path body
-body_fields path (bodies.Insert body) = insert_fields path body
-body_fields path (bodies.Arc body) = arc_fields path body
-body_fields path (bodies.Circle body) = circle_fields path body
-body_fields path (bodies.Line body) = line_fields path body
-body_fields path (bodies.Point body) = point_fields path body
-body_fields path (bodies.LwPolyline body) = lwpolyline_fields path body
-body_fields path (bodies.Dictionary body) = dictionary_fields path body
-body_fields path (bodies.BlockControl body) = block_control_fields path body
-body_fields path (bodies.BlockHeader body) = block_header_fields path body
-body_fields path (bodies.LayerControl body) = layer_control_fields path body
-body_fields path (bodies.Layer body) = layer_fields path body
-body_fields path (bodies.StyleControl body) = style_control_fields path body
-body_fields path (bodies.Style body) = style_fields path body
-body_fields path (bodies.LtypeControl body) = ltype_control_fields path body
-body_fields path (bodies.Ltype body) = ltype_fields path body
-body_fields path (bodies.AppIdControl body) = appid_control_fields path body
-body_fields path (bodies.AppId body) = app_id_fields path body
-body_fields path (bodies.XRecord body) = xrecord_fields path body
 
 -- the form of an object
 abbrev pub form_word : ObjectValue → List ℕ

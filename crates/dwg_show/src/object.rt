@@ -6,6 +6,7 @@ ghost use Rattle.dwg_bits.specs.Parts.{part_bits};
 ghost use Rattle.dwg_bits.specs.Sink.{padding};
 ghost use Rattle.dwg_bits.specs.WholeBytes.{whole_bytes};
 ghost use Rattle.dwg_object.specs.Objects.{value_of};
+ghost use Rattle.dwg_show.specs.BodyFields.{body_fields};
 ghost use Rattle.dwg_show.specs.Fields as printers;
 ghost use Rattle.dwg_show.specs.FewBits.{HasFewBits};
 ghost use Rattle.dwg_show.specs.ObjectText as texts;
@@ -34,9 +35,9 @@ impl Print for Common {
 }
 
 impl Print for Body {
-    ghost lines = { texts.body_fields };
+    ghost lines = { body_fields };
 
-    #[tactic(auto, unfolding(crate::specs::ObjectText::body_fields))]
+    #[tactic(auto, unfolding(crate::specs::BodyFields::body_fields))]
     fn print<W: Sink>(&self, path: &str, page: &mut Page, sink: &mut W) {
         by_kind!(body self, body => body.print(path, page, sink))
     }

@@ -1,4 +1,4 @@
-use Rattle.dwg_show.specs.DictsFields.{block_control_fields}
+use Rattle.dwg_show.specs.BodyFields.{block_control_fields}
 use Rattle.dwg_page.proofs.Telling.{◌▷◌}
 use Rattle.dwg_show.proofs.dicts.BlockControlPrint.print.Goals as goal
 

@@ -1,4 +1,4 @@
-use Rattle.dwg_show.specs.DictsFields.{dict_item_fields}
+use Rattle.dwg_show.specs.BodyFields.{dict_item_fields}
 use Rattle.dwg_page.proofs.Telling.{◌▷◌}
 use Rattle.dwg_show.proofs.dicts.DictItemPrint.print.Goals as goal
 

@@ -1,4 +1,4 @@
-use Rattle.dwg_show.specs.DictsFields.{dictionary_fields}
+use Rattle.dwg_show.specs.BodyFields.{dictionary_fields}
 use Rattle.dwg_page.proofs.Telling.{◌▷◌}
 use Rattle.dwg_show.proofs.dicts.DictionaryPrint.print.Goals as goal
 

@@ -1,4 +1,4 @@
-use Rattle.dwg_show.specs.DictsFields.{ltype_control_fields}
+use Rattle.dwg_show.specs.BodyFields.{ltype_control_fields}
 use Rattle.dwg_page.proofs.Telling.{◌▷◌}
 use Rattle.dwg_show.proofs.dicts.LtypeControlPrint.print.Goals as goal
 

@@ -1,4 +1,4 @@
-use Rattle.dwg_show.specs.DictsFields.{xrecord_fields}
+use Rattle.dwg_show.specs.BodyFields.{xrecord_fields}
 use Rattle.dwg_page.proofs.Telling.{◌▷◌}
 use Rattle.dwg_show.proofs.dicts.XRecordPrint.print.Goals as goal
 

@@ -1,4 +1,4 @@
-use Rattle.dwg_show.specs.EntitiesFields.{attdef_fields}
+use Rattle.dwg_show.specs.BodyFields.{attdef_fields}
 use Rattle.dwg_page.proofs.Telling.{◌▷◌}
 use Rattle.dwg_show.proofs.entities.AttdefPrint.print.Goals as goal
 

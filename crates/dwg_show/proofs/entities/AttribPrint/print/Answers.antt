@@ -1,4 +1,4 @@
-use Rattle.dwg_show.specs.EntitiesFields.{attrib_fields}
+use Rattle.dwg_show.specs.BodyFields.{attrib_fields}
 use Rattle.dwg_page.proofs.Telling.{◌▷◌}
 use Rattle.dwg_show.proofs.entities.AttribPrint.print.Goals as goal
 

@@ -1,4 +1,4 @@
-use Rattle.dwg_show.specs.EntitiesFields.{attributes_fields}
+use Rattle.dwg_show.specs.BodyFields.{attributes_fields}
 use Rattle.dwg_page.proofs.Telling.{◌▷◌}
 use Rattle.dwg_show.proofs.entities.AttributesPrint.print.Goals as goal
 

@@ -1,4 +1,4 @@
-use Rattle.dwg_show.specs.EntitiesFields.{insert_fields}
+use Rattle.dwg_show.specs.BodyFields.{insert_fields}
 use Rattle.dwg_page.proofs.Telling.{◌▷◌}
 use Rattle.dwg_show.proofs.entities.InsertPrint.print.Goals as goal
 

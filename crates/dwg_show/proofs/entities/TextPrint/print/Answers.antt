@@ -1,4 +1,4 @@
-use Rattle.dwg_show.specs.EntitiesFields.{text_fields}
+use Rattle.dwg_show.specs.BodyFields.{text_fields}
 use Rattle.dwg_page.proofs.Telling.{◌▷◌}
 use Rattle.dwg_show.proofs.entities.TextPrint.print.Goals as goal
 

@@ -1,4 +1,4 @@
-use Rattle.dwg_show.specs.ShapesFields.{arc_fields}
+use Rattle.dwg_show.specs.BodyFields.{arc_fields}
 use Rattle.dwg_page.proofs.Telling.{◌▷◌}
 use Rattle.dwg_show.proofs.shapes.ArcPrint.print.Goals as goal
 

@@ -1,4 +1,4 @@
-use Rattle.dwg_show.specs.ShapesFields.{circle_fields}
+use Rattle.dwg_show.specs.BodyFields.{circle_fields}
 use Rattle.dwg_page.proofs.Telling.{◌▷◌}
 use Rattle.dwg_show.proofs.shapes.CirclePrint.print.Goals as goal
 

@@ -1,4 +1,4 @@
-use Rattle.dwg_show.specs.ShapesFields.{line_fields}
+use Rattle.dwg_show.specs.BodyFields.{line_fields}
 use Rattle.dwg_page.proofs.Telling.{◌▷◌}
 use Rattle.dwg_show.proofs.shapes.LinePrint.print.Goals as goal
 

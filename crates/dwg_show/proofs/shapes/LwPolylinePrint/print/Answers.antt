@@ -1,4 +1,4 @@
-use Rattle.dwg_show.specs.ShapesFields.{lwpolyline_fields}
+use Rattle.dwg_show.specs.BodyFields.{lwpolyline_fields}
 use Rattle.dwg_page.proofs.Telling.{◌▷◌}
 use Rattle.dwg_show.proofs.shapes.LwPolylinePrint.print.Goals as goal
 

@@ -1,4 +1,4 @@
-use Rattle.dwg_show.specs.ShapesFields.{point_fields}
+use Rattle.dwg_show.specs.BodyFields.{point_fields}
 use Rattle.dwg_page.proofs.Telling.{◌▷◌}
 use Rattle.dwg_show.proofs.shapes.PointPrint.print.Goals as goal
 

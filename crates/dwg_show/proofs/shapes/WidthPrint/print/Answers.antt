@@ -1,4 +1,4 @@
-use Rattle.dwg_show.specs.ShapesFields.{width_fields}
+use Rattle.dwg_show.specs.BodyFields.{width_fields}
 use Rattle.dwg_page.proofs.Telling.{◌▷◌}
 use Rattle.dwg_show.proofs.shapes.WidthPrint.print.Goals as goal
 

@@ -1,4 +1,4 @@
-use Rattle.dwg_show.specs.TablesFields.{app_id_fields}
+use Rattle.dwg_show.specs.BodyFields.{app_id_fields}
 use Rattle.dwg_page.proofs.Telling.{◌▷◌}
 use Rattle.dwg_show.proofs.tables.AppIdPrint.print.Goals as goal
 

@@ -1,4 +1,4 @@
-use Rattle.dwg_show.specs.TablesFields.{block_header_fields}
+use Rattle.dwg_show.specs.BodyFields.{block_header_fields}
 use Rattle.dwg_page.proofs.Telling.{◌▷◌}
 use Rattle.dwg_show.proofs.tables.BlockHeaderPrint.print.Goals as goal
 

@@ -1,4 +1,4 @@
-use Rattle.dwg_show.specs.TablesFields.{dash_fields}
+use Rattle.dwg_show.specs.BodyFields.{dash_fields}
 use Rattle.dwg_page.proofs.Telling.{◌▷◌}
 use Rattle.dwg_show.proofs.tables.DashPrint.print.Goals as goal
 

@@ -1,4 +1,4 @@
-use Rattle.dwg_show.specs.TablesFields.{ends_fields}
+use Rattle.dwg_show.specs.BodyFields.{ends_fields}
 use Rattle.dwg_page.proofs.Telling.{◌▷◌}
 use Rattle.dwg_show.proofs.tables.EndsPrint.print.Goals as goal
 

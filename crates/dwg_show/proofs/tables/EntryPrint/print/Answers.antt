@@ -1,4 +1,4 @@
-use Rattle.dwg_show.specs.TablesFields.{entry_fields}
+use Rattle.dwg_show.specs.BodyFields.{entry_fields}
 use Rattle.dwg_page.proofs.Telling.{◌▷◌}
 use Rattle.dwg_show.proofs.tables.EntryPrint.print.Goals as goal
 

@@ -1,4 +1,4 @@
-use Rattle.dwg_show.specs.TablesFields.{insert_mark_fields}
+use Rattle.dwg_show.specs.BodyFields.{insert_mark_fields}
 use Rattle.dwg_page.proofs.Telling.{◌▷◌}
 use Rattle.dwg_show.proofs.tables.InsertMarkPrint.print.Goals as goal
 

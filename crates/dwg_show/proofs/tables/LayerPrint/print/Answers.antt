@@ -1,4 +1,4 @@
-use Rattle.dwg_show.specs.TablesFields.{layer_fields}
+use Rattle.dwg_show.specs.BodyFields.{layer_fields}
 use Rattle.dwg_page.proofs.Telling.{◌▷◌}
 use Rattle.dwg_show.proofs.tables.LayerPrint.print.Goals as goal
 

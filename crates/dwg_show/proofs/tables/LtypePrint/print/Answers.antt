@@ -1,4 +1,4 @@
-use Rattle.dwg_show.specs.TablesFields.{ltype_fields}
+use Rattle.dwg_show.specs.BodyFields.{ltype_fields}
 use Rattle.dwg_page.proofs.Telling.{◌▷◌}
 use Rattle.dwg_show.proofs.tables.LtypePrint.print.Goals as goal
 

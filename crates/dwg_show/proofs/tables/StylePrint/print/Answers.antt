@@ -1,4 +1,4 @@
-use Rattle.dwg_show.specs.TablesFields.{style_fields}
+use Rattle.dwg_show.specs.BodyFields.{style_fields}
 use Rattle.dwg_page.proofs.Telling.{◌▷◌}
 use Rattle.dwg_show.proofs.tables.StylePrint.print.Goals as goal
 
