@@ -1,4 +1,3 @@
-pub mod DictionaryLemmas
 pub mod ItemReading
 pub mod ItemFitting
 pub mod EndReading

@@ -46,7 +46,7 @@ fn read_start(cursor: &mut BitCursor<'_>) -> Option<(u32, (u16, u8))>
     Some((count, (cloning, hard_owner)))
 }
 
-#[tactic(auto, unfolding(crate::specs::Dictionaries::dictionary_body, dwg_grammar::specs::Combinators::chain), using(crate::proofs::DictionaryLemmas::names_counted, crate::proofs::DictionaryLemmas::targets_counted))]
+#[tactic(auto, unfolding(crate::specs::Dictionaries::dictionary_body, dwg_grammar::specs::Combinators::chain), using(dwg_common::proofs::MemberLemmas::parts_counted))]
 impl BodyCode for Dictionary {
     ghost grammar = { dictionary_body };
 

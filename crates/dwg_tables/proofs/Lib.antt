@@ -1,5 +1,2 @@
-pub mod MemberLemmas
 pub mod MemberLoops
-pub mod PartReading
-pub mod LtypeParts
 pub mod MarkParts

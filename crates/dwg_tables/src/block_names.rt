@@ -65,7 +65,7 @@ pub(crate) fn read_block_names(
 
 /// Whether what a header names can be told from it: its entities are there exactly where it is no external reference and no
 /// overlaid one, and each reference reaches its target.
-#[tactic(auto, unfolding(dwg_grammar::specs::ReferenceCodes::reference, dwg_grammar::specs::Combinators::chain), using(crate::proofs::MemberLemmas::as_many))]
+#[tactic(auto, unfolding(dwg_grammar::specs::ReferenceCodes::reference, dwg_grammar::specs::Combinators::chain), using(dwg_common::proofs::MemberLemmas::parts_counted))]
 pub(crate) fn block_names_fit(header: &BlockHeader, flags: BlockFlags, base: Handle) -> bool
     ensures { IsTrue result ↔ (block_refs base flags (content_of header.now)).grammar.IsValue (names_of header.now) }
 {

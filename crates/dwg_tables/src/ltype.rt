@@ -109,7 +109,7 @@ fn read_named(
     Ok(Some((xref, styles)))
 }
 
-#[tactic(auto, unfolding(crate::specs::LtypeBody::ltype_body, dwg_grammar::specs::ReferenceCodes::reference, dwg_grammar::specs::Combinators::chain), using(crate::proofs::MemberLemmas::as_many))]
+#[tactic(auto, unfolding(crate::specs::LtypeBody::ltype_body, dwg_grammar::specs::ReferenceCodes::reference, dwg_grammar::specs::Combinators::chain), using(dwg_common::proofs::MemberLemmas::parts_counted))]
 impl BodyCode for Ltype {
     ghost grammar = { ltype_body };
 

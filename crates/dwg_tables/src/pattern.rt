@@ -80,7 +80,7 @@ pub(crate) fn read_pattern(
 }
 
 /// Whether a count of 8 bits can tell how many dashes there are.
-#[tactic(auto, using(crate::proofs::LtypeParts::strokes_value))]
+#[tactic(auto, unfolding(dwg_grammar::specs::Combinators::chain), using(dwg_common::proofs::MemberLemmas::parts_counted))]
 fn strokes_fit(dashes: &[Dash]) -> bool
     ensures { IsTrue result ↔ (counted rc stroke).IsValue (map stroke_of dashes.now) }
 {
@@ -118,7 +118,7 @@ pub(crate) fn pattern_fits(ltype: &Ltype) -> bool
 }
 
 /// How many bits a count of dashes and what their main bits tell are written by.
-#[tactic(auto, using(crate::proofs::LtypeParts::strokes_told, crate::proofs::LtypeParts::strokes_length))]
+#[tactic(auto, unfolding(dwg_grammar::specs::Combinators::chain), using(dwg_common::proofs::MemberLemmas::parts_counted))]
 fn strokes_bits(dashes: &[Dash]) -> u64
     requires value { (counted rc stroke).IsValue (map stroke_of dashes.now) }
     requires few { length ((counted rc stroke).short (map stroke_of dashes.now)) < 2 ^ 62 }
@@ -128,7 +128,7 @@ fn strokes_bits(dashes: &[Dash]) -> u64
 }
 
 /// Writes a count of dashes and what their main bits tell.
-#[tactic(auto, using(crate::proofs::LtypeParts::strokes_told, crate::proofs::LtypeParts::strokes_length))]
+#[tactic(auto, unfolding(dwg_grammar::specs::Combinators::chain), using(dwg_common::proofs::MemberLemmas::parts_counted))]
 fn write_strokes(dashes: &[Dash], sink: &mut BitSink)
     requires value { (counted rc stroke).IsValue (map stroke_of dashes.now) }
     requires room { length ((counted rc stroke).short (map stroke_of dashes.now)) ≤ sink.old.spare }
@@ -138,28 +138,17 @@ fn write_strokes(dashes: &[Dash], sink: &mut BitSink)
     write_parts::<CodeStroke, Dash>(&(), dashes, sink);
 }
 
-/// How many bits 256 bytes are written by.
-#[tactic(auto, using(crate::proofs::LtypeParts::texts_told))]
-fn texts_bits(texts: &[u8]) -> u64
-    requires { (items rc 256).IsValue texts.now }
-    ensures length { result ≡ length ((items rc 256).short texts.now) }
-    ensures few { result < 2 ^ 12 }
-{
-    bytes_length(texts)
-}
-
 /// Writes 256 bytes.
-#[tactic(auto, using(crate::proofs::LtypeParts::texts_told))]
+#[tactic(auto, unfolding(dwg_grammar::specs::Combinators::chain), using(dwg_codes::proofs::RunReading::length_of_run))]
 fn write_texts(texts: &[u8], sink: &mut BitSink)
-    requires value { (items rc 256).IsValue texts.now }
-    requires room { length ((items rc 256).short texts.now) ≤ sink.old.spare }
+    requires { length ((items rc 256).short texts.now) ≤ sink.old.spare }
     ensures { Extends sink.old sink.new ((items rc 256).short texts.now) }
 {
     write_bytes(texts, sink);
 }
 
 /// How many main bits a linetype is written by.
-#[tactic(auto, unfolding(crate::specs::LtypeBody::ltype_main))]
+#[tactic(auto, unfolding(crate::specs::LtypeBody::ltype_main, dwg_grammar::specs::Combinators::chain))]
 pub(crate) fn pattern_bits(ltype: &Ltype) -> u64
     requires value { ltype_main.IsValue (pattern_of ltype.now) }
     requires few { length (ltype_main.short (pattern_of ltype.now)) < 2 ^ 62 }
@@ -170,7 +159,7 @@ pub(crate) fn pattern_bits(ltype: &Ltype) -> u64
         + CodeBD::length(&(), &ltype.length)
         + CodeRC::length(&(), &ltype.alignment)
         + strokes_bits(ltype.dashes.as_slice())
-        + texts_bits(ltype.texts.as_slice())
+        + bytes_length(ltype.texts.as_slice())
 }
 
 /// Writes the main bits of a linetype.
