@@ -2,11 +2,11 @@
 use Rattle.std.proofs.Common.{◌≡◌, sym, refl, subst, subst₂, ⊎_elim, arith}
 use Rattle.std.proofs.Math.ListN.{get_or-map}
 use Rattle.std.proofs.lemmas.List.{length-map}
+use Rattle.std.proofs.lemmas.List.Kept.{AllPairs-cons}
 use Rattle.std.proofs.lemmas.List.Elements.{Contains-append_left, Contains-append_right, Contains-append_cases, Contains-get_or}
-use Rattle.std.specs.Prelude.{zero, suc, ◌<◌, ◌↔◌, Bool, true, false, cond, List, [], ◌∷◌, ◌++◌, map, filter, length, slice_index_or, Contains, AllPairs}
+use Rattle.std.specs.Prelude.{suc, ◌↔◌, List, [], ◌∷◌, ◌++◌, map, slice_index_or, Contains, AllPairs}
 use Rattle.std.specs.List.{flat_map}
 use Rattle.dwg_paths.proofs.MemberLemmas.{contains_none, contains_first, contains_behind, contains_cases}
-use Rattle.dwg_paths.proofs.TestLemmas.{passing_of_kept}
 
 -- a list that contains nothing is empty
 pub empty_of_none : {A : Type 0} (xs : List A) → ((x : A) → Contains xs x → ⊥) → xs ≡ []
@@ -62,12 +62,7 @@ pairs_none R i j d before within = absurd (omega (arith, within))
 
 -- things are related with one before them, if that is related to each
 pub pairs_more : {A : Type 0} (R : A → A → Type 0) (x : A) (xs : List A) → ((y : A) → Contains xs y → R x y) → AllPairs R xs → AllPairs R (x ∷ xs)
-pairs_more R x xs first pairs zero zero d before within = absurd (omega (arith, before))
-pairs_more R x xs first pairs zero (suc j) d before within =
-    let inside : j < length xs = omega (arith, within) in
-    first (slice_index_or xs j d) (Contains-get_or xs j d inside)
-pairs_more R x xs first pairs (suc i) zero d before within = absurd (omega (arith, before))
-pairs_more R x xs first pairs (suc i) (suc j) d before within = pairs i j d (omega (arith, before)) (omega (arith, within))
+pairs_more R x xs first pairs = AllPairs-cons R x xs (λ k d within. first (slice_index_or xs k d) (Contains-get_or xs k d within)) pairs
 
 -- the things of two lists are related, if each of the first is related to each of the second
 pub pairs_joined : {A : Type 0} (R : A → A → Type 0) (xs ys : List A) → AllPairs R xs → AllPairs R ys → ((x y : A) → Contains xs x → Contains ys y → R x y) → AllPairs R (xs ++ ys)
@@ -91,16 +86,3 @@ pairs_of_joined P R each (x ∷ xs) pairs own across =
     (λ y z v w inside also. across y z v w (contains_behind x xs y inside) (contains_behind x xs z also)))
     (λ z w here there.
     let one = contained_in_one each xs w there in across x one.0 z w (contains_first x xs) (contains_behind x xs one.0 one.1) (pairs_first P x xs one.0 pairs one.1) here one.2)
-
--- one more is kept or not
-kept_more : {A : Type 0} (R : A → A → Type 0) (keep : Bool) (x : A) (kept : List A) → ((y : A) → Contains kept y → R x y) → AllPairs R kept → AllPairs R (cond keep (x ∷ kept) kept)
-kept_more R true x kept first pairs = pairs_more R x kept first pairs
-kept_more R false x kept first pairs = pairs
-
--- what is kept of related things is related
-pub pairs_kept : {A : Type 0} (R : A → A → Type 0) (test : A → Bool) (xs : List A) → AllPairs R xs → AllPairs R (filter test xs)
-pairs_kept R test [] pairs = pairs_none R
-pairs_kept R test (x ∷ xs) pairs =
-    kept_more R (test x) x (filter test xs)
-    (λ y inside. pairs_first R x xs y pairs (passing_of_kept test xs y inside).0)
-    (pairs_kept R test xs (pairs_behind R x xs pairs))

@@ -2,7 +2,8 @@
 use Rattle.std.proofs.Common.{zero, suc, ◌≡◌, refl, sym, ◌∙◌, ap, subst, ◌<◌, ◌≤◌, ◌+◌, ◌-◌, ℕ, List, [], ◌∷◌, ◌++◌, length, get_or, drop, Some, arith}
 use Rattle.std.specs.Prelude.{map}
 use Rattle.std.specs.List.{slice_get}
-use Rattle.std.proofs.lemmas.List.{append_assoc, append-nil, drop_more}
+use Rattle.std.specs.Option.{option_map}
+use Rattle.std.proofs.lemmas.List.{append_assoc, append-nil, drop_more, length-map}
 use Rattle.std.proofs.Math.ListN.{drop_of_length-le}
 use Rattle.std.proofs.lemmas.Option.{same_Some, slice_get_within}
 use Rattle.dwg_graph.specs.declared.walk.Walk.{Walk}
@@ -65,56 +66,54 @@ pub passes_end : (walk : Walk) → PassesFields walk [] walk
 unfolding slots_of
 passes_end walk = record { behind = behind_none walk }
 
--- the slots of fields and of others stand one behind the other
-slots_of_both : (some more : List FieldReferences) → slots_of (some ++ more) ≡ slots_of some ++ slots_of more
-unfolding slots_of
-slots_of_both [] more = refl
-slots_of_both (held ∷ some) more =
-    ap (λ slots. slots_from held.field 0 held.references ++ slots) (slots_of_both some more)
-    ∙ sym (append_assoc (slots_from held.field 0 held.references) (slots_of some) (slots_of more))
-
--- a walk along fields and then along others
-pub passes_both : {first middle last : Walk} (some more : List FieldReferences) → PassesFields first some middle → PassesFields middle more last → PassesFields first (some ++ more) last
-passes_both {first} {middle} {last} some more is goes_on =
-    record {
-      behind = subst (λ slots. IsBehind first slots last) (sym (slots_of_both some more)) (behind_both first middle last (slots_of some) (slots_of more) is.behind goes_on.behind);
-    }
-
 -- the slots of a field are as many as its references
 pub length_of_slots : (field : Field) (at : ℕ) (references : List Reference) → length (slots_from field at references) ≡ length references
 unfolding slots_from
 length_of_slots field at [] = refl
 length_of_slots field at (reference ∷ more) = ap suc (length_of_slots field (at + 1) more)
 
--- a place behind the slots of a list is so many nearer
-pub passed_over : {T : Type 0} (refers : T → Reference) (field : Field) (count at : ℕ) (items : List T) → length items ≤ count
-    → pass count (slots_from field at (map refers items)) ≡ Left (count - length items)
-unfolding slots_from
-passed_over {T} refers field count at [] past = ap Left (omega arith)
-passed_over {T} refers field zero at (item ∷ items) past = absurd (omega arith)
-passed_over {T} refers field (suc count) at (item ∷ items) past =
-    passed_over refers field count (at + 1) items (omega arith) ∙ ap Left (omega arith)
+-- a search that goes on behind a list has so many places less before it
+pub passed_behind : (count : ℕ) (slots : List Slot) → length slots ≤ count → pass count slots ≡ Left (count - length slots)
+passed_behind count [] past = ap Left (omega arith)
+passed_behind zero (slot ∷ slots) past = absurd (omega arith)
+passed_behind (suc count) (slot ∷ slots) past = passed_behind count slots (omega arith) ∙ ap Left (omega arith)
 
--- a place among the slots of a list
-passed_to : {T : Type 0} (refers : T → Reference) (field : Field) (count at : ℕ) (items : List T) (item : T) → slice_get items count ≡ Some item
-    → pass count (slots_from field at (map refers items)) ≡ Found (record { field = field; position = at + count; target = (refers item).target })
-unfolding slots_from
-passed_to {T} refers field count at [] item here = absurd cc
-passed_to {T} refers field zero at (first ∷ items) item here =
-    ap (λ (one : T). Found (record { field = field; position = at; target = (refers one).target })) (same_Some first item here)
-    ∙ ap (λ (n : ℕ). Found (record { field = field; position = n; target = (refers item).target })) (omega arith)
-passed_to {T} refers field (suc count) at (first ∷ items) item here =
-    passed_to refers field count (at + 1) items item here
-    ∙ ap (λ (n : ℕ). Found (record { field = field; position = n; target = (refers item).target })) (omega arith)
+-- one that ends within a list finds the slot at its place
+pub passed_within : (count : ℕ) (slots : List Slot) → count < length slots → Some (pass count slots) ≡ option_map Found (slice_get slots count)
+passed_within count [] within = absurd (omega arith)
+passed_within zero (slot ∷ slots) within = refl
+passed_within (suc count) (slot ∷ slots) within = passed_within count slots (omega arith)
 
--- a search ends in a list that holds its place
-pub listed_to : {T : Type 0} (refers : T → Reference) (field : Field) (place : ℕ) (items : List T) (item : T) (target : ℕ)
+-- the slot of an item
+slot_of_item : {T : Type 0} (refers : T → Reference) (field : Field) (place at : ℕ) (items : List T) (item : T) → slice_get items place ≡ Some item
+    → slice_get (slots_from field at (map refers items)) place ≡ Some (record { field = field; position = at + place; target = (refers item).target })
+unfolding slots_from
+slot_of_item {T} refers field place at [] item here = absurd cc
+slot_of_item {T} refers field zero at (first ∷ items) item here =
+    ap (λ (one : T). Some (record { field = field; position = at; target = (refers one).target })) (same_Some first item here)
+    ∙ ap (λ (n : ℕ). Some (record { field = field; position = n; target = (refers item).target })) (omega arith)
+slot_of_item {T} refers field (suc place) at (first ∷ items) item here =
+    slot_of_item refers field place (at + 1) items item here ∙ ap (λ (n : ℕ). Some (record { field = field; position = n; target = (refers item).target })) (omega arith)
+
+-- so a search along the slots of a list goes on behind them
+pub listed_behind : {T : Type 0} (refers : T → Reference) (field : Field) (place : ℕ) (items : List T) → length items ≤ place
+    → Left (place - length items) ≡ pass place (slots_from field 0 (map refers items))
+listed_behind {T} refers field place items past =
+    let count : length (slots_from field 0 (map refers items)) ≡ length items = length_of_slots field 0 (map refers items) ∙ length-map items refers in
+    sym (passed_behind place (slots_from field 0 (map refers items)) (omega (arith, count)) ∙ ap (λ (n : ℕ). Left (place - n)) count)
+
+-- or ends in that of the item at its place
+pub listed_within : {T : Type 0} (refers : T → Reference) (field : Field) (place : ℕ) (items : List T) (item : T) (target : ℕ)
     → slice_get items place ≡ Some item → target ≡ (refers item).target
     → Found (record { field = field; position = place; target = target }) ≡ pass place (slots_from field 0 (map refers items))
-listed_to {T} refers field place items item target here to =
-    sym (passed_to refers field place 0 items item here
-    ∙ ap (λ (n : ℕ). Found (record { field = field; position = n; target = (refers item).target })) (omega arith)
-    ∙ ap (λ (n : ℕ). Found (record { field = field; position = place; target = n })) (sym to))
+listed_within {T} refers field place items item target here to =
+    let all : List Slot = slots_from field 0 (map refers items) in
+    let slot : slice_get all place ≡ Some (record { field = field; position = place; target = target }) =
+    slot_of_item refers field place 0 items item here
+    ∙ ap (λ (n : ℕ). Some (record { field = field; position = n; target = (refers item).target })) (omega arith)
+    ∙ ap (λ (n : ℕ). Some (record { field = field; position = place; target = n })) (sym to) in
+    same_Some (Found (record { field = field; position = place; target = target })) (pass place all)
+    (sym (passed_within place all (slice_get_within all place (record { field = field; position = place; target = target }) slot) ∙ ap (option_map Found) slot))
 
 -- one slot more is gathered
 pub gathered_further : {T : Type 0} (refers : T → Reference) (field : Field) (place : ℕ) (items : List T) (item : T) (target : ℕ) (before after whole : List Slot)
@@ -136,69 +135,6 @@ pub gathered_all : {T : Type 0} (refers : T → Reference) (field : Field) (plac
 unfolding slots_from
 gathered_all {T} refers field place items before whole behind is =
     sym (append-nil before) ∙ ap (λ (rest : List T). before ++ slots_from field place (map refers rest)) (sym (drop_of_length-le items behind)) ∙ is
-
--- a search that has places left after a list has passed all of it
-passed_left : (count left : ℕ) (slots : List Slot) → pass count slots ≡ Left left → count ≡ left + length slots
-passed_left count left [] is = let same : count ≡ left = cc in omega (arith, same)
-passed_left zero left (slot ∷ slots) is = absurd cc
-passed_left (suc count) left (slot ∷ slots) is = ap suc (passed_left count left slots is) ∙ omega arith
-
--- so what it has left tells how many slots there are
-pub counted : (count left : ℕ) (slots : List Slot) → Passes (Left count) slots (Left left) → count ≡ left + length slots
-unfolding IsBehind
-counted count left slots is = passed_left count left slots (sym is.behind)
-
--- a search that finds a slot finds that of its place
-passed_found : (count : ℕ) (slots : List Slot) (slot : Slot) → pass count slots ≡ Found slot → slice_get slots count ≡ Some slot
-passed_found count [] slot is = absurd cc
-passed_found zero (first ∷ slots) slot is = cc
-passed_found (suc count) (first ∷ slots) slot is = passed_found count slots slot is
-
--- so a search gives the slot at its place
-pub found_at : (count : ℕ) (slots : List Slot) (slot : Slot) → Passes (Left count) slots (Found slot) → slice_get slots count ≡ Some slot
-unfolding IsBehind
-found_at count slots slot is = passed_found count slots slot (sym is.behind)
-
--- a search that finds a slot began within the list
-pub within_found : (count : ℕ) (slots : List Slot) (slot : Slot) → Passes (Left count) slots (Found slot) → count < length slots
-within_found count slots slot is = slice_get_within slots count slot (found_at count slots slot is)
-
--- a search that has places left began behind the list
-pub never_left : (count left : ℕ) (slots : List Slot) → Passes (Left count) slots (Left left) → length slots ≤ count
-never_left count left slots is = omega (arith, counted count left slots is)
-
--- a search gathers nothing, and is never short
-searches : (count : ℕ) (slots gathered : List Slot) → Gathered gathered ≡ pass count slots → ⊥
-searches count [] gathered is = absurd cc
-searches zero (slot ∷ slots) gathered is = absurd cc
-searches (suc count) (slot ∷ slots) gathered is = searches count slots gathered is
-
-searches_on : (count : ℕ) (slots : List Slot) → Short ≡ pass count slots → ⊥
-searches_on count [] is = absurd cc
-searches_on zero (slot ∷ slots) is = absurd cc
-searches_on (suc count) (slot ∷ slots) is = searches_on count slots is
-
-pub never_gathered : (count : ℕ) (slots gathered : List Slot) → Passes (Left count) slots (Gathered gathered) → ⊥
-unfolding IsBehind
-never_gathered count slots gathered is = searches count slots gathered is.behind
-
-pub never_short : (count : ℕ) (slots : List Slot) → Passes (Left count) slots Short → ⊥
-unfolding IsBehind
-never_short count slots is = searches_on count slots is.behind
-
--- a gathering finds nothing, and has none left
-pub never_found : (before slots : List Slot) (slot : Slot) → Passes (Gathered before) slots (Found slot) → ⊥
-unfolding IsBehind
-never_found before slots slot is = is.behind
-
-pub never_searches : (before slots : List Slot) (left : ℕ) → Passes (Gathered before) slots (Left left) → ⊥
-unfolding IsBehind
-never_searches before slots left is = is.behind
-
--- what a gathering has, where it had memory
-pub gathers : (before slots all : List Slot) → Passes (Gathered before) slots (Gathered all) → all ≡ before ++ slots
-unfolding IsBehind
-gathers before slots all is = is.behind
 
 -- references refer to what they are themselves
 pub all_themselves : (references : List Reference) → map (λ (reference : Reference). reference) references ≡ references

@@ -1,15 +1,16 @@
 -- The object of a handle, found by its place.
-use Rattle.std.proofs.Common.{◌≡◌, refl, sym, ap, ◌∙◌, subst, ℕ, zero, suc, Bool, true, false, List, [], ◌∷◌, Option, Some, None, inl, inr, arith}
+use Rattle.std.proofs.Common.{◌≡◌, refl, sym, ap, ◌∙◌, subst, ⊎_elim, ℕ, zero, suc, Bool, true, false, List, [], ◌∷◌, Option, Some, None, inl, inr, arith}
 use Rattle.std.specs.Prelude.{◌==◌, ◌<◌, ◌⊎◌, find, map, if◌then◌else◌}
 use Rattle.std.specs.List.{slice_get, slice_index_or}
 use Rattle.std.specs.Option.{option_map, option_and_then}
-use Rattle.std.proofs.lemmas.Bool.{cases_order}
-use Rattle.std.proofs.lemmas.Bool.Decides.{nat_tests}
+use Rattle.std.proofs.lemmas.Bool.{cases_Bool, cases_order}
+use Rattle.std.proofs.lemmas.Bool.Decides.{Decides-eqb}
 use Rattle.std.proofs.lemmas.Option.{same_Some, slice_get-map, slice_get_within, slice_get-get_or}
 use Rattle.dwg_graph.specs.Graph.{object_at}
 use Rattle.dwg_graph.specs.Placed.{place_in}
 use Rattle.dwg_graph.specs.Places.{Ascend, handles_of}
 use Rattle.dwg_object.specs.Objects.{ObjectValue, handle_of}
+use Rattle.dwg_paths.proofs.WayLemmas.{option_map_found}
 
 -- what stands at a place of all but the first
 behind : {A : Type 0} (x : A) (more : List A) (place : Option ℕ) → option_and_then (slice_get (x ∷ more)) (option_map suc place) ≡ option_and_then (slice_get more) place
@@ -36,33 +37,25 @@ object_placed objects handle = placed_by_key handle_of objects handle
 pub at_place : (handles : List ℕ) (handle place : ℕ) → place_in handles handle ≡ Some place → slice_get handles place ≡ Some handle
 unfolding place_in
 at_place [] handle place found = absurd (cc found)
-at_place (first ∷ more) handle place found = go (λ n. at_place more handle n) (first == handle) refl (place_in more handle) refl
-  where
-    go : ((n : ℕ) → place_in more handle ≡ Some n → slice_get more n ≡ Some handle) → (test : Bool) → (first == handle) ≡ test → (rest : Option ℕ) → place_in more handle ≡ rest
-        → slice_get (first ∷ more) place ≡ Some handle
-    go further true is rest same =
-        let here : 0 ≡ place = same_Some 0 place (sym (ap (λ t. if t then Some 0 else option_map suc (place_in more handle)) is) ∙ found) in
-        subst (λ m. slice_get (first ∷ more) m ≡ Some handle) here (ap Some (let one : first ≡ handle = grind (arith, nat_tests, is) in one))
-    go further false is None same =
-        absurd (cc (sym (ap (λ t. if t then Some 0 else option_map suc (place_in more handle)) is ∙ ap (option_map suc) same) ∙ found))
-    go further false is (Some n) same =
-        let here : suc n ≡ place =
-        same_Some (suc n) place (sym (ap (λ t. if t then Some 0 else option_map suc (place_in more handle)) is ∙ ap (option_map suc) same) ∙ found) in
-        subst (λ m. slice_get (first ∷ more) m ≡ Some handle) here (further n same)
+at_place (first ∷ more) handle place found = ⊎_elim
+    (λ (is : (first == handle) ≡ true).
+    let here : Some 0 ≡ Some place = rw is at found in
+    subst (λ n. slice_get (first ∷ more) n ≡ Some handle) (same_Some 0 place here) (ap Some ((Decides-eqb first handle).0 is)))
+    (λ (other : (first == handle) ≡ false).
+    let further = option_map_found suc (place_in more handle) place (rw other at found) in
+    subst (λ n. slice_get (first ∷ more) n ≡ Some handle) (sym further.2) (at_place more handle further.0 further.1))
+    (cases_Bool (first == handle))
 
 -- a handle that stands somewhere is found
 pub is_found : (handles : List ℕ) (handle place : ℕ) → slice_get handles place ≡ Some handle → (found : ℕ) × (place_in handles handle ≡ Some found)
 unfolding place_in
 is_found [] handle place stands = absurd (cc stands)
-is_found (first ∷ more) handle zero stands =
-    let one : first ≡ handle = same_Some first handle stands in
-    let test : (first == handle) ≡ true = grind (arith, nat_tests, one) in
-    (0, ap (λ t. if t then Some 0 else option_map suc (place_in more handle)) test)
-is_found (first ∷ more) handle (suc place) stands = go (is_found more handle place stands) (first == handle) refl
-  where
-    go : (found : ℕ) × (place_in more handle ≡ Some found) → (test : Bool) → (first == handle) ≡ test → (found : ℕ) × (place_in (first ∷ more) handle ≡ Some found)
-    go further true is = (0, ap (λ t. if t then Some 0 else option_map suc (place_in more handle)) is)
-    go further false is = (suc further.0, ap (λ t. if t then Some 0 else option_map suc (place_in more handle)) is ∙ ap (option_map suc) further.1)
+is_found (first ∷ more) handle zero stands = (0, rw ((Decides-eqb first handle).1 (same_Some first handle stands)) refl)
+is_found (first ∷ more) handle (suc place) stands =
+    let further = is_found more handle place stands in ⊎_elim
+    (λ (is : (first == handle) ≡ true). (0, rw is refl))
+    (λ (other : (first == handle) ≡ false). (suc further.0, rw other (ap (option_map suc) further.1)))
+    (cases_Bool (first == handle))
 
 -- handles that ascend stand at one place each
 pub one_place : (handles : List ℕ) (handle i j : ℕ) → Ascend handles → slice_get handles i ≡ Some handle → slice_get handles j ≡ Some handle → i ≡ j

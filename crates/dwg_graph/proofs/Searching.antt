@@ -54,21 +54,22 @@ halved_again width left spent most halved few =
     let doubled : left * 2 ^ (spent + 1) ≡ (left + left) * 2 ^ spent = ap (λ p. left * p) (doubled_power spent) ∙ grind arith in
     omega (arith, doubled, twice, halved)
 
+-- each handle is greater than the one before it: one that stands so much further on is at least so much greater
+far_apart : (handles : List ℕ) (i j more : ℕ) → Ascend handles → j ≡ i + more → j < length handles → slice_index_or handles i 0 + more ≤ slice_index_or handles j 0
+far_apart handles i j zero ascend is within =
+    let same : slice_index_or handles j 0 ≡ slice_index_or handles i 0 = ap (λ n. slice_index_or handles n 0) (omega (arith, is)) in
+    omega (arith, same)
+far_apart handles i j (suc more) ascend is within =
+    let before : slice_index_or handles i 0 + more ≤ slice_index_or handles (i + more) 0 = far_apart handles i (i + more) more ascend refl (omega (arith, is, within)) in
+    omega (arith, before, ascend (i + more) j 0 (omega (arith, is)) within)
+
 -- what stands at a lesser handle or before it is less
-at_or_before : (handles : List ℕ) (handle i at : ℕ) → Ascend handles → at < length handles → slice_index_or handles at 0 < handle → i ≤ at → (i < at) ⊎ (at ≤ i)
-    → slice_index_or handles i 0 < handle
-at_or_before handles handle i at ascend within less most (inl far) = omega (arith, ascend i at 0 far within, less)
-at_or_before handles handle i at ascend within less most (inr near) =
-    let here : at ≡ i = omega (arith, most, near) in
-    subst (λ n. slice_index_or handles n 0 < handle) here less
+at_or_before : (handles : List ℕ) (handle i at : ℕ) → Ascend handles → at < length handles → slice_index_or handles at 0 < handle → i ≤ at → slice_index_or handles i 0 < handle
+at_or_before handles handle i at ascend within less most = omega (arith, far_apart handles i at (at - i) ascend (omega (arith, most)) within, less)
 
 -- what stands at a greater handle or behind it is greater
-at_or_behind : (handles : List ℕ) (handle i at : ℕ) → Ascend handles → i < length handles → handle < slice_index_or handles at 0 → at ≤ i → (at < i) ⊎ (i ≤ at)
-    → handle < slice_index_or handles i 0
-at_or_behind handles handle i at ascend within greater least (inl far) = omega (arith, ascend at i 0 far within, greater)
-at_or_behind handles handle i at ascend within greater least (inr near) =
-    let here : at ≡ i = omega (arith, least, near) in
-    subst (λ n. handle < slice_index_or handles n 0) here greater
+at_or_behind : (handles : List ℕ) (handle i at : ℕ) → Ascend handles → i < length handles → handle < slice_index_or handles at 0 → at ≤ i → handle < slice_index_or handles i 0
+at_or_behind handles handle i at ascend within greater least = omega (arith, far_apart handles at i (i - at) ascend (omega (arith, least)) within, greater)
 
 -- the handle in the middle is less: the search goes on behind it
 pub goes_on_behind : (handles : List ℕ) (handle from width spent : ℕ) → Ascend handles → IsSearch handles handle from width spent → 0 < width
@@ -76,7 +77,7 @@ pub goes_on_behind : (handles : List ℕ) (handle from width spent : ℕ) → As
 goes_on_behind handles handle from width spent ascend is some less = record {
   left = record {
     within = omega (arith, is.left.within, some);
-    below = λ i before. at_or_before handles handle i (from + width / 2) ascend (omega (arith, is.left.within, some)) less (omega (arith, before)) (cases_lt i (from + width / 2));
+    below = λ i before. at_or_before handles handle i (from + width / 2) ascend (omega (arith, is.left.within, some)) less (omega (arith, before));
     above = λ i behind within. is.left.above i (omega (arith, behind, some)) within;
   };
   halved = halved_again width (width - width / 2 - 1) spent (length handles) is.halved (omega (arith, some));
@@ -90,7 +91,7 @@ goes_on_before handles handle from width spent ascend is some greater = record {
   left = record {
     within = omega (arith, is.left.within);
     below = is.left.below;
-    above = λ i behind within. at_or_behind handles handle i (from + width / 2) ascend within greater behind (cases_lt (from + width / 2) i);
+    above = λ i behind within. at_or_behind handles handle i (from + width / 2) ascend within greater behind;
   };
   halved = halved_again width (width / 2) spent (length handles) is.halved (omega arith);
   taken = λ k fits. probed handles handle from width spent is some k fits;
@@ -133,15 +134,6 @@ spends_before handles handle from width start steps more here ascend is some at 
       subst (IsSearch handles handle from (width / 2)) spent
           (goes_on_before handles handle from width (steps - start) ascend is.1 some greater),
     )
-
--- each handle is greater than the one before it: one that stands so much further on is at least so much greater
-far_apart : (handles : List ℕ) (i j more : ℕ) → Ascend handles → j ≡ i + more → j < length handles → slice_index_or handles i 0 + more ≤ slice_index_or handles j 0
-far_apart handles i j zero ascend is within =
-    let same : slice_index_or handles j 0 ≡ slice_index_or handles i 0 = ap (λ n. slice_index_or handles n 0) (omega (arith, is)) in
-    omega (arith, same)
-far_apart handles i j (suc more) ascend is within =
-    let before : slice_index_or handles i 0 + more ≤ slice_index_or handles (i + more) 0 = far_apart handles i (i + more) more ascend refl (omega (arith, is, within)) in
-    omega (arith, before, ascend (i + more) j 0 (omega (arith, is)) within)
 
 -- what is known of the bounds between which a handle can stand: how much it differs from the highest and from the lowest
 pub record AreBounds (handles : List ℕ) (handle lowest highest from end : ℕ) : Type 0 where

@@ -17,42 +17,6 @@ use dwg_object::{Body, Common, Object};
 /// More slots than any object has: a search that is to pass so many counts them.
 const MANY: u64 = 1 << 62;
 
-/// What all entities hold.
-#[tactic(auto, using(crate::proofs::Passing::passes_end), unfolding(crate::specs::Slots::held_by_entity))]
-fn entity_slots(walk: Walk, common: &EntityCommon) -> Walk
-    ensures { PassesFields walk (tables.held_by_entity common.now) result }
-{
-    walk.listed(Field::Application, &common.app)
-        .references(Field::Reactor, &common.reactors)
-        .one(Field::Xdict, common.xdict)
-        .maybe(Field::Previous, common.links.map(|links| links.previous))
-        .maybe(Field::Next, common.links.map(|links| links.next))
-        .one(Field::Layer, common.layer)
-        .maybe(Field::Linetype, common.linetype)
-        .maybe(Field::Plotstyle, common.plotstyle)
-}
-
-/// What all other objects hold.
-#[tactic(auto, using(crate::proofs::Passing::passes_end), unfolding(crate::specs::Slots::held_by_object))]
-fn object_slots(walk: Walk, common: &ObjectCommon) -> Walk
-    ensures { PassesFields walk (tables.held_by_object common.now) result }
-{
-    walk.listed(Field::Application, &common.app)
-        .references(Field::Reactor, &common.reactors)
-        .one(Field::Xdict, common.xdict)
-}
-
-/// What the common part of an object holds.
-#[tactic(auto, unfolding(crate::specs::Slots::held_by_common))]
-fn common_slots(walk: Walk, common: &Common) -> Walk
-    ensures { PassesFields walk (tables.held_by_common common.now) result }
-{
-    match common {
-        Common::Entity(common) => entity_slots(walk, common),
-        Common::Object(common) => object_slots(walk, common),
-    }
-}
-
 /// What the kinds hold of their own; those that aren't listed refer to nothing.
 #[tactic(auto, using(crate::proofs::Passing::passes_end), unfolding(crate::specs::Slots::held_by_body))]
 fn body_slots(walk: Walk, body: &Body) -> Walk
@@ -100,11 +64,44 @@ fn body_slots(walk: Walk, body: &Body) -> Walk
     }
 }
 
+/// What an entity holds: what all entities do, and what its kind does.
+#[tactic(auto, unfolding(crate::specs::Slots::held_by_entity))]
+fn entity_slots(walk: Walk, common: &EntityCommon, body: &Body) -> Walk
+    ensures { PassesFields walk (tables.held_by_entity common.now ++ tables.held_by_body body.now) result }
+{
+    let behind = walk
+        .listed(Field::Application, &common.app)
+        .references(Field::Reactor, &common.reactors)
+        .one(Field::Xdict, common.xdict)
+        .maybe(Field::Previous, common.links.map(|links| links.previous))
+        .maybe(Field::Next, common.links.map(|links| links.next))
+        .one(Field::Layer, common.layer)
+        .maybe(Field::Linetype, common.linetype)
+        .maybe(Field::Plotstyle, common.plotstyle);
+    body_slots(behind, body)
+}
+
+/// What any other object holds: what all of them do, and what its kind does.
+#[tactic(auto, unfolding(crate::specs::Slots::held_by_object))]
+fn object_slots(walk: Walk, common: &ObjectCommon, body: &Body) -> Walk
+    ensures { PassesFields walk (tables.held_by_object common.now ++ tables.held_by_body body.now) result }
+{
+    let behind = walk
+        .listed(Field::Application, &common.app)
+        .references(Field::Reactor, &common.reactors)
+        .one(Field::Xdict, common.xdict);
+    body_slots(behind, body)
+}
+
 /// What a common part and a body hold.
+#[tactic(auto, unfolding(crate::specs::Slots::held_by_common))]
 fn typed_slots(walk: Walk, common: &Common, body: &Body) -> Walk
     ensures { PassesFields walk (tables.held_by_common common.now ++ tables.held_by_body body.now) result }
 {
-    body_slots(common_slots(walk, common), body)
+    match common {
+        Common::Entity(common) => entity_slots(walk, common, body),
+        Common::Object(common) => object_slots(walk, common, body),
+    }
 }
 
 /// A walk along the slots of an object: those of a Typed one; none are told of any other.
@@ -121,7 +118,7 @@ fn walk_slots(walk: Walk, object: &Object<'_>) -> Walk
 
 /// How many references an object holds beside that to its owner; none are told of an object that isn't Typed. They are fewer than
 /// 2^58 in every object that a drawing can have: `slot_laws` bounds them by the bytes of its frame.
-#[tactic(auto, using(crate::proofs::Passing::counted, crate::proofs::Passing::within_found, crate::proofs::Passing::never_gathered, crate::proofs::Passing::never_short))]
+#[tactic(auto, using(crate::proofs::Passing::passed_behind), unfolding(crate::specs::SlotWalks::IsBehind))]
 pub fn slot_count(object: &Object<'_>) -> u64
     requires few { length (tables.slots (value_of object.now)) < 2 ^ 58 }
     ensures { result ≡ length (tables.slots (value_of object.now)) }
@@ -136,7 +133,7 @@ pub fn slot_count(object: &Object<'_>) -> u64
 
 /// The reference that an object holds at a place, from 0 on, among those that it holds beside that to its owner: the common part's
 /// first, each part's in the order of the fields, and those of a field that is a list in its order.
-#[tactic(auto, using(crate::proofs::Passing::found_at, crate::proofs::Passing::never_left, crate::proofs::Passing::never_gathered, crate::proofs::Passing::never_short))]
+#[tactic(auto, using(crate::proofs::Passing::passed_within), unfolding(crate::specs::SlotWalks::IsBehind))]
 pub fn slot_at(object: &Object<'_>, i: u64) -> Slot
     requires within { i < length (tables.slots (value_of object.now)) }
     ensures { slice_get (tables.slots (value_of object.now)) i ≡ Some result }
@@ -151,7 +148,7 @@ pub fn slot_at(object: &Object<'_>, i: u64) -> Slot
 
 /// Slots, and behind them all those of an object in the order of `slot_at`, which are walked over once. The only refusal is want of
 /// memory.
-#[tactic(auto, using(crate::proofs::Passing::gathers, crate::proofs::Passing::never_found, crate::proofs::Passing::never_searches))]
+#[tactic(auto, unfolding(crate::specs::SlotWalks::IsBehind))]
 pub fn with_slots(slots: Items<Slot>, object: &Object<'_>) -> Result<Items<Slot>, NoMemory>
     ensures { IfOk result (λ all. all ≡ slots ++ tables.slots (value_of object.now)) }
 {
