@@ -56,6 +56,11 @@ pub ◌▷◌ : {page page' page'' : Page} {taken taken' taken'' : Option (List 
       taken taken' taken'' faults faults' faults'' text more first.told then.told;
 }
 
+-- the same, where what is told last is found first
+pub tells_more : {page page' page'' : Page} {taken taken' taken'' : Option (List ℕ)} {faults faults' faults'' : ℕ} {text more : List ℕ}
+    → Tells page' page'' taken' taken'' faults' faults'' more → Tells page page' taken taken' faults faults' text → Tells page page'' taken taken'' faults faults'' (text ++ more)
+tells_more then first = first ▷ then
+
 -- what was pushed onto a page goes on as the page does
 pushed_by : (fault' : Option ShowFault) (piece pushed piece' : List ℕ) (taken taken' : Option (List ℕ)) (faults faults' : ℕ) (text : List ℕ)
     → pushed ≡ piece ++ text → TellsBy None fault' pushed piece' taken taken' faults faults' [] → TellsBy None fault' piece piece' taken taken' faults faults' text

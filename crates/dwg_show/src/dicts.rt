@@ -14,7 +14,7 @@ use dwg_page::Page;
 impl Print for BlockControl {
     ghost lines = { fields.block_control_fields };
 
-    #[tactic(auto, unfolding(crate::specs::BodyFields::block_control_fields))]
+    #[tactic(auto, using(dwg_page::proofs::Telling::tells_more), unfolding(crate::specs::BodyFields::block_control_fields))]
     fn print<W: Sink>(&self, path: &str, page: &mut Page, sink: &mut W) {
         print_member(&self.entries, path, "entries", page, sink);
         print_member(&self.model, path, "model", page, sink);
@@ -25,7 +25,7 @@ impl Print for BlockControl {
 impl Print for LayerControl {
     ghost lines = { fields.layer_control_fields };
 
-    #[tactic(auto, unfolding(crate::specs::BodyFields::layer_control_fields))]
+    #[tactic(auto, using(dwg_page::proofs::Telling::tells_more), unfolding(crate::specs::BodyFields::layer_control_fields))]
     fn print<W: Sink>(&self, path: &str, page: &mut Page, sink: &mut W) {
         print_member(&self.entries, path, "entries", page, sink);
     }
@@ -34,7 +34,7 @@ impl Print for LayerControl {
 impl Print for StyleControl {
     ghost lines = { fields.style_control_fields };
 
-    #[tactic(auto, unfolding(crate::specs::BodyFields::style_control_fields))]
+    #[tactic(auto, using(dwg_page::proofs::Telling::tells_more), unfolding(crate::specs::BodyFields::style_control_fields))]
     fn print<W: Sink>(&self, path: &str, page: &mut Page, sink: &mut W) {
         print_member(&self.entries, path, "entries", page, sink);
     }
@@ -43,7 +43,7 @@ impl Print for StyleControl {
 impl Print for LtypeControl {
     ghost lines = { fields.ltype_control_fields };
 
-    #[tactic(auto, unfolding(crate::specs::BodyFields::ltype_control_fields))]
+    #[tactic(auto, using(dwg_page::proofs::Telling::tells_more), unfolding(crate::specs::BodyFields::ltype_control_fields))]
     fn print<W: Sink>(&self, path: &str, page: &mut Page, sink: &mut W) {
         print_member(&self.entries, path, "entries", page, sink);
         print_member(&self.first, path, "first", page, sink);
@@ -54,7 +54,7 @@ impl Print for LtypeControl {
 impl Print for AppIdControl {
     ghost lines = { fields.appid_control_fields };
 
-    #[tactic(auto, unfolding(crate::specs::BodyFields::appid_control_fields))]
+    #[tactic(auto, using(dwg_page::proofs::Telling::tells_more), unfolding(crate::specs::BodyFields::appid_control_fields))]
     fn print<W: Sink>(&self, path: &str, page: &mut Page, sink: &mut W) {
         print_member(&self.entries, path, "entries", page, sink);
     }
@@ -63,7 +63,7 @@ impl Print for AppIdControl {
 impl Print for DictItem {
     ghost lines = { fields.dict_item_fields };
 
-    #[tactic(auto, unfolding(crate::specs::BodyFields::dict_item_fields))]
+    #[tactic(auto, using(dwg_page::proofs::Telling::tells_more), unfolding(crate::specs::BodyFields::dict_item_fields))]
     fn print<W: Sink>(&self, path: &str, page: &mut Page, sink: &mut W) {
         print_member(&self.name, path, "name", page, sink);
         print_member(&self.target, path, "target", page, sink);
@@ -73,7 +73,7 @@ impl Print for DictItem {
 impl Print for Dictionary {
     ghost lines = { fields.dictionary_fields };
 
-    #[tactic(auto, unfolding(crate::specs::BodyFields::dictionary_fields))]
+    #[tactic(auto, using(dwg_page::proofs::Telling::tells_more), unfolding(crate::specs::BodyFields::dictionary_fields))]
     fn print<W: Sink>(&self, path: &str, page: &mut Page, sink: &mut W) {
         print_member(&self.cloning, path, "cloning", page, sink);
         print_member(&self.hard_owner, path, "hard_owner", page, sink);
@@ -84,7 +84,7 @@ impl Print for Dictionary {
 impl Print for XRecord {
     ghost lines = { fields.xrecord_fields };
 
-    #[tactic(auto, unfolding(crate::specs::BodyFields::xrecord_fields))]
+    #[tactic(auto, using(dwg_page::proofs::Telling::tells_more), unfolding(crate::specs::BodyFields::xrecord_fields))]
     fn print<W: Sink>(&self, path: &str, page: &mut Page, sink: &mut W) {
         print_bytes(&self.bytes, path, "bytes", page, sink);
         print_member(&self.cloning, path, "cloning", page, sink);

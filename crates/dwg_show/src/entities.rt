@@ -10,7 +10,7 @@ use dwg_page::Page;
 impl Print for Text {
     ghost lines = { fields.text_fields };
 
-    #[tactic(auto, unfolding(crate::specs::BodyFields::text_fields))]
+    #[tactic(auto, using(dwg_page::proofs::Telling::tells_more), unfolding(crate::specs::BodyFields::text_fields))]
     fn print<W: Sink>(&self, path: &str, page: &mut Page, sink: &mut W) {
         print_member(&self.elevation, path, "elevation", page, sink);
         print_member(&self.insertion, path, "insertion", page, sink);
@@ -32,7 +32,7 @@ impl Print for Text {
 impl Print for Attrib {
     ghost lines = { fields.attrib_fields };
 
-    #[tactic(auto, unfolding(crate::specs::BodyFields::attrib_fields))]
+    #[tactic(auto, using(dwg_page::proofs::Telling::tells_more), unfolding(crate::specs::BodyFields::attrib_fields))]
     fn print<W: Sink>(&self, path: &str, page: &mut Page, sink: &mut W) {
         print_member(&self.text, path, "text", page, sink);
         print_member(&self.tag, path, "tag", page, sink);
@@ -44,7 +44,7 @@ impl Print for Attrib {
 impl Print for Attdef {
     ghost lines = { fields.attdef_fields };
 
-    #[tactic(auto, unfolding(crate::specs::BodyFields::attdef_fields))]
+    #[tactic(auto, using(dwg_page::proofs::Telling::tells_more), unfolding(crate::specs::BodyFields::attdef_fields))]
     fn print<W: Sink>(&self, path: &str, page: &mut Page, sink: &mut W) {
         print_member(&self.attrib, path, "attrib", page, sink);
         print_member(&self.prompt, path, "prompt", page, sink);
@@ -54,7 +54,7 @@ impl Print for Attdef {
 impl Print for Attributes {
     ghost lines = { fields.attributes_fields };
 
-    #[tactic(auto, unfolding(crate::specs::BodyFields::attributes_fields))]
+    #[tactic(auto, using(dwg_page::proofs::Telling::tells_more), unfolding(crate::specs::BodyFields::attributes_fields))]
     fn print<W: Sink>(&self, path: &str, page: &mut Page, sink: &mut W) {
         print_member(&self.first, path, "first", page, sink);
         print_member(&self.last, path, "last", page, sink);
@@ -65,7 +65,7 @@ impl Print for Attributes {
 impl Print for Insert {
     ghost lines = { fields.insert_fields };
 
-    #[tactic(auto, unfolding(crate::specs::BodyFields::insert_fields))]
+    #[tactic(auto, using(dwg_page::proofs::Telling::tells_more), unfolding(crate::specs::BodyFields::insert_fields))]
     fn print<W: Sink>(&self, path: &str, page: &mut Page, sink: &mut W) {
         print_member(&self.place, path, "place", page, sink);
         print_member(&self.scale, path, "scale", page, sink);
@@ -79,7 +79,7 @@ impl Print for Insert {
 impl Print for Block {
     ghost lines = { fields.block_fields };
 
-    #[tactic(auto, unfolding(crate::specs::BodyFields::block_fields))]
+    #[tactic(auto, using(dwg_page::proofs::Telling::tells_more), unfolding(crate::specs::BodyFields::block_fields))]
     fn print<W: Sink>(&self, path: &str, page: &mut Page, sink: &mut W) {
         print_member(&self.name, path, "name", page, sink);
     }

@@ -10,7 +10,7 @@ use dwg_shapes::{Arc, Circle, Line, LwPolyline, Point, Width};
 impl Print for Line {
     ghost lines = { fields.line_fields };
 
-    #[tactic(auto, unfolding(crate::specs::BodyFields::line_fields))]
+    #[tactic(auto, using(dwg_page::proofs::Telling::tells_more), unfolding(crate::specs::BodyFields::line_fields))]
     fn print<W: Sink>(&self, path: &str, page: &mut Page, sink: &mut W) {
         print_member(&self.start, path, "start", page, sink);
         print_member(&self.end, path, "end", page, sink);
@@ -22,7 +22,7 @@ impl Print for Line {
 impl Print for Point {
     ghost lines = { fields.point_fields };
 
-    #[tactic(auto, unfolding(crate::specs::BodyFields::point_fields))]
+    #[tactic(auto, using(dwg_page::proofs::Telling::tells_more), unfolding(crate::specs::BodyFields::point_fields))]
     fn print<W: Sink>(&self, path: &str, page: &mut Page, sink: &mut W) {
         print_member(&self.place, path, "place", page, sink);
         print_member(&self.thickness, path, "thickness", page, sink);
@@ -34,7 +34,7 @@ impl Print for Point {
 impl Print for Circle {
     ghost lines = { fields.circle_fields };
 
-    #[tactic(auto, unfolding(crate::specs::BodyFields::circle_fields))]
+    #[tactic(auto, using(dwg_page::proofs::Telling::tells_more), unfolding(crate::specs::BodyFields::circle_fields))]
     fn print<W: Sink>(&self, path: &str, page: &mut Page, sink: &mut W) {
         print_member(&self.centre, path, "centre", page, sink);
         print_member(&self.radius, path, "radius", page, sink);
@@ -46,7 +46,7 @@ impl Print for Circle {
 impl Print for Arc {
     ghost lines = { fields.arc_fields };
 
-    #[tactic(auto, unfolding(crate::specs::BodyFields::arc_fields))]
+    #[tactic(auto, using(dwg_page::proofs::Telling::tells_more), unfolding(crate::specs::BodyFields::arc_fields))]
     fn print<W: Sink>(&self, path: &str, page: &mut Page, sink: &mut W) {
         print_member(&self.centre, path, "centre", page, sink);
         print_member(&self.radius, path, "radius", page, sink);
@@ -60,7 +60,7 @@ impl Print for Arc {
 impl Print for Width {
     ghost lines = { fields.width_fields };
 
-    #[tactic(auto, unfolding(crate::specs::BodyFields::width_fields))]
+    #[tactic(auto, using(dwg_page::proofs::Telling::tells_more), unfolding(crate::specs::BodyFields::width_fields))]
     fn print<W: Sink>(&self, path: &str, page: &mut Page, sink: &mut W) {
         print_member(&self.start, path, "start", page, sink);
         print_member(&self.end, path, "end", page, sink);
@@ -70,7 +70,7 @@ impl Print for Width {
 impl Print for LwPolyline {
     ghost lines = { fields.lwpolyline_fields };
 
-    #[tactic(auto, unfolding(crate::specs::BodyFields::lwpolyline_fields))]
+    #[tactic(auto, using(dwg_page::proofs::Telling::tells_more), unfolding(crate::specs::BodyFields::lwpolyline_fields))]
     fn print<W: Sink>(&self, path: &str, page: &mut Page, sink: &mut W) {
         print_member(&self.flag, path, "flag", page, sink);
         print_member(&self.width, path, "width", page, sink);

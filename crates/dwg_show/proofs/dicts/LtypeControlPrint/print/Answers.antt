@@ -1,7 +1,0 @@
-use Rattle.dwg_show.specs.BodyFields.{ltype_control_fields}
-use Rattle.dwg_page.proofs.Telling.{◌▷◌}
-use Rattle.dwg_show.proofs.dicts.LtypeControlPrint.print.Goals as goal
-
-pub returns : goal.returns
-unfolding ltype_control_fields
-returns g c = c.print_member.ensures ▷ c.print_member-2.ensures ▷ c.print_member-3.ensures

@@ -1,7 +1,0 @@
-use Rattle.dwg_show.specs.BodyFields.{attrib_fields}
-use Rattle.dwg_page.proofs.Telling.{◌▷◌}
-use Rattle.dwg_show.proofs.entities.AttribPrint.print.Goals as goal
-
-pub returns : goal.returns
-unfolding attrib_fields
-returns g c = c.print_member.ensures ▷ c.print_member-2.ensures ▷ c.print_member-3.ensures ▷ c.print_member-4.ensures
