@@ -6,5 +6,5 @@ pub mod TwoRefsReading
 pub mod SizedParts
 pub mod MemberLemmas
 pub mod MemberLoops
+pub mod PartReading
 pub mod PointReading
-pub mod TextReading

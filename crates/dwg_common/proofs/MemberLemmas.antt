@@ -1,5 +1,6 @@
 -- What is told of members and what is named of them follow from the members, and they from both.
 use Rattle.std.proofs.Common.{◌≡◌, refl, ap₂, List, [], ◌∷◌, length, map, arith, ap, suc}
+use Rattle.std.proofs.lemmas.List.{length-map}
 use Rattle.dwg_grammar.specs.Reference.{Reference}
 use Rattle.dwg_common.specs.Members.{joined}
 
@@ -31,3 +32,7 @@ pub joined_counted : {P V : Type 0} (join : P → Reference → V) (told : List 
 joined_counted join [] names counted = refl
 joined_counted join (told ∷ others) [] counted = absurd (omega (arith, counted))
 joined_counted join (told ∷ others) (name ∷ names) counted = ap suc (joined_counted join others names (omega (arith, counted)))
+
+-- and there is one part of each member
+pub parts_counted : {V W : Type 0} (part : V → W) (members : List V) → length (map part members) ≡ length members
+parts_counted part members = length-map members part

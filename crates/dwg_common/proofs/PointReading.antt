@@ -4,18 +4,8 @@ use Rattle.dwg_grammar.proofs.CodeLemmas.{reads_some, reads_none}
 use Rattle.dwg_grammar.specs.Grammar.{AnyLetters, Reads}
 use Rattle.dwg_grammar.specs.declared.points.Point2.{Point2}
 use Rattle.dwg_grammar.proofs.BodyReading.{parsed_value}
-use Rattle.dwg_grammar.proofs.PointLemmas.{rd2_is_code, dd2_is_code}
-use Rattle.dwg_grammar.specs.Points.{rd2, dd2}
-
--- two RDs
-pub rd2_read : (value : Point2) (old new : List Bool) → rd2.parse old ≡ Some (value, new) → Reads rd2 (Some value) old new
-rd2_read value old new found = reads_some AnyLetters rd2 old new value rd2_is_code tt found
-
-pub rd2_value : (value : Point2) (old new : List Bool) → rd2.parse old ≡ Some (value, new) → rd2.IsValue value
-rd2_value value old new found = parsed_value rd2 value old new rd2_is_code found
-
-pub rd2_unread : (old : List Bool) → rd2.parse old ≡ None → Reads rd2 None old old
-rd2_unread old none = reads_none AnyLetters rd2 old rd2_is_code none
+use Rattle.dwg_grammar.proofs.PointLemmas.{dd2_is_code}
+use Rattle.dwg_grammar.specs.Points.{dd2}
 
 -- two DDs
 pub dd2_read : (default value : Point2) (old new : List Bool) → default.x < 2 ^ 64 → default.y < 2 ^ 64 → (dd2 default).parse old ≡ Some (value, new)

@@ -121,22 +121,6 @@ all_begun {T} {V} tags is_mark code found tag old now new mark was_tag so_far =
     ∙ ap (λ (test : Bool). option_map (found_behind found) (if test then Some ([], new) else option_and_then (behind_value tags is_mark code (length now)) ((code tag).parse new))) mark
     ∙ ap (λ (all : List V). Some (all, new)) (append-nil found)
 
--- where no tag is there, they aren't
-pub tag_missing : {T V : Type 0} (tags : Grammar Bool T) (is_mark : T → Bool) (code : T → Grammar Bool V) (found : List V) (old now : List Bool)
-    → tags.parse now ≡ None → AreBegun tags is_mark code found old now → parse_all tags is_mark code old ≡ None
-tag_missing {T} {V} tags is_mark code found old now was_tag so_far =
-    so_far ∙ ap (λ (one : Option (T × List Bool)). option_map (found_behind found) (option_and_then (behind_tag tags is_mark code (length now)) one)) was_tag
-
--- nor where no value is behind it
-pub value_missing : {T V : Type 0} (tags : Grammar Bool T) (is_mark : T → Bool) (code : T → Grammar Bool V) (found : List V) (tag : T) (old now mid : List Bool)
-    → is_mark tag ≡ false → tags.parse now ≡ Some (tag, mid) → (code tag).parse mid ≡ None → AreBegun tags is_mark code found old now
-    → parse_all tags is_mark code old ≡ None
-value_missing {T} {V} tags is_mark code found tag old now mid other was_tag was_value so_far =
-    so_far
-    ∙ ap (λ (one : Option (T × List Bool)). option_map (found_behind found) (option_and_then (behind_tag tags is_mark code (length now)) one)) was_tag
-    ∙ ap (λ (test : Bool). option_map (found_behind found) (if test then Some ([], mid) else option_and_then (behind_value tags is_mark code (length now)) ((code tag).parse mid))) other
-    ∙ ap (λ (two : Option (V × List Bool)). option_map (found_behind found) (option_and_then (behind_value tags is_mark code (length now)) two)) was_value
-
 -- a number that isn't the mark 0 fails its test
 pub unmarked : (tag : ℕ) → tag ≢ 0 → (tag == 0) ≡ false
 unmarked tag other = grind (arith, nat_tests, other)

@@ -3,27 +3,21 @@ use Rattle.std.proofs.Common.{◌≡◌, refl, ℕ, ◌^◌, ◌<◌, ◌≤◌,
 use Rattle.std.specs.Prelude.{◌==◌, ◌≢◌}
 use Rattle.std.proofs.lemmas.Bool.Decides.{nat_tests}
 use Rattle.dwg_grammar.specs.Codes.{bs, rc}
-use Rattle.dwg_grammar.specs.Combinators.{seq, chain, items}
-use Rattle.dwg_grammar.proofs.CombinatorLemmas.{any_letters_closed, seq_is_code}
+use Rattle.dwg_grammar.specs.Combinators.{chain}
+use Rattle.dwg_grammar.proofs.CombinatorLemmas.{any_letters_closed}
 use Rattle.dwg_grammar.specs.Grammar.{IsCode, AnyLetters}
-use Rattle.dwg_grammar.proofs.ListLemmas.{items_is_code, until_is_code}
-use Rattle.dwg_grammar.proofs.NumberLemmas.{rc_is_code, bytes_of_items, items_of_bytes}
+use Rattle.dwg_grammar.proofs.ListLemmas.{until_is_code}
+use Rattle.dwg_grammar.proofs.NumberLemmas.{bytes_of_items, items_of_bytes}
 use Rattle.dwg_grammar.proofs.TableLemmas.{bs_is_code}
 use Rattle.dwg_grammar.proofs.ToEndLemmas.{bs_least}
 use Rattle.dwg_grammar.specs.ReferenceCodes.{reference}
-use Rattle.dwg_grammar.proofs.ReferenceLemmas.{reference_is_code}
 use Rattle.dwg_common.specs.declared.app_data.AppData.{AppData}
+use Rattle.dwg_common.specs.LawSets.{codes}
 use Rattle.dwg_common.specs.AppList.{IsAppData, app_item, app_list}
-use Rattle.dwg_grammar.proofs.Shaped.{shaped_is_code}
 
 -- an item of so many bytes is a code
 pub app_item_is_code : (base size : ℕ) → base < 2 ^ 63 → IsCode AnyLetters (app_item base size)
-app_item_is_code base size small =
-    shaped_is_code (λ parts. record { application = parts.0; bytes = parts.1 }) (λ item. (item.application, item.bytes))
-    (seq (reference base) (λ application. items rc size))
-    (seq_is_code AnyLetters (reference base) (λ application. items rc size) any_letters_closed (reference_is_code base small)
-    (λ application fits. items_is_code AnyLetters rc size any_letters_closed rc_is_code))
-    (λ parts fits. refl) (λ item. refl)
+app_item_is_code base size small = search codes depth 8
 
 -- a value of so many bytes is an item of that size
 value_is_item : (base size : ℕ) (item : AppData) → size < 2 ^ 16 → size ≢ 0 → (app_item base size).IsValue item → IsAppData base item × (length item.bytes ≡ size)

@@ -8,6 +8,8 @@ pub mod AppList
 pub mod Entities
 -- What all objects have that are no entities.
 pub mod NonEntities
+-- Sets of laws on codes, parts of the references and bodies.
+pub mod LawSets
 -- Application data are a code.
 pub mod AppListLaws
 -- The common parts meet the laws of bodies.

@@ -2,7 +2,7 @@
 
 ghost use Rattle.std.specs.Prelude.{◌≡◌};
 ghost use Rattle.dwg_common.specs.CommonLaws.{entity_is_body};
-ghost use Rattle.dwg_common.specs.Entities.{entity_common, entity_of, main_of_entity};
+ghost use Rattle.dwg_common.specs.Entities.{entity_common, main_of_entity};
 
 use crate::app_data::AppData;
 use crate::body::{BodyCode, Lengths};
@@ -111,30 +111,6 @@ pub(crate) struct Named {
     pub(crate) plotstyle: Option<Ref>,
 }
 
-/// An entity from what its main bits tell and what it names.
-fn entity_of(start: Start, look: Look, named: Named) -> EntityCommon
-    ensures { result ≡ entity_of (start, look) named }
-{
-    EntityCommon {
-        app: start.app,
-        graphic: start.graphic,
-        mode: start.mode,
-        owner: named.owner,
-        reactors: named.reactors,
-        xdict: named.xdict,
-        links: named.links,
-        colour: look.colour,
-        linetype_scale: look.linetype_scale,
-        linetype_flag: look.linetype_flag,
-        linetype: named.linetype,
-        plotstyle_flag: look.plotstyle_flag,
-        plotstyle: named.plotstyle,
-        invisible: look.invisible,
-        lineweight: look.lineweight,
-        layer: named.layer,
-    }
-}
-
 /// How an entity looks.
 fn look_of(common: &EntityCommon) -> Look
     ensures { result ≡ (main_of_entity common.now).1 }
@@ -149,10 +125,10 @@ fn look_of(common: &EntityCommon) -> Look
     }
 }
 
+#[tactic(auto, unfolding(crate::specs::Entities::entity_common))]
 impl BodyCode for EntityCommon {
     ghost grammar = { entity_common };
 
-    #[tactic(auto, unfolding(crate::specs::Entities::entity_common))]
     fn parse(
         alloc: Global,
         main: &mut BitCursor<'_>,
@@ -168,10 +144,26 @@ impl BodyCode for EntityCommon {
         let Some(named) = read_named(alloc, refs, base, &start, look)? else {
             return Ok(None);
         };
-        Ok(Some(entity_of(start, look, named)))
+        Ok(Some(EntityCommon {
+            app: start.app,
+            graphic: start.graphic,
+            mode: start.mode,
+            owner: named.owner,
+            reactors: named.reactors,
+            xdict: named.xdict,
+            links: named.links,
+            colour: look.colour,
+            linetype_scale: look.linetype_scale,
+            linetype_flag: look.linetype_flag,
+            linetype: named.linetype,
+            plotstyle_flag: look.plotstyle_flag,
+            plotstyle: named.plotstyle,
+            invisible: look.invisible,
+            lineweight: look.lineweight,
+            layer: named.layer,
+        }))
     }
 
-    #[tactic(auto, unfolding(crate::specs::Entities::entity_common))]
     fn fits(&self, base: Handle) -> bool {
         if !start_fits(self, base) {
             return false;
@@ -182,7 +174,6 @@ impl BodyCode for EntityCommon {
         names_fit(self, base)
     }
 
-    #[tactic(auto, unfolding(crate::specs::Entities::entity_common))]
     fn lengths(&self, base: Handle) -> Lengths {
         Lengths {
             main: start_bits(self, base) + look_bits(look_of(self)),
@@ -190,13 +181,11 @@ impl BodyCode for EntityCommon {
         }
     }
 
-    #[tactic(auto, unfolding(crate::specs::Entities::entity_common))]
     fn write_main(&self, base: Handle, sink: &mut BitSink) {
         write_start(self, base, sink);
         write_look(look_of(self), sink);
     }
 
-    #[tactic(auto, unfolding(crate::specs::Entities::entity_common))]
     fn write_refs(&self, base: Handle, sink: &mut BitSink) {
         write_names(self, base, sink);
     }

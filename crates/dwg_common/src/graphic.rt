@@ -1,4 +1,5 @@
 //! The picture of an entity, as bits (Open Design Specification, "Common entity data").
+#![tactic(auto, unfolding(crate::specs::Entities::graphic))]
 
 ghost use Rattle.std.specs.Prelude.{◌≡◌, ◌^◌, ◌<◌, ◌≤◌, ◌↔◌, length, IfOk, IsTrue};
 ghost use Rattle.dwg_bits.specs.Sink.{Extends};
@@ -14,7 +15,6 @@ use std::alloc::Global;
 
 /// Reads the picture of an entity as it is parsed. The only refusal is want of memory, which is taken only for bytes that
 /// are there.
-#[tactic(auto, unfolding(crate::specs::Entities::graphic))]
 pub(crate) fn read_graphic(
     alloc: Global,
     cursor: &mut BitCursor<'_>,
@@ -35,7 +35,6 @@ pub(crate) fn read_graphic(
 }
 
 /// Whether the picture of an entity can be told: it has fewer than 2^32 bytes.
-#[tactic(auto, unfolding(crate::specs::Entities::graphic))]
 pub(crate) fn graphic_fits(picture: &Option<ByteRun>) -> bool
     ensures { IsTrue result ↔ graphic.IsValue picture.now }
 {
@@ -46,7 +45,6 @@ pub(crate) fn graphic_fits(picture: &Option<ByteRun>) -> bool
 }
 
 /// How many bits the picture of an entity is written by.
-#[tactic(auto, unfolding(crate::specs::Entities::graphic))]
 pub(crate) fn graphic_bits(picture: &Option<ByteRun>) -> u64
     requires { graphic.IsValue picture.now }
     ensures length { result ≡ length (graphic.short picture.now) }
@@ -59,7 +57,6 @@ pub(crate) fn graphic_bits(picture: &Option<ByteRun>) -> u64
 }
 
 /// Writes the picture of an entity.
-#[tactic(auto, unfolding(crate::specs::Entities::graphic))]
 pub(crate) fn write_graphic(picture: &Option<ByteRun>, sink: &mut BitSink)
     requires value { graphic.IsValue picture.now }
     requires room { length (graphic.short picture.now) ≤ sink.old.spare }

@@ -23,20 +23,6 @@ const TO_OWNER: u8 = 0;
 /// The flag of a linetype or a plot style that is named.
 const NAMED: u8 = 3;
 
-/// Reads the linetype and the plot style of the entity of the handle `base`, as they are parsed: each where its flag is 3.
-fn read_styles(
-    cursor: &mut BitCursor<'_>,
-    base: Handle,
-    look: Look,
-) -> Option<(Option<Ref>, Option<Ref>)>
-    ensures parsed { Parses (then_refs (maybe_refs (look.linetype_flag == 3) (one_ref base)) (maybe_refs (look.plotstyle_flag == 3) (one_ref base))).grammar result cursor.old cursor.new }
-    ensures kept { Keeps cursor.old cursor.new }
-{
-    let linetype = parse_when::<CodeH>(&base, look.linetype_flag == NAMED, cursor)?;
-    let plotstyle = parse_when::<CodeH>(&base, look.plotstyle_flag == NAMED, cursor)?;
-    Some((linetype, plotstyle))
-}
-
 /// Reads what the entity of the handle `base` names, as it is parsed: what there is of it is told by what it begins with and
 /// by its look. The only refusal is want of memory, which is taken only for references that are there.
 pub(crate) fn read_named(
@@ -64,7 +50,10 @@ pub(crate) fn read_named(
     let Some(layer) = parse_code::<CodeH>(&base, cursor) else {
         return Ok(None);
     };
-    let Some(styles) = read_styles(cursor, base, look) else {
+    let Some(linetype) = parse_when::<CodeH>(&base, look.linetype_flag == NAMED, cursor) else {
+        return Ok(None);
+    };
+    let Some(plotstyle) = parse_when::<CodeH>(&base, look.plotstyle_flag == NAMED, cursor) else {
         return Ok(None);
     };
     Ok(Some(Named {
@@ -73,8 +62,8 @@ pub(crate) fn read_named(
         xdict,
         links,
         layer,
-        linetype: styles.0,
-        plotstyle: styles.1,
+        linetype,
+        plotstyle,
     }))
 }
 

@@ -27,10 +27,10 @@ pub struct ObjectCommon {
     pub xdict: Ref,
 }
 
+#[tactic(auto, unfolding(crate::specs::NonEntities::object_common, dwg_grammar::specs::ReferenceCodes::reference, dwg_grammar::specs::Combinators::chain))]
 impl BodyCode for ObjectCommon {
     ghost grammar = { object_common };
 
-    #[tactic(auto, unfolding(crate::specs::NonEntities::object_common))]
     fn parse(
         alloc: Global,
         main: &mut BitCursor<'_>,
@@ -60,7 +60,6 @@ impl BodyCode for ObjectCommon {
         }))
     }
 
-    #[tactic(auto, unfolding(crate::specs::NonEntities::object_common, dwg_grammar::specs::ReferenceCodes::reference, dwg_grammar::specs::Combinators::chain))]
     fn fits(&self, base: Handle) -> bool {
         let reactors = self.reactors.as_slice();
         if !app_fits(self.app.as_slice(), base) {
@@ -78,7 +77,6 @@ impl BodyCode for ObjectCommon {
         self.xdict.fits(base)
     }
 
-    #[tactic(auto, unfolding(crate::specs::NonEntities::object_common, dwg_grammar::specs::ReferenceCodes::reference, dwg_grammar::specs::Combinators::chain))]
     fn lengths(&self, base: Handle) -> Lengths {
         let reactors = self.reactors.as_slice();
         let count = reactors.len() as u32;
@@ -90,14 +88,12 @@ impl BodyCode for ObjectCommon {
         }
     }
 
-    #[tactic(auto, unfolding(crate::specs::NonEntities::object_common, dwg_grammar::specs::ReferenceCodes::reference, dwg_grammar::specs::Combinators::chain))]
     fn write_main(&self, base: Handle, sink: &mut BitSink) {
         let count = self.reactors.as_slice().len() as u32;
         write_app(self.app.as_slice(), base, sink);
         CodeBL::write(&(), &count, sink);
     }
 
-    #[tactic(auto, unfolding(crate::specs::NonEntities::object_common, dwg_grammar::specs::ReferenceCodes::reference, dwg_grammar::specs::Combinators::chain))]
     fn write_refs(&self, base: Handle, sink: &mut BitSink) {
         write_ref(self.owner, base, sink);
         write_refs(self.reactors.as_slice(), base, sink);

@@ -41,7 +41,7 @@ impl BitCode for Code2RD {
 
     ghost IsContext = { λ context. ⊤ };
 
-    #[tactic(auto, using(crate::proofs::PointReading::rd2_read, crate::proofs::PointReading::rd2_unread, crate::proofs::PointReading::rd2_value))]
+    #[tactic(auto, using(crate::proofs::PartReading::part_read, crate::proofs::PartReading::part_unread, dwg_grammar::proofs::BodyReading::parsed_value, dwg_grammar::proofs::PointLemmas::rd2_is_code))]
     fn read(_context: &(), cursor: &mut BitCursor<'_>) -> Option<Point2> {
         let mut ahead = *cursor;
         let point = read_two(&mut ahead)?;

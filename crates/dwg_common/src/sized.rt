@@ -51,7 +51,7 @@ pub fn sized_fits(bytes: &[u8]) -> bool
 }
 
 /// How many bits a size in its code and so many bytes are written by.
-#[tactic(auto, using(crate::proofs::SizedParts::sized_length))]
+#[tactic(auto, unfolding(dwg_grammar::specs::Combinators::chain))]
 pub(crate) fn sized_bits_by<S: BitCode<Context = (), Value = u32>>(bytes: &[u8]) -> u64
     requires context { S.IsContext tt }
     requires value { (counted (S.grammar tt) rc).IsValue bytes.now }
@@ -72,7 +72,7 @@ pub fn sized_bits(bytes: &[u8]) -> u64
 }
 
 /// Writes a size in its code and so many bytes.
-#[tactic(auto, using(crate::proofs::SizedParts::sized_length))]
+#[tactic(auto, unfolding(dwg_grammar::specs::Combinators::chain), using(crate::proofs::SizedParts::sized_length))]
 pub(crate) fn write_sized_by<S: BitCode<Context = (), Value = u32>>(
     bytes: &[u8],
     sink: &mut BitSink,

@@ -14,7 +14,7 @@ use std::alloc::Global;
 const TOO_MANY_BYTES: usize = 1 << 16;
 
 /// Reads a TV, as it is parsed. The only refusal is want of memory, which is taken only for bytes that are there.
-#[tactic(auto, using(crate::proofs::TextReading::tv_parsed))]
+#[tactic(auto, using(dwg_grammar::proofs::BodyReading::parsed, dwg_grammar::proofs::TableLemmas::tv_is_code))]
 pub fn parse_tv(alloc: Global, cursor: &mut BitCursor<'_>) -> Result<Option<ByteRun>, NoMemory>
     ensures parsed { IfOk result (λ found. Parses tv found cursor.old cursor.new) }
     ensures kept { Keeps cursor.old cursor.new }

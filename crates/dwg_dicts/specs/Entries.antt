@@ -13,10 +13,6 @@ use Rattle.dwg_dicts.specs.declared.style_control.StyleControl.{StyleControl}
 abbrev pub entries_body : {V : Type 0} → (List Reference → V) → (V → List Reference) → ℕ → BodyGrammar V
 entries_body {V} into entries_of base = body bl (λ count. some_refs base count) (λ count entries. into entries) (λ control. length (entries_of control)) entries_of
 
--- the entries by themselves
-abbrev pub entries_alone : ℕ → BodyGrammar (List Reference)
-entries_alone base = entries_body (λ entries. entries) (λ entries. entries) base
-
 unfoldable pub layer_control_body : ℕ → BodyGrammar LayerControl
 layer_control_body base = entries_body (λ entries. record { entries = entries }) (λ control. control.entries) base
 

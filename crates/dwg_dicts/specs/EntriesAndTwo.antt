@@ -16,10 +16,6 @@ entries_and_two base count = then_refs (some_refs base count) (then_refs (one_re
 abbrev pub two_more_body : {V : Type 0} → (List Reference × (Reference × Reference) → V) → (V → List Reference × (Reference × Reference)) → ℕ → BodyGrammar V
 two_more_body {V} into named_of base = body bl (entries_and_two base) (λ count named. into named) (λ control. length (named_of control).0) named_of
 
--- these references by themselves
-abbrev pub two_more_alone : ℕ → BodyGrammar (List Reference × (Reference × Reference))
-two_more_alone base = two_more_body (λ named. named) (λ named. named) base
-
 -- entries, model, paper
 unfoldable pub block_control_body : ℕ → BodyGrammar BlockControl
 block_control_body base =

@@ -17,7 +17,7 @@ use dwg_handles::{ref_bits, write_ref};
 use std::alloc::Global;
 
 /// Reads so many items, as they are parsed. The only refusal is want of memory, which is taken only for items that are there.
-#[tactic(auto, using(crate::proofs::ItemReading::none_begun))]
+#[tactic(auto, using(dwg_common::proofs::ChainReading::none_begun))]
 pub(crate) fn read_items(
     alloc: Global,
     count: u32,
@@ -58,7 +58,6 @@ fn item_fits(item: &DictItem, base: Handle) -> bool
 
 /// Whether items can be told from the dictionary of the handle `base`: each name has at most 65,535 bytes, and each reference
 /// reaches its target.
-#[tactic(auto, using(crate::proofs::ItemFitting::none_tried, crate::proofs::ItemFitting::one_fails, crate::proofs::ItemFitting::all_tried))]
 pub(crate) fn items_fit(items: &[DictItem], base: Handle) -> bool
     ensures { IsTrue result ↔ AreItems base items.now }
 {

@@ -46,6 +46,7 @@ fn read_start(cursor: &mut BitCursor<'_>) -> Option<(u32, (u16, u8))>
     Some((count, (cloning, hard_owner)))
 }
 
+#[tactic(auto, unfolding(crate::specs::Dictionaries::dictionary_body, dwg_grammar::specs::Combinators::chain), using(dwg_common::proofs::MemberLemmas::parts_counted))]
 impl BodyCode for Dictionary {
     ghost grammar = { dictionary_body };
 
@@ -68,7 +69,6 @@ impl BodyCode for Dictionary {
         }))
     }
 
-    #[tactic(auto, unfolding(crate::specs::Dictionaries::dictionary_body, dwg_grammar::specs::Combinators::chain), using(crate::proofs::DictionaryLemmas::names_counted, crate::proofs::DictionaryLemmas::targets_counted))]
     fn fits(&self, base: Handle) -> bool {
         // Each number of their types can be told.
         let _cloning = self.cloning;
@@ -80,7 +80,6 @@ impl BodyCode for Dictionary {
         items_fit(items, base)
     }
 
-    #[tactic(auto, unfolding(crate::specs::Dictionaries::dictionary_body, dwg_grammar::specs::Combinators::chain))]
     fn lengths(&self, base: Handle) -> Lengths {
         let items = self.items.as_slice();
         Lengths {
@@ -92,7 +91,6 @@ impl BodyCode for Dictionary {
         }
     }
 
-    #[tactic(auto, unfolding(crate::specs::Dictionaries::dictionary_body, dwg_grammar::specs::Combinators::chain))]
     fn write_main(&self, _base: Handle, sink: &mut BitSink) {
         let items = self.items.as_slice();
         write_count(items, sink);
@@ -101,7 +99,6 @@ impl BodyCode for Dictionary {
         write_names(items, sink);
     }
 
-    #[tactic(auto, unfolding(crate::specs::Dictionaries::dictionary_body, dwg_grammar::specs::Combinators::chain))]
     fn write_refs(&self, base: Handle, sink: &mut BitSink) {
         write_targets(self.items.as_slice(), base, sink);
     }

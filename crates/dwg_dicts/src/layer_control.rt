@@ -3,12 +3,11 @@
 ghost use Rattle.dwg_dicts.specs.DictLaws.{layer_control_is_body};
 ghost use Rattle.dwg_dicts.specs.Entries.{layer_control_body};
 
-use crate::entries::{entries_fit, entries_lengths, write_entries};
 use dwg_base::{Handle, Items, NoMemory};
 use dwg_bits::{BitCursor, BitSink};
 use dwg_codes::CodeBL;
-use dwg_common::{BodyCode, Lengths, parse_code, parse_refs, write_count};
-use dwg_handles::Ref;
+use dwg_common::{BodyCode, Lengths, count_bits, count_fits, parse_code, parse_refs, write_count};
+use dwg_handles::{Ref, refs_bits, refs_fit, write_refs};
 use std::alloc::Global;
 
 /// The control of layers (Open Design Specification, "LAYER CONTROL").
@@ -18,10 +17,10 @@ pub struct LayerControl {
     pub entries: Items<Ref>,
 }
 
+#[tactic(auto, unfolding(crate::specs::Entries::layer_control_body, dwg_grammar::specs::Combinators::chain))]
 impl BodyCode for LayerControl {
     ghost grammar = { layer_control_body };
 
-    #[tactic(auto, unfolding(crate::specs::Entries::layer_control_body))]
     fn parse(
         alloc: Global,
         main: &mut BitCursor<'_>,
@@ -37,24 +36,28 @@ impl BodyCode for LayerControl {
         Ok(Some(LayerControl { entries }))
     }
 
-    #[tactic(auto, unfolding(crate::specs::Entries::layer_control_body))]
     fn fits(&self, base: Handle) -> bool {
-        entries_fit(self.entries.as_slice(), base)
+        let entries = self.entries.as_slice();
+        if !count_fits(entries) {
+            return false;
+        }
+        refs_fit(entries, base)
     }
 
-    #[tactic(auto, unfolding(crate::specs::Entries::layer_control_body))]
     fn lengths(&self, base: Handle) -> Lengths {
-        entries_lengths(self.entries.as_slice(), base)
+        let entries = self.entries.as_slice();
+        Lengths {
+            main: count_bits(entries),
+            refs: refs_bits(entries, base),
+        }
     }
 
-    #[tactic(auto, unfolding(crate::specs::Entries::layer_control_body))]
     fn write_main(&self, _base: Handle, sink: &mut BitSink) {
         write_count(self.entries.as_slice(), sink);
     }
 
-    #[tactic(auto, unfolding(crate::specs::Entries::layer_control_body))]
     fn write_refs(&self, base: Handle, sink: &mut BitSink) {
-        write_entries(self.entries.as_slice(), base, sink);
+        write_refs(self.entries.as_slice(), base, sink);
     }
 
     ghost laws = { λ base small. layer_control_is_body base small };

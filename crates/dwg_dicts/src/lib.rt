@@ -6,8 +6,6 @@ mod appid_control;
 mod block_control;
 mod dict_items;
 mod dictionary;
-mod entries;
-mod entries_and_two;
 mod laws;
 mod layer_control;
 mod ltype_control;

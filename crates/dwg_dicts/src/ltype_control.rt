@@ -3,12 +3,13 @@
 ghost use Rattle.dwg_dicts.specs.DictLaws.{ltype_control_is_body};
 ghost use Rattle.dwg_dicts.specs.EntriesAndTwo.{ltype_control_body};
 
-use crate::entries_and_two::{entries_and_two_fit, entries_and_two_lengths, write_entries_and_two};
 use dwg_base::{Handle, Items, NoMemory};
 use dwg_bits::{BitCursor, BitSink};
 use dwg_codes::CodeBL;
-use dwg_common::{BodyCode, Lengths, parse_code, parse_ref, parse_refs, write_count};
-use dwg_handles::Ref;
+use dwg_common::{
+    BodyCode, Lengths, count_bits, count_fits, parse_code, parse_ref, parse_refs, write_count,
+};
+use dwg_handles::{Ref, ref_bits, refs_bits, refs_fit, write_ref, write_refs};
 use std::alloc::Global;
 
 /// The control of linetypes (Open Design Specification, "LTYPE CONTROL").
@@ -22,10 +23,10 @@ pub struct LtypeControl {
     pub second: Ref,
 }
 
+#[tactic(auto, unfolding(crate::specs::EntriesAndTwo::ltype_control_body, dwg_grammar::specs::Combinators::chain, dwg_grammar::specs::ReferenceCodes::reference))]
 impl BodyCode for LtypeControl {
     ghost grammar = { ltype_control_body };
 
-    #[tactic(auto, unfolding(crate::specs::EntriesAndTwo::ltype_control_body))]
     fn parse(
         alloc: Global,
         main: &mut BitCursor<'_>,
@@ -51,24 +52,38 @@ impl BodyCode for LtypeControl {
         }))
     }
 
-    #[tactic(auto, unfolding(crate::specs::EntriesAndTwo::ltype_control_body))]
     fn fits(&self, base: Handle) -> bool {
-        entries_and_two_fit(self.entries.as_slice(), self.first, self.second, base)
+        let entries = self.entries.as_slice();
+        if !count_fits(entries) {
+            return false;
+        }
+        if !refs_fit(entries, base) {
+            return false;
+        }
+        if !self.first.fits(base) {
+            return false;
+        }
+        self.second.fits(base)
     }
 
-    #[tactic(auto, unfolding(crate::specs::EntriesAndTwo::ltype_control_body))]
     fn lengths(&self, base: Handle) -> Lengths {
-        entries_and_two_lengths(self.entries.as_slice(), self.first, self.second, base)
+        let entries = self.entries.as_slice();
+        Lengths {
+            main: count_bits(entries),
+            refs: refs_bits(entries, base)
+                + ref_bits(self.first, base)
+                + ref_bits(self.second, base),
+        }
     }
 
-    #[tactic(auto, unfolding(crate::specs::EntriesAndTwo::ltype_control_body))]
     fn write_main(&self, _base: Handle, sink: &mut BitSink) {
         write_count(self.entries.as_slice(), sink);
     }
 
-    #[tactic(auto, unfolding(crate::specs::EntriesAndTwo::ltype_control_body))]
     fn write_refs(&self, base: Handle, sink: &mut BitSink) {
-        write_entries_and_two(self.entries.as_slice(), self.first, self.second, base, sink);
+        write_refs(self.entries.as_slice(), base, sink);
+        write_ref(self.first, base, sink);
+        write_ref(self.second, base, sink);
     }
 
     ghost laws = { λ base small. ltype_control_is_body base small };

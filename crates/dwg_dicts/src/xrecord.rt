@@ -54,10 +54,10 @@ fn read_targets(
     read_refs_to_end(alloc, cursor, base)
 }
 
+#[tactic(auto, unfolding(crate::specs::XRecords::xrecord_body))]
 impl BodyCode for XRecord {
     ghost grammar = { xrecord_body };
 
-    #[tactic(auto, unfolding(crate::specs::XRecords::xrecord_body))]
     fn parse(
         alloc: Global,
         main: &mut BitCursor<'_>,
@@ -77,7 +77,6 @@ impl BodyCode for XRecord {
         }))
     }
 
-    #[tactic(auto, unfolding(crate::specs::XRecords::xrecord_body))]
     fn fits(&self, base: Handle) -> bool {
         // Each number of its type can be told.
         let _cloning = self.cloning;
@@ -87,7 +86,6 @@ impl BodyCode for XRecord {
         refs_fit(self.targets.as_slice(), base)
     }
 
-    #[tactic(auto, unfolding(crate::specs::XRecords::xrecord_body))]
     fn lengths(&self, base: Handle) -> Lengths {
         Lengths {
             main: sized_bits(self.bytes.as_slice()) + CodeBS::length(&(), &self.cloning),
@@ -95,13 +93,11 @@ impl BodyCode for XRecord {
         }
     }
 
-    #[tactic(auto, unfolding(crate::specs::XRecords::xrecord_body))]
     fn write_main(&self, _base: Handle, sink: &mut BitSink) {
         write_sized(self.bytes.as_slice(), sink);
         CodeBS::write(&(), &self.cloning, sink);
     }
 
-    #[tactic(auto, unfolding(crate::specs::XRecords::xrecord_body))]
     fn write_refs(&self, base: Handle, sink: &mut BitSink) {
         write_refs(self.targets.as_slice(), base, sink);
     }

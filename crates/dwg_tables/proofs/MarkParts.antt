@@ -1,54 +1,31 @@
--- The counts of marks: tried one by one, and what is written of them.
-use Rattle.std.proofs.Common.{◌≡◌, refl, sym, ◌∙◌, ap, subst, ℕ, ◌+◌, ◌<◌, ◌≤◌, Bool, List, [], ◌∷◌, ◌++◌, length, map, drop, get_or}
-use Rattle.std.proofs.lemmas.List.{append_assoc, append-nil, length-append, drop_all}
+-- The counts of marks: read and tried one by one, and what is written of them.
+use Rattle.std.proofs.Common.{◌≡◌, refl, sym, ◌∙◌, ap, subst, ℕ, ◌+◌, Bool, List, [], ◌∷◌, ◌++◌, length, map, arith}
+use Rattle.std.proofs.lemmas.List.{append_assoc, append-nil, length-append}
 use Rattle.dwg_bits.specs.Sink.{Written, Extends}
 use Rattle.dwg_bits.proofs.SinkLemmas.{extends_by_both}
 use Rattle.dwg_grammar.specs.Codes.{rc}
-use Rattle.dwg_grammar.specs.Combinators.{IsUntil, until}
+use Rattle.dwg_grammar.specs.Combinators.{always, IsUntil, until}
+use Rattle.dwg_grammar.specs.Grammar.{AnyLetters}
+use Rattle.dwg_grammar.proofs.CombinatorLemmas.{always_is_code}
+use Rattle.dwg_grammar.proofs.NumberLemmas.{rc_is_code}
 use Rattle.dwg_grammar.specs.ToEnd.{AreValues, short_all}
+use Rattle.dwg_common.proofs.UntilReading.{TakeBits}
 use Rattle.dwg_tables.specs.declared.block_header.InsertMark.{InsertMark}
 use Rattle.dwg_tables.specs.BlockHeaderBody.{count_of}
 use Rattle.dwg_tables.specs.InsertMarks.{IsMarkCount, mark_counts}
-use Rattle.dwg_tables.proofs.MemberLoops.{left_at}
+
+-- a count takes bits
+pub counts_take : TakeBits rc (λ (count : ℕ). always count)
+counts_take = record {
+  tag_is_code = rc_is_code;
+  some_bits = λ count front spelled. omega (arith, spelled.0);
+  value_is_code = λ count. always_is_code AnyLetters count;
+}
 
 -- the counts are a value exactly where those that are left are
 pub record AreTried (marks left : List InsertMark) : Type 0 where
   pub fit : mark_counts.IsValue (map count_of left) → mark_counts.IsValue (map count_of marks)
   pub fitted : mark_counts.IsValue (map count_of marks) → mark_counts.IsValue (map count_of left)
-
--- at the begin all are left
-pub none_tried : (marks : List InsertMark) → AreTried marks (drop 0 marks)
-none_tried marks = record {
-  fit = λ fits. fits;
-  fitted = λ fits. fits;
-}
-
--- those from a place on are the one there and those behind it
-tried_at : (marks : List InsertMark) (i : ℕ) (mark : InsertMark) → i < length marks → mark ≡ get_or marks i mark → AreTried marks (drop i marks)
-    → AreTried marks (mark ∷ drop (i + 1) marks)
-tried_at marks i mark inside here so_far = subst (λ (left : List InsertMark). AreTried marks left) (left_at marks i mark inside here) so_far
-
--- with one more tried, those behind it are left
-pub one_tried : (marks : List InsertMark) (i : ℕ) (mark : InsertMark) → i < length marks → mark ≡ get_or marks i mark → IsMarkCount (count_of mark) → AreTried marks (drop i marks)
-    → AreTried marks (drop (i + 1) marks)
-unfolding mark_counts until
-one_tried marks i mark inside here is so_far =
-    let at = tried_at marks i mark inside here so_far in
-    record {
-      fit = λ fits. at.fit (is, fits);
-      fitted = λ fits. (at.fitted fits).1;
-    }
-
--- where one is none that a mark may have, they are no value
-pub one_fails : (marks : List InsertMark) (i : ℕ) (mark : InsertMark) → i < length marks → mark ≡ get_or marks i mark → (IsMarkCount (count_of mark) → ⊥)
-    → AreTried marks (drop i marks) → mark_counts.IsValue (map count_of marks) → ⊥
-unfolding mark_counts until
-one_fails marks i mark inside here fails so_far fits = fails ((tried_at marks i mark inside here so_far).fitted fits).0
-
--- where none is left, they are one
-pub all_tried : (marks : List InsertMark) (i : ℕ) → length marks ≤ i → AreTried marks (drop i marks) → mark_counts.IsValue (map count_of marks)
-unfolding mark_counts until
-all_tried marks i past so_far = (subst (λ (left : List InsertMark). AreTried marks left) (drop_all i marks past) so_far).fit tt
 
 -- counts that marks may have are numbers of 8 bits
 values_of : (counts : List ℕ) → IsUntil IsMarkCount counts → AreValues rc counts

@@ -22,10 +22,10 @@ pub struct AppId {
     pub extra: u8,
 }
 
+#[tactic(auto, unfolding(crate::specs::AppIdBody::app_id_body, dwg_grammar::specs::ReferenceCodes::reference))]
 impl BodyCode for AppId {
     ghost grammar = { app_id_body };
 
-    #[tactic(auto, unfolding(crate::specs::AppIdBody::app_id_body))]
     fn parse(
         alloc: Global,
         main: &mut BitCursor<'_>,
@@ -47,7 +47,6 @@ impl BodyCode for AppId {
         }))
     }
 
-    #[tactic(auto, unfolding(crate::specs::AppIdBody::app_id_body, dwg_grammar::specs::ReferenceCodes::reference))]
     fn fits(&self, base: Handle) -> bool {
         // Its code tells every number of its type.
         let _extra = self.extra;
@@ -57,7 +56,6 @@ impl BodyCode for AppId {
         self.entry.xref.fits(base)
     }
 
-    #[tactic(auto, unfolding(crate::specs::AppIdBody::app_id_body, dwg_grammar::specs::ReferenceCodes::reference))]
     fn lengths(&self, base: Handle) -> Lengths {
         Lengths {
             main: title_bits(&self.entry) + CodeRC::length(&(), &self.extra),
@@ -65,13 +63,11 @@ impl BodyCode for AppId {
         }
     }
 
-    #[tactic(auto, unfolding(crate::specs::AppIdBody::app_id_body))]
     fn write_main(&self, _base: Handle, sink: &mut BitSink) {
         write_title(&self.entry, sink);
         CodeRC::write(&(), &self.extra, sink);
     }
 
-    #[tactic(auto, unfolding(crate::specs::AppIdBody::app_id_body, dwg_grammar::specs::ReferenceCodes::reference))]
     fn write_refs(&self, base: Handle, sink: &mut BitSink) {
         write_ref(self.entry.xref, base, sink);
     }

@@ -1,4 +1,5 @@
 //! What the main bits of the header of a block tell behind its flags (Open Design Specification, "BLOCK HEADER").
+#![tactic(auto, unfolding(crate::specs::BlockHeaderBody::block_content))]
 
 ghost use Rattle.std.specs.Prelude.{◌≡◌, ◌^◌, ◌<◌, ◌≤◌, ◌↔◌, length, IfOk, IsTrue};
 ghost use Rattle.dwg_bits.specs.Sink.{Extends};
@@ -17,7 +18,6 @@ use dwg_common::{
 use std::alloc::Global;
 
 /// Reads the content of a header, as it is parsed. The only refusal is want of memory, which is taken only for what is there.
-#[tactic(auto, unfolding(crate::specs::BlockHeaderBody::block_content))]
 pub(crate) fn read_content(
     alloc: Global,
     cursor: &mut BitCursor<'_>,
@@ -51,7 +51,6 @@ pub(crate) fn read_content(
 
 /// Whether the content of a header can be told: its path and its description have at most 65,535 bytes each, no mark has
 /// count 0, and its preview has fewer than 2^32 bytes.
-#[tactic(auto, unfolding(crate::specs::BlockHeaderBody::block_content))]
 pub(crate) fn content_fits(header: &BlockHeader) -> bool
     ensures { IsTrue result ↔ block_content.IsValue (content_of header.now) }
 {
@@ -69,7 +68,6 @@ pub(crate) fn content_fits(header: &BlockHeader) -> bool
 }
 
 /// How many bits the content of a header is written by.
-#[tactic(auto, unfolding(crate::specs::BlockHeaderBody::block_content))]
 pub(crate) fn content_bits(header: &BlockHeader) -> u64
     requires value { block_content.IsValue (content_of header.now) }
     requires few { length (block_content.short (content_of header.now)) < 2 ^ 62 }
@@ -83,7 +81,6 @@ pub(crate) fn content_bits(header: &BlockHeader) -> u64
 }
 
 /// Writes the content of a header.
-#[tactic(auto, unfolding(crate::specs::BlockHeaderBody::block_content))]
 pub(crate) fn write_content(header: &BlockHeader, sink: &mut BitSink)
     requires value { block_content.IsValue (content_of header.now) }
     requires room { length (block_content.short (content_of header.now)) ≤ sink.old.spare }

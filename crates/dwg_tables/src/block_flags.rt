@@ -1,4 +1,5 @@
 //! What single bits of the header of a block tell (Open Design Specification, "BLOCK HEADER").
+#![tactic(auto, unfolding(crate::specs::BlockHeaderBody::block_flags))]
 
 ghost use Rattle.std.specs.Prelude.{◌≡◌, ◌^◌, ◌<◌, ◌≤◌, length};
 ghost use Rattle.dwg_bits.specs.Sink.{Extends};
@@ -11,7 +12,6 @@ use dwg_codes::{BitCode, CodeB};
 use dwg_common::parse_code;
 
 /// Reads the flags of a header, as they are parsed.
-#[tactic(auto, unfolding(crate::specs::BlockHeaderBody::block_flags))]
 pub(crate) fn read_flags(cursor: &mut BitCursor<'_>) -> Option<BlockFlags>
     ensures parsed { Parses block_flags result cursor.old cursor.new }
     ensures kept { Keeps cursor.old cursor.new }
@@ -31,7 +31,6 @@ pub(crate) fn read_flags(cursor: &mut BitCursor<'_>) -> Option<BlockFlags>
 }
 
 /// All flags can be told.
-#[tactic(auto, unfolding(crate::specs::BlockHeaderBody::block_flags))]
 pub(crate) fn known_flags(flags: BlockFlags)
     ensures { block_flags.IsValue flags }
 {
@@ -39,7 +38,6 @@ pub(crate) fn known_flags(flags: BlockFlags)
 }
 
 /// How many bits the flags of a header are written by.
-#[tactic(auto, unfolding(crate::specs::BlockHeaderBody::block_flags))]
 pub(crate) fn flags_bits(flags: BlockFlags) -> u64
     requires { block_flags.IsValue flags }
     ensures length { result ≡ length (block_flags.short flags) }
@@ -53,7 +51,6 @@ pub(crate) fn flags_bits(flags: BlockFlags) -> u64
 }
 
 /// Writes the flags of a header.
-#[tactic(auto, unfolding(crate::specs::BlockHeaderBody::block_flags))]
 pub(crate) fn write_flags(flags: BlockFlags, sink: &mut BitSink)
     requires value { block_flags.IsValue flags }
     requires room { length (block_flags.short flags) ≤ sink.old.spare }

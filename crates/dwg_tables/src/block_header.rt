@@ -1,13 +1,13 @@
 //! Headers of blocks.
 
-ghost use Rattle.std.specs.Prelude.{◌≡◌, length, IfOk};
-ghost use Rattle.dwg_tables.specs.BlockHeaderBody.{block_header_body, flags_of, header_of};
+ghost use Rattle.std.specs.Prelude.{◌≡◌};
+ghost use Rattle.dwg_tables.specs.BlockHeaderBody.{block_header_body, flags_of};
 ghost use Rattle.dwg_tables.specs.BlockHeaderLaws.{block_header_is_body};
 
 use crate::block_content::{content_bits, content_fits, read_content, write_content};
 use crate::block_flags::{flags_bits, known_flags, read_flags, write_flags};
 use crate::block_names::{block_names_bits, block_names_fit, read_block_names, write_block_names};
-use crate::entry::{Entry, Title, entry_of};
+use crate::entry::{Entry, entry_of};
 use crate::members::join_all;
 use crate::title::{read_title, title_bits, title_fits, write_title};
 use dwg_base::{ByteRun, Handle, Items, NoMemory};
@@ -130,45 +130,10 @@ fn flags_of(header: &BlockHeader) -> BlockFlags
     }
 }
 
-/// A header from what its main bits tell and from what it names. The only refusal is want of memory.
-fn header_of(
-    alloc: Global,
-    title: Title,
-    flags: BlockFlags,
-    content: BlockContent,
-    names: BlockNames,
-) -> Result<BlockHeader, NoMemory>
-    requires { length names.targets ≡ length content.counts }
-    ensures { IfOk result (λ header. header ≡ header_of (title, (flags, content)) names) }
-{
-    let inserts = join_all::<u8, InsertMark>(
-        alloc,
-        content.counts.as_slice(),
-        names.targets.as_slice(),
-    )?;
-    Ok(BlockHeader {
-        entry: entry_of(title, names.xref),
-        anonymous: flags.anonymous,
-        has_attributes: flags.has_attributes,
-        is_xref: flags.is_xref,
-        overlaid: flags.overlaid,
-        loaded: flags.loaded,
-        base: content.base,
-        path: content.path,
-        inserts,
-        description: content.description,
-        preview: content.preview,
-        block: names.block,
-        ends: names.ends,
-        endblk: names.endblk,
-        layout: names.layout,
-    })
-}
-
+#[tactic(auto, unfolding(crate::specs::BlockHeaderBody::block_header_body))]
 impl BodyCode for BlockHeader {
     ghost grammar = { block_header_body };
 
-    #[tactic(auto, unfolding(crate::specs::BlockHeaderBody::block_header_body))]
     fn parse(
         alloc: Global,
         main: &mut BitCursor<'_>,
@@ -187,11 +152,30 @@ impl BodyCode for BlockHeader {
         let Some(names) = read_block_names(alloc, flags, &content, refs, base)? else {
             return Ok(None);
         };
-        let header = header_of(alloc, title, flags, content, names)?;
-        Ok(Some(header))
+        let inserts = join_all::<u8, InsertMark>(
+            alloc,
+            content.counts.as_slice(),
+            names.targets.as_slice(),
+        )?;
+        Ok(Some(BlockHeader {
+            entry: entry_of(title, names.xref),
+            anonymous: flags.anonymous,
+            has_attributes: flags.has_attributes,
+            is_xref: flags.is_xref,
+            overlaid: flags.overlaid,
+            loaded: flags.loaded,
+            base: content.base,
+            path: content.path,
+            inserts,
+            description: content.description,
+            preview: content.preview,
+            block: names.block,
+            ends: names.ends,
+            endblk: names.endblk,
+            layout: names.layout,
+        }))
     }
 
-    #[tactic(auto, unfolding(crate::specs::BlockHeaderBody::block_header_body))]
     fn fits(&self, base: Handle) -> bool {
         let flags = flags_of(self);
         known_flags(flags);
@@ -204,7 +188,6 @@ impl BodyCode for BlockHeader {
         block_names_fit(self, flags, base)
     }
 
-    #[tactic(auto, unfolding(crate::specs::BlockHeaderBody::block_header_body))]
     fn lengths(&self, base: Handle) -> Lengths {
         let flags = flags_of(self);
         Lengths {
@@ -213,14 +196,12 @@ impl BodyCode for BlockHeader {
         }
     }
 
-    #[tactic(auto, unfolding(crate::specs::BlockHeaderBody::block_header_body))]
     fn write_main(&self, _base: Handle, sink: &mut BitSink) {
         write_title(&self.entry, sink);
         write_flags(flags_of(self), sink);
         write_content(self, sink);
     }
 
-    #[tactic(auto, unfolding(crate::specs::BlockHeaderBody::block_header_body))]
     fn write_refs(&self, base: Handle, sink: &mut BitSink) {
         write_block_names(self, flags_of(self), base, sink);
     }

@@ -5,10 +5,9 @@ ghost use Rattle.dwg_bits.specs.Sink.{Extends};
 ghost use Rattle.dwg_common.specs.Parsing.{Keeps, Parses};
 ghost use Rattle.dwg_tables.specs.BlockHeaderBody.{block_refs, content_of, has_ends, names_of};
 
-use crate::block_header::{BlockContent, BlockFlags, BlockHeader, BlockNames};
+use crate::block_header::{BlockContent, BlockFlags, BlockHeader, BlockNames, InsertMark};
 use crate::ends::{CodeEnds, ends_fit_when};
-use crate::marks::{targets_bits, targets_fit, write_targets};
-use crate::members::read_names;
+use crate::members::{names_fit, parts_bits, read_names, write_parts};
 use dwg_base::{Handle, NoMemory};
 use dwg_bits::{BitCursor, BitSink};
 use dwg_codes::{BitCode, length_when, write_when};
@@ -66,7 +65,7 @@ pub(crate) fn read_block_names(
 
 /// Whether what a header names can be told from it: its entities are there exactly where it is no external reference and no
 /// overlaid one, and each reference reaches its target.
-#[tactic(auto, unfolding(dwg_grammar::specs::ReferenceCodes::reference))]
+#[tactic(auto, unfolding(dwg_grammar::specs::ReferenceCodes::reference, dwg_grammar::specs::Combinators::chain), using(dwg_common::proofs::MemberLemmas::parts_counted))]
 pub(crate) fn block_names_fit(header: &BlockHeader, flags: BlockFlags, base: Handle) -> bool
     ensures { IsTrue result ↔ (block_refs base flags (content_of header.now)).grammar.IsValue (names_of header.now) }
 {
@@ -82,13 +81,14 @@ pub(crate) fn block_names_fit(header: &BlockHeader, flags: BlockFlags, base: Han
     if !header.endblk.fits(base) {
         return false;
     }
-    if !targets_fit(&header.inserts, base) {
+    if !names_fit(header.inserts.as_slice(), base) {
         return false;
     }
     header.layout.fits(base)
 }
 
 /// How many bits what a header names is written by.
+#[tactic(auto, unfolding(dwg_grammar::specs::Combinators::chain))]
 pub(crate) fn block_names_bits(header: &BlockHeader, flags: BlockFlags, base: Handle) -> u64
     requires value { (block_refs base flags (content_of header.now)).grammar.IsValue (names_of header.now) }
     requires few { length ((block_refs base flags (content_of header.now)).grammar.short (names_of header.now)) < 2 ^ 62 }
@@ -98,11 +98,12 @@ pub(crate) fn block_names_bits(header: &BlockHeader, flags: BlockFlags, base: Ha
         + CodeH::length(&base, &header.block)
         + length_when::<CodeEnds>(&base, has_ends(flags), &header.ends)
         + CodeH::length(&base, &header.endblk)
-        + targets_bits(header.inserts.as_slice(), base)
+        + parts_bits::<CodeH, InsertMark>(&base, header.inserts.as_slice())
         + CodeH::length(&base, &header.layout)
 }
 
 /// Writes what a header names.
+#[tactic(auto, unfolding(dwg_grammar::specs::Combinators::chain))]
 pub(crate) fn write_block_names(
     header: &BlockHeader,
     flags: BlockFlags,
@@ -117,6 +118,6 @@ pub(crate) fn write_block_names(
     CodeH::write(&base, &header.block, sink);
     write_when::<CodeEnds>(&base, has_ends(flags), &header.ends, sink);
     CodeH::write(&base, &header.endblk, sink);
-    write_targets(header.inserts.as_slice(), base, sink);
+    write_parts::<CodeH, InsertMark>(&base, header.inserts.as_slice(), sink);
     CodeH::write(&base, &header.layout, sink);
 }

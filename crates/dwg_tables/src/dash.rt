@@ -93,7 +93,6 @@ fn known_stroke(dash: &Dash)
 }
 
 /// So it is with those of many dashes.
-#[tactic(auto, using(crate::proofs::MemberLoops::none_tried, crate::proofs::MemberLoops::all_tried))]
 pub(crate) fn known_strokes(dashes: &[Dash])
     ensures { AreValues stroke (map stroke_of dashes.now) }
 {
@@ -115,7 +114,7 @@ impl BitCode for CodeStroke {
 
     ghost IsContext = { λ context. ⊤ };
 
-    #[tactic(auto, using(crate::proofs::PartReading::stroke_read, crate::proofs::PartReading::stroke_unread, crate::proofs::PartReading::stroke_value))]
+    #[tactic(auto, using(dwg_common::proofs::PartReading::part_read, dwg_common::proofs::PartReading::part_unread, dwg_grammar::proofs::BodyReading::parsed_value, crate::specs::TableLaws::stroke_is_code))]
     fn read(_context: &(), cursor: &mut BitCursor<'_>) -> Option<Stroke> {
         let mut ahead = *cursor;
         let told = read_stroke(&mut ahead)?;

@@ -1,11 +1,8 @@
 //! The form of the letters of a text style, as bits (Open Design Specification, "SHAPEFILE").
+#![tactic(auto, unfolding(crate::specs::StyleBody::style_form))]
 
 ghost use Rattle.std.specs.Prelude.{◌≡◌, ◌^◌, ◌<◌, ◌≤◌, length};
-ghost use Rattle.std.specs.Option.{option_map};
-ghost use Rattle.dwg_bits.specs.Cursor.{rest};
 ghost use Rattle.dwg_bits.specs.Sink.{Extends};
-ghost use Rattle.dwg_grammar.specs.Codes.{bd, rc};
-ghost use Rattle.dwg_grammar.specs.Combinators.{seq};
 ghost use Rattle.dwg_common.specs.Parsing.{Keeps, Parses};
 ghost use Rattle.dwg_tables.specs.StyleBody.{style_form};
 
@@ -14,20 +11,7 @@ use dwg_bits::{BitCursor, BitSink};
 use dwg_codes::{BitCode, CodeB, CodeBD, CodeRC};
 use dwg_common::parse_code;
 
-/// Reads what stands last in the form of letters, as it is parsed: how oblique they are, how they are mirrored, and how high
-/// the last text was.
-fn read_slant(cursor: &mut BitCursor<'_>) -> Option<(u64, u8, u64)>
-    ensures parsed { (seq bd (λ oblique. seq rc (λ generation. bd))).parse (rest cursor.old) ≡ option_map (λ slant. ((slant.0, (slant.1, slant.2)), rest cursor.new)) result }
-    ensures kept { Keeps cursor.old cursor.new }
-{
-    let oblique = parse_code::<CodeBD>(&(), cursor)?;
-    let generation = parse_code::<CodeRC>(&(), cursor)?;
-    let last_height = parse_code::<CodeBD>(&(), cursor)?;
-    Some((oblique, generation, last_height))
-}
-
 /// Reads the form of letters, as it is parsed.
-#[tactic(auto, unfolding(crate::specs::StyleBody::style_form))]
 pub(crate) fn read_form(cursor: &mut BitCursor<'_>) -> Option<Form>
     ensures parsed { Parses style_form result cursor.old cursor.new }
     ensures kept { Keeps cursor.old cursor.new }
@@ -36,7 +20,9 @@ pub(crate) fn read_form(cursor: &mut BitCursor<'_>) -> Option<Form>
     let flag_b = parse_code::<CodeB>(&(), cursor)?;
     let height = parse_code::<CodeBD>(&(), cursor)?;
     let width = parse_code::<CodeBD>(&(), cursor)?;
-    let (oblique, generation, last_height) = read_slant(cursor)?;
+    let oblique = parse_code::<CodeBD>(&(), cursor)?;
+    let generation = parse_code::<CodeRC>(&(), cursor)?;
+    let last_height = parse_code::<CodeBD>(&(), cursor)?;
     Some(Form {
         flag_a,
         flag_b,
@@ -49,7 +35,6 @@ pub(crate) fn read_form(cursor: &mut BitCursor<'_>) -> Option<Form>
 }
 
 /// Every form can be told: its codes tell every number of their types.
-#[tactic(auto, unfolding(crate::specs::StyleBody::style_form))]
 pub(crate) fn known_form(form: Form)
     ensures { style_form.IsValue form }
 {
@@ -57,7 +42,6 @@ pub(crate) fn known_form(form: Form)
 }
 
 /// How many bits the form of letters is written by.
-#[tactic(auto, unfolding(crate::specs::StyleBody::style_form))]
 pub(crate) fn form_bits(form: Form) -> u64
     requires { style_form.IsValue form }
     ensures length { result ≡ length (style_form.short form) }
@@ -73,7 +57,6 @@ pub(crate) fn form_bits(form: Form) -> u64
 }
 
 /// Writes the form of letters.
-#[tactic(auto, unfolding(crate::specs::StyleBody::style_form))]
 pub(crate) fn write_form(form: Form, sink: &mut BitSink)
     requires value { style_form.IsValue form }
     requires room { length (style_form.short form) ≤ sink.old.spare }

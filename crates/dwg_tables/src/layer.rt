@@ -1,12 +1,7 @@
 //! Layers.
 
 ghost use Rattle.std.specs.Prelude.{◌≡◌, IfOk};
-ghost use Rattle.std.specs.Option.{option_map};
-ghost use Rattle.dwg_bits.specs.Cursor.{rest};
-ghost use Rattle.dwg_grammar.specs.Codes.{bs};
-ghost use Rattle.dwg_grammar.specs.Combinators.{seq};
-ghost use Rattle.dwg_common.specs.Parsing.{Keeps, Parses};
-ghost use Rattle.dwg_tables.specs.LayerBody.{layer_body, layer_refs};
+ghost use Rattle.dwg_tables.specs.LayerBody.{layer_body};
 ghost use Rattle.dwg_tables.specs.TableLaws.{layer_is_body};
 
 use crate::entry::{Entry, entry_of};
@@ -34,32 +29,10 @@ pub struct Layer {
     pub linetype: Ref,
 }
 
-/// Reads the values of a layer and the number of its colour, as they are parsed.
-fn read_values(cursor: &mut BitCursor<'_>) -> Option<(u16, u16)>
-    ensures parsed { Parses (seq bs (λ values. bs)) result cursor.old cursor.new }
-    ensures kept { Keeps cursor.old cursor.new }
-{
-    let values = parse_code::<CodeBS>(&(), cursor)?;
-    let colour = parse_code::<CodeBS>(&(), cursor)?;
-    Some((values, colour))
-}
-
-/// Reads what the layer of the handle `base` names, as it is parsed: the block of the external reference that it is of, its
-/// plot style and its linetype.
-fn read_named(cursor: &mut BitCursor<'_>, base: Handle) -> Option<(Ref, Ref, Ref)>
-    ensures parsed { (layer_refs base).grammar.parse (rest cursor.old) ≡ option_map (λ named. ((named.0, (named.1, named.2)), rest cursor.new)) result }
-    ensures kept { Keeps cursor.old cursor.new }
-{
-    let xref = parse_ref(cursor, base)?;
-    let plotstyle = parse_ref(cursor, base)?;
-    let linetype = parse_ref(cursor, base)?;
-    Some((xref, plotstyle, linetype))
-}
-
+#[tactic(auto, unfolding(crate::specs::LayerBody::layer_body, dwg_grammar::specs::ReferenceCodes::reference))]
 impl BodyCode for Layer {
     ghost grammar = { layer_body };
 
-    #[tactic(auto, unfolding(crate::specs::LayerBody::layer_body))]
     fn parse(
         alloc: Global,
         main: &mut BitCursor<'_>,
@@ -69,10 +42,19 @@ impl BodyCode for Layer {
         let Some(title) = read_title(alloc, main)? else {
             return Ok(None);
         };
-        let Some((values, colour)) = read_values(main) else {
+        let Some(values) = parse_code::<CodeBS>(&(), main) else {
             return Ok(None);
         };
-        let Some((xref, plotstyle, linetype)) = read_named(refs, base) else {
+        let Some(colour) = parse_code::<CodeBS>(&(), main) else {
+            return Ok(None);
+        };
+        let Some(xref) = parse_ref(refs, base) else {
+            return Ok(None);
+        };
+        let Some(plotstyle) = parse_ref(refs, base) else {
+            return Ok(None);
+        };
+        let Some(linetype) = parse_ref(refs, base) else {
             return Ok(None);
         };
         Ok(Some(Layer {
@@ -84,7 +66,6 @@ impl BodyCode for Layer {
         }))
     }
 
-    #[tactic(auto, unfolding(crate::specs::LayerBody::layer_body, dwg_grammar::specs::ReferenceCodes::reference))]
     fn fits(&self, base: Handle) -> bool {
         // Their codes tell every number of their types.
         let _values = self.values;
@@ -101,7 +82,6 @@ impl BodyCode for Layer {
         self.linetype.fits(base)
     }
 
-    #[tactic(auto, unfolding(crate::specs::LayerBody::layer_body, dwg_grammar::specs::ReferenceCodes::reference))]
     fn lengths(&self, base: Handle) -> Lengths {
         Lengths {
             main: title_bits(&self.entry)
@@ -113,14 +93,12 @@ impl BodyCode for Layer {
         }
     }
 
-    #[tactic(auto, unfolding(crate::specs::LayerBody::layer_body))]
     fn write_main(&self, _base: Handle, sink: &mut BitSink) {
         write_title(&self.entry, sink);
         CodeBS::write(&(), &self.values, sink);
         CodeBS::write(&(), &self.colour, sink);
     }
 
-    #[tactic(auto, unfolding(crate::specs::LayerBody::layer_body, dwg_grammar::specs::ReferenceCodes::reference))]
     fn write_refs(&self, base: Handle, sink: &mut BitSink) {
         write_ref(self.entry.xref, base, sink);
         write_ref(self.plotstyle, base, sink);

@@ -1,11 +1,8 @@
 //! Linetypes.
 
-ghost use Rattle.std.specs.Prelude.{◌≡◌, ◌^◌, ◌<◌, ◌≤◌, ◌↔◌, length, map, IfOk, IfSome, IsTrue};
-ghost use Rattle.dwg_bits.specs.Sink.{Extends};
-ghost use Rattle.dwg_grammar.specs.Combinators.{items};
-ghost use Rattle.dwg_grammar.specs.ReferenceCodes.{reference};
+ghost use Rattle.std.specs.Prelude.{◌≡◌, length, IfOk, IfSome};
 ghost use Rattle.dwg_common.specs.Parsing.{Keeps, Parses};
-ghost use Rattle.dwg_tables.specs.LtypeBody.{ltype_body, ltype_of, ltype_refs, stroke_of, style_of};
+ghost use Rattle.dwg_tables.specs.LtypeBody.{ltype_body, ltype_refs};
 ghost use Rattle.dwg_tables.specs.TableLaws.{ltype_is_body};
 
 use crate::entry::{Entry, Title, entry_of};
@@ -112,54 +109,10 @@ fn read_named(
     Ok(Some((xref, styles)))
 }
 
-/// A linetype from what its main bits tell and from what it names. The only refusal is want of memory.
-fn ltype_of(alloc: Global, told: Pattern, named: (Ref, Items<Ref>)) -> Result<Ltype, NoMemory>
-    requires { length named.1 ≡ length told.strokes }
-    ensures { IfOk result (λ ltype. ltype ≡ ltype_of told named) }
-{
-    let dashes = join_all::<Stroke, Dash>(alloc, told.strokes.as_slice(), named.1.as_slice())?;
-    Ok(Ltype {
-        entry: entry_of(told.title, named.0),
-        description: told.description,
-        length: told.length,
-        alignment: told.alignment,
-        dashes,
-        texts: told.texts,
-    })
-}
-
-/// Whether the style of each dash can be told from the linetype of the handle `base`.
-#[tactic(auto, unfolding(dwg_grammar::specs::Combinators::chain), using(crate::proofs::MemberLemmas::as_many))]
-fn styles_fit(dashes: &[Dash], base: Handle) -> bool
-    ensures { IsTrue result ↔ (items (reference base) (length (map stroke_of dashes.now))).IsValue (map style_of dashes.now) }
-{
-    names_fit(dashes, base)
-}
-
-/// How many bits the styles of dashes are written by.
-#[tactic(auto, unfolding(dwg_grammar::specs::Combinators::chain))]
-fn styles_bits(dashes: &[Dash], base: Handle) -> u64
-    requires value { (items (reference base) (length (map stroke_of dashes.now))).IsValue (map style_of dashes.now) }
-    requires few { length ((items (reference base) (length (map stroke_of dashes.now))).short (map style_of dashes.now)) < 2 ^ 62 }
-    ensures { result ≡ length ((items (reference base) (length (map stroke_of dashes.now))).short (map style_of dashes.now)) }
-{
-    parts_bits::<CodeH, Dash>(&base, dashes)
-}
-
-/// Writes the styles of dashes.
-#[tactic(auto, unfolding(dwg_grammar::specs::Combinators::chain))]
-fn write_styles(dashes: &[Dash], base: Handle, sink: &mut BitSink)
-    requires value { (items (reference base) (length (map stroke_of dashes.now))).IsValue (map style_of dashes.now) }
-    requires room { length ((items (reference base) (length (map stroke_of dashes.now))).short (map style_of dashes.now)) ≤ sink.old.spare }
-    ensures { Extends sink.old sink.new ((items (reference base) (length (map stroke_of dashes.now))).short (map style_of dashes.now)) }
-{
-    write_parts::<CodeH, Dash>(&base, dashes, sink);
-}
-
+#[tactic(auto, unfolding(crate::specs::LtypeBody::ltype_body, dwg_grammar::specs::ReferenceCodes::reference, dwg_grammar::specs::Combinators::chain), using(dwg_common::proofs::MemberLemmas::parts_counted))]
 impl BodyCode for Ltype {
     ghost grammar = { ltype_body };
 
-    #[tactic(auto, unfolding(crate::specs::LtypeBody::ltype_body))]
     fn parse(
         alloc: Global,
         main: &mut BitCursor<'_>,
@@ -172,11 +125,17 @@ impl BodyCode for Ltype {
         let Some(named) = read_named(alloc, &told, refs, base)? else {
             return Ok(None);
         };
-        let ltype = ltype_of(alloc, told, named)?;
-        Ok(Some(ltype))
+        let dashes = join_all::<Stroke, Dash>(alloc, told.strokes.as_slice(), named.1.as_slice())?;
+        Ok(Some(Ltype {
+            entry: entry_of(told.title, named.0),
+            description: told.description,
+            length: told.length,
+            alignment: told.alignment,
+            dashes,
+            texts: told.texts,
+        }))
     }
 
-    #[tactic(auto, unfolding(crate::specs::LtypeBody::ltype_body, dwg_grammar::specs::ReferenceCodes::reference))]
     fn fits(&self, base: Handle) -> bool {
         if !pattern_fits(self) {
             return false;
@@ -184,26 +143,24 @@ impl BodyCode for Ltype {
         if !self.entry.xref.fits(base) {
             return false;
         }
-        styles_fit(self.dashes.as_slice(), base)
+        names_fit(self.dashes.as_slice(), base)
     }
 
-    #[tactic(auto, unfolding(crate::specs::LtypeBody::ltype_body, dwg_grammar::specs::ReferenceCodes::reference))]
     fn lengths(&self, base: Handle) -> Lengths {
         Lengths {
             main: pattern_bits(self),
-            refs: ref_bits(self.entry.xref, base) + styles_bits(self.dashes.as_slice(), base),
+            refs: ref_bits(self.entry.xref, base)
+                + parts_bits::<CodeH, Dash>(&base, self.dashes.as_slice()),
         }
     }
 
-    #[tactic(auto, unfolding(crate::specs::LtypeBody::ltype_body))]
     fn write_main(&self, _base: Handle, sink: &mut BitSink) {
         write_pattern(self, sink);
     }
 
-    #[tactic(auto, unfolding(crate::specs::LtypeBody::ltype_body, dwg_grammar::specs::ReferenceCodes::reference))]
     fn write_refs(&self, base: Handle, sink: &mut BitSink) {
         write_ref(self.entry.xref, base, sink);
-        write_styles(self.dashes.as_slice(), base, sink);
+        write_parts::<CodeH, Dash>(&base, self.dashes.as_slice(), sink);
     }
 
     ghost laws = { λ base small. ltype_is_body base small };

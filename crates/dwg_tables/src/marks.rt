@@ -2,19 +2,17 @@
 
 ghost use Rattle.std.specs.Prelude.{◌≡◌, ◌^◌, ◌<◌, ◌≤◌, ◌↔◌, length, map, IfOk, IsTrue};
 ghost use Rattle.dwg_bits.specs.Sink.{Extends};
-ghost use Rattle.dwg_grammar.specs.Combinators.{items};
-ghost use Rattle.dwg_grammar.specs.ReferenceCodes.{reference};
 ghost use Rattle.dwg_common.specs.Parsing.{Keeps, Parses};
 ghost use Rattle.dwg_tables.specs.BlockHeaderBody.{count_of, mark_of, target_of};
 ghost use Rattle.dwg_tables.specs.InsertMarks.{IsMarkCount, mark_counts};
 
 use crate::block_header::InsertMark;
-use crate::members::{Joined, Part, names_fit, parts_bits, write_parts};
-use dwg_base::{Handle, Items, NoMemory};
+use crate::members::{Joined, Part, parts_bits, write_parts};
+use dwg_base::{Items, NoMemory};
 use dwg_bits::{BitCursor, BitSink};
 use dwg_codes::{BitCode, CodeRC};
 use dwg_common::parse_code;
-use dwg_handles::{CodeH, Ref};
+use dwg_handles::Ref;
 use std::alloc::Global;
 
 /// The count that no mark has, which ends the list.
@@ -49,7 +47,7 @@ impl Joined<u8> for InsertMark {
 
 /// Reads counts up to their mark, as they are parsed. The only refusal is want of memory, which is taken only for counts that
 /// are there.
-#[tactic(auto, using(crate::proofs::MarkReading::none_begun))]
+#[tactic(auto, unfolding(crate::specs::InsertMarks::mark_counts, dwg_grammar::specs::Combinators::until), using(dwg_common::proofs::UntilReading::behind_none))]
 pub(crate) fn read_counts(
     alloc: Global,
     cursor: &mut BitCursor<'_>,
@@ -81,7 +79,7 @@ fn count_fits(mark: &InsertMark) -> bool
 }
 
 /// Whether the counts of marks can be told: none is 0.
-#[tactic(auto, using(crate::proofs::MarkParts::none_tried, crate::proofs::MarkParts::one_fails, crate::proofs::MarkParts::all_tried))]
+#[tactic(auto, unfolding(crate::specs::InsertMarks::mark_counts, dwg_grammar::specs::Combinators::until))]
 pub(crate) fn counts_fit(marks: &[InsertMark]) -> bool
     ensures { IsTrue result ↔ mark_counts.IsValue (map count_of marks.now) }
 {
@@ -112,32 +110,4 @@ pub(crate) fn write_counts(marks: &[InsertMark], sink: &mut BitSink)
 {
     write_parts::<CodeRC, InsertMark>(&(), marks, sink);
     CodeRC::write(&(), &END_OF_MARKS, sink);
-}
-
-/// Whether the insert of each mark can be told from the header of the handle `base`.
-#[tactic(auto, unfolding(dwg_grammar::specs::Combinators::chain), using(crate::proofs::MemberLemmas::as_many))]
-pub(crate) fn targets_fit(marks: &Items<InsertMark>, base: Handle) -> bool
-    ensures { IsTrue result ↔ (items (reference base) (length (map count_of marks.now))).IsValue (map target_of marks.now) }
-{
-    names_fit(marks.as_slice(), base)
-}
-
-/// How many bits the inserts of marks are written by.
-#[tactic(auto, unfolding(dwg_grammar::specs::Combinators::chain))]
-pub(crate) fn targets_bits(marks: &[InsertMark], base: Handle) -> u64
-    requires value { (items (reference base) (length (map count_of marks.now))).IsValue (map target_of marks.now) }
-    requires few { length ((items (reference base) (length (map count_of marks.now))).short (map target_of marks.now)) < 2 ^ 62 }
-    ensures { result ≡ length ((items (reference base) (length (map count_of marks.now))).short (map target_of marks.now)) }
-{
-    parts_bits::<CodeH, InsertMark>(&base, marks)
-}
-
-/// Writes the inserts of marks.
-#[tactic(auto, unfolding(dwg_grammar::specs::Combinators::chain))]
-pub(crate) fn write_targets(marks: &[InsertMark], base: Handle, sink: &mut BitSink)
-    requires value { (items (reference base) (length (map count_of marks.now))).IsValue (map target_of marks.now) }
-    requires room { length ((items (reference base) (length (map count_of marks.now))).short (map target_of marks.now)) ≤ sink.old.spare }
-    ensures { Extends sink.old sink.new ((items (reference base) (length (map count_of marks.now))).short (map target_of marks.now)) }
-{
-    write_parts::<CodeH, InsertMark>(&base, marks, sink);
 }

@@ -38,7 +38,7 @@ pub(crate) trait Joined<P>: Sized {
 
 /// Reads a reference of the object of the handle `base` for each of the members that are told of, as they are parsed. The only
 /// refusal is want of memory, which is taken only for references that are there.
-#[tactic(auto, using(crate::proofs::NameReading::none_begun))]
+#[tactic(auto, using(dwg_common::proofs::ChainReading::none_begun))]
 pub(crate) fn read_names<P>(
     alloc: Global,
     told: &[P],
@@ -82,7 +82,7 @@ pub(crate) fn join_all<P, V: Joined<P> + Drop>(
 }
 
 /// Whether what is named of each member can be told from the object of the handle `base`.
-#[tactic(auto, using(crate::proofs::MemberLoops::none_tried, crate::proofs::MemberLoops::one_fails, crate::proofs::MemberLoops::all_tried), unfolding(dwg_grammar::specs::ReferenceCodes::reference))]
+#[tactic(auto, unfolding(dwg_grammar::specs::ReferenceCodes::reference))]
 pub(crate) fn names_fit<V: Part<Ref>>(members: &[V], base: Handle) -> bool
     ensures { IsTrue result ↔ AreValues (reference base) (map V.part members.now) }
 {
@@ -95,7 +95,6 @@ pub(crate) fn names_fit<V: Part<Ref>>(members: &[V], base: Handle) -> bool
 }
 
 /// How many bits are written of a part of each member, fewer than 2^62.
-#[tactic(auto, using(crate::proofs::MemberLoops::none_counted, crate::proofs::MemberLoops::all_counted))]
 pub(crate) fn parts_bits<C: BitCode, V: Part<C::Value>>(context: &C::Context, members: &[V]) -> u64
 where
     C::Value: Drop,
@@ -113,7 +112,6 @@ where
 }
 
 /// Writes a part of each member.
-#[tactic(auto, using(crate::proofs::MemberLoops::none_written, crate::proofs::MemberLoops::all_written))]
 pub(crate) fn write_parts<C: BitCode, V: Part<C::Value>>(
     context: &C::Context,
     members: &[V],

@@ -1,11 +1,9 @@
 //! What the main bits of a linetype tell, as bits (Open Design Specification, "LTYPE").
 
 ghost use Rattle.std.specs.Prelude.{◌≡◌, ◌^◌, ◌<◌, ◌≤◌, ◌↔◌, length, map, IfOk, IsTrue};
-ghost use Rattle.std.specs.Option.{option_map};
-ghost use Rattle.dwg_bits.specs.Cursor.{rest};
 ghost use Rattle.dwg_bits.specs.Sink.{Extends};
-ghost use Rattle.dwg_grammar.specs.Codes.{bd, rc};
-ghost use Rattle.dwg_grammar.specs.Combinators.{counted, items, seq};
+ghost use Rattle.dwg_grammar.specs.Codes.{rc};
+ghost use Rattle.dwg_grammar.specs.Combinators.{counted, items};
 ghost use Rattle.dwg_common.specs.Parsing.{Keeps, Parses};
 ghost use Rattle.dwg_tables.specs.LtypeBody.{ltype_main, pattern_of, stroke, stroke_of};
 
@@ -13,7 +11,7 @@ use crate::dash::{CodeStroke, known_strokes};
 use crate::ltype::{Dash, Ltype, Pattern, Stroke};
 use crate::members::{parts_bits, write_parts};
 use crate::title::{read_title, title_bits, title_fits, write_title};
-use dwg_base::{ByteRun, Items, NoMemory};
+use dwg_base::{Items, NoMemory};
 use dwg_bits::{BitCursor, BitSink};
 use dwg_codes::{BitCode, CodeBD, CodeRC, bytes_length, read_list, write_bytes};
 use dwg_common::{parse_bytes, parse_code, parse_tv, tv_bits, tv_fits, write_tv};
@@ -43,45 +41,6 @@ fn read_strokes(
     Ok(Some(strokes))
 }
 
-/// What the main bits of a linetype tell behind its description.
-#[derive(Drop)]
-struct Drawn {
-    /// How long its pattern is.
-    length: u64,
-    /// How it is aligned.
-    alignment: u8,
-    /// What those of its dashes tell.
-    strokes: Items<Stroke>,
-    /// The texts of its dashes.
-    texts: ByteRun,
-}
-
-/// Reads what the main bits of a linetype tell behind its description, as it is parsed. The only refusal is want of memory,
-/// which is taken only for what is there.
-fn read_drawn(alloc: Global, cursor: &mut BitCursor<'_>) -> Result<Option<Drawn>, NoMemory>
-    ensures parsed { IfOk result (λ found. (seq bd (λ length. seq rc (λ alignment. seq (counted rc stroke) (λ strokes. items rc 256)))).parse (rest cursor.old) ≡ option_map (λ drawn. ((drawn.length, (drawn.alignment, (drawn.strokes, drawn.texts))), rest cursor.new)) found) }
-    ensures kept { Keeps cursor.old cursor.new }
-{
-    let Some(length) = parse_code::<CodeBD>(&(), cursor) else {
-        return Ok(None);
-    };
-    let Some(alignment) = parse_code::<CodeRC>(&(), cursor) else {
-        return Ok(None);
-    };
-    let Some(strokes) = read_strokes(alloc, cursor)? else {
-        return Ok(None);
-    };
-    let Some(texts) = parse_bytes(alloc, TEXTS, cursor)? else {
-        return Ok(None);
-    };
-    Ok(Some(Drawn {
-        length,
-        alignment,
-        strokes,
-        texts,
-    }))
-}
-
 /// Reads what the main bits of a linetype tell, as it is parsed. The only refusal is want of memory, which is taken only for
 /// what is there.
 #[tactic(auto, unfolding(crate::specs::LtypeBody::ltype_main))]
@@ -98,21 +57,30 @@ pub(crate) fn read_pattern(
     let Some(description) = parse_tv(alloc, cursor)? else {
         return Ok(None);
     };
-    let Some(drawn) = read_drawn(alloc, cursor)? else {
+    let Some(length) = parse_code::<CodeBD>(&(), cursor) else {
+        return Ok(None);
+    };
+    let Some(alignment) = parse_code::<CodeRC>(&(), cursor) else {
+        return Ok(None);
+    };
+    let Some(strokes) = read_strokes(alloc, cursor)? else {
+        return Ok(None);
+    };
+    let Some(texts) = parse_bytes(alloc, TEXTS, cursor)? else {
         return Ok(None);
     };
     Ok(Some(Pattern {
         title,
         description,
-        length: drawn.length,
-        alignment: drawn.alignment,
-        strokes: drawn.strokes,
-        texts: drawn.texts,
+        length,
+        alignment,
+        strokes,
+        texts,
     }))
 }
 
 /// Whether a count of 8 bits can tell how many dashes there are.
-#[tactic(auto, using(crate::proofs::LtypeParts::strokes_value))]
+#[tactic(auto, unfolding(dwg_grammar::specs::Combinators::chain), using(dwg_common::proofs::MemberLemmas::parts_counted))]
 fn strokes_fit(dashes: &[Dash]) -> bool
     ensures { IsTrue result ↔ (counted rc stroke).IsValue (map stroke_of dashes.now) }
 {
@@ -150,7 +118,7 @@ pub(crate) fn pattern_fits(ltype: &Ltype) -> bool
 }
 
 /// How many bits a count of dashes and what their main bits tell are written by.
-#[tactic(auto, using(crate::proofs::LtypeParts::strokes_told, crate::proofs::LtypeParts::strokes_length))]
+#[tactic(auto, unfolding(dwg_grammar::specs::Combinators::chain), using(dwg_common::proofs::MemberLemmas::parts_counted))]
 fn strokes_bits(dashes: &[Dash]) -> u64
     requires value { (counted rc stroke).IsValue (map stroke_of dashes.now) }
     requires few { length ((counted rc stroke).short (map stroke_of dashes.now)) < 2 ^ 62 }
@@ -160,7 +128,7 @@ fn strokes_bits(dashes: &[Dash]) -> u64
 }
 
 /// Writes a count of dashes and what their main bits tell.
-#[tactic(auto, using(crate::proofs::LtypeParts::strokes_told, crate::proofs::LtypeParts::strokes_length))]
+#[tactic(auto, unfolding(dwg_grammar::specs::Combinators::chain), using(dwg_common::proofs::MemberLemmas::parts_counted))]
 fn write_strokes(dashes: &[Dash], sink: &mut BitSink)
     requires value { (counted rc stroke).IsValue (map stroke_of dashes.now) }
     requires room { length ((counted rc stroke).short (map stroke_of dashes.now)) ≤ sink.old.spare }
@@ -170,28 +138,17 @@ fn write_strokes(dashes: &[Dash], sink: &mut BitSink)
     write_parts::<CodeStroke, Dash>(&(), dashes, sink);
 }
 
-/// How many bits 256 bytes are written by.
-#[tactic(auto, using(crate::proofs::LtypeParts::texts_told))]
-fn texts_bits(texts: &[u8]) -> u64
-    requires { (items rc 256).IsValue texts.now }
-    ensures length { result ≡ length ((items rc 256).short texts.now) }
-    ensures few { result < 2 ^ 12 }
-{
-    bytes_length(texts)
-}
-
 /// Writes 256 bytes.
-#[tactic(auto, using(crate::proofs::LtypeParts::texts_told))]
+#[tactic(auto, unfolding(dwg_grammar::specs::Combinators::chain), using(dwg_codes::proofs::RunReading::length_of_run))]
 fn write_texts(texts: &[u8], sink: &mut BitSink)
-    requires value { (items rc 256).IsValue texts.now }
-    requires room { length ((items rc 256).short texts.now) ≤ sink.old.spare }
+    requires { length ((items rc 256).short texts.now) ≤ sink.old.spare }
     ensures { Extends sink.old sink.new ((items rc 256).short texts.now) }
 {
     write_bytes(texts, sink);
 }
 
 /// How many main bits a linetype is written by.
-#[tactic(auto, unfolding(crate::specs::LtypeBody::ltype_main))]
+#[tactic(auto, unfolding(crate::specs::LtypeBody::ltype_main, dwg_grammar::specs::Combinators::chain))]
 pub(crate) fn pattern_bits(ltype: &Ltype) -> u64
     requires value { ltype_main.IsValue (pattern_of ltype.now) }
     requires few { length (ltype_main.short (pattern_of ltype.now)) < 2 ^ 62 }
@@ -202,7 +159,7 @@ pub(crate) fn pattern_bits(ltype: &Ltype) -> u64
         + CodeBD::length(&(), &ltype.length)
         + CodeRC::length(&(), &ltype.alignment)
         + strokes_bits(ltype.dashes.as_slice())
-        + texts_bits(ltype.texts.as_slice())
+        + bytes_length(ltype.texts.as_slice())
 }
 
 /// Writes the main bits of a linetype.

@@ -1,13 +1,10 @@
 //! Text styles.
 
 ghost use Rattle.std.specs.Prelude.{◌≡◌, IfOk};
-ghost use Rattle.dwg_grammar.specs.Codes.{tv};
-ghost use Rattle.dwg_grammar.specs.Combinators.{seq};
-ghost use Rattle.dwg_common.specs.Parsing.{Keeps, Parses};
-ghost use Rattle.dwg_tables.specs.StyleBody.{form_of, style_body, style_of};
+ghost use Rattle.dwg_tables.specs.StyleBody.{form_of, style_body};
 ghost use Rattle.dwg_tables.specs.TableLaws.{style_is_body};
 
-use crate::entry::{Entry, Title, entry_of};
+use crate::entry::{Entry, entry_of};
 use crate::form::{form_bits, known_form, read_form, write_form};
 use crate::title::{read_title, title_bits, title_fits, write_title};
 use dwg_base::{ByteRun, Handle, NoMemory};
@@ -75,46 +72,10 @@ fn form_of(style: &Style) -> Form
     }
 }
 
-/// A text style from what its main bits tell and from its reference.
-fn style_of(title: Title, form: Form, fonts: (ByteRun, ByteRun), xref: Ref) -> Style
-    ensures { result ≡ style_of (title, (form, (fonts.0, fonts.1))) xref }
-{
-    Style {
-        entry: entry_of(title, xref),
-        flag_a: form.flag_a,
-        flag_b: form.flag_b,
-        height: form.height,
-        width: form.width,
-        oblique: form.oblique,
-        generation: form.generation,
-        last_height: form.last_height,
-        font: fonts.0,
-        big_font: fonts.1,
-    }
-}
-
-/// Reads the names of the files of letters, as they are parsed. The only refusal is want of memory, which is taken only for
-/// bytes that are there.
-fn read_fonts(
-    alloc: Global,
-    cursor: &mut BitCursor<'_>,
-) -> Result<Option<(ByteRun, ByteRun)>, NoMemory>
-    ensures parsed { IfOk result (λ found. Parses (seq tv (λ font. tv)) found cursor.old cursor.new) }
-    ensures kept { Keeps cursor.old cursor.new }
-{
-    let Some(font) = parse_tv(alloc, cursor)? else {
-        return Ok(None);
-    };
-    let Some(big_font) = parse_tv(alloc, cursor)? else {
-        return Ok(None);
-    };
-    Ok(Some((font, big_font)))
-}
-
+#[tactic(auto, unfolding(crate::specs::StyleBody::style_body, dwg_grammar::specs::ReferenceCodes::reference))]
 impl BodyCode for Style {
     ghost grammar = { style_body };
 
-    #[tactic(auto, unfolding(crate::specs::StyleBody::style_body))]
     fn parse(
         alloc: Global,
         main: &mut BitCursor<'_>,
@@ -127,16 +88,29 @@ impl BodyCode for Style {
         let Some(form) = read_form(main) else {
             return Ok(None);
         };
-        let Some(fonts) = read_fonts(alloc, main)? else {
+        let Some(font) = parse_tv(alloc, main)? else {
+            return Ok(None);
+        };
+        let Some(big_font) = parse_tv(alloc, main)? else {
             return Ok(None);
         };
         let Some(xref) = parse_ref(refs, base) else {
             return Ok(None);
         };
-        Ok(Some(style_of(title, form, fonts, xref)))
+        Ok(Some(Style {
+            entry: entry_of(title, xref),
+            flag_a: form.flag_a,
+            flag_b: form.flag_b,
+            height: form.height,
+            width: form.width,
+            oblique: form.oblique,
+            generation: form.generation,
+            last_height: form.last_height,
+            font,
+            big_font,
+        }))
     }
 
-    #[tactic(auto, unfolding(crate::specs::StyleBody::style_body, dwg_grammar::specs::ReferenceCodes::reference))]
     fn fits(&self, base: Handle) -> bool {
         known_form(form_of(self));
         if !title_fits(&self.entry) {
@@ -151,7 +125,6 @@ impl BodyCode for Style {
         self.entry.xref.fits(base)
     }
 
-    #[tactic(auto, unfolding(crate::specs::StyleBody::style_body, dwg_grammar::specs::ReferenceCodes::reference))]
     fn lengths(&self, base: Handle) -> Lengths {
         Lengths {
             main: title_bits(&self.entry)
@@ -162,7 +135,6 @@ impl BodyCode for Style {
         }
     }
 
-    #[tactic(auto, unfolding(crate::specs::StyleBody::style_body))]
     fn write_main(&self, _base: Handle, sink: &mut BitSink) {
         write_title(&self.entry, sink);
         write_form(form_of(self), sink);
@@ -170,7 +142,6 @@ impl BodyCode for Style {
         write_tv(self.big_font.as_slice(), sink);
     }
 
-    #[tactic(auto, unfolding(crate::specs::StyleBody::style_body, dwg_grammar::specs::ReferenceCodes::reference))]
     fn write_refs(&self, base: Handle, sink: &mut BitSink) {
         write_ref(self.entry.xref, base, sink);
     }

@@ -1,5 +1,6 @@
 //! What the main bits of an entry tell before those of its own kind, as bits (Open Design Specification, "LAYER",
 //! "SHAPEFILE", "LTYPE", "APPID" and "BLOCK HEADER").
+#![tactic(auto, unfolding(crate::specs::Entries::entry_main))]
 
 ghost use Rattle.std.specs.Prelude.{◌≡◌, ◌^◌, ◌<◌, ◌≤◌, ◌↔◌, length, IfOk, IsTrue};
 ghost use Rattle.dwg_bits.specs.Sink.{Extends};
@@ -15,7 +16,6 @@ use std::alloc::Global;
 
 /// Reads what the main bits of an entry tell, as it is parsed. The only refusal is want of memory, which is taken only for
 /// bytes that are there.
-#[tactic(auto, unfolding(crate::specs::Entries::entry_main))]
 pub(crate) fn read_title(
     alloc: Global,
     cursor: &mut BitCursor<'_>,
@@ -44,7 +44,6 @@ pub(crate) fn read_title(
 }
 
 /// Whether the main bits of an entry can be told: its name has at most 65,535 bytes.
-#[tactic(auto, unfolding(crate::specs::Entries::entry_main))]
 pub(crate) fn title_fits(entry: &Entry) -> bool
     ensures { IsTrue result ↔ entry_main.IsValue (title_of entry.now) }
 {
@@ -54,7 +53,6 @@ pub(crate) fn title_fits(entry: &Entry) -> bool
 }
 
 /// How many bits the main bits of an entry are.
-#[tactic(auto, unfolding(crate::specs::Entries::entry_main))]
 pub(crate) fn title_bits(entry: &Entry) -> u64
     requires { entry_main.IsValue (title_of entry.now) }
     ensures length { result ≡ length (entry_main.short (title_of entry.now)) }
@@ -67,7 +65,6 @@ pub(crate) fn title_bits(entry: &Entry) -> u64
 }
 
 /// Writes the main bits of an entry.
-#[tactic(auto, unfolding(crate::specs::Entries::entry_main))]
 pub(crate) fn write_title(entry: &Entry, sink: &mut BitSink)
     requires value { entry_main.IsValue (title_of entry.now) }
     requires room { length (entry_main.short (title_of entry.now)) ≤ sink.old.spare }

@@ -1,7 +1,7 @@
 use Rattle.std.proofs.Common.{drop}
 use Rattle.dwg_grammar.specs.Codes.{tv}
 use Rattle.dwg_dicts.specs.declared.dictionary.DictItem.{DictItem}
-use Rattle.dwg_dicts.proofs.PartWriting.{AreCounted}
+use Rattle.dwg_common.proofs.MemberLoops.{AreCounted}
 use Rattle.dwg_dicts.proofs.dict_items.names_bits.Given as goal
 
 -- what is counted so far and the items that are left give the whole

@@ -1,7 +1,7 @@
 use Rattle.std.proofs.Common.{drop}
 use Rattle.dwg_grammar.specs.Codes.{tv}
 use Rattle.dwg_dicts.specs.declared.dictionary.DictItem.{DictItem}
-use Rattle.dwg_dicts.proofs.PartWriting.{AreWrittenSoFar}
+use Rattle.dwg_common.proofs.MemberLoops.{AreWrittenSoFar}
 use Rattle.dwg_dicts.proofs.dict_items.write_names.Given as goal
 
 -- what is written so far and the items that are left give the whole

@@ -1,6 +1,6 @@
 use Rattle.std.proofs.Common.{drop}
 use Rattle.dwg_tables.specs.LtypeBody.{stroke, stroke_of}
-use Rattle.dwg_tables.proofs.MemberLoops.{AreTried}
+use Rattle.dwg_common.proofs.MemberLoops.{AreTried}
 use Rattle.dwg_tables.proofs.dash.known_strokes.Given as goal
 
 -- the dashes so far are known

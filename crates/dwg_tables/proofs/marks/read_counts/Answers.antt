@@ -1,19 +1,17 @@
-use Rattle.std.proofs.Common.{arith, rules}
+use Rattle.std.proofs.Common.{refl, ℕ, arith, rules}
+use Rattle.std.specs.Prelude.{◌==◌}
 use Rattle.dwg_bits.proofs.BitLaws.{length_of_bits_between}
-use Rattle.dwg_tables.proofs.MarkReading.{one_begun, all_begun, one_missing, count_takes}
+use Rattle.dwg_grammar.specs.Codes.{rc}
+use Rattle.dwg_grammar.specs.Combinators.{always}
+use Rattle.dwg_common.proofs.UntilReading.{one_begun, found_parsed, value_takes, unmarked}
+use Rattle.dwg_tables.proofs.MarkParts.{counts_take}
 use Rattle.dwg_tables.proofs.marks.read_counts.Goals as goal
-
-pub returns-in_default-clause-parsed : goal.returns-in_default-clause-parsed
-returns-in_default-clause-parsed c = one_missing c.along.counts c.parse_code.result _ _ _ c.in_default.is c.parse_code.ensures.parsed c.along.invariant.so_far
-
-pub returns-then-count-eq-END_OF_MARKS-clause-parsed : goal.returns-then-count-eq-END_OF_MARKS-clause-parsed
-returns-then-count-eq-END_OF_MARKS-clause-parsed c =
-    all_begun c.along.counts c.parse_code.result c.in-Some.count _ _ _ c.if-count-eq-END_OF_MARKS.true c.in-Some.is c.parse_code.ensures.parsed c.along.invariant.so_far
 
 pub along-preserved : goal.along-preserved
 along-preserved c = record {
-  so_far = one_begun c.along.counts _ c.parse_code.result c.in-Some.count _ _ _ c.if-count-eq-END_OF_MARKS.false c.in-Ok.ensures.ok c.in-Some.is c.parse_code.ensures.parsed
-      c.along.invariant.so_far;
+  so_far = one_begun rc (λ count. count == 0) (λ (count : ℕ). always count) c.along.counts _ c.in-Some.count c.in-Some.count _ _ _ _ counts_take
+      (unmarked c.in-Some.count c.if-count-eq-END_OF_MARKS.false) c.in-Ok.ensures.ok
+      (found_parsed rc c.parse_code.result c.in-Some.count _ _ c.in-Some.is c.parse_code.ensures.parsed) refl c.along.invariant.so_far;
   kept = search rules;
 }
 
@@ -23,7 +21,8 @@ along-smaller c =
     let after = c.parse_code.new.cursor in
     omega (
       arith,
-      count_takes c.parse_code.result c.in-Some.count _ _ c.in-Some.is c.parse_code.ensures.parsed,
+      value_takes rc (λ (count : ℕ). always count) c.in-Some.count c.in-Some.count _ _ _ counts_take
+          (found_parsed rc c.parse_code.result c.in-Some.count _ _ c.in-Some.is c.parse_code.ensures.parsed) refl,
       length_of_bits_between before.bytes.now before.place before.end before.within,
       length_of_bits_between after.bytes.now after.place after.end after.within,
     )

@@ -1,13 +1,16 @@
-use Rattle.std.proofs.Common.{◌-◌}
+use Rattle.std.proofs.Common.{ℕ, ◌-◌}
+use Rattle.std.specs.Prelude.{◌==◌}
 use Rattle.dwg_bits.specs.Cursor.{rest}
+use Rattle.dwg_grammar.specs.Codes.{rc}
+use Rattle.dwg_grammar.specs.Combinators.{always}
 use Rattle.dwg_common.specs.Parsing.{Keeps}
-use Rattle.dwg_tables.proofs.MarkReading.{AreBegun}
+use Rattle.dwg_common.proofs.UntilReading.{AreBegun}
 use Rattle.dwg_tables.proofs.marks.read_counts.Given as goal
 
 -- the counts so far are read
 abbrev pub invariant-along : goal.invariant-along
 invariant-along l = record {
-  so_far : AreBegun l.counts (rest l.fn.cursor) (rest l.cursor);
+  so_far : AreBegun rc (λ count. count == 0) (λ (count : ℕ). always count) l.counts (rest l.fn.cursor) (rest l.cursor);
   kept : Keeps l.fn.cursor l.cursor;
 }
 

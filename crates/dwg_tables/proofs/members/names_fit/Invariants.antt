@@ -1,6 +1,6 @@
 use Rattle.std.proofs.Common.{drop}
 use Rattle.dwg_grammar.specs.ReferenceCodes.{reference}
-use Rattle.dwg_tables.proofs.MemberLoops.{AreTried}
+use Rattle.dwg_common.proofs.MemberLoops.{AreTried}
 use Rattle.dwg_tables.proofs.members.names_fit.Given as goal
 
 -- the members so far have a spelling

@@ -1,5 +1,5 @@
 use Rattle.std.proofs.Common.{drop}
-use Rattle.dwg_tables.proofs.MemberLoops.{AreCounted}
+use Rattle.dwg_common.proofs.MemberLoops.{AreCounted}
 use Rattle.dwg_tables.proofs.members.parts_bits.Given as goal
 
 -- what is counted so far and the members that are left give the whole

@@ -1,20 +1,24 @@
-use Rattle.std.proofs.Common.{length, rules}
+use Rattle.std.proofs.Common.{ℕ, length, rules}
+use Rattle.dwg_grammar.specs.Combinators.{chain}
+use Rattle.dwg_grammar.specs.Reference.{Reference}
 use Rattle.dwg_grammar.specs.ReferenceCodes.{reference}
-use Rattle.dwg_tables.proofs.NameReading.{one_begun, one_missing, all_begun}
+use Rattle.dwg_common.proofs.ChainReading.{one_begun, one_missing, all_begun}
 use Rattle.dwg_tables.proofs.members.read_names.Goals as goal
 
 pub returns-in_default-clause-parsed : goal.returns-in_default-clause-parsed
+unfolding chain
 returns-in_default-clause-parsed g c =
-    one_missing (reference c.args.base) (length c.args.told.now) _ c.along.names c.parse_ref.result _ _ _
+    one_missing (λ (state : ℕ). reference c.args.base) (λ (name : Reference). 0) 0 0 (length c.args.told.now) _ c.along.names c.parse_ref.result _ _ _
     c.along-test.true c.in_default.is c.parse_ref.ensures.parsed c.along.invariant.so_far
 
 pub along-preserved : goal.along-preserved
 along-preserved g c = record {
-  so_far = one_begun (reference c.args.base) (length c.args.told.now) _ c.along.names _ c.parse_ref.result c.in-Some.name _ _ _
+  so_far = one_begun (λ (state : ℕ). reference c.args.base) (λ (name : Reference). 0) 0 0 (length c.args.told.now) _ c.along.names _ c.parse_ref.result c.in-Some.name _ _ _
       c.along-test.true c.in-Ok.ensures.ok c.in-Some.is c.parse_ref.ensures.parsed c.along.invariant.so_far;
   kept = search rules;
 }
 
 pub returns-clause-parsed : goal.returns-clause-parsed
+unfolding chain
 returns-clause-parsed g c =
-    all_begun (reference c.args.base) (length c.args.told.now) _ c.along.names _ _ c.along-test.false c.along.invariant.so_far
+    all_begun (λ (state : ℕ). reference c.args.base) (λ (name : Reference). 0) 0 0 (length c.args.told.now) _ c.along.names _ _ c.along-test.false c.along.invariant.so_far

@@ -1,5 +1,5 @@
 use Rattle.std.proofs.Common.{drop}
-use Rattle.dwg_tables.proofs.MemberLoops.{AreWrittenSoFar}
+use Rattle.dwg_common.proofs.MemberLoops.{AreWrittenSoFar}
 use Rattle.dwg_tables.proofs.members.write_parts.Given as goal
 
 -- what is written so far and the members that are left give the whole
