@@ -1,4 +1,3 @@
-pub mod EndLaws
 pub mod PartReading
 pub mod Known
 pub mod VertexLoops

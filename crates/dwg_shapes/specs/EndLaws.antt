@@ -5,29 +5,20 @@ use Rattle.std.proofs.lemmas.Bool.Decides.{nat_tests, Decides-eqb}
 use Rattle.std.proofs.lemmas.List.{length-append}
 use Rattle.dwg_bits.proofs.BitLaws.{length_of_low_bits}
 use Rattle.dwg_grammar.specs.Codes.{rd, dd, b}
-use Rattle.dwg_grammar.proofs.CombinatorLemmas.{any_letters_closed, always_is_code, seq_is_code, tagged_is_code}
-use Rattle.dwg_grammar.proofs.DefaultLemmas.{dd_is_code}
+use Rattle.dwg_grammar.proofs.CombinatorLemmas.{any_letters_closed, tagged_is_code}
+use Rattle.dwg_grammar.proofs.CodeRules.{code_rules}
 use Rattle.dwg_grammar.specs.Grammar.{IsCode, AnyLetters}
-use Rattle.dwg_grammar.proofs.NumberLemmas.{rd_is_code}
 use Rattle.dwg_grammar.proofs.TruthCode.{b_is_code}
-use Rattle.dwg_grammar.proofs.Shaped.{shaped_is_code}
-use Rattle.dwg_shapes.specs.declared.line.LineEnds.{LineEnds}
-use Rattle.dwg_shapes.specs.Lines.{heights, ends_by, AreEnds, is_flat, line_ends}
+use Rattle.dwg_shapes.specs.Lines.{LineEnds, heights, ends_by, AreEnds, is_flat, line_ends}
 
 -- the z words are a code by each z-zero
 heights_is_code : (z_zero : Bool) → IsCode AnyLetters (heights z_zero)
-heights_is_code true = always_is_code AnyLetters (0, 0)
-heights_is_code false = seq_is_code AnyLetters rd _ any_letters_closed rd_is_code (λ start_z fits. dd_is_code start_z fits)
+heights_is_code true = search code_rules
+heights_is_code false = search code_rules
 
 -- so are the ends
 ends_by_is_code : (z_zero : Bool) → IsCode AnyLetters (ends_by z_zero)
-ends_by_is_code z_zero =
-    shaped_is_code _ _ _
-    (seq_is_code AnyLetters rd _ any_letters_closed rd_is_code (λ start_x start_x_fits.
-    seq_is_code AnyLetters (dd start_x) _ any_letters_closed (dd_is_code start_x start_x_fits) (λ end_x end_x_fits.
-    seq_is_code AnyLetters rd _ any_letters_closed rd_is_code (λ start_y start_y_fits.
-    seq_is_code AnyLetters (dd start_y) _ any_letters_closed (dd_is_code start_y start_y_fits) (λ end_y end_y_fits. heights_is_code z_zero)))))
-    (λ words fits. refl) (λ ends. refl)
+ends_by_is_code z_zero = search (code_rules, heights_is_code) depth 12
 
 -- both z words have 64 bits
 heights_value : (z_zero : Bool) (start_z end_z : ℕ) → (heights z_zero).IsValue (start_z, end_z) → (start_z < 2 ^ 64) × (end_z < 2 ^ 64)

@@ -3,10 +3,15 @@ use Rattle.std.specs.Prelude.{◌==◌, ℕ, Bool, true, false, if◌then◌else
 use Rattle.dwg_grammar.specs.Codes.{rd, dd, bt, be, IsPoint3, b}
 use Rattle.dwg_grammar.specs.Combinators.{always, seq, tagged, shaped}
 use Rattle.dwg_grammar.specs.Grammar.{Grammar}
+use Rattle.dwg_grammar.specs.declared.points.Point3.{Point3}
 use Rattle.dwg_grammar.specs.Bodies.{BodyGrammar}
 use Rattle.dwg_grammar.specs.MakingBodies.{main_body}
-use Rattle.dwg_shapes.specs.declared.line.LineEnds.{LineEnds}
 use Rattle.dwg_shapes.specs.declared.line.Line.{Line}
+
+-- both ends of a line
+pub record LineEnds : Type 0 where
+  pub start : Point3
+  pub end : Point3
 
 -- where z-zero is 0, RD start.z; DD end.z, whose default is start.z; else both are 0
 abbrev pub heights : Bool → Grammar Bool (ℕ × ℕ)
@@ -37,10 +42,13 @@ abbrev pub line_ends : Grammar Bool LineEnds
 line_ends = tagged b ends_by AreEnds is_flat
 
 -- the ends; BT thickness; BE extrusion
+abbrev pub ends_of : Line → LineEnds
+ends_of line = record { start = line.start; end = line.end }
+
 abbrev pub line_main : Grammar Bool Line
 line_main =
     shaped (λ parts. record { start = parts.0.start; end = parts.0.end; thickness = parts.1.0; extrusion = parts.1.1 })
-    (λ line. (record { start = line.start; end = line.end }, (line.thickness, line.extrusion)))
+    (λ line. (ends_of line, (line.thickness, line.extrusion)))
     (seq line_ends (λ ends. seq bt (λ thickness. be)))
 
 -- a line: no references

@@ -1,15 +1,13 @@
 -- The points of a lightweight polyline are a code, and so are lists that are there by their counts.
 use Rattle.std.proofs.Common.{◌≡◌, refl, ◌∙◌, ap, ℕ, Bool, true, false, List, length, Option, Some, None}
-use Rattle.std.specs.Prelude.{⊤, option_map}
-use Rattle.dwg_grammar.specs.Codes.{bd}
-use Rattle.dwg_grammar.specs.Combinators.{chain, items}
-use Rattle.dwg_grammar.proofs.CombinatorLemmas.{any_letters_closed, seq_is_code}
+use Rattle.std.specs.Prelude.{⊤}
+use Rattle.dwg_grammar.specs.Combinators.{chain}
+use Rattle.dwg_grammar.proofs.CombinatorLemmas.{any_letters_closed}
 use Rattle.dwg_grammar.specs.Grammar.{Grammar, IsCode, AnyLetters}
-use Rattle.dwg_grammar.proofs.ListLemmas.{chain_is_code, items_is_code, when_is_code}
-use Rattle.dwg_grammar.proofs.TableLemmas.{bd_is_code}
+use Rattle.dwg_grammar.proofs.ListLemmas.{chain_is_code}
+use Rattle.dwg_grammar.proofs.CodeRules.{code_rules}
 use Rattle.dwg_grammar.specs.declared.points.Point2.{Point2}
-use Rattle.dwg_grammar.proofs.Shaped.{shaped_is_code}
-use Rattle.dwg_shapes.specs.LwPolylines.{vertex, vertices, width_pair, items_where}
+use Rattle.dwg_shapes.specs.LwPolylines.{vertex, vertices, width_pair, items_where, count_of}
 use Rattle.dwg_grammar.specs.Points.{IsPoint2}
 use Rattle.dwg_grammar.proofs.PointLemmas.{rd2_is_code, dd2_is_code}
 
@@ -36,16 +34,16 @@ vertices_is_code count =
 
 -- a width is a code
 pub width_pair_is_code : IsCode AnyLetters width_pair
-width_pair_is_code = shaped_is_code _ _ _ (seq_is_code AnyLetters bd _ any_letters_closed bd_is_code (λ start fits. bd_is_code)) (λ parts fits. refl) (λ width. refl)
+width_pair_is_code = search code_rules
 
 -- so many values are a code, where there is a count
 pub items_where_is_code : {V : Type 0} (code : Grammar Bool V) (count : Option ℕ) → IsCode AnyLetters code → IsCode AnyLetters (items_where code count)
-items_where_is_code code (Some count) is = when_is_code AnyLetters true (items code count) (λ holds. items_is_code AnyLetters code count any_letters_closed is)
-items_where_is_code code None is = when_is_code AnyLetters false (items code 0) (λ holds. items_is_code AnyLetters code 0 any_letters_closed is)
+items_where_is_code code (Some count) is = search code_rules
+items_where_is_code code None is = search code_rules
 
 -- and tell their count
 pub count_told : {V : Type 0} (code : Grammar Bool V) (count : Option ℕ) (values : Option (List V)) → (items_where code count).IsValue values
-    → option_map (λ (many : List V). length many) values ≡ count
+    → count_of values ≡ count
 unfolding chain
-count_told {V} code (Some count) values (inner, same, fits) = ap (option_map (λ (many : List V). length many)) same ∙ ap (λ (many : ℕ). Some many) fits.0
-count_told {V} code None values none = ap (option_map (λ (many : List V). length many)) none
+count_told code (Some count) values (inner, same, fits) = ap count_of same ∙ ap (λ (many : ℕ). Some many) fits.0
+count_told code None values none = ap count_of none

@@ -5,11 +5,10 @@ ghost use Rattle.dwg_common.specs.Parsing.{Keeps, Parses};
 ghost use Rattle.dwg_shapes.specs.Arcs.{arc_body, arc_main};
 ghost use Rattle.dwg_shapes.specs.ShapeLaws.{arc_is_body};
 
-use crate::circle::{Circle, circle_bits, known_circle, read_circle, write_circle};
 use dwg_base::{Handle, NoMemory};
 use dwg_bits::{BitCursor, BitSink};
-use dwg_codes::{BitCode, CodeBD, Point3};
-use dwg_common::{BodyCode, Lengths, parse_code};
+use dwg_codes::{BitCode, Code3BD, CodeBD, CodeBE, CodeBT, Point3};
+use dwg_common::{BodyCode, Lengths, known_point, parse_code};
 use std::alloc::Global;
 
 /// An arc of a circle (Open Design Specification, "ARC").
@@ -29,31 +28,22 @@ pub struct Arc {
     pub end_angle: u64,
 }
 
-/// The circle of an arc.
-fn circle_of(arc: &Arc) -> Circle
-    ensures { result ≡ record { centre = arc.now.centre; radius = arc.now.radius; thickness = arc.now.thickness; extrusion = arc.now.extrusion } }
-{
-    Circle {
-        centre: arc.centre,
-        radius: arc.radius,
-        thickness: arc.thickness,
-        extrusion: arc.extrusion,
-    }
-}
-
 /// Reads an arc, as it is parsed.
 fn read_arc(cursor: &mut BitCursor<'_>) -> Option<Arc>
     ensures parsed { Parses arc_main result cursor.old cursor.new }
     ensures kept { Keeps cursor.old cursor.new }
 {
-    let circle = read_circle(cursor)?;
+    let centre = parse_code::<Code3BD>(&(), cursor)?;
+    let radius = parse_code::<CodeBD>(&(), cursor)?;
+    let thickness = parse_code::<CodeBT>(&(), cursor)?;
+    let extrusion = parse_code::<CodeBE>(&(), cursor)?;
     let start_angle = parse_code::<CodeBD>(&(), cursor)?;
     let end_angle = parse_code::<CodeBD>(&(), cursor)?;
     Some(Arc {
-        centre: circle.centre,
-        radius: circle.radius,
-        thickness: circle.thickness,
-        extrusion: circle.extrusion,
+        centre,
+        radius,
+        thickness,
+        extrusion,
         start_angle,
         end_angle,
     })
@@ -74,7 +64,10 @@ impl BodyCode for Arc {
 
     #[tactic(auto, unfolding(crate::specs::Arcs::arc_body))]
     fn fits(&self, _base: Handle) -> bool {
-        known_circle(&circle_of(self));
+        known_point(&self.centre);
+        let _radius = self.radius;
+        let _thickness = self.thickness;
+        known_point(&self.extrusion);
         let _start_angle = self.start_angle;
         let _end_angle = self.end_angle;
         true
@@ -83,7 +76,10 @@ impl BodyCode for Arc {
     #[tactic(auto, unfolding(crate::specs::Arcs::arc_body))]
     fn lengths(&self, _base: Handle) -> Lengths {
         Lengths {
-            main: circle_bits(&circle_of(self))
+            main: Code3BD::length(&(), &self.centre)
+                + CodeBD::length(&(), &self.radius)
+                + CodeBT::length(&(), &self.thickness)
+                + CodeBE::length(&(), &self.extrusion)
                 + CodeBD::length(&(), &self.start_angle)
                 + CodeBD::length(&(), &self.end_angle),
             refs: 0,
@@ -92,7 +88,10 @@ impl BodyCode for Arc {
 
     #[tactic(auto, unfolding(crate::specs::Arcs::arc_body))]
     fn write_main(&self, _base: Handle, sink: &mut BitSink) {
-        write_circle(&circle_of(self), sink);
+        Code3BD::write(&(), &self.centre, sink);
+        CodeBD::write(&(), &self.radius, sink);
+        CodeBT::write(&(), &self.thickness, sink);
+        CodeBE::write(&(), &self.extrusion, sink);
         CodeBD::write(&(), &self.start_angle, sink);
         CodeBD::write(&(), &self.end_angle, sink);
     }

@@ -1,7 +1,6 @@
 //! Circles.
 
-ghost use Rattle.std.specs.Prelude.{◌≡◌, ◌^◌, ◌<◌, ◌≤◌, length};
-ghost use Rattle.dwg_bits.specs.Sink.{Extends};
+ghost use Rattle.std.specs.Prelude.{◌≡◌, ◌<◌, length};
 ghost use Rattle.dwg_common.specs.Parsing.{Keeps, Parses};
 ghost use Rattle.dwg_shapes.specs.Circles.{circle_body, circle_main};
 ghost use Rattle.dwg_shapes.specs.ShapeLaws.{circle_is_body};
@@ -25,42 +24,8 @@ pub struct Circle {
     pub extrusion: Point3,
 }
 
-/// The words of a circle lie in the range of their type.
-pub(crate) fn known_circle(circle: &Circle)
-    ensures { circle_main.IsValue circle.now }
-{
-    known_point(&circle.centre);
-    let _radius = circle.radius;
-    let _thickness = circle.thickness;
-    known_point(&circle.extrusion);
-}
-
-/// How many bits a circle is written by.
-pub(crate) fn circle_bits(circle: &Circle) -> u64
-    requires { circle_main.IsValue circle.now }
-    ensures length { result ≡ length (circle_main.short circle.now) }
-    ensures few { result < 2 ^ 34 }
-{
-    Code3BD::length(&(), &circle.centre)
-        + CodeBD::length(&(), &circle.radius)
-        + CodeBT::length(&(), &circle.thickness)
-        + CodeBE::length(&(), &circle.extrusion)
-}
-
-/// Writes a circle.
-pub(crate) fn write_circle(circle: &Circle, sink: &mut BitSink)
-    requires value { circle_main.IsValue circle.now }
-    requires room { length (circle_main.short circle.now) ≤ sink.old.spare }
-    ensures { Extends sink.old sink.new (circle_main.short circle.now) }
-{
-    Code3BD::write(&(), &circle.centre, sink);
-    CodeBD::write(&(), &circle.radius, sink);
-    CodeBT::write(&(), &circle.thickness, sink);
-    CodeBE::write(&(), &circle.extrusion, sink);
-}
-
 /// Reads a circle, as it is parsed.
-pub(crate) fn read_circle(cursor: &mut BitCursor<'_>) -> Option<Circle>
+fn read_circle(cursor: &mut BitCursor<'_>) -> Option<Circle>
     ensures parsed { Parses circle_main result cursor.old cursor.new }
     ensures kept { Keeps cursor.old cursor.new }
 {
@@ -91,21 +56,30 @@ impl BodyCode for Circle {
 
     #[tactic(auto, unfolding(crate::specs::Circles::circle_body))]
     fn fits(&self, _base: Handle) -> bool {
-        known_circle(self);
+        known_point(&self.centre);
+        let _radius = self.radius;
+        let _thickness = self.thickness;
+        known_point(&self.extrusion);
         true
     }
 
     #[tactic(auto, unfolding(crate::specs::Circles::circle_body))]
     fn lengths(&self, _base: Handle) -> Lengths {
         Lengths {
-            main: circle_bits(self),
+            main: Code3BD::length(&(), &self.centre)
+                + CodeBD::length(&(), &self.radius)
+                + CodeBT::length(&(), &self.thickness)
+                + CodeBE::length(&(), &self.extrusion),
             refs: 0,
         }
     }
 
     #[tactic(auto, unfolding(crate::specs::Circles::circle_body))]
     fn write_main(&self, _base: Handle, sink: &mut BitSink) {
-        write_circle(self, sink);
+        Code3BD::write(&(), &self.centre, sink);
+        CodeBD::write(&(), &self.radius, sink);
+        CodeBT::write(&(), &self.thickness, sink);
+        CodeBE::write(&(), &self.extrusion, sink);
     }
 
     #[tactic(auto, unfolding(crate::specs::Circles::circle_body))]

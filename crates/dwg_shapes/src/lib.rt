@@ -6,12 +6,9 @@ mod arc;
 mod circle;
 mod laws;
 mod line;
-mod line_ends;
 mod lists;
 mod lwpolyline;
 mod point;
-mod polyline_lists;
-mod polyline_start;
 mod vertices;
 mod width;
 

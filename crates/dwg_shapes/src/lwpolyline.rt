@@ -1,19 +1,25 @@
 //! Light polylines: polylines of a plane.
 
-ghost use Rattle.std.specs.Prelude.{◌≡◌, ◌^◌, ◌<◌, IfOk};
-ghost use Rattle.dwg_common.specs.Parsing.{Keeps, Parses};
-ghost use Rattle.dwg_shapes.specs.LwPolylines.{lwpolyline_body, lwpolyline_main, polyline_of, start_of};
+ghost use Rattle.std.specs.Prelude.{◌≡◌, ◌==◌, ◌^◌, ◌<◌, ◌≤◌, ◌↔◌, length, option_map, IfOk, IsTrue};
+ghost use Rattle.std.specs.List.{AllByRecursion};
+ghost use Rattle.dwg_bits.specs.Sink.{Extends};
+ghost use Rattle.dwg_grammar.specs.Codes.{bd, bd3};
+ghost use Rattle.dwg_grammar.specs.Combinators.{when};
+ghost use Rattle.dwg_grammar.specs.Flags.{has};
+ghost use Rattle.dwg_shapes.specs.LwPolylines.{counts_of, items_where, lists_of, lwpolyline_body, polyline_counts, polyline_start, start_of, width_pair};
 ghost use Rattle.dwg_shapes.specs.ShapeLaws.{lwpolyline_is_body};
 
-use crate::polyline_lists::{
-    counts_bits, counts_fit, known_lists, lists_bits, read_counts, read_lists, write_counts,
-    write_lists,
+use crate::lists::{
+    count_fits_when, count_when, list_bits_where, parse_list_where, write_list_where,
 };
-use crate::polyline_start::{read_start, start_bits, start_fits, write_start};
+use crate::vertices::{known_vertices, read_vertices, vertices_bits, write_vertices};
+use crate::width::{CodeWidth, known_widths};
 use dwg_base::{Handle, Items, NoMemory};
 use dwg_bits::{BitCursor, BitSink};
-use dwg_codes::{Point2, Point3};
-use dwg_common::{BodyCode, Lengths};
+use dwg_codes::{
+    BitCode, Code3BD, CodeBD, CodeBL, CodeBS, Point2, Point3, length_when, write_when,
+};
+use dwg_common::{BodyCode, Lengths, TOO_MANY, known_point, parse_code, parse_when};
 use std::alloc::Global;
 
 /// How wide a lightweight polyline is from one point to the next (Open Design Specification, "LWPOLYLINE").
@@ -47,91 +53,114 @@ pub struct LwPolyline {
     pub widths: Option<Items<Width>>,
 }
 
-/// What a lightweight polyline begins with.
-#[derive(Clone, Copy)]
-pub(crate) struct PolylineStart {
-    /// Which parts there are.
-    pub(crate) flag: u16,
-    /// How wide it is throughout.
-    pub(crate) width: Option<u64>,
-    /// The height of its plane.
-    pub(crate) elevation: Option<u64>,
-    /// How thick it is.
-    pub(crate) thickness: Option<u64>,
-    /// The direction in which it is thick.
-    pub(crate) normal: Option<Point3>,
-}
+/// The bit of the flag of a lightweight polyline that has a width.
+const WIDTH: u16 = 4;
 
-/// How many members the lists of a lightweight polyline have.
-#[derive(Clone, Copy)]
-pub(crate) struct Counts {
-    /// How many points it has.
-    pub(crate) points: u32,
-    /// How many bulges, where it has some.
-    pub(crate) bulges: Option<u32>,
-    /// How many widths, where it has some.
-    pub(crate) widths: Option<u32>,
-}
+/// Of one that has an elevation.
+const ELEVATION: u16 = 8;
 
-/// The lists of a lightweight polyline.
-#[derive(Drop)]
-pub(crate) struct Lists {
-    /// Its points.
-    pub(crate) points: Items<Point2>,
-    /// Its bulges.
-    pub(crate) bulges: Option<Items<u64>>,
-    /// Its widths.
-    pub(crate) widths: Option<Items<Width>>,
-}
+/// Of one that has a thickness.
+const THICKNESS: u16 = 2;
 
-/// What a lightweight polyline begins with.
-fn start_of(polyline: &LwPolyline) -> PolylineStart
-    ensures { result ≡ start_of polyline.now }
+/// Of one that has a normal.
+const NORMAL: u16 = 1;
+
+/// Of one that has bulges.
+const BULGES: u16 = 16;
+
+/// Of one that has widths.
+const WIDTHS: u16 = 32;
+
+/// Whether the bit of a flag that is worth so much is set.
+fn has(flag: u16, worth: u16) -> bool
+    requires { 0 < worth }
+    ensures { result ≡ has flag worth }
 {
-    PolylineStart {
-        flag: polyline.flag,
-        width: polyline.width,
-        elevation: polyline.elevation,
-        thickness: polyline.thickness,
-        normal: polyline.normal,
+    flag / worth % 2 == 1
+}
+
+/// Whether a word is there exactly where it is present.
+fn word_fits_when(present: bool, value: Option<u64>) -> bool
+    ensures { IsTrue result ↔ (when present bd).IsValue value }
+{
+    match value {
+        Some(_word) => present,
+        None => !present,
     }
 }
 
-/// A lightweight polyline from what it begins with and its lists.
-fn polyline_of(start: PolylineStart, lists: Lists) -> LwPolyline
-    ensures { result ≡ polyline_of start lists }
+/// Whether a point is there exactly where it is present.
+fn point_fits_when(present: bool, value: &Option<Point3>) -> bool
+    ensures { IsTrue result ↔ (when present bd3).IsValue value.now }
 {
-    LwPolyline {
-        flag: start.flag,
-        width: start.width,
-        elevation: start.elevation,
-        thickness: start.thickness,
-        normal: start.normal,
-        points: lists.points,
-        bulges: lists.bulges,
-        widths: lists.widths,
+    match value {
+        Some(point) => {
+            known_point(point);
+            present
+        }
+        None => !present,
     }
 }
 
-/// Reads a lightweight polyline, as it is parsed. The only refusal is want of memory, which is taken only for members of its
-/// lists that are there.
-fn read_lwpolyline(
-    alloc: Global,
-    cursor: &mut BitCursor<'_>,
-) -> Result<Option<LwPolyline>, NoMemory>
-    ensures parsed { IfOk result (λ found. Parses lwpolyline_main found cursor.old cursor.new) }
-    ensures kept { Keeps cursor.old cursor.new }
+/// Words lie in the range of their type.
+#[tactic(auto, using(crate::proofs::WhereCounted::words_known))]
+fn known_words(words: &[u64])
+    ensures { AllByRecursion bd.IsValue words.now }
+{}
+
+/// So do the bulges of a lightweight polyline.
+fn known_bulges(bulges: &Option<Items<u64>>)
+    ensures { (items_where bd (option_map length bulges.now)).IsValue bulges.now }
 {
-    let Some(start) = read_start(cursor) else {
-        return Ok(None);
-    };
-    let Some(counts) = read_counts(start.flag, cursor) else {
-        return Ok(None);
-    };
-    let Some(lists) = read_lists(alloc, counts, cursor)? else {
-        return Ok(None);
-    };
-    Ok(Some(polyline_of(start, lists)))
+    if let Some(many) = bulges {
+        known_words(many.as_slice());
+    }
+}
+
+/// And its widths.
+fn known_widths_where(widths: &Option<Items<Width>>)
+    ensures { (items_where width_pair (option_map length widths.now)).IsValue widths.now }
+{
+    if let Some(many) = widths {
+        known_widths(many.as_slice());
+    }
+}
+
+/// Writes what a lightweight polyline begins with.
+fn write_start(polyline: &LwPolyline, sink: &mut BitSink)
+    requires value { polyline_start.IsValue (start_of polyline.now) }
+    requires room { length (polyline_start.short (start_of polyline.now)) ≤ sink.old.spare }
+    ensures { Extends sink.old sink.new (polyline_start.short (start_of polyline.now)) }
+{
+    CodeBS::write(&(), &polyline.flag, sink);
+    write_when::<CodeBD>(&(), has(polyline.flag, WIDTH), &polyline.width, sink);
+    write_when::<CodeBD>(
+        &(),
+        has(polyline.flag, ELEVATION),
+        &polyline.elevation,
+        sink,
+    );
+    write_when::<CodeBD>(
+        &(),
+        has(polyline.flag, THICKNESS),
+        &polyline.thickness,
+        sink,
+    );
+    write_when::<Code3BD>(&(), has(polyline.flag, NORMAL), &polyline.normal, sink);
+}
+
+/// Writes the counts of its lists.
+fn write_counts(polyline: &LwPolyline, sink: &mut BitSink)
+    requires value { (polyline_counts polyline.now.flag).IsValue (counts_of (lists_of polyline.now)) }
+    requires room { length ((polyline_counts polyline.now.flag).short (counts_of (lists_of polyline.now))) ≤ sink.old.spare }
+    ensures { Extends sink.old sink.new ((polyline_counts polyline.now.flag).short (counts_of (lists_of polyline.now))) }
+{
+    let points = polyline.points.as_slice().len() as u32;
+    let bulges = count_when(has(polyline.flag, BULGES), &polyline.bulges);
+    let widths = count_when(has(polyline.flag, WIDTHS), &polyline.widths);
+    CodeBL::write(&(), &points, sink);
+    write_when::<CodeBL>(&(), has(polyline.flag, BULGES), &bulges, sink);
+    write_when::<CodeBL>(&(), has(polyline.flag, WIDTHS), &widths, sink);
 }
 
 impl BodyCode for LwPolyline {
@@ -144,34 +173,108 @@ impl BodyCode for LwPolyline {
         _refs: &mut BitCursor<'_>,
         _base: Handle,
     ) -> Result<Option<LwPolyline>, NoMemory> {
-        read_lwpolyline(alloc, main)
+        let Some(flag) = parse_code::<CodeBS>(&(), main) else {
+            return Ok(None);
+        };
+        let Some(width) = parse_when::<CodeBD>(&(), has(flag, WIDTH), main) else {
+            return Ok(None);
+        };
+        let Some(elevation) = parse_when::<CodeBD>(&(), has(flag, ELEVATION), main) else {
+            return Ok(None);
+        };
+        let Some(thickness) = parse_when::<CodeBD>(&(), has(flag, THICKNESS), main) else {
+            return Ok(None);
+        };
+        let Some(normal) = parse_when::<Code3BD>(&(), has(flag, NORMAL), main) else {
+            return Ok(None);
+        };
+        let Some(points_count) = parse_code::<CodeBL>(&(), main) else {
+            return Ok(None);
+        };
+        let Some(bulges_count) = parse_when::<CodeBL>(&(), has(flag, BULGES), main) else {
+            return Ok(None);
+        };
+        let Some(widths_count) = parse_when::<CodeBL>(&(), has(flag, WIDTHS), main) else {
+            return Ok(None);
+        };
+        let Some(points) = read_vertices(alloc, points_count, main)? else {
+            return Ok(None);
+        };
+        let Some(bulges) = parse_list_where::<CodeBD>(alloc, &(), bulges_count, main)? else {
+            return Ok(None);
+        };
+        let Some(widths) = parse_list_where::<CodeWidth>(alloc, &(), widths_count, main)? else {
+            return Ok(None);
+        };
+        Ok(Some(LwPolyline {
+            flag,
+            width,
+            elevation,
+            thickness,
+            normal,
+            points,
+            bulges,
+            widths,
+        }))
     }
 
     #[tactic(auto, unfolding(crate::specs::LwPolylines::lwpolyline_body))]
     fn fits(&self, _base: Handle) -> bool {
-        if !start_fits(&start_of(self)) {
+        if !word_fits_when(has(self.flag, WIDTH), self.width) {
             return false;
         }
-        if !counts_fit(self) {
+        if !word_fits_when(has(self.flag, ELEVATION), self.elevation) {
             return false;
         }
-        known_lists(self);
+        if !word_fits_when(has(self.flag, THICKNESS), self.thickness) {
+            return false;
+        }
+        if !point_fits_when(has(self.flag, NORMAL), &self.normal) {
+            return false;
+        }
+        if self.points.as_slice().len() >= TOO_MANY {
+            return false;
+        }
+        if !count_fits_when(has(self.flag, BULGES), &self.bulges) {
+            return false;
+        }
+        if !count_fits_when(has(self.flag, WIDTHS), &self.widths) {
+            return false;
+        }
+        known_vertices(self.points.as_slice());
+        known_bulges(&self.bulges);
+        known_widths_where(&self.widths);
         true
     }
 
     #[tactic(auto, unfolding(crate::specs::LwPolylines::lwpolyline_body))]
     fn lengths(&self, _base: Handle) -> Lengths {
+        let points = self.points.as_slice().len() as u32;
+        let bulges = count_when(has(self.flag, BULGES), &self.bulges);
+        let widths = count_when(has(self.flag, WIDTHS), &self.widths);
         Lengths {
-            main: start_bits(&start_of(self)) + counts_bits(self) + lists_bits(self),
+            main: CodeBS::length(&(), &self.flag)
+                + length_when::<CodeBD>(&(), has(self.flag, WIDTH), &self.width)
+                + length_when::<CodeBD>(&(), has(self.flag, ELEVATION), &self.elevation)
+                + length_when::<CodeBD>(&(), has(self.flag, THICKNESS), &self.thickness)
+                + length_when::<Code3BD>(&(), has(self.flag, NORMAL), &self.normal)
+                + CodeBL::length(&(), &points)
+                + length_when::<CodeBL>(&(), has(self.flag, BULGES), &bulges)
+                + length_when::<CodeBL>(&(), has(self.flag, WIDTHS), &widths)
+                + vertices_bits(self.points.as_slice())
+                + list_bits_where::<CodeBD>(&(), &self.bulges)
+                + list_bits_where::<CodeWidth>(&(), &self.widths),
             refs: 0,
         }
     }
 
     #[tactic(auto, unfolding(crate::specs::LwPolylines::lwpolyline_body))]
     fn write_main(&self, _base: Handle, sink: &mut BitSink) {
-        write_start(&start_of(self), sink);
+        write_start(self, sink);
         write_counts(self, sink);
-        write_lists(self, sink);
+        write_vertices(self.points.as_slice(), sink);
+        write_list_where::<CodeBD>(&(), &self.bulges, sink);
+        write_list_where::<CodeWidth>(&(), &self.widths, sink);
     }
 
     #[tactic(auto, unfolding(crate::specs::LwPolylines::lwpolyline_body))]
