@@ -1,9 +1,11 @@
 -- Common parts in bodies: a body is cut in one way at the most into head, common part, own bits and references, and whether it is so cut follows from its bits.
-use Rattle.std.proofs.Common.{◌≡◌, refl, sym, ◌∙◌, ap, ap₂, subst, ℕ, ◌-◌, ◌^◌, ◌<◌, ◌≤◌, Bool, true, false, List, ◌++◌, length, take, drop, Option, Some, None, inl, inr, arith}
+use Rattle.std.proofs.Common.{◌≡◌, refl, sym, ◌∙◌, ap, ap₂, subst, ℕ, ◌*◌, ◌^◌, ◌<◌, ◌≤◌, Bool, true, false, List, ◌++◌, length, take, Option, Some, None, inl, inr, arith}
 use Rattle.std.specs.Prelude.{◌⊎◌, nat_lt}
 use Rattle.std.proofs.lemmas.Bool.Decides.{nat_tests}
-use Rattle.std.proofs.lemmas.List.{append_assoc, append_cancel_left, length-append, take-append-drop, length-take-le, take_at}
+use Rattle.std.proofs.lemmas.List.{append_assoc, append_cancel_left, length-append, take_at}
 use Rattle.dwg_bits.specs.Bits.{bits}
+use Rattle.dwg_bits.specs.Cursor.{bits_between}
+use Rattle.dwg_bits.proofs.BitLaws.{bits_between_all, bits_between_joined, length_of_bits, length_of_bits_between}
 use Rattle.dwg_classes.specs.declared.class.Class.{Class}
 use Rattle.dwg_grammar.proofs.CodeLemmas.{unique_of_code}
 use Rattle.dwg_grammar.specs.Grammar.{AnyLetters}
@@ -17,7 +19,7 @@ use Rattle.dwg_kinds.specs.Kinds.{is_entity_kind}
 use Rattle.dwg_object.specs.declared.common.Common.{Common}
 use Rattle.dwg_object.specs.Objects.{HeadParts, is_of_entity}
 use Rattle.dwg_object.specs.Forms.{CommonForm, HasCommonForm, kind_under, common_part}
-use Rattle.dwg_object.specs.Heads.{head, HasHead, IsHead}
+use Rattle.dwg_object.specs.Heads.{head, HasHead, IsHead, IsHeadAt}
 use Rattle.dwg_object.proofs.HeadLemmas.{head_is_code}
 
 -- the common part of an object is a body
@@ -49,6 +51,30 @@ same_fronts {A} front back other other_back same long =
     let fronts : front ≡ other =
     sym (take_at front back (length front) refl) ∙ ap₂ (λ (n : ℕ) (all : List A). take n all) long same ∙ take_at other other_back (length other) refl in
     (fronts, append_cancel_left front back other_back (same ∙ ap (λ first. first ++ other_back) (sym fronts)))
+
+-- a body is cut at the place behind its head and at its bit size
+pub cut_between : (body : List ℕ) {parts : HeadParts} {at : ℕ} (end : ℕ) → IsHeadAt (bits body) parts at → at ≤ parts.size → parts.size ≤ end → end ≡ 8 * length body
+    → AreParted (bits body) parts (bits_between body at parts.size) (bits_between body parts.size end)
+cut_between body {parts} {at} end is behind within whole =
+    let all : bits body ≡ bits_between body 0 at ++ bits_between body at end =
+    sym (bits_between_all body end whole) ∙ sym (bits_between_joined body 0 at end (omega arith) (omega (arith, behind, within))) in
+    let pieces : bits_between body at end ≡ bits_between body at parts.size ++ bits_between body parts.size end =
+    sym (bits_between_joined body at parts.size end behind within) in
+    let long : length (bits_between body 0 at) ≡ at = omega (arith, length_of_bits_between body 0 at (omega (arith, behind, within, whole))) in
+    let fronts = same_fronts is.has.front is.has.rest (bits_between body 0 at) (bits_between body at end) (sym is.has.whole ∙ all) (is.far ∙ sym long) in
+    record {
+      front = is.has.front;
+      spelled = is.has.spelled;
+      whole =
+          is.has.whole ∙ ap (λ rest. is.has.front ++ rest) (fronts.1 ∙ pieces) ∙ sym (append_assoc is.has.front (bits_between body at parts.size) (bits_between body parts.size end));
+      size = omega (
+        arith,
+        is.far,
+        behind,
+        length-append is.has.front (bits_between body at parts.size),
+        length_of_bits_between body at parts.size (omega (arith, within, whole)),
+      );
+    }
 
 -- it is cut in one way
 cut_same : {letters : List Bool} {parts other : HeadParts} {main references other_main other_references : List Bool}
@@ -174,20 +200,6 @@ size_of_common {parts = parts} begins has =
       within = omega (arith, sizes, is.filled, ap length is.whole, length-append (is.head_bits ++ main) references);
     }
 
--- a body is cut where its bit size is so
-cut_of_size : {letters : List Bool} {parts : HeadParts} (has : HasHead letters parts) → IsSizeWithin letters has.front parts.size
-    → AreParted letters parts (take (parts.size - length has.front) has.rest) (drop (parts.size - length has.front) has.rest)
-cut_of_size {parts = parts} has size =
-    let many : ℕ = parts.size - length has.front in
-    let enough : many ≤ length has.rest = omega (arith, size.within, size.behind, ap length has.whole, length-append has.front has.rest) in
-    record {
-      front = has.front;
-      spelled = has.spelled;
-      whole =
-          has.whole ∙ ap (λ rest. has.front ++ rest) (sym (take-append-drop many has.rest)) ∙ sym (append_assoc has.front (take many has.rest) (drop many has.rest));
-      size = omega (arith, length-append has.front (take many has.rest), length-take-le many has.rest enough, size.behind);
-    }
-
 -- a bit size lies behind the head and within the body, or it doesn't
 size_or_not : (letters front : List Bool) (size : ℕ) → IsSizeWithin letters front size ⊎ (IsSizeWithin letters front size → ⊥)
 size_or_not letters front size = by_tests (nat_lt size (length front)) (nat_lt (length letters) size) refl refl
@@ -224,7 +236,9 @@ common_form_decided {classes} {body} {parts} has = by_test (size_or_not (bits bo
 
     by_test : IsSizeWithin (bits body) has.front parts.size ⊎ (IsSizeWithin (bits body) has.front parts.size → ⊥) → HasCommonForm classes body ⊎ (HasCommonForm classes body → ⊥)
     by_test (inr outside) = inr (λ form. outside (size_of_common has form))
-    by_test (inl size) = by_parse _ _ _ (cut_of_size has size) refl
+    by_test (inl size) =
+        let within : parts.size ≤ 8 * length body = omega (arith, size.within, length_of_bits body) in
+        by_parse _ _ _ (cut_between body (8 * length body) (record { has = has; far = refl }) size.behind within refl) refl
 
 -- a form is decided where common parts are its own, and whether they are so follows from them
 pub decided_behind : {classes : List Class} {body : List ℕ} {parts : HeadParts} (Has : Type 0) (At : HasCommonForm classes body → Type 0) → HasHead (bits body) parts

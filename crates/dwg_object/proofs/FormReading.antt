@@ -1,9 +1,8 @@
 -- Reading a body in its forms, by its head, its common part and what stands behind it.
 use Rattle.std.proofs.Common.{◌≡◌, sym, ◌∙◌, ap, ap₂, subst, ℕ, ◌*◌, ◌≤◌, Bool, List, ◌++◌, length, None, inl, inr, arith}
 use Rattle.std.specs.Prelude.{◌⊎◌}
-use Rattle.std.proofs.lemmas.List.{append_assoc, length-append}
 use Rattle.dwg_bits.specs.Bits.{bits}
-use Rattle.dwg_bits.proofs.BitLaws.{bits_between_all, bits_between_joined, length_of_bits, length_of_bits_between}
+use Rattle.dwg_bits.proofs.BitLaws.{length_of_bits}
 use Rattle.dwg_bits.specs.Cursor.{bits_between, rest}
 use Rattle.dwg_bits.specs.declared.cursor.BitCursor.{BitCursor}
 use Rattle.dwg_classes.specs.declared.class.Class.{Class}
@@ -12,7 +11,7 @@ use Rattle.dwg_grammar.specs.Reference.{Reference}
 use Rattle.dwg_grammar.specs.ReferenceCodes.{reference}
 use Rattle.dwg_kinds.specs.declared.kind.Kind.{Kind}
 use Rattle.dwg_kinds.specs.declared.kind.Kind.TheVariants.{Unknown}
-use Rattle.dwg_object.proofs.CommonForms.{AreParted, same_fronts, size_of_common}
+use Rattle.dwg_object.proofs.CommonForms.{AreParted, cut_between, size_of_common}
 use Rattle.dwg_object.specs.Forms.{HasCommonForm, HasTypedForm, HasPlainForm, kind_under}
 use Rattle.dwg_object.specs.Heads.{IsHeadAt}
 use Rattle.dwg_object.specs.Objects.{HeadParts}
@@ -20,31 +19,7 @@ use Rattle.dwg_object.proofs.PlainLemmas.{plain_cut}
 use Rattle.dwg_object.specs.OwnBits.{HasOwn}
 use Rattle.dwg_object.proofs.TypedLemmas.{typed_own}
 
--- a body is cut at the place behind its head and at its bit size
-cut_between : (body : List ℕ) {parts : HeadParts} {at : ℕ} (end : ℕ) → IsHeadAt (bits body) parts at → at ≤ parts.size → parts.size ≤ end → end ≡ 8 * length body
-    → AreParted (bits body) parts (bits_between body at parts.size) (bits_between body parts.size end)
-cut_between body {parts} {at} end is behind within whole =
-    let all : bits body ≡ bits_between body 0 at ++ bits_between body at end =
-    sym (bits_between_all body end whole) ∙ sym (bits_between_joined body 0 at end (omega arith) (omega (arith, behind, within))) in
-    let pieces : bits_between body at end ≡ bits_between body at parts.size ++ bits_between body parts.size end =
-    sym (bits_between_joined body at parts.size end behind within) in
-    let long : length (bits_between body 0 at) ≡ at = omega (arith, length_of_bits_between body 0 at (omega (arith, behind, within, whole))) in
-    let fronts = same_fronts is.has.front is.has.rest (bits_between body 0 at) (bits_between body at end) (sym is.has.whole ∙ all) (is.far ∙ sym long) in
-    record {
-      front = is.has.front;
-      spelled = is.has.spelled;
-      whole =
-          is.has.whole ∙ ap (λ rest. is.has.front ++ rest) (fronts.1 ∙ pieces) ∙ sym (append_assoc is.has.front (bits_between body at parts.size) (bits_between body parts.size end));
-      size = omega (
-        arith,
-        is.far,
-        behind,
-        length-append is.has.front (bits_between body at parts.size),
-        length_of_bits_between body at parts.size (omega (arith, within, whole)),
-      );
-    }
-
--- so it is for cursors that stand there
+-- a body is cut for cursors that stand behind its head and at its bit size
 pub cut_of_cursors : (body : List ℕ) {parts : HeadParts} {at : ℕ} (size end : ℕ) (main references : BitCursor) → IsHeadAt (bits body) parts at → at ≤ size → size ≤ end → size ≡ parts.size → end ≡ 8 * length body
     → main.bytes.now ≡ body → main.place ≡ at → main.end ≡ size → references.bytes.now ≡ body → references.place ≡ size → references.end ≡ end
     → AreParted (bits body) parts (rest main) (rest references)

@@ -18,25 +18,11 @@ use Rattle.dwg_object.proofs.FrameLaws.{body_of_span, tried_frame_means}
 use Rattle.dwg_object.specs.FrameLines.{frame_refusal, span_body, frame_checked, tried_span, tried_frame}
 use Rattle.dwg_object.specs.Frames.{FrameAt, SpanAt}
 use Rattle.dwg_object.specs.Objects.{HeadParts, ObjectValue, value_of}
-use Rattle.dwg_object.proofs.SpanLaws.{span_within}
 
--- the places of a span ascend within the input, and its body is below 2^60 bytes
-pub record IsPlaced (bytes : List ℕ) (span : Span) : Type 0 where
-  pub body : span.from ≤ span.body
-  pub body_end : span.body ≤ span.body_end
-  pub end : span.end ≡ span.body_end + 2
-  pub within : span.end ≤ length bytes
-  pub small : length (span_body bytes span) < 2 ^ 60
-
--- a span is placed so
-pub span_placed : (bytes : List ℕ) (span : Span) → SpanAt bytes span → IsPlaced bytes span
-span_placed bytes span is = record {
-  body = omega (arith, is.body_place);
-  body_end = omega (arith, is.body_end);
-  end = is.ends;
-  within = (span_within bytes span is).0;
-  small = subst (λ (b : List ℕ). length b < 2 ^ 60) (sym (body_of_span bytes span is)) (ms_below (length is.body) (ms_is_code.value is.size (length is.body) is.spelled));
-}
+-- the body of a span is below 2^60 bytes
+pub span_small : (bytes : List ℕ) (span : Span) → SpanAt bytes span → length (span_body bytes span) < 2 ^ 60
+span_small bytes span is =
+    subst (λ (b : List ℕ). length b < 2 ^ 60) (sym (body_of_span bytes span is)) (ms_below (length is.body) (ms_is_code.value is.size (length is.body) is.spelled))
 
 -- a span that is refused refuses its frame
 pub refused_span : (bytes : List ℕ) (place index : ℕ) (refusal : Refusal) → tried_span place index bytes ≡ Err refusal → tried_frame place index bytes ≡ Err refusal

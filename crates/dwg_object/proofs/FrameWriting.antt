@@ -26,15 +26,12 @@ both_written : (first second third : Written) (some others : List ℕ) → Exten
 both_written first second third some others by_some by_others =
     subst (Extends first third) (sym (bits_joined some others)) (extends_by_both first second third (bits some) (bits others) by_some by_others)
 
--- whole bytes that hold so many bits
-pub padded_long : (letters : List Bool) (count : ℕ) → count ≡ length letters → (count + 7) / 8 ≡ length (whole_bytes (letters ++ padding letters))
-padded_long letters count same = let padded = bytes_padded letters in omega (arith, same, padded.enough, padded.few)
-
--- so are the bytes of an object, whose bits were counted before the references and of these
+-- the bytes of an object whose bits were counted before the references and of these
 pub object_counted : (number handle : ℕ) (common : Common) (own own_refs : List Bool) (front names : ℕ) → front ≡ length (front_bits number handle common own)
     → names ≡ length (refs_bits handle common own_refs) → (front + names + 7) / 8 ≡ length (object_bytes number handle common own own_refs)
 object_counted number handle common own own_refs front names in_front behind =
-    padded_long (object_bits number handle common own own_refs) (front + names) (omega (arith, object_long number handle common own own_refs, in_front, behind))
+    let padded = bytes_padded (object_bits number handle common own own_refs) in
+    omega (arith, padded.enough, padded.few, object_long number handle common own own_refs, in_front, behind)
 
 -- behind whole bytes, bits are filled up as they are alone
 pub padding_behind : (front letters : List Bool) → length front % 8 ≡ 0 → padding (front ++ letters) ≡ padding letters
@@ -149,7 +146,3 @@ object_room number handle common own own_refs =
 -- behind whole bytes, bytes end at a whole byte
 pub aligned_behind : (old new : Written) (bytes : List ℕ) → length old.written % 8 ≡ 0 → Extends old new (bits bytes) → length new.written % 8 ≡ 0
 aligned_behind old new bytes whole grew = omega (arith, whole, ap length grew.bits, length-append old.written (bits bytes), length_of_bits bytes)
-
--- as many whole bytes
-pub eighth : (count long : ℕ) → count ≡ long → count / 8 ≡ long / 8
-eighth count long same = ap (λ (n : ℕ). n / 8) same

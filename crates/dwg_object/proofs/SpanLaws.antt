@@ -1,5 +1,5 @@
 -- What is tried of a span is what the input tells: by the length that is parsed at the place, and its room.
-use Rattle.std.proofs.Common.{◌≡◌, refl, sym, ◌∙◌, ap, subst, ℕ, ◌+◌, ◌-◌, ◌<◌, ◌≤◌, Bool, true, false, List, ◌++◌, length, take, drop, Option, Some, None, inl, inr, arith}
+use Rattle.std.proofs.Common.{◌≡◌, refl, sym, ◌∙◌, ap, ap₂, subst, ℕ, ◌+◌, ◌-◌, ◌<◌, ◌≤◌, Bool, true, false, List, ◌++◌, length, take, drop, Option, Some, None, inl, inr, arith}
 use Rattle.std.specs.Prelude.{nat_lt, not, Ok, Err, if◌then◌else◌}
 use Rattle.std.proofs.lemmas.Bool.Decides.{nat_tests}
 use Rattle.std.proofs.lemmas.List.{append_assoc, length-append, length-drop, length-take-le, take-append-drop}
@@ -102,15 +102,6 @@ span_told bytes place index are = of_test (nat_lt place (length bytes)) refl
     of_test false is = inl (grind (arith, nat_tests), refl)
     of_test true is = span_of_parsed place index bytes are (grind (arith, nat_tests)) (ms.parse (drop place bytes)) refl
 
--- the places of a span are told by those of its parts
-places_same : (from body body_end end from' body' body_end' end' : ℕ) → from ≡ from' → body ≡ body' → body_end ≡ body_end' → end ≡ end'
-    → ◌≡◌ {A = Span} (record { from = from; body = body; body_end = body_end; end = end }) (record { from = from'; body = body'; body_end = body_end'; end = end' })
-places_same from body body_end end from' body' body_end' end' a b c d =
-    ap (λ (n : ℕ). record { from = n; body = body; body_end = body_end; end = end }) a
-    ∙ ap (λ (n : ℕ). record { from = from'; body = n; body_end = body_end; end = end }) b
-    ∙ ap (λ (n : ℕ). record { from = from'; body = body'; body_end = n; end = end }) c
-    ∙ ap (λ (n : ℕ). record { from = from'; body = body'; body_end = body_end'; end = n }) d
-
 -- the length of a span stands at its place
 pub span_size : (bytes : List ℕ) (span : Span) (is : SpanAt bytes span) → StandsAt bytes span.from is.size
 span_size bytes span is =
@@ -130,9 +121,10 @@ spans_same bytes span other is was same =
     let sizes = lengths_same bytes span.from (length is.body) (length was.body) is.size was.size is.spelled was.spelled (span_size bytes span is)
     (subst (λ n. StandsAt bytes n was.size) (sym same) (span_size bytes other was)) in
     let wide : length is.size ≡ length was.size = ap length sizes.1 in
-    places_same span.from span.body span.body_end span.end other.from other.body other.body_end other.end same
-    (omega (arith, is.body_place, was.body_place, wide)) (omega (arith, is.body_place, was.body_place, is.body_end, was.body_end, wide, sizes.0))
-    (omega (arith, is.body_place, was.body_place, is.body_end, was.body_end, is.ends, was.ends, wide, sizes.0))
+    let bodies : span.body ≡ other.body = omega (arith, is.body_place, was.body_place, same, wide) in
+    let ends : span.body_end ≡ other.body_end = omega (arith, bodies, is.body_end, was.body_end, sizes.0) in
+    ap₂ (λ (from body : ℕ). record { from = from; body = body; body_end = span.body_end; end = span.end }) same bodies
+    ∙ ap₂ (λ (body_end end : ℕ). record { from = other.from; body = other.body; body_end = body_end; end = end }) ends (omega (arith, ends, is.ends, was.ends))
 
 -- where a span stands, no place is refused
 pub span_unrefused : (bytes : List ℕ) (place index : ℕ) (span : Span) (refusal : Refusal) → SpanAt bytes span → span.from ≡ place → SpanRefused bytes place index refusal → ⊥

@@ -107,7 +107,7 @@ macro_rules! by_kind {
                 Some(body) => Ok(Some($crate::Body::$name(body))),
                 None => Ok(None),
             },)*
-            Kind::PlainEntity | Kind::PlainObject | Kind::Unknown => Ok(None),
+            _ => Ok(None),
         }
     };
 }

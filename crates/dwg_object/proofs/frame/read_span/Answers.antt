@@ -1,14 +1,14 @@
 use Rattle.std.proofs.Common.{sym, refl, ◌∙◌, subst, arith, ◌<◌, ◌^◌, List, ℕ, length}
 use Rattle.dwg_base.proofs.ByteLists.{are_bytes}
 use Rattle.dwg_object.proofs.FrameLaws.{check_refused, framed_at}
-use Rattle.dwg_object.proofs.FrameReading.{span_placed, told_frame, head_refused, found_frame, found_tried}
+use Rattle.dwg_object.proofs.FrameReading.{span_small, told_frame, head_refused, found_frame, found_tried}
 use Rattle.dwg_object.proofs.frame.read_span.Goals as goal
 
 pub head_of-requires : goal.head_of-requires
-head_of-requires c = subst (λ (b : List ℕ). length b < 2 ^ 60) (sym c.piece-body.ensures) (span_placed c.args.bytes.now c.args.span.now c.requires).small
+head_of-requires c = subst (λ (b : List ℕ). length b < 2 ^ 60) (sym c.piece-body.ensures) (span_small c.args.bytes.now c.args.span.now c.requires)
 
 pub read_behind_head-requires-clause-small : goal.read_behind_head-requires-clause-small
-read_behind_head-requires-clause-small c = subst (λ (b : List ℕ). length b < 2 ^ 60) (sym c.piece-body.ensures) (span_placed c.args.bytes.now c.args.span.now c.requires).small
+read_behind_head-requires-clause-small c = subst (λ (b : List ℕ). length b < 2 ^ 60) (sym c.piece-body.ensures) (span_small c.args.bytes.now c.args.span.now c.requires)
 
 pub returns-in_default-clause-tried : goal.returns-in_default-clause-tried
 returns-in_default-clause-tried c =
