@@ -1,9 +1,8 @@
 -- Application data tried, counted and written, item by item.
-use Rattle.std.proofs.Common.{◌≡◌, refl, ap, ℕ, ◌+◌, ◌*◌, Bool, List, ◌++◌, length, arith}
+use Rattle.std.proofs.Common.{◌≡◌, ℕ, ◌+◌, ◌*◌, Bool, List, ◌++◌, length, arith}
 use Rattle.std.proofs.lemmas.List.{length-append}
-use Rattle.dwg_bits.proofs.BitLaws.{length_of_bits}
 use Rattle.dwg_bits.specs.Sink.{Written, Extends}
-use Rattle.dwg_grammar.proofs.ByteRunLemmas.{short_of_bytes}
+use Rattle.dwg_codes.proofs.RunReading.{length_of_run}
 use Rattle.dwg_grammar.specs.Codes.{bs, rc}
 use Rattle.dwg_grammar.specs.Combinators.{chain}
 use Rattle.dwg_grammar.specs.ToEnd.{short_all}
@@ -28,20 +27,14 @@ pub record AreWrittenSoFar (base : ℕ) (app left : List AppData) (old now : Wri
   pub whole : (app_list base).short app ≡ done ++ (app_list base).short left
   pub are : (app_list base).IsValue left
 
--- an item is written by its size, its reference and its bytes
-item_parts : (base : ℕ) (item : AppData) → item_short base item ≡ bs.short (length item.bytes) ++ ((reference base).short item.application ++ short_all rc item.bytes)
-unfolding chain
-item_parts base item = refl
-
--- so it has their bits
+-- an item has the bits of its size, of its reference and of its bytes
 pub length_of_item : (base : ℕ) (item : AppData)
     → length (item_short base item) ≡ length (bs.short (length item.bytes)) + length ((reference base).short item.application) + 8 * length item.bytes
+unfolding chain
 length_of_item base item =
     omega (
       arith,
-      ap length (item_parts base item),
       length-append (bs.short (length item.bytes)) ((reference base).short item.application ++ short_all rc item.bytes),
       length-append ((reference base).short item.application) (short_all rc item.bytes),
-      ap length (short_of_bytes item.bytes),
-      length_of_bits item.bytes,
+      length_of_run item.bytes,
     )

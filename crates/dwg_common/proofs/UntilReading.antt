@@ -1,9 +1,9 @@
 -- Values up to a mark, read one by one: a tag, and behind each that isn't the mark a value.
-use Rattle.std.proofs.Common.{◌≡◌, refl, sym, ◌∙◌, ap, ℕ, zero, suc, ◌<◌, ◌≤◌, Bool, true, false, List, [], ◌∷◌, ◌++◌, length, Option, Some, None, arith}
+use Rattle.std.proofs.Common.{◌≡◌, refl, sym, ◌∙◌, ap, ℕ, zero, suc, ◌<◌, ◌≤◌, Bool, false, List, [], ◌∷◌, ◌++◌, length, Option, Some, None, arith}
 use Rattle.std.specs.Prelude.{◌==◌, ◌≢◌, option_and_then, if◌then◌else◌}
 use Rattle.std.proofs.lemmas.Bool.Decides.{nat_tests}
 use Rattle.std.specs.Option.{option_map}
-use Rattle.std.proofs.lemmas.List.{append_assoc, append-nil, length-append}
+use Rattle.std.proofs.lemmas.List.{append_assoc, length-append}
 use Rattle.dwg_grammar.specs.Combinators.{parse_until}
 use Rattle.dwg_grammar.specs.Grammar.{Grammar, IsCode, AnyLetters}
 
@@ -111,15 +111,6 @@ one_begun {T} {V} tags is_mark code found more tag value old now mid new take ot
     (enough tags is_mark code (length now) (suc (length new)) new take
     (omega (arith, shorter tags code now mid tag take was_tag, no_longer tags code tag mid new value take was_value)) (omega arith))
     ∙ behind_more found more value (parse_all tags is_mark code new) pushed
-
--- at the mark all are read
-pub all_begun : {T V : Type 0} (tags : Grammar Bool T) (is_mark : T → Bool) (code : T → Grammar Bool V) (found : List V) (tag : T) (old now new : List Bool)
-    → is_mark tag ≡ true → tags.parse now ≡ Some (tag, new) → AreBegun tags is_mark code found old now → parse_all tags is_mark code old ≡ Some (found, new)
-all_begun {T} {V} tags is_mark code found tag old now new mark was_tag so_far =
-    so_far
-    ∙ ap (λ (one : Option (T × List Bool)). option_map (found_behind found) (option_and_then (behind_tag tags is_mark code (length now)) one)) was_tag
-    ∙ ap (λ (test : Bool). option_map (found_behind found) (if test then Some ([], new) else option_and_then (behind_value tags is_mark code (length now)) ((code tag).parse new))) mark
-    ∙ ap (λ (all : List V). Some (all, new)) (append-nil found)
 
 -- a number that isn't the mark 0 fails its test
 pub unmarked : (tag : ℕ) → tag ≢ 0 → (tag == 0) ≡ false

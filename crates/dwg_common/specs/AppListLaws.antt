@@ -1,5 +1,5 @@
 -- Application data are a code.
-use Rattle.std.proofs.Common.{◌≡◌, refl, ℕ, ◌^◌, ◌<◌, ◌≤◌, length, arith}
+use Rattle.std.proofs.Common.{◌≡◌, refl, ℕ, ◌^◌, ◌<◌, length, arith}
 use Rattle.std.specs.Prelude.{◌==◌, ◌≢◌}
 use Rattle.std.proofs.lemmas.Bool.Decides.{nat_tests}
 use Rattle.dwg_grammar.specs.Codes.{bs, rc}
@@ -35,10 +35,7 @@ value_is_item base size item small some fits = (
 -- and an item is a value of as many bytes as it has
 item_is_value : (base : ℕ) (item : AppData) → IsAppData base item → bs.IsValue (length item.bytes) × (length item.bytes ≢ 0) × (app_item base (length item.bytes)).IsValue item
 unfolding reference chain
-item_is_value base item is = (is.few, nonzero (length item.bytes) is.some, (is.application, (refl, items_of_bytes rc (λ value byte. byte) item.bytes is.bytes)))
-  where
-    nonzero : (n : ℕ) → 1 ≤ n → n ≢ 0
-    nonzero n some none = omega (arith, some, none)
+item_is_value base item is = (is.few, (λ none. omega (arith, is.some, none)), (is.application, (refl, items_of_bytes rc (λ value byte. byte) item.bytes is.bytes)))
 
 -- the list is a code
 pub app_list_is_code : (base : ℕ) → base < 2 ^ 63 → IsCode AnyLetters (app_list base)

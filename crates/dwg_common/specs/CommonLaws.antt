@@ -13,7 +13,7 @@ use Rattle.dwg_common.specs.declared.entity.Start.{Start}
 use Rattle.dwg_common.specs.AppListLaws.{app_list_is_code}
 use Rattle.dwg_common.specs.LawSets.{codes, parts, bodies}
 use Rattle.dwg_grammar.specs.Bodies.{IsBody}
-use Rattle.dwg_common.specs.Entities.{graphic, entity_mode, entity_start, entity_look, links, entity_refs, entity_of, main_of_entity, named_of_entity, entity_common}
+use Rattle.dwg_common.specs.Entities.{graphic, links, entity_refs, entity_of, main_of_entity, named_of_entity, entity_common}
 use Rattle.dwg_common.specs.NonEntities.{object_refs, object_common}
 use Rattle.dwg_grammar.specs.References.{IsReferencePart}
 use Rattle.dwg_grammar.proofs.Shaped.{shaped_is_code}
@@ -29,18 +29,6 @@ unfolding graphic
 graphic_is_code =
     shaped_is_code (λ parts. parts.1) (λ bytes. (is_some bytes, bytes)) (seq b (λ there. when there (counted rl rc))) (search codes depth 8)
     (λ parts fits. ap (λ (there : Bool). (there, parts.1)) (there_by_test parts.0 (counted rl rc) parts.1 fits.1)) (λ bytes. refl)
-
--- so is a mode
-pub mode_is_code : IsCode AnyLetters entity_mode
-mode_is_code = search codes
-
--- what an entity begins with
-pub start_is_code : (base : ℕ) → base < 2 ^ 63 → IsCode AnyLetters (entity_start base)
-start_is_code base small = search (codes, app_list_is_code, graphic_is_code, mode_is_code) depth 12
-
--- and its look
-pub look_is_code : IsCode AnyLetters entity_look
-look_is_code = search codes depth 12
 
 -- the links are a part of the references
 pub links_is_part : (base : ℕ) → base < 2 ^ 63 → IsReferencePart base (links base)
@@ -68,7 +56,7 @@ entity_told base (start, look) named names = (
 -- the common part of an entity is a body
 pub entity_is_body : (base : ℕ) → base < 2 ^ 63 → IsBody base (entity_common base)
 unfolding entity_common
-entity_is_body base small = search (bodies, start_is_code, look_is_code, entity_refs_is_part, entity_told) depth 8
+entity_is_body base small = search (bodies, app_list_is_code, graphic_is_code, entity_refs_is_part, entity_told) depth 20
 
 -- what is put together of another object is told by it
 object_told : (base : ℕ) (told : List AppData × ℕ) (named : Reference × (List Reference × Reference)) → (object_refs base told).grammar.IsValue named
