@@ -1,8 +1,9 @@
 -- Texts, attributes and their definitions, inserts, and the begin and end of blocks meet the laws of bodies.
 use Rattle.std.proofs.Common.{◌≡◌, refl, ap, ℕ, ◌^◌, ◌<◌, Bool, List, arith}
 use Rattle.dwg_grammar.specs.Codes.{rd, bs, tv}
+use Rattle.dwg_grammar.proofs.CombinatorLemmas.{always_is_code}
 use Rattle.dwg_grammar.proofs.BodyLemmas.{free_of_body}
-use Rattle.dwg_grammar.proofs.CodeRules.{code_rules, part_rules}
+use Rattle.dwg_common.specs.LawSets.{codes, default_codes, parts, bodies}
 use Rattle.dwg_grammar.specs.Combinators.{seq}
 use Rattle.dwg_grammar.specs.Grammar.{IsCode, AnyLetters}
 use Rattle.dwg_grammar.specs.Bodies.{IsBody, IsFreeBody}
@@ -23,7 +24,7 @@ use Rattle.dwg_entities.specs.TextBody.{Inscription, flags_of, text_main, inscri
 -- what the main bits of a text tell is a code
 text_main_is_code : IsCode AnyLetters text_main
 unfolding text_main
-text_main_is_code = search code_rules depth 20
+text_main_is_code = search (codes, default_codes) depth 20
 
 -- the flags follow from the parts that they tell
 flags_told : (told : Inscription) (style : Reference) → text_main.IsValue told → flags_of (text_of told style) ≡ told.0
@@ -48,8 +49,7 @@ text_told told style fits = ap (λ (flags : ℕ). let parts : Inscription = (fla
 -- a text is a body
 pub text_is_body : (base : ℕ) → base < 2 ^ 63 → IsBody base (text_body base)
 unfolding text_body
-text_is_body base small =
-    body_is_body base text_main (λ told. one_ref base) text_of inscription_of _ text_main_is_code (λ told fits. search part_rules) (λ told style fits names. (text_told told style fits, refl)) (λ value. refl)
+text_is_body base small = search (bodies, text_main_is_code, text_told) depth 8
 
 pub text_is_free : (base : ℕ) → base < 2 ^ 63 → IsFreeBody base (text_body base)
 unfolding text_body
@@ -58,7 +58,7 @@ text_is_free base small = free_of_body base _ (text_is_body base small) (λ over
 -- what the main bits of an attribute tell is a code
 attrib_main_is_code : IsCode AnyLetters attrib_main
 unfolding attrib_main
-attrib_main_is_code = search (code_rules, text_main_is_code) depth 20
+attrib_main_is_code = search (codes, default_codes, text_main_is_code) depth 20
 
 -- and an attribute tells what it was put together of
 attrib_told : (told : Inscription × (List ℕ × (ℕ × ℕ))) (style : Reference) → attrib_main.IsValue told → label_of (attrib_of told style) ≡ told
@@ -68,8 +68,7 @@ attrib_told told style fits = ap (λ (text : Inscription). let parts : Inscripti
 -- it is a body
 pub attrib_is_body : (base : ℕ) → base < 2 ^ 63 → IsBody base (attrib_body base)
 unfolding attrib_body
-attrib_is_body base small =
-    body_is_body base attrib_main (λ told. one_ref base) attrib_of label_of _ attrib_main_is_code (λ told fits. search part_rules) (λ told style fits names. (attrib_told told style fits, refl)) (λ value. refl)
+attrib_is_body base small = search (bodies, attrib_main_is_code, attrib_told) depth 8
 
 pub attrib_is_free : (base : ℕ) → base < 2 ^ 63 → IsFreeBody base (attrib_body base)
 unfolding attrib_body
@@ -79,7 +78,7 @@ attrib_is_free base small = free_of_body base _ (attrib_is_body base small) (λ 
 pub attdef_is_body : (base : ℕ) → base < 2 ^ 63 → IsBody base (attdef_body base)
 unfolding attdef_body
 attdef_is_body base small =
-    body_is_body base (seq attrib_main (λ label. tv)) (λ told. one_ref base) _ _ _ (search (code_rules, attrib_main_is_code) depth 20) (λ told fits. search part_rules)
+    body_is_body base (seq attrib_main (λ label. tv)) (λ told. one_ref base) _ _ _ (search (codes, default_codes, attrib_main_is_code) depth 20) (λ told fits. search parts)
     (λ told style fits names. (ap (λ (label : Inscription × (List ℕ × (ℕ × ℕ))). let parts : (Inscription × (List ℕ × (ℕ × ℕ))) × List ℕ = (label, told.1) in parts) (attrib_told told.0 style fits.0), refl))
     (λ value. refl)
 
@@ -89,13 +88,13 @@ attdef_is_free base small = free_of_body base _ (attdef_is_body base small) (λ 
 
 -- the attributes of an insert are a part of the references
 pub attributes_is_part : (base : ℕ) → base < 2 ^ 63 → IsReferencePart base (attributes base)
-attributes_is_part base small = search part_rules
+attributes_is_part base small = search parts
 
 -- an insert is a body: that it has attributes is told by these
 pub insert_is_body : (base : ℕ) → base < 2 ^ 63 → IsBody base (insert_body base)
 unfolding insert_body
 insert_is_body base small =
-    body_is_body base insert_main (λ told. insert_refs base told.1.1.1.1) insert_of setting_of _ (search (code_rules, scale_is_code) depth 20) (λ told fits. search part_rules depth 20)
+    body_is_body base insert_main (λ told. insert_refs base told.1.1.1.1) insert_of setting_of _ (search (codes, default_codes, scale_is_code) depth 20) (λ told fits. search parts depth 20)
     (λ told named fits names. (
       ap (λ (there : Bool). let setting : Setting = (told.0, (told.1.0, (told.1.1.0, (told.1.1.1.0, there)))) in setting)
           (there_by_test told.1.1.1.1 (attributes base).grammar named.1 names.1),
@@ -110,7 +109,7 @@ insert_is_free base small = free_of_body base _ (insert_is_body base small) (λ 
 -- the begin of a block is a body
 pub block_is_body : (base : ℕ) → base < 2 ^ 63 → IsBody base (block_body base)
 unfolding block_body
-block_is_body base small = main_is_body base block_main (search code_rules)
+block_is_body base small = main_is_body base block_main (search (codes, default_codes))
 
 pub block_is_free : (base : ℕ) → base < 2 ^ 63 → IsFreeBody base (block_body base)
 unfolding block_body
@@ -119,7 +118,7 @@ block_is_free base small = free_of_body base _ (block_is_body base small) (λ ov
 -- so is its end
 pub endblk_is_body : (base : ℕ) → base < 2 ^ 63 → IsBody base (endblk_body base)
 unfolding endblk_body
-endblk_is_body base small = main_is_body base endblk_main (search code_rules)
+endblk_is_body base small = main_is_body base endblk_main (always_is_code AnyLetters _)
 
 pub endblk_is_free : (base : ℕ) → base < 2 ^ 63 → IsFreeBody base (endblk_body base)
 unfolding endblk_body
@@ -128,7 +127,7 @@ endblk_is_free base small = free_of_body base _ (endblk_is_body base small) (λ 
 -- and the end of a sequence
 pub seqend_is_body : (base : ℕ) → base < 2 ^ 63 → IsBody base (seqend_body base)
 unfolding seqend_body
-seqend_is_body base small = main_is_body base seqend_main (search code_rules)
+seqend_is_body base small = main_is_body base seqend_main (always_is_code AnyLetters _)
 
 pub seqend_is_free : (base : ℕ) → base < 2 ^ 63 → IsFreeBody base (seqend_body base)
 unfolding seqend_body

@@ -160,7 +160,7 @@ impl BitCode for CodeScale {
 
     ghost IsContext = { λ context. ⊤ };
 
-    #[tactic(auto, using(crate::proofs::ScaleReading::scale_read, crate::proofs::ScaleReading::scale_unread, crate::proofs::ScaleReading::scale_value))]
+    #[tactic(auto, using(dwg_common::proofs::PartReading::part_read, dwg_common::proofs::PartReading::part_unread, dwg_grammar::proofs::BodyReading::parsed_value, crate::specs::ScaleLaws::scale_is_code))]
     fn read(_context: &(), cursor: &mut BitCursor<'_>) -> Option<Point3> {
         let mut ahead = *cursor;
         let point = read_scale(&mut ahead)?;

@@ -3,7 +3,6 @@ pub mod BodyReading
 pub mod Bounds
 pub mod ByteRunLemmas
 pub mod CodeLemmas
-pub mod CodeRules
 pub mod CombinatorLemmas
 pub mod CountedLemmas
 pub mod DefaultLemmas

@@ -19,3 +19,7 @@ dd2_is_code default is =
     shaped_is_code _ _ _
     (seq_is_code AnyLetters (dd default.x) _ any_letters_closed (dd_is_code default.x is.x) (λ x fits. dd_is_code default.y is.y))
     (λ words fits. refl) (λ point. refl)
+
+-- so for each that was read
+pub dd2_of_read : (default : Point2) → rd2.IsValue default → IsCode AnyLetters (dd2 default)
+dd2_of_read default fits = dd2_is_code default (record { x = fits.0; y = fits.1 })

@@ -1,4 +1,3 @@
-pub mod PartReading
 pub mod Known
 pub mod VertexLoops
 pub mod WhereCounted

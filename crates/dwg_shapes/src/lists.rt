@@ -64,6 +64,7 @@ pub(crate) fn count_when<T>(present: bool, values: &Option<Items<T>>) -> Option<
 }
 
 /// How many bits are written of values that are there by their count.
+#[tactic(auto, unfolding(dwg_grammar::specs::Combinators::chain))]
 pub(crate) fn list_bits_where<C: BitCode>(
     context: &C::Context,
     values: &Option<Items<C::Value>>,
@@ -80,6 +81,7 @@ pub(crate) fn list_bits_where<C: BitCode>(
 }
 
 /// Writes values that are there by their count.
+#[tactic(auto, unfolding(dwg_grammar::specs::Combinators::chain))]
 pub(crate) fn write_list_where<C: BitCode>(
     context: &C::Context,
     values: &Option<Items<C::Value>>,

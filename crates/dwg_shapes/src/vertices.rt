@@ -35,7 +35,7 @@ fn read_vertex(before: Option<Point2>, cursor: &mut BitCursor<'_>) -> Option<Poi
 }
 
 /// Reads so many points, as they are parsed. The only refusal is want of memory, which is taken only for points that are there.
-#[tactic(auto, using(dwg_common::proofs::ChainReading::none_begun))]
+#[tactic(auto, using(dwg_common::proofs::ChainReading::none_begun, dwg_common::proofs::ChainReading::all_begun), unfolding(dwg_grammar::specs::Combinators::chain))]
 pub(crate) fn read_vertices(
     alloc: Global,
     count: u32,

@@ -52,7 +52,7 @@ impl BitCode for CodeWidth {
 
     ghost IsContext = { λ context. ⊤ };
 
-    #[tactic(auto, using(crate::proofs::PartReading::width_read, crate::proofs::PartReading::width_unread))]
+    #[tactic(auto, using(dwg_common::proofs::PartReading::part_read, dwg_common::proofs::PartReading::part_unread, dwg_grammar::proofs::BodyReading::parsed_value, crate::specs::VertexLaws::width_pair_is_code))]
     fn read(_context: &(), cursor: &mut BitCursor<'_>) -> Option<Width> {
         let mut ahead = *cursor;
         let width = read_width(&mut ahead)?;

@@ -2,7 +2,7 @@ use Rattle.std.proofs.Common.{Some, None, rules}
 use Rattle.dwg_grammar.specs.Combinators.{chain}
 use Rattle.dwg_grammar.specs.declared.points.Point2.{Point2}
 use Rattle.dwg_shapes.specs.LwPolylines.{vertex}
-use Rattle.dwg_common.proofs.ChainReading.{one_begun, one_missing, all_begun}
+use Rattle.dwg_common.proofs.ChainReading.{one_begun, one_missing}
 use Rattle.dwg_shapes.proofs.vertices.read_vertices.Goals as goal
 
 pub returns-in_default-clause-parsed : goal.returns-in_default-clause-parsed
@@ -17,8 +17,3 @@ along-preserved c = record {
       c.along-test.true c.in-Ok.ensures.ok c.in-Some.is c.read_vertex.ensures.parsed c.along.invariant.so_far;
   kept = search rules;
 }
-
-pub returns-clause-parsed : goal.returns-clause-parsed
-unfolding chain
-returns-clause-parsed c =
-    all_begun vertex (λ (point : Point2). Some point) None c.along.before c.args.count _ c.along.found _ _ c.along-test.false c.along.invariant.so_far
