@@ -2,13 +2,14 @@
 use Rattle.std.proofs.Common.{◌≡◌, sym, refl, ap, ◌∙◌, subst₂, inl, inr, ⊎_elim, arith}
 use Rattle.std.proofs.lemmas.Bool.{not-true}
 use Rattle.std.proofs.lemmas.List.Elements.{Contains-append_cases}
-use Rattle.std.specs.Prelude.{◌≢◌, ◌<◌, if◌then◌else◌, ℕ, Bool, true, false, List, [], ◌∷◌, ◌++◌, filter, not, Option, Contains, AllPairs}
+use Rattle.std.proofs.lemmas.List.Kept.{AllPairs-filter}
+use Rattle.std.specs.Prelude.{◌≢◌, ◌<◌, ◌≤◌, suc, if◌then◌else◌, ℕ, Bool, true, false, List, [], ◌∷◌, ◌++◌, filter, not, Option, Contains, AllPairs}
 use Rattle.std.specs.List.{AllByRecursion, flat_map}
 use Rattle.dwg_audit.specs.declared.finding.Finding.{Finding}
-use Rattle.dwg_audit.specs.Failures.{IsFindingOf, rule_number, StandsBefore}
+use Rattle.dwg_audit.specs.Failures.{rule_number, StandsBefore}
 use Rattle.dwg_audit.specs.Findings.{unless, control_findings, unmet, is_application_field, is_application, owner_slot, references, resolve_findings, claim_findings, chain_findings, path_findings, findings_of, findings}
-use Rattle.dwg_audit.proofs.FindingLaws.{unless_stands, control_stands, resolve_finding, resolve_stands, claim_stands, chain_stands, path_stands, object_stands}
-use Rattle.dwg_audit.proofs.SlotFields.{slots_without_owner}
+use Rattle.dwg_audit.proofs.FindingLaws.{unless_stands, control_stands, resolve_finding}
+use Rattle.dwg_graph.proofs.HeldSlots.{slots_without_owner}
 use Rattle.dwg_base.proofs.OneOfAll.{one_of_all}
 use Rattle.dwg_graph.specs.declared.owner.SpaceHandles.{SpaceHandles}
 use Rattle.dwg_graph.specs.declared.slot.Slot.{Slot}
@@ -19,7 +20,7 @@ use Rattle.dwg_graph.specs.SlotLaws as slot_laws
 use Rattle.dwg_graph.specs.SlotLaws.{SlotsAscend}
 use Rattle.dwg_graph.specs.Slots.{slots}
 use Rattle.dwg_graph.specs.Tests.{is_met}
-use Rattle.dwg_graph.proofs.ListLemmas.{contained_in_one, pairs_none, pairs_more, pairs_joined, pairs_of_joined, pairs_kept}
+use Rattle.dwg_graph.proofs.ListLemmas.{contained_in_one, pairs_none, pairs_more, pairs_joined, pairs_of_joined}
 use Rattle.dwg_graph.proofs.Tests.{IsBefore, objects_ordered}
 use Rattle.dwg_kinds.specs.declared.field.Field.{Field}
 use Rattle.dwg_kinds.specs.declared.field.Field.TheVariants as fields
@@ -70,10 +71,10 @@ references_ordered known x ordered =
     let behind : (slot : Slot) → Contains back slot → 2 < field_number slot.field =
     λ slot inside. let kept = passing_of_kept (λ s. not (is_application s)) (slots x) slot inside in others_behind slot.field (not-true (is_application slot) kept.1) (slots_without_owner x slot kept.0) in
     pairs_joined slot_laws.StandsBefore front (owner ∷ back)
-    (pairs_kept slot_laws.StandsBefore is_application (slots x) ordered)
+    (AllPairs-filter slot_laws.StandsBefore is_application (slots x) ordered)
     (pairs_more slot_laws.StandsBefore owner back
     (λ slot inside. let less : field_number fields.Owner < field_number slot.field = omega (arith, owner_is_second, behind slot inside) in inl less)
-    (pairs_kept slot_laws.StandsBefore (λ slot. not (is_application slot)) (slots x) ordered))
+    (AllPairs-filter slot_laws.StandsBefore (λ slot. not (is_application slot)) (slots x) ordered))
     (λ one other here there. front_before one other (passing_of_kept is_application (slots x) one here).1 (⊎_elim
     (λ same. let second : field_number fields.Owner ≡ field_number other.field = ap (λ (s : Slot). field_number s.field) same in omega (arith, owner_is_second, second))
     (λ further. omega (arith, behind other further))
@@ -100,150 +101,105 @@ resolve_ordered objects known x ordered =
     (λ slot inside. unless_ordered (is_met objects x slot) (resolve_finding x slot))
     (λ slot further one other inside also before here there. resolve_before objects x slot further one other before here there)
 
--- a finding of an object by a rule behind one
-pub record IsBehind (x : ObjectValue) (number : ℕ) (finding : Finding) : Type 0 where
-  pub of_object : finding.handle ≡ handle_of x
-  pub behind : number < rule_number finding.rule
+-- findings of an object by rules from a number on and below another, in their order
+record Runs (x : ObjectValue) (from to : ℕ) (run : List Finding) : Type 0 where
+  rises : from ≤ to
+  of_object : (finding : Finding) → Contains run finding → finding.handle ≡ handle_of x
+  least : (finding : Finding) → Contains run finding → from ≤ rule_number finding.rule
+  most : (finding : Finding) → Contains run finding → rule_number finding.rule < to
+  ordered : AllPairs StandsBefore run
 
--- a finding of an object by that rule
-pub record IsOfRule (x : ObjectValue) (number : ℕ) (finding : Finding) : Type 0 where
-  pub of_object : finding.handle ≡ handle_of x
-  pub of_rule : rule_number finding.rule ≡ number
+-- findings by earlier rules, and those by later ones
+infixr 60 ◌&◌
+◌&◌ : {x : ObjectValue} {from middle to : ℕ} {ones others : List Finding} → Runs x from middle ones → Runs x middle to others → Runs x from to (ones ++ others)
+◌&◌ {x} {from} {middle} {to} {ones} {others} first second = record {
+  rises = omega (arith, first.rises, second.rises);
+  of_object = λ finding inside. ⊎_elim (first.of_object finding) (second.of_object finding) (Contains-append_cases ones others finding inside);
+  least = λ finding inside. ⊎_elim (first.least finding) (λ there. omega (arith, first.rises, second.least finding there)) (Contains-append_cases ones others finding inside);
+  most = λ finding inside. ⊎_elim (λ here. omega (arith, second.rises, first.most finding here)) (second.most finding) (Contains-append_cases ones others finding inside);
+  ordered = pairs_joined StandsBefore ones others first.ordered second.ordered (λ one other here there.
+      inr (first.of_object one here ∙ sym (second.of_object other there), inl (omega (arith, first.most one here, second.least other there))));
+}
 
--- findings by a later rule are behind
-behind_of_rule : (x : ObjectValue) (number later : ℕ) (finding : Finding) → number < later → IsOfRule x later finding → IsBehind x number finding
-behind_of_rule x number later finding less is = record { of_object = is.of_object; behind = omega (arith, less, is.of_rule) }
+-- at most one finding by a rule
+run_of_one : (x : ObjectValue) (number : ℕ) (holds : Bool) (one : Finding) → one.handle ≡ handle_of x → rule_number one.rule ≡ number → Runs x number (suc number) (unless holds one)
+run_of_one x number holds one of_object of_rule =
+    let same : (finding : Finding) → Contains (unless holds one) finding → finding ≡ one = λ finding inside. ((unless_stands holds one finding).0 inside).1 in
+    record {
+      rises = omega arith;
+      of_object = λ finding inside. ap (λ (f : Finding). f.handle) (same finding inside) ∙ of_object;
+      least = λ finding inside. omega (arith, of_rule, ap (λ (f : Finding). rule_number f.rule) (same finding inside));
+      most = λ finding inside. omega (arith, of_rule, ap (λ (f : Finding). rule_number f.rule) (same finding inside));
+      ordered = unless_ordered holds one;
+    }
 
--- findings by two rules stand in their order
-rules_before : (x : ObjectValue) (number : ℕ) (one other : Finding) → IsOfRule x number one → IsBehind x number other → StandsBefore one other
-rules_before x number one other is behind =
-    let less : rule_number one.rule < rule_number other.rule = omega (arith, is.of_rule, behind.behind) in
-    inr (is.of_object ∙ sym behind.of_object, inl less)
+-- what is found of references
+resolve_run : (objects : List ObjectValue) (known : Option SpaceHandles) (x : ObjectValue) → AllPairs slot_laws.StandsBefore (slots x) → Runs x 2 3 (resolve_findings objects known x)
+unfolding resolve_findings rule_number
+resolve_run objects known x ordered =
+    let same : (finding : Finding) → Contains (resolve_findings objects known x) finding → (slot : Slot) × (finding ≡ resolve_finding x slot) = λ finding inside.
+    let one = contained_in_one (unmet objects x) (references known x) finding inside in
+    (one.0, ((unless_stands (is_met objects x one.0) (resolve_finding x one.0) finding).0 one.2).1) in
+    record {
+      rises = omega arith;
+      of_object = λ finding inside. ap (λ (f : Finding). f.handle) (same finding inside).1;
+      least = λ finding inside. omega (arith, ap (λ (f : Finding). rule_number f.rule) (same finding inside).1);
+      most = λ finding inside. omega (arith, ap (λ (f : Finding). rule_number f.rule) (same finding inside).1);
+      ordered = resolve_ordered objects known x (references_ordered known x ordered);
+    }
 
--- joined findings are behind where both are
-joined_behind : (x : ObjectValue) (number : ℕ) (ones others : List Finding) → ((finding : Finding) → Contains ones finding → IsBehind x number finding) → ((finding : Finding) → Contains others finding → IsBehind x number finding)
-    → (finding : Finding) → Contains (ones ++ others) finding → IsBehind x number finding
-joined_behind x number ones others first second finding inside = ⊎_elim (first finding) (second finding) (Contains-append_cases ones others finding inside)
+-- of claims
+claim_run : (objects : List ObjectValue) (known : Option SpaceHandles) (x : ObjectValue) → Runs x 3 4 (claim_findings objects known x)
+unfolding claim_findings rule_number
+claim_run objects known x = run_of_one x 3 _ _ refl refl
 
--- findings of references are by their rule
-resolve_rule : (objects : List ObjectValue) (x : ObjectValue) (finding : Finding) → Ascend (handles_of objects) → Contains (resolve_findings objects (spaces objects) x) finding → IsOfRule x 2 finding
-unfolding rule_number
-resolve_rule objects x finding ascend inside =
-    let is = (resolve_stands objects x finding ascend).0 inside in record { of_object = ap (λ (f : Finding). f.handle) is.says; of_rule = ap (λ (f : Finding). rule_number f.rule) is.says }
+-- of chains
+chain_run : (objects : List ObjectValue) (known : Option SpaceHandles) (x : ObjectValue) → Runs x 4 5 (chain_findings objects known x)
+unfolding chain_findings rule_number
+chain_run objects known x = run_of_one x 4 _ _ refl refl
 
--- findings of claims are by their rule
-claim_rule : (objects : List ObjectValue) (x : ObjectValue) (finding : Finding) → Ascend (handles_of objects) → Contains (claim_findings objects (spaces objects) x) finding → IsOfRule x 3 finding
-unfolding rule_number
-claim_rule objects x finding ascend inside =
-    let is = (claim_stands objects x finding ascend).0 inside in record { of_object = ap (λ (f : Finding). f.handle) is.says; of_rule = ap (λ (f : Finding). rule_number f.rule) is.says }
-
--- findings of chains are by their rule
-chain_rule : (objects : List ObjectValue) (x : ObjectValue) (finding : Finding) → Ascend (handles_of objects) → Contains (chain_findings objects (spaces objects) x) finding → IsOfRule x 4 finding
-unfolding rule_number
-chain_rule objects x finding ascend inside =
-    let is = (chain_stands objects x finding ascend).0 inside in record { of_object = ap (λ (f : Finding). f.handle) is.says; of_rule = ap (λ (f : Finding). rule_number f.rule) is.says }
-
--- findings of paths are by their rule
-path_rule : (objects : List ObjectValue) (x : ObjectValue) (finding : Finding) → Contains objects x → Contains (path_findings objects (spaces objects) x) finding → IsOfRule x 5 finding
-unfolding rule_number
-path_rule objects x finding inside held =
-    let is = (path_stands objects x finding inside).0 held in record { of_object = ap (λ (f : Finding). f.handle) is.says; of_rule = ap (λ (f : Finding). rule_number f.rule) is.says }
-
--- of claims there is at most one finding of an object
-claim_ordered : (objects : List ObjectValue) (known : Option SpaceHandles) (x : ObjectValue) → AllPairs StandsBefore (claim_findings objects known x)
-unfolding claim_findings
-claim_ordered objects known x = unless_ordered _ _
-
--- so there is of chains
-chain_ordered : (objects : List ObjectValue) (known : Option SpaceHandles) (x : ObjectValue) → AllPairs StandsBefore (chain_findings objects known x)
-unfolding chain_findings
-chain_ordered objects known x = unless_ordered _ _
-
--- so there is of paths
-path_ordered : (objects : List ObjectValue) (known : Option SpaceHandles) (x : ObjectValue) → AllPairs StandsBefore (path_findings objects known x)
-unfolding path_findings
-path_ordered objects known x = unless_ordered _ _
+-- and of paths
+path_run : (objects : List ObjectValue) (known : Option SpaceHandles) (x : ObjectValue) → Runs x 5 6 (path_findings objects known x)
+unfolding path_findings rule_number
+path_run objects known x = run_of_one x 5 _ _ refl refl
 
 -- of the table of blocks there is at most one finding
 control_ordered : (objects : List ObjectValue) → AllPairs StandsBefore (control_findings objects)
 unfolding control_findings
 control_ordered objects = unless_ordered _ _
 
--- findings of chains and paths stand in order
-links_ordered : (objects : List ObjectValue) (x : ObjectValue) → Ascend (handles_of objects) → Contains objects x → AllPairs StandsBefore (chain_findings objects (spaces objects) x ++ path_findings objects (spaces objects) x)
-links_ordered objects x ascend inside =
-    pairs_joined StandsBefore (chain_findings objects (spaces objects) x) (path_findings objects (spaces objects) x) (chain_ordered objects (spaces objects) x) (path_ordered objects (spaces objects) x)
-    (λ one other here there. rules_before x 4 one other (chain_rule objects x one ascend here) (behind_of_rule x 4 5 other (omega arith) (path_rule objects x other inside there)))
+-- findings that are taken by a test
+run_taken : {x : ObjectValue} {from to : ℕ} (taken : Bool) (run : List Finding) → Runs x from to run → Runs x from to (if taken then run else [])
+run_taken true run is = is
+run_taken {x} {from} {to} false run is = record {
+  rises = is.rises;
+  of_object = λ finding inside. absurd (contains_none finding inside);
+  least = λ finding inside. absurd (contains_none finding inside);
+  most = λ finding inside. absurd (contains_none finding inside);
+  ordered = pairs_none StandsBefore;
+}
 
--- findings of chains and paths are behind those of an earlier rule
-links_behind : (objects : List ObjectValue) (x : ObjectValue) (number : ℕ) → number < 4 → Ascend (handles_of objects) → Contains objects x
-    → (finding : Finding) → Contains (chain_findings objects (spaces objects) x ++ path_findings objects (spaces objects) x) finding → IsBehind x number finding
-links_behind objects x number less ascend inside =
-    joined_behind x number (chain_findings objects (spaces objects) x) (path_findings objects (spaces objects) x)
-    (λ finding held. behind_of_rule x number 4 finding less (chain_rule objects x finding ascend held))
-    (λ finding held. behind_of_rule x number 5 finding (omega (arith, less)) (path_rule objects x finding inside held))
-
--- findings of claims, chains and paths stand in order
-holds_ordered : (objects : List ObjectValue) (x : ObjectValue) → Ascend (handles_of objects) → Contains objects x
-    → AllPairs StandsBefore (claim_findings objects (spaces objects) x ++ (chain_findings objects (spaces objects) x ++ path_findings objects (spaces objects) x))
-holds_ordered objects x ascend inside =
-    pairs_joined StandsBefore (claim_findings objects (spaces objects) x) (chain_findings objects (spaces objects) x ++ path_findings objects (spaces objects) x)
-    (claim_ordered objects (spaces objects) x) (links_ordered objects x ascend inside)
-    (λ one other here there. rules_before x 3 one other (claim_rule objects x one ascend here) (links_behind objects x 3 (omega arith) ascend inside other there))
-
--- findings of claims, chains and paths are behind those of references
-holds_behind : (objects : List ObjectValue) (x : ObjectValue) → Ascend (handles_of objects) → Contains objects x
-    → (finding : Finding) → Contains (claim_findings objects (spaces objects) x ++ (chain_findings objects (spaces objects) x ++ path_findings objects (spaces objects) x)) finding → IsBehind x 2 finding
-holds_behind objects x ascend inside =
-    joined_behind x 2 (claim_findings objects (spaces objects) x) (chain_findings objects (spaces objects) x ++ path_findings objects (spaces objects) x)
-    (λ finding held. behind_of_rule x 2 3 finding (omega arith) (claim_rule objects x finding ascend held))
-    (links_behind objects x 2 (omega arith) ascend inside)
-
--- related things are related where they are taken by a test
-pairs_taken : {A : Type 0} (R : A → A → Type 0) (taken : Bool) (xs : List A) → AllPairs R xs → AllPairs R (if taken then xs else [])
-pairs_taken R true xs pairs = pairs
-pairs_taken R false xs pairs = pairs_none R
-
--- the findings of an object stand in order
-object_ordered : (objects : List ObjectValue) (x : ObjectValue) → AllPairs slot_laws.StandsBefore (slots x) → Ascend (handles_of objects) → Contains objects x → AllPairs StandsBefore (findings_of objects (spaces objects) x)
+-- what is found of an object
+object_run : (objects : List ObjectValue) (known : Option SpaceHandles) (x : ObjectValue) → AllPairs slot_laws.StandsBefore (slots x) → Runs x 2 6 (findings_of objects known x)
 unfolding findings_of
-object_ordered objects x ordered ascend inside =
-    pairs_taken StandsBefore (is_typed x)
-    (resolve_findings objects (spaces objects) x ++ (claim_findings objects (spaces objects) x ++ (chain_findings objects (spaces objects) x ++ path_findings objects (spaces objects) x)))
-    (pairs_joined StandsBefore (resolve_findings objects (spaces objects) x) (claim_findings objects (spaces objects) x ++ (chain_findings objects (spaces objects) x ++ path_findings objects (spaces objects) x))
-    (resolve_ordered objects (spaces objects) x (references_ordered (spaces objects) x ordered))
-    (holds_ordered objects x ascend inside)
-    (λ one other here there. rules_before x 2 one other (resolve_rule objects x one ascend here) (holds_behind objects x ascend inside other there)))
-
--- a finding of an object has its handle
-handle_of_finding : (objects : List ObjectValue) (x : ObjectValue) (finding : Finding) → IsFindingOf objects x finding → finding.handle ≡ handle_of x
-handle_of_finding objects x finding is = ⊎_elim
-    (λ resolve. ap (λ (f : Finding). f.handle) resolve.says)
-    (λ others. ⊎_elim
-    (λ claim. ap (λ (f : Finding). f.handle) claim.says)
-    (λ further. ⊎_elim (λ chain. ap (λ (f : Finding). f.handle) chain.says) (λ path. ap (λ (f : Finding). f.handle) path.says) further)
-    others)
-    is
-
--- what is found of an object has its handle
-handle_found : (objects : List ObjectValue) (x : ObjectValue) (finding : Finding) → Ascend (handles_of objects) → Contains objects x → Contains (findings_of objects (spaces objects) x) finding → finding.handle ≡ handle_of x
-handle_found objects x finding ascend inside held = handle_of_finding objects x finding ((object_stands objects x finding ascend inside).0 held).1
+object_run objects known x ordered = run_taken (is_typed x) _ (resolve_run objects known x ordered & claim_run objects known x & chain_run objects known x & path_run objects known x)
 
 -- findings of objects stand in the order of these
-objects_before : (objects : List ObjectValue) (x y : ObjectValue) (one other : Finding) → Ascend (handles_of objects) → Contains objects x → Contains objects y → IsBefore x y
+objects_before : (objects : List ObjectValue) (x y : ObjectValue) (one other : Finding) → SlotsAreOrdered objects → Contains objects x → Contains objects y → IsBefore x y
     → Contains (findings_of objects (spaces objects) x) one → Contains (findings_of objects (spaces objects) y) other → StandsBefore one other
-objects_before objects x y one other ascend inside also before here there =
-    let less : one.handle < other.handle = omega (arith, handle_found objects x one ascend inside here, handle_found objects y other ascend also there, before) in
-    inl less
+objects_before objects x y one other ordered inside also before here there =
+    let first = object_run objects (spaces objects) x (ordered x inside) in
+    let second = object_run objects (spaces objects) y (ordered y also) in
+    inl (omega (arith, first.of_object one here, second.of_object other there, before))
 
 -- the finding of the table of blocks stands before those of objects
-control_before : (objects : List ObjectValue) (one other : Finding) → Ascend (handles_of objects) → ((x : ObjectValue) → Contains objects x → 0 < handle_of x)
+control_before : (objects : List ObjectValue) (one other : Finding) → SlotsAreOrdered objects → ((x : ObjectValue) → Contains objects x → 0 < handle_of x)
     → Contains (control_findings objects) one → Contains (flat_map (findings_of objects (spaces objects)) objects) other → StandsBefore one other
-control_before objects one other ascend positive here there =
+control_before objects one other ordered positive here there =
     let null : one.handle ≡ 0 = ap (λ (f : Finding). f.handle) ((control_stands objects one).0 here).says in
     let found = contained_in_one (findings_of objects (spaces objects)) objects other there in
-    let less : one.handle < other.handle = omega (arith, null, handle_found objects found.0 other ascend found.1 found.2, positive found.0 found.1) in
-    inl less
+    let run = object_run objects (spaces objects) found.0 (ordered found.0 found.1) in
+    inl (omega (arith, null, run.of_object other found.2, positive found.0 found.1))
 
 -- findings stand in order where no handle is null and the slots of each object stand in order
 findings_ordered : (objects : List ObjectValue) → Ascend (handles_of objects) → ((x : ObjectValue) → Contains objects x → 0 < handle_of x) → SlotsAreOrdered objects
@@ -253,9 +209,9 @@ findings_ordered objects ascend positive ordered =
     pairs_joined StandsBefore (control_findings objects) (flat_map (findings_of objects (spaces objects)) objects)
     (control_ordered objects)
     (pairs_of_joined IsBefore StandsBefore (findings_of objects (spaces objects)) objects (objects_ordered objects ascend)
-    (λ x inside. object_ordered objects x (ordered x inside) ascend inside)
-    (λ x y one other inside also before here there. objects_before objects x y one other ascend inside also before here there))
-    (λ one other here there. control_before objects one other ascend positive here there)
+    (λ x inside. (object_run objects (spaces objects) x (ordered x inside)).ordered)
+    (λ x y one other inside also before here there. objects_before objects x y one other ordered inside also before here there))
+    (λ one other here there. control_before objects one other ordered positive here there)
 
 -- no whole object has the null handle
 whole_positive : (x : ObjectValue) → IsWhole x → 0 < handle_of x

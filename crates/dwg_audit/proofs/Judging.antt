@@ -1,11 +1,9 @@
 -- Findings of one object, in the order of rules, and of all objects, one after the other.
-use Rattle.std.proofs.Common.{◌≡◌, sym, ap, ◌∙◌, ℕ, suc, ◌<◌, ◌≤◌, false, List, [], ◌++◌, length, map, drop, Some}
-use Rattle.std.specs.Prelude.{◌↔◌, IsTrue, Result, Ok, Err, IfOk, flat_map, if◌then◌else◌, Option, slice_index_or}
+use Rattle.std.proofs.Common.{◌≡◌, sym, ap, ◌∙◌, ℕ, suc, ◌≤◌, false, List, [], ◌++◌, length, map, drop, Option, Some}
+use Rattle.std.specs.Prelude.{◌↔◌, IsTrue, Result, Ok, Err, IfOk, flat_map, if◌then◌else◌}
 use Rattle.std.specs.List.{slice_get}
-use Rattle.std.specs.Option.{option_map}
 use Rattle.std.proofs.lemmas.List.{append_assoc, append-nil}
 use Rattle.std.proofs.Math.ListN.{drop_of_length-le}
-use Rattle.std.proofs.lemmas.Option.{slice_get-map, slice_get-get_or}
 use Rattle.dwg_audit.proofs.Choosing.{drop_at_place}
 use Rattle.dwg_base.specs.declared.device.NoMemory.{NoMemory}
 use Rattle.dwg_audit.specs.Findings.{control_findings, findings, resolve_findings, claim_findings, chain_findings, path_findings, findings_of}
@@ -49,11 +47,6 @@ one_further {A} {B} f all place next x before after whole at further is new =
     ∙ append_assoc before (f x) (flat_map f (drop (suc place) all))
     ∙ ap (λ rest. before ++ flat_map f rest) (sym (drop_at_place all place x at))
     ∙ is
-
--- the object at a place, as the plain value of the one in hand
-pub value_at : {A B : Type 0} (f : A → B) (all : List A) (place : ℕ) (x : A) → place < length all → x ≡ slice_index_or all place x → slice_get (map f all) place ≡ Some (f x)
-value_at {A} {B} f all place x within is =
-    slice_get-map f all place ∙ ap (option_map f) (slice_get-get_or all place x within ∙ ap (λ (y : A). Some y) (sym is))
 
 -- findings begin with that on the table of blocks, and go on with those of all objects
 pub findings_begin : (objects : List ObjectValue) (none found : List Finding) → none ≡ [] → found ≡ none ++ control_findings objects

@@ -1,7 +1,6 @@
 pub mod FindingLaws
 pub mod FindingOrder
 pub mod FindingTests
-pub mod SlotFields
 pub mod Homes
 pub mod LookupSteps
 pub mod Slicing

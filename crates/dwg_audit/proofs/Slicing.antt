@@ -3,8 +3,10 @@ use Rattle.std.proofs.Common.{◌≡◌, refl, sym, ap, subst, ◌∙◌, ◌<�
 use Rattle.std.specs.Prelude.{◌⊎◌, flat_map}
 use Rattle.std.specs.List.{slice_get, slice_index_or}
 use Rattle.std.proofs.lemmas.Bool.{cases_lt}
-use Rattle.std.proofs.lemmas.List.{append_assoc, append-nil, map-append, drop-drop, drop_at, length-append, length-map, take_all, take_at, take_more, take-append-le, get_or_append_left, get_or_push}
+use Rattle.std.proofs.lemmas.List.{append-nil, map-append, drop-drop, drop_at, drop-map, length-append, length-map, take-map, take_all, take_at, take_more, take-append-le, get_or_append_left, get_or_push}
+use Rattle.std.proofs.lemmas.Grind.{flat_map-append}
 use Rattle.std.proofs.lemmas.List.Concat.{length-flat_map}
+use Rattle.std.proofs.lemmas.List.Sums.{sum_by-take-le}
 use Rattle.std.proofs.lemmas.Option.{same_Some, slice_get_within, get_or_from_slice_get}
 use Rattle.dwg_audit.specs.declared.lookups.Gathered.{Gathered}
 use Rattle.dwg_audit.specs.Lookups.{AreGathered, AreStarts, all_slots, part_of}
@@ -45,11 +47,7 @@ part_of_all {A} {B} f (first ∷ more) (suc place) x at =
 
 -- a part of what is seen is what is seen of the part
 pub part_seen : {A B : Type 0} (view : A → B) (wide from : ℕ) (all : List A) → take wide (drop from (map view all)) ≡ map view (take wide (drop from all))
-part_seen {A} {B} view zero from all = refl
-part_seen {A} {B} view (suc wide) zero [] = refl
-part_seen {A} {B} view (suc wide) zero (x ∷ all) = ap (λ rest. view x ∷ rest) (part_seen view wide zero all)
-part_seen {A} {B} view (suc wide) (suc from) [] = refl
-part_seen {A} {B} view (suc wide) (suc from) (x ∷ all) = part_seen view (suc wide) from all
+part_seen {A} {B} view wide from all = ap (take wide) (drop-map view from all) ∙ take-map view wide (drop from all)
 
 -- joined lists of more things are longer
 grows : {A B : Type 0} (f : A → List B) (things : List A) (place : ℕ) → length (flat_map f (take place things)) ≤ length (flat_map f (take (suc place) things))
@@ -61,11 +59,7 @@ grows {A} {B} f (first ∷ more) (suc place) =
 
 -- and those of all are the longest
 ends : {A B : Type 0} (f : A → List B) (things : List A) (place : ℕ) → length (flat_map f (take place things)) ≤ length (flat_map f things)
-ends {A} {B} f [] zero = omega arith
-ends {A} {B} f [] (suc place) = omega arith
-ends {A} {B} f (first ∷ more) zero = omega arith
-ends {A} {B} f (first ∷ more) (suc place) =
-    omega (arith, length-append (f first) (flat_map f (take place more)), length-append (f first) (flat_map f more), ends f more place)
+ends {A} {B} f things place = omega (arith, length-flat_map f (take place things), length-flat_map f things, sum_by-take-le (λ (x : A). length (f x)) things place)
 
 starts_grow : (objects : List ObjectValue) (place : ℕ) → length (all_slots (take place objects)) ≤ length (all_slots (take (suc place) objects))
 unfolding all_slots
@@ -88,8 +82,7 @@ slots_counted objects = length-flat_map slots objects
 -- those of one object more
 pub slots_of_more : (objects : List ObjectValue) (x : ObjectValue) → all_slots (objects ++ x ∷ []) ≡ all_slots objects ++ slots x
 unfolding all_slots
-slots_of_more [] x = append-nil (slots x)
-slots_of_more (first ∷ objects) x = ap (λ rest. slots first ++ rest) (slots_of_more objects x) ∙ sym (append_assoc (slots first) (flat_map slots objects) (slots x))
+slots_of_more objects x = flat_map-append slots objects (x ∷ []) ∙ ap (λ back. flat_map slots objects ++ back) (append-nil (slots x))
 
 -- where the slots begin, of one object more
 starts_more : (objects : List ObjectValue) (x : ObjectValue) (starts : List ℕ) (end : ℕ) → AreStarts objects starts → end ≡ length (all_slots (objects ++ x ∷ [])) → AreStarts (objects ++ x ∷ []) (starts ++ end ∷ [])

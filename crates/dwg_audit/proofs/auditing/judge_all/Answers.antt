@@ -1,8 +1,9 @@
 use Rattle.std.proofs.Common.{rules, ◌+◌, map, arith}
 use Rattle.std.proofs.lemmas.List.{length-map}
 use Rattle.dwg_base.proofs.OneOfAll.{one_of_all}
-use Rattle.dwg_audit.proofs.Judging.{value_at, one_further, findings_begin, all_found}
+use Rattle.dwg_audit.proofs.Judging.{one_further, findings_begin, all_found}
 use Rattle.dwg_audit.specs.Findings.{findings_of}
+use Rattle.dwg_graph.proofs.Counting.{value_there}
 use Rattle.dwg_graph.specs.Owners.{spaces}
 use Rattle.dwg_object.specs.Objects.{value_of}
 use Rattle.dwg_object.specs.Written.{IsWhole}
@@ -13,7 +14,7 @@ along-init c = findings_begin (map value_of c.args.objects.now) c.new-found.resu
 
 pub judge-requires-clause-standing : goal.judge-requires-clause-standing
 judge-requires-clause-standing c =
-    c.standing_at.ensures (value_of c.index-objects-place.result) (value_at value_of c.args.objects.now c.along.place c.index-objects-place.result c.along-test.true c.index-objects-place.is)
+    c.standing_at.ensures (value_of c.index-objects-place.result) (value_there c.args.objects.now c.along.place c.index-objects-place.result c.along-test.true c.index-objects-place.is)
 
 pub judge-requires-clause-known : goal.judge-requires-clause-known
 judge-requires-clause-known c = c.requires.tables.known
@@ -21,23 +22,23 @@ judge-requires-clause-known c = c.requires.tables.known
 pub judge-requires-clause-held_slots : goal.judge-requires-clause-held_slots
 judge-requires-clause-held_slots c =
     c.slots_at.ensures (value_of c.index-objects-place.result)
-    (value_at value_of c.args.objects.now c.along.place c.index-objects-place.result c.along-test.true c.index-objects-place.is)
+    (value_there c.args.objects.now c.along.place c.index-objects-place.result c.along-test.true c.index-objects-place.is)
 
 pub judge-requires-clause-places : goal.judge-requires-clause-places
 judge-requires-clause-places c =
     c.places_at.ensures (value_of c.index-objects-place.result)
-    (value_at value_of c.args.objects.now c.along.place c.index-objects-place.result c.along-test.true c.index-objects-place.is)
+    (value_there c.args.objects.now c.along.place c.index-objects-place.result c.along-test.true c.index-objects-place.is)
 
 pub judge-requires-clause-whole : goal.judge-requires-clause-whole
 judge-requires-clause-whole c =
     one_of_all IsWhole (map value_of c.args.objects.now) c.along.place (value_of c.index-objects-place.result) c.requires.whole
-    (value_at value_of c.args.objects.now c.along.place c.index-objects-place.result c.along-test.true c.index-objects-place.is)
+    (value_there c.args.objects.now c.along.place c.index-objects-place.result c.along-test.true c.index-objects-place.is)
 
 pub along-preserved : goal.along-preserved
 along-preserved c =
     one_further (findings_of (map value_of c.args.objects.now) (spaces (map value_of c.args.objects.now))) (map value_of c.args.objects.now) c.along.place (c.along.place + 1)
     (value_of c.index-objects-place.result) c.along.found c.judge.new.found _
-    (value_at value_of c.args.objects.now c.along.place c.index-objects-place.result c.along-test.true c.index-objects-place.is)
+    (value_there c.args.objects.now c.along.place c.index-objects-place.result c.along-test.true c.index-objects-place.is)
     (omega arith) c.along.invariant (search rules)
 
 pub returns : goal.returns
