@@ -1,9 +1,8 @@
 -- The first slots of a block that are of the fields of its ends are those of its ends.
-use Rattle.std.proofs.Common.{◌≡◌, refl, ap, ◌∙◌, ℕ, ◌+◌, Bool, false, List, [], ◌∷◌, ◌++◌, Option, Some}
-use Rattle.std.specs.Prelude.{◌==◌, find, if◌then◌else◌, IsTrue, map, not}
-use Rattle.std.specs.Option.{option_and_then, option_map, option_map_or}
+use Rattle.std.proofs.Common.{◌≡◌, refl, ap, ◌∙◌, ℕ, ◌+◌, Bool, false, List, [], ◌∷◌, ◌++◌, Some}
+use Rattle.std.specs.Prelude.{◌==◌, find, if◌then◌else◌, IsTrue, not}
+use Rattle.std.specs.Option.{option_and_then}
 use Rattle.std.proofs.lemmas.Bool.{and_parts, not-true}
-use Rattle.std.proofs.lemmas.List.{append_assoc}
 use Rattle.dwg_audit.specs.Lookups.{is_of, place_of}
 use Rattle.dwg_graph.proofs.FieldLists.{each_field}
 use Rattle.dwg_graph.specs.declared.slot.Slot.{Slot}

@@ -1,6 +1,6 @@
 -- Lists of fields with their references: what holds of the fields holds of their slots.
 use Rattle.std.proofs.Common.{◌≡◌, refl, sym, ap, ◌∙◌, subst, inl, inr, ⊎_elim, ℕ, suc, ◌+◌, ◌≤◌, Bool, true, List, [], ◌∷◌, ◌++◌, length, arith, length-append}
-use Rattle.std.specs.Prelude.{◌⊎◌, ◌&&◌, IsTrue, AllPairs, Contains, nat_le}
+use Rattle.std.specs.Prelude.{◌&&◌, IsTrue, AllPairs, Contains, nat_le}
 use Rattle.std.specs.List.{list_all}
 use Rattle.std.proofs.lemmas.Bool.{and_from, and_parts, leb-true}
 use Rattle.std.proofs.lemmas.List.Elements.{Contains-append_cases}

@@ -1,5 +1,5 @@
 -- What the kinds hold, field by field: each kind has the fields that it holds, and their numbers ascend. So its slots are of fields that it has, and ascend.
-use Rattle.std.proofs.Common.{◌≡◌, ◌≢◌, refl, sym, ap, ◌∙◌, subst, ℕ, Bool, true, false, List, ◌++◌}
+use Rattle.std.proofs.Common.{◌≡◌, ◌≢◌, refl, sym, ap, ◌∙◌, subst, ℕ, Bool, true, false, ◌++◌}
 use Rattle.std.specs.Prelude.{IsTrue, Contains}
 use Rattle.std.proofs.lemmas.Bool.{true≢false}
 use Rattle.dwg_common.specs.declared.entity.EntityCommon.{EntityCommon}
@@ -19,7 +19,7 @@ use Rattle.dwg_object.specs.declared.body.Body.TheVariants as bodies
 use Rattle.dwg_object.specs.declared.body.Body.{Body}
 use Rattle.dwg_object.specs.declared.common.Common.TheVariants as commons
 use Rattle.dwg_object.specs.declared.common.Common.{Common}
-use Rattle.dwg_object.specs.Objects.{ObjectValue, TypedValue, PlainValue, RawValue, is_of_entity, kind_of}
+use Rattle.dwg_object.specs.Objects.{ObjectValue, TypedValue, PlainValue, RawValue, is_of_entity}
 use Rattle.dwg_object.specs.OwnBodies.{body_kind}
 use Rattle.dwg_object.specs.Written.{IsWhole}
 use Rattle.dwg_paths.proofs.MemberLemmas.{contains_none}

@@ -11,7 +11,7 @@ use Rattle.dwg_common.specs.declared.app_data.AppData.{AppData}
 use Rattle.dwg_common.specs.declared.entity.EntityCommon.{EntityCommon}
 use Rattle.dwg_common.specs.declared.entity.Links.{Links}
 use Rattle.dwg_common.specs.declared.object.ObjectCommon.{ObjectCommon}
-use Rattle.dwg_common.specs.Entities.{entity_common, links}
+use Rattle.dwg_common.specs.Entities.{entity_common}
 use Rattle.dwg_common.specs.NonEntities.{object_common}
 use Rattle.dwg_dicts.specs.Dictionaries.{dictionary_body}
 use Rattle.dwg_dicts.specs.Entries.{layer_control_body, style_control_body, appid_control_body}

@@ -3,7 +3,7 @@ use Rattle.std.specs.Prelude.{◌≡◌, ⊤, ℕ, zero, suc, List, [], ◌∷�
 use Rattle.dwg_graph.specs.declared.walk.Walk.{Walk}
 use Rattle.dwg_graph.specs.declared.walk.Walk.TheVariants.{Found, Left, Gathered, Short}
 use Rattle.dwg_graph.specs.declared.slot.Slot.{Slot}
-use Rattle.dwg_graph.specs.Slots.{FieldReferences, slots_from, slots_of}
+use Rattle.dwg_graph.specs.Slots.{FieldReferences, slots_of}
 
 -- so many slots are passed along a list
 abbrev pub pass : ℕ → List Slot → Walk
