@@ -5,6 +5,7 @@ mod entities;
 mod fields;
 mod forms;
 mod laws;
+mod more;
 mod shapes;
 mod table;
 mod tables;

@@ -11,6 +11,7 @@ use dwg_dicts::{
     XRecord,
 };
 use dwg_entities::{Attdef, Attrib, Attributes, Block, EndBlk, Insert, SeqEnd, Text};
+use dwg_more::{Ellipse, Face3d, Group, Polyline3d, Ray, Solid, Trace, Vertex3d, XLine};
 use dwg_shapes::{Arc, Circle, Line, LwPolyline, Point, Width};
 use dwg_tables::{AppId, BlockHeader, Dash, Ends, Entry, InsertMark, Layer, Ltype, Style};
 
@@ -407,5 +408,84 @@ impl Fields for XRecord {
         put_bytes(text, &self.bytes)?;
         put(text, &[u64::from(self.cloning)])?;
         put_refs(text, self.targets.as_slice())
+    }
+}
+
+impl Fields for Ellipse {
+    fn put(&self, text: &mut String) -> Option<()> {
+        put_space(text, &self.centre)?;
+        put_space(text, &self.axis)?;
+        put_space(text, &self.extrusion)?;
+        put(text, &[self.ratio, self.start_angle, self.end_angle])
+    }
+}
+
+impl Fields for Ray {
+    fn put(&self, text: &mut String) -> Option<()> {
+        put_space(text, &self.point)?;
+        put_space(text, &self.vector)
+    }
+}
+
+impl Fields for XLine {
+    fn put(&self, text: &mut String) -> Option<()> {
+        put_space(text, &self.point)?;
+        put_space(text, &self.vector)
+    }
+}
+
+impl Fields for Solid {
+    fn put(&self, text: &mut String) -> Option<()> {
+        put(text, &[self.thickness, self.elevation])?;
+        put_plane(text, &self.first)?;
+        put_plane(text, &self.second)?;
+        put_plane(text, &self.third)?;
+        put_plane(text, &self.fourth)?;
+        put_space(text, &self.extrusion)
+    }
+}
+
+impl Fields for Trace {
+    fn put(&self, text: &mut String) -> Option<()> {
+        put(text, &[self.thickness, self.elevation])?;
+        put_plane(text, &self.first)?;
+        put_plane(text, &self.second)?;
+        put_plane(text, &self.third)?;
+        put_plane(text, &self.fourth)?;
+        put_space(text, &self.extrusion)
+    }
+}
+
+impl Fields for Face3d {
+    fn put(&self, text: &mut String) -> Option<()> {
+        put_space(text, &self.first)?;
+        put_space(text, &self.second)?;
+        put_space(text, &self.third)?;
+        put_space(text, &self.fourth)?;
+        put_some(text, &[wide(self.invisible)])
+    }
+}
+
+impl Fields for Polyline3d {
+    fn put(&self, text: &mut String) -> Option<()> {
+        put(text, &[u64::from(self.flags_a), u64::from(self.flags_b)])?;
+        put_ref(text, &self.first)?;
+        put_ref(text, &self.last)?;
+        put_ref(text, &self.seqend)
+    }
+}
+
+impl Fields for Vertex3d {
+    fn put(&self, text: &mut String) -> Option<()> {
+        put(text, &[u64::from(self.flags)])?;
+        put_space(text, &self.place)
+    }
+}
+
+impl Fields for Group {
+    fn put(&self, text: &mut String) -> Option<()> {
+        put_text(text, &self.name)?;
+        put(text, &[u64::from(self.unnamed), u64::from(self.selectable)])?;
+        put_refs(text, self.entries.as_slice())
     }
 }

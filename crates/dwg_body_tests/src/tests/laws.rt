@@ -2,6 +2,7 @@
 
 use dwg_dicts::dict_laws;
 use dwg_entities::entity_laws;
+use dwg_more::more_laws;
 use dwg_shapes::shape_laws;
 use dwg_tables::table_laws;
 
@@ -12,4 +13,5 @@ fn the_laws_of_bodies_hold(_rt: HostRuntime) {
     entity_laws();
     table_laws();
     dict_laws();
+    more_laws();
 }

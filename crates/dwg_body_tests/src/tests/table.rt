@@ -246,3 +246,21 @@ fn found_in<B: BodyCode + Fields + Drop>(
     let refs = padded(alloc, refs)?;
     found_in_bytes::<B>(alloc, &main, &refs, skipped)
 }
+
+/// How many main bits the body in these bytes is written by.
+fn main_bits_in<B: BodyCode + Drop>(alloc: Global, main: &[u8]) -> Option<u64> {
+    if main.len() > 1_000 {
+        return None;
+    }
+    let base = Handle::new(OWN)?;
+    let mut refs = BitCursor::new(&[], 0, 0);
+    let mut main = BitCursor::new(main, 0, 8 * main.len() as u64);
+    let body = read_body::<B>(alloc, base, &mut main, &mut refs)??;
+    Some(body.lengths(base).main)
+}
+
+/// How many main bits the body in the bits of a text is written by, which has no references.
+pub(crate) fn main_bits_of<B: BodyCode + Drop>(alloc: Global, bits: &str) -> Option<u64> {
+    let main = padded(alloc, bits)?;
+    main_bits_in::<B>(alloc, &main)
+}

@@ -1,0 +1,2 @@
+pub mod CornerWords
+pub mod CornerReading

@@ -1,0 +1,47 @@
+-- 3DFACE (Open Design Specification, "3DFACE"). That z-zero is written where the z word of the first corner is 0, and only there, is a rule of this project.
+use Rattle.std.specs.Prelude.{◌==◌, ℕ, Bool, true, false, not, is_none}
+use Rattle.dwg_grammar.specs.Codes.{b, bs, rd, dd, IsPoint3}
+use Rattle.dwg_grammar.specs.Combinators.{always, seq, tagged, when, shaped}
+use Rattle.dwg_grammar.specs.Grammar.{Grammar}
+use Rattle.dwg_grammar.specs.declared.points.Point3.{Point3}
+use Rattle.dwg_grammar.specs.Bodies.{BodyGrammar}
+use Rattle.dwg_grammar.specs.MakingBodies.{main_body}
+use Rattle.dwg_more.specs.declared.face.Face3d.{Face3d}
+
+-- the z word of the first corner: 0 where z-zero is 1, else RD
+abbrev pub height : Bool → Grammar Bool ℕ
+height true = always 0
+height false = rd
+
+-- RD x; RD y; the z word
+abbrev pub corner_by : Bool → Grammar Bool Point3
+corner_by z_zero =
+    shaped (λ words. record { x = words.0; y = words.1.0; z = words.1.1 }) (λ corner. (corner.x, (corner.y, corner.z)))
+    (seq rd (λ x. seq rd (λ y. height z_zero)))
+
+-- B z-zero; the corner
+abbrev pub first_corner : Grammar Bool Point3
+first_corner = tagged b corner_by IsPoint3 (λ corner. corner.z == 0)
+
+-- 3DD: x against the x of a default, y against its y, z against its z
+abbrev pub dd3 : Point3 → Grammar Bool Point3
+dd3 default =
+    shaped (λ words. record { x = words.0; y = words.1.0; z = words.1.1 }) (λ point. (point.x, (point.y, point.z)))
+    (seq (dd default.x) (λ x. seq (dd default.y) (λ y. dd default.z)))
+
+-- B no-flags; the first corner; 3DD for each other, whose default is the corner before; BS where no-flags is 0
+abbrev pub face_main : Grammar Bool Face3d
+face_main =
+    shaped (λ parts. record {
+      first = parts.1.0;
+      second = parts.1.1.0;
+      third = parts.1.1.1.0;
+      fourth = parts.1.1.1.1.0;
+      invisible = parts.1.1.1.1.1;
+    })
+    (λ face. (is_none face.invisible, (face.first, (face.second, (face.third, (face.fourth, face.invisible))))))
+    (seq b (λ no_flags. seq first_corner (λ first. seq (dd3 first) (λ second. seq (dd3 second) (λ third. seq (dd3 third) (λ fourth. when (not no_flags) bs))))))
+
+-- a face: no references
+unfoldable pub face_body : ℕ → BodyGrammar Face3d
+face_body base = main_body face_main

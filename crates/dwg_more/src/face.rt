@@ -1,0 +1,148 @@
+//! Faces.
+
+ghost use Rattle.std.specs.Prelude.{◌≡◌, ◌^◌, ◌<◌, ◌≤◌, not, is_none, length};
+ghost use Rattle.dwg_bits.specs.Sink.{Extends};
+ghost use Rattle.dwg_grammar.specs.Codes.{bs};
+ghost use Rattle.dwg_grammar.specs.Combinators.{when};
+ghost use Rattle.dwg_common.specs.Parsing.{Keeps, Parses};
+ghost use Rattle.dwg_more.specs.Faces.{face_body, face_main};
+ghost use Rattle.dwg_more.specs.MoreLaws.{face_is_body};
+
+use crate::corners::{Code3DD, CodeFirstCorner};
+use dwg_base::{Handle, NoMemory};
+use dwg_bits::{BitCursor, BitSink};
+use dwg_codes::{BitCode, CodeB, CodeBS, Point3};
+use dwg_common::{BodyCode, Lengths, known_point, parse_code, parse_when};
+use std::alloc::Global;
+
+/// A face with four corners in space (Open Design Specification, "3DFACE").
+#[derive(Clone, Copy, Debug, PartialEq, Eq)]
+pub struct Face3d {
+    /// Its first corner.
+    pub first: Point3,
+    /// Its second corner.
+    pub second: Point3,
+    /// Its third corner.
+    pub third: Point3,
+    /// Its fourth corner; the third where it has three.
+    pub fourth: Point3,
+    /// Which of its edges aren't seen, a bit for each, that of the first edge lowest. None where no flags are told.
+    pub invisible: Option<u16>,
+}
+
+/// Reads a face, as it is parsed.
+fn read_face(cursor: &mut BitCursor<'_>) -> Option<Face3d>
+    ensures parsed { Parses face_main result cursor.old cursor.new }
+    ensures kept { Keeps cursor.old cursor.new }
+{
+    let no_flags = parse_code::<CodeB>(&(), cursor)?;
+    let first = parse_code::<CodeFirstCorner>(&(), cursor)?;
+    known_point(&first);
+    let second = parse_code::<Code3DD>(&first, cursor)?;
+    known_point(&second);
+    let third = parse_code::<Code3DD>(&second, cursor)?;
+    known_point(&third);
+    let fourth = parse_code::<Code3DD>(&third, cursor)?;
+    let invisible = parse_when::<CodeBS>(&(), !no_flags, cursor)?;
+    Some(Face3d {
+        first,
+        second,
+        third,
+        fourth,
+        invisible,
+    })
+}
+
+/// The bit that says whether no flags are told.
+fn no_flags(invisible: Option<u16>) -> bool
+    ensures { result ≡ is_none invisible }
+{
+    match invisible {
+        Some(_flags) => false,
+        None => true,
+    }
+}
+
+/// Flags are there exactly where no-flags, which they tell, is 0.
+fn known_flags(invisible: Option<u16>)
+    ensures { (when (not (is_none invisible)) bs).IsValue invisible }
+{
+    match invisible {
+        Some(_flags) => {}
+        None => {}
+    }
+}
+
+/// How many bits flags are written by: none where there are none.
+fn flags_bits(invisible: Option<u16>) -> u64
+    ensures length { result ≡ length ((when (not (is_none invisible)) bs).short invisible) }
+    ensures few { result < 2 ^ 32 }
+{
+    match invisible {
+        Some(flags) => CodeBS::length(&(), &flags),
+        None => 0,
+    }
+}
+
+/// Writes flags, where there are some.
+fn write_flags(invisible: Option<u16>, sink: &mut BitSink)
+    requires { length ((when (not (is_none invisible)) bs).short invisible) ≤ sink.old.spare }
+    ensures { Extends sink.old sink.new ((when (not (is_none invisible)) bs).short invisible) }
+{
+    match invisible {
+        Some(flags) => CodeBS::write(&(), &flags, sink),
+        None => {}
+    }
+}
+
+impl BodyCode for Face3d {
+    ghost grammar = { face_body };
+
+    #[tactic(auto, unfolding(crate::specs::Faces::face_body))]
+    fn parse(
+        _alloc: Global,
+        main: &mut BitCursor<'_>,
+        _refs: &mut BitCursor<'_>,
+        _base: Handle,
+    ) -> Result<Option<Face3d>, NoMemory> {
+        Ok(read_face(main))
+    }
+
+    #[tactic(auto, unfolding(crate::specs::Faces::face_body))]
+    fn fits(&self, _base: Handle) -> bool {
+        known_point(&self.first);
+        known_point(&self.second);
+        known_point(&self.third);
+        known_point(&self.fourth);
+        known_flags(self.invisible);
+        true
+    }
+
+    #[tactic(auto, unfolding(crate::specs::Faces::face_body))]
+    fn lengths(&self, _base: Handle) -> Lengths {
+        Lengths {
+            main: CodeB::length(&(), &no_flags(self.invisible))
+                + CodeFirstCorner::length(&(), &self.first)
+                + Code3DD::length(&self.first, &self.second)
+                + Code3DD::length(&self.second, &self.third)
+                + Code3DD::length(&self.third, &self.fourth)
+                + flags_bits(self.invisible),
+            refs: 0,
+        }
+    }
+
+    #[tactic(auto, unfolding(crate::specs::Faces::face_body))]
+    fn write_main(&self, _base: Handle, sink: &mut BitSink) {
+        CodeB::write(&(), &no_flags(self.invisible), sink);
+        CodeFirstCorner::write(&(), &self.first, sink);
+        Code3DD::write(&self.first, &self.second, sink);
+        Code3DD::write(&self.second, &self.third, sink);
+        Code3DD::write(&self.third, &self.fourth, sink);
+        write_flags(self.invisible, sink);
+    }
+
+    #[tactic(auto, unfolding(crate::specs::Faces::face_body))]
+    fn write_refs(&self, _base: Handle, _sink: &mut BitSink) {}
+
+    ghost laws = { λ base small. face_is_body base };
+}
