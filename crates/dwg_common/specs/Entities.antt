@@ -42,10 +42,6 @@ entity_look =
     (λ look. (look.colour, (look.linetype_scale, (look.linetype_flag, (look.plotstyle_flag, (look.invisible, look.lineweight))))))
     (seq bs (λ colour. seq bd (λ linetype_scale. seq bb (λ linetype_flag. seq bb (λ plotstyle_flag. seq bs (λ invisible. rc))))))
 
--- the main bits
-abbrev pub entity_main : ℕ → Grammar Bool (Start × Look)
-entity_main base = seq (entity_start base) (λ start. entity_look)
-
 -- previous, next
 abbrev pub links : ℕ → ReferencePart Links
 links base = seen_refs (λ parts. record { previous = parts.0; next = parts.1 }) (λ links. (links.previous, links.next)) (two_refs base)
@@ -115,6 +111,6 @@ entity_of (start, look) named = record {
   layer = named.layer;
 }
 
--- the common part of an entity with this handle
+-- the common part of an entity with this handle: what it begins with, then its look, and what it names
 unfoldable pub entity_common : ℕ → BodyGrammar EntityCommon
-entity_common base = body (entity_main base) (entity_refs base) entity_of main_of_entity named_of_entity
+entity_common base = body (seq (entity_start base) (λ start. entity_look)) (entity_refs base) entity_of main_of_entity named_of_entity

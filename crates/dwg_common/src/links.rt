@@ -1,21 +1,14 @@
 //! The entities before and behind an entity, as a code (Open Design Specification, "Common entity data").
 
-ghost use Rattle.std.specs.Prelude.{◌≡◌, ◌^◌, ◌<◌, ◌↔◌, IsTrue};
+ghost use Rattle.std.specs.Prelude.{◌≡◌, ◌^◌, ◌<◌};
 ghost use Rattle.dwg_common.specs.CommonLaws.{links_is_part};
 ghost use Rattle.dwg_common.specs.Entities.{links};
 
 use crate::entity::Links;
-use crate::two_refs::{CodeTwoRefs, two_refs_fit};
+use crate::two_refs::CodeTwoRefs;
 use dwg_base::Handle;
 use dwg_bits::{BitCursor, BitSink};
 use dwg_codes::BitCode;
-
-/// Whether both entities can be told from the entity of the handle `base`.
-pub(crate) fn links_fit(value: &Links, base: Handle) -> bool
-    ensures { IsTrue result ↔ (links base).grammar.IsValue value.now }
-{
-    two_refs_fit((value.previous, value.next), base)
-}
 
 /// The entities before and behind an entity of a handle: two references, the one before it first.
 pub(crate) struct CodeLinks;

@@ -1,16 +1,16 @@
 //! What an entity names, as bits (Open Design Specification, "Common entity data").
 
-ghost use Rattle.std.specs.Prelude.{◌≡◌, ◌==◌, ◌^◌, ◌<◌, ◌≤◌, ◌↔◌, length, is_none, not, IfOk, IsTrue};
+ghost use Rattle.std.specs.Prelude.{◌≡◌, ◌^◌, ◌<◌, ◌≤◌, ◌↔◌, length, is_none, not, IfOk, IsTrue};
 ghost use Rattle.dwg_bits.specs.Sink.{Extends};
 ghost use Rattle.dwg_grammar.specs.Combinators.{items, when};
 ghost use Rattle.dwg_grammar.specs.ReferenceCodes.{reference};
 ghost use Rattle.dwg_common.specs.Entities.{entity_refs, links, main_of_entity, named_of_entity};
-ghost use Rattle.dwg_grammar.specs.References.{maybe_refs, one_ref, then_refs};
 ghost use Rattle.dwg_common.specs.Parsing.{Keeps, Parses};
 
 use crate::entity::{EntityCommon, Links, Look, Named, Start};
-use crate::links::{CodeLinks, links_fit};
+use crate::links::CodeLinks;
 use crate::parts::{parse_code, parse_refs, parse_when};
+use crate::two_refs::two_refs_fit;
 use dwg_base::{Handle, NoMemory};
 use dwg_bits::{BitCursor, BitSink};
 use dwg_codes::{BitCode, length_when, write_when};
@@ -96,7 +96,7 @@ fn links_fit_where_there(value: &Option<Links>, base: Handle) -> bool
     ensures { IsTrue result ↔ (when (not (is_none value.now)) (links base).grammar).IsValue value.now }
 {
     match value {
-        Some(inner) => links_fit(inner, base),
+        Some(inner) => two_refs_fit((inner.previous, inner.next), base),
         None => true,
     }
 }

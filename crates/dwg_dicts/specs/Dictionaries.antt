@@ -48,14 +48,10 @@ IsItem base item = tv.IsValue item.name × (reference base).IsValue item.target
 abbrev pub AreItems : ℕ → List DictItem → Type 0
 AreItems base listed = AreValues tv (names_of listed) × AreValues (reference base) (targets_of listed)
 
--- what a dictionary begins with
-abbrev pub start_of : Dictionary → ℕ × (ℕ × ℕ)
-start_of dictionary = (length dictionary.items, (dictionary.cloning, dictionary.hard_owner))
-
 -- the main bits; target per item
 unfoldable pub dictionary_body : ℕ → BodyGrammar Dictionary
 dictionary_body base =
     body dictionary_main (λ told. some_refs base told.0.0)
     (λ told named. record { cloning = told.0.1.0; hard_owner = told.0.1.1; items = named_items told.1 named })
-    (λ dictionary. (start_of dictionary, names_of dictionary.items))
+    (λ dictionary. ((length dictionary.items, (dictionary.cloning, dictionary.hard_owner)), names_of dictionary.items))
     (λ dictionary. targets_of dictionary.items)

@@ -2,23 +2,18 @@
 use Rattle.std.specs.Prelude.{ℕ, suc, Bool, List, length, Option}
 use Rattle.dwg_grammar.specs.Codes.{bl, bs, rc}
 use Rattle.dwg_grammar.specs.Combinators.{seq, counted}
-use Rattle.dwg_grammar.specs.Grammar.{Grammar}
 use Rattle.dwg_grammar.specs.Bodies.{BodyGrammar}
 use Rattle.dwg_grammar.specs.MakingBodies.{parse_to_end, to_end}
 use Rattle.dwg_grammar.specs.Reference.{Reference}
 use Rattle.dwg_grammar.specs.ReferenceCodes.{reference}
 use Rattle.dwg_dicts.specs.declared.xrecord.XRecord.{XRecord}
 
--- BL size and the bytes; BS cloning
-abbrev pub xrecord_main : Grammar Bool (List ℕ × ℕ)
-xrecord_main = seq (counted bl rc) (λ bytes. bs)
-
 -- the references that bits hold until fewer than eight are left, and these
 abbrev pub all_targets : ℕ → List Bool → Option (List Reference × List Bool)
 all_targets base letters = parse_to_end 8 (reference base) (suc (length letters)) letters
 
--- the main bits; all references until fewer than eight bits are left
+-- BL size and the bytes; BS cloning; and all references until fewer than eight bits are left
 unfoldable pub xrecord_body : ℕ → BodyGrammar XRecord
 xrecord_body base =
-    to_end base xrecord_main (λ told targets. record { bytes = told.0; cloning = told.1; targets = targets })
+    to_end base (seq (counted bl rc) (λ bytes. bs)) (λ told targets. record { bytes = told.0; cloning = told.1; targets = targets })
     (λ xrecord. (xrecord.bytes, xrecord.cloning)) (λ xrecord. xrecord.targets)

@@ -1,6 +1,5 @@
 //! Dictionaries: names of objects.
 
-ghost use Rattle.std.specs.Prelude.{◌≡◌, IfOk};
 ghost use Rattle.dwg_common.specs.Parsing.{Keeps, Parses};
 ghost use Rattle.dwg_dicts.specs.DictLaws.{dictionary_is_body};
 ghost use Rattle.dwg_dicts.specs.Dictionaries.{dictionary_body, dictionary_start};

@@ -3,9 +3,9 @@
 ghost use Rattle.std.specs.Prelude.{◌≡◌, ◌^◌, ◌<◌, IfOk};
 ghost use Rattle.std.specs.Option.{option_map};
 ghost use Rattle.dwg_bits.specs.Cursor.{rest};
-ghost use Rattle.dwg_common.specs.Parsing.{Keeps, Parses};
+ghost use Rattle.dwg_common.specs.Parsing.{Keeps};
 ghost use Rattle.dwg_dicts.specs.DictLaws.{xrecord_is_body};
-ghost use Rattle.dwg_dicts.specs.XRecords.{all_targets, xrecord_body, xrecord_main};
+ghost use Rattle.dwg_dicts.specs.XRecords.{all_targets, xrecord_body};
 
 use dwg_base::{ByteRun, Handle, Items, NoMemory};
 use dwg_bits::{BitCursor, BitSink};
@@ -23,21 +23,6 @@ pub struct XRecord {
     pub cloning: u16,
     /// The objects that it names: references to the end of the object, while at least eight bits are left.
     pub targets: Items<Ref>,
-}
-
-/// Reads what the main bits of a record tell, as it is parsed. The only refusal is want of memory, which is taken only for
-/// bytes that are there.
-fn read_told(alloc: Global, cursor: &mut BitCursor<'_>) -> Result<Option<(ByteRun, u16)>, NoMemory>
-    ensures parsed { IfOk result (λ found. Parses xrecord_main found cursor.old cursor.new) }
-    ensures kept { Keeps cursor.old cursor.new }
-{
-    let Some(bytes) = parse_sized(alloc, cursor)? else {
-        return Ok(None);
-    };
-    let Some(cloning) = parse_code::<CodeBS>(&(), cursor) else {
-        return Ok(None);
-    };
-    Ok(Some((bytes, cloning)))
 }
 
 /// Reads references until fewer than eight bits are left, as they are parsed. The only refusal is want of memory, which is
@@ -64,15 +49,18 @@ impl BodyCode for XRecord {
         refs: &mut BitCursor<'_>,
         base: Handle,
     ) -> Result<Option<XRecord>, NoMemory> {
-        let Some(told) = read_told(alloc, main)? else {
+        let Some(bytes) = parse_sized(alloc, main)? else {
+            return Ok(None);
+        };
+        let Some(cloning) = parse_code::<CodeBS>(&(), main) else {
             return Ok(None);
         };
         let Some(targets) = read_targets(alloc, refs, base)? else {
             return Ok(None);
         };
         Ok(Some(XRecord {
-            bytes: told.0,
-            cloning: told.1,
+            bytes,
+            cloning,
             targets,
         }))
     }

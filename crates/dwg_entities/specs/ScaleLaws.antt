@@ -6,7 +6,7 @@ use Rattle.std.proofs.lemmas.List.{length-append}
 use Rattle.dwg_grammar.specs.Codes.{rd, dd, ONE, IsPoint3}
 use Rattle.dwg_grammar.specs.Combinators.{seq}
 use Rattle.dwg_grammar.proofs.CombinatorLemmas.{always_is_code, never_is_code, struct_is_code}
-use Rattle.dwg_common.specs.LawSets.{codes, point_codes}
+use Rattle.dwg_common.specs.LawSets.{codes, default_codes}
 use Rattle.dwg_grammar.specs.Grammar.{IsCode, AnyLetters}
 use Rattle.dwg_grammar.proofs.NumberLemmas.{rd_is_code}
 use Rattle.dwg_grammar.proofs.TableLemmas.{bit_tagged_is_code}
@@ -21,13 +21,13 @@ one_is_word = omega arith
 scale_by_is_code : (tag : ℕ) → IsCode AnyLetters (scale_by tag)
 scale_by_is_code zero =
     struct_is_code AnyLetters IsPoint3 (λ (words : ℕ × (ℕ × ℕ)). record { x = words.0; y = words.1.0; z = words.1.1 }) (λ (point : Point3). (point.x, (point.y, point.z)))
-    (seq rd (λ x. seq (dd x) (λ y. dd x))) (search (codes, point_codes))
+    (seq rd (λ x. seq (dd x) (λ y. dd x))) (search (codes, default_codes))
     (λ words fits. record { x = fits.0; y = fits.1.0; z = fits.1.1 })
     (λ point fits. ((fits.x, (fits.y, fits.z)), refl))
     (λ words fits. refl)
 scale_by_is_code (suc zero) =
     struct_is_code AnyLetters (λ (point : Point3). IsPoint3 point × (point.x ≡ ONE)) (λ (words : ℕ × ℕ). record { x = ONE; y = words.0; z = words.1 })
-    (λ (point : Point3). (point.y, point.z)) (seq (dd ONE) (λ y. dd ONE)) (search (codes, point_codes, one_is_word))
+    (λ (point : Point3). (point.y, point.z)) (seq (dd ONE) (λ y. dd ONE)) (search (codes, default_codes, one_is_word))
     (λ words fits. (record { x = one_is_word; y = fits.0; z = fits.1 }, refl))
     (λ point fits. ((fits.0.y, fits.0.z), ap (λ (x : ℕ). let p : Point3 = record { x = x; y = point.y; z = point.z } in p) (sym fits.1)))
     (λ words fits. refl)

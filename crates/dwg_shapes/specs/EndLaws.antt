@@ -6,7 +6,7 @@ use Rattle.std.proofs.lemmas.List.{length-append}
 use Rattle.dwg_bits.proofs.BitLaws.{length_of_low_bits}
 use Rattle.dwg_grammar.specs.Codes.{rd, dd, b}
 use Rattle.dwg_grammar.proofs.CombinatorLemmas.{any_letters_closed, always_is_code, tagged_is_code}
-use Rattle.dwg_common.specs.LawSets.{codes, point_codes}
+use Rattle.dwg_common.specs.LawSets.{codes, default_codes}
 use Rattle.dwg_grammar.specs.Grammar.{IsCode, AnyLetters}
 use Rattle.dwg_grammar.proofs.TruthCode.{b_is_code}
 use Rattle.dwg_shapes.specs.Lines.{LineEnds, heights, ends_by, AreEnds, is_flat, line_ends}
@@ -14,11 +14,11 @@ use Rattle.dwg_shapes.specs.Lines.{LineEnds, heights, ends_by, AreEnds, is_flat,
 -- the z words are a code by each z-zero
 heights_is_code : (z_zero : Bool) → IsCode AnyLetters (heights z_zero)
 heights_is_code true = always_is_code AnyLetters (0, 0)
-heights_is_code false = search (codes, point_codes)
+heights_is_code false = search (codes, default_codes)
 
 -- so are the ends
 ends_by_is_code : (z_zero : Bool) → IsCode AnyLetters (ends_by z_zero)
-ends_by_is_code z_zero = search (codes, point_codes, heights_is_code) depth 12
+ends_by_is_code z_zero = search (codes, default_codes, heights_is_code) depth 12
 
 -- both z words have 64 bits
 heights_value : (z_zero : Bool) (start_z end_z : ℕ) → (heights z_zero).IsValue (start_z, end_z) → (start_z < 2 ^ 64) × (end_z < 2 ^ 64)

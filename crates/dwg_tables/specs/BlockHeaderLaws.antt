@@ -1,7 +1,6 @@
 -- The header of a block meets the laws of bodies.
 use Rattle.std.proofs.Common.{◌≡◌, refl, ℕ, ◌^◌, ◌<◌}
 use Rattle.dwg_grammar.specs.Combinators.{chain}
-use Rattle.dwg_grammar.specs.Grammar.{IsCode, AnyLetters}
 use Rattle.dwg_grammar.specs.Bodies.{IsBody}
 use Rattle.dwg_grammar.specs.References.{IsReferencePart}
 use Rattle.dwg_tables.specs.declared.block_header.BlockContent.{BlockContent}
@@ -10,29 +9,14 @@ use Rattle.dwg_tables.specs.declared.block_header.BlockHeader.{BlockHeader}
 use Rattle.dwg_tables.specs.declared.block_header.BlockNames.{BlockNames}
 use Rattle.dwg_tables.specs.declared.entry.Title.{Title}
 use Rattle.dwg_tables.specs.BlockHeaderBody.{block_flags, block_content, block_ends, block_refs, count_of, target_of, mark_of, flags_of, content_of, names_of, header_of, block_header_body}
-use Rattle.dwg_tables.specs.Entries.{title_of}
+use Rattle.dwg_tables.specs.Entries.{entry_main, title_of}
 use Rattle.dwg_tables.specs.InsertMarkLaws.{mark_counts_is_code}
-use Rattle.dwg_common.specs.LawSets.{codes, parts, bodies}
+use Rattle.dwg_common.specs.LawSets.{parts, bodies}
 use Rattle.dwg_common.proofs.MemberLemmas.{told_of_joined, names_of_joined, joined_again}
-use Rattle.dwg_tables.specs.TableLaws.{entry_main_is_code}
-
--- the flags of a header are a code
-pub flags_is_code : IsCode AnyLetters block_flags
-unfolding block_flags
-flags_is_code = search codes depth 12
-
--- so is what is told behind them
-pub content_is_code : IsCode AnyLetters block_content
-unfolding block_content
-content_is_code = search (codes, mark_counts_is_code) depth 12
 
 -- its entities are a part of the references
 pub ends_is_part : (base : ℕ) → base < 2 ^ 63 → IsReferencePart base (block_ends base)
 ends_is_part base small = search parts
-
--- and so is all that it names
-pub block_refs_is_part : (base : ℕ) (flags : BlockFlags) (content : BlockContent) → base < 2 ^ 63 → IsReferencePart base (block_refs base flags content)
-block_refs_is_part base flags content small = search parts depth 16
 
 -- what is put together of a header is told by it
 header_told : (base : ℕ) (told : Title × (BlockFlags × BlockContent)) (names : BlockNames) → (block_refs base told.1.0 told.1.1).grammar.IsValue names
@@ -51,6 +35,5 @@ header_again header = rw (joined_again mark_of count_of target_of (λ mark. refl
 
 -- the header of a block is a body
 pub block_header_is_body : (base : ℕ) → base < 2 ^ 63 → IsBody base (block_header_body base)
-unfolding block_header_body
-block_header_is_body base small =
-    search (bodies, entry_main_is_code, flags_is_code, content_is_code, block_refs_is_part, header_told, header_again) depth 8
+unfolding block_header_body entry_main block_flags block_content
+block_header_is_body base small = search (bodies, mark_counts_is_code, header_told, header_again) depth 16

@@ -1,6 +1,6 @@
 -- The counts of marks are a code.
-use Rattle.std.proofs.Common.{refl, ℕ, ◌≤◌, arith}
-use Rattle.std.specs.Prelude.{◌==◌, ◌≢◌}
+use Rattle.std.proofs.Common.{refl, arith}
+use Rattle.std.specs.Prelude.{◌==◌}
 use Rattle.std.proofs.lemmas.Bool.Decides.{nat_tests}
 use Rattle.dwg_grammar.specs.Codes.{rc}
 use Rattle.dwg_grammar.specs.Combinators.{always}
@@ -9,14 +9,6 @@ use Rattle.dwg_grammar.specs.Grammar.{IsCode, AnyLetters}
 use Rattle.dwg_grammar.proofs.ListLemmas.{until_is_code}
 use Rattle.dwg_grammar.proofs.NumberLemmas.{rc_is_code}
 use Rattle.dwg_tables.specs.InsertMarks.{IsMarkCount, mark_counts}
-
--- a number that isn't 0 is at least 1
-some_of : (count : ℕ) → count ≢ 0 → 1 ≤ count
-some_of count other = grind (arith, other)
-
--- and one that is at least 1 isn't 0
-nonzero : (count : ℕ) → 1 ≤ count → count ≢ 0
-nonzero count some none = omega (arith, some, none)
 
 -- the counts are a code
 pub mark_counts_is_code : IsCode AnyLetters mark_counts
@@ -29,6 +21,6 @@ mark_counts_is_code =
       mark_passes = refl;
       only_mark_passes = λ tag fits passed. grind (arith, nat_tests);
       some_letters = λ tag front spelled. omega (arith, spelled.0);
-      value_is_item = λ tag count fits other same. (record { some = omega (arith, some_of tag other, same); few = omega (arith, fits, same) }, same);
-      item_is_value = λ count is. (is.few, nonzero count is.some, refl);
+      value_is_item = λ tag count fits other same. (record { some = omega (arith, other, same); few = omega (arith, fits, same) }, same);
+      item_is_value = λ count is. (is.few, (λ none. omega (arith, is.some, none)), refl);
     }

@@ -1,13 +1,11 @@
 -- A text style (Open Design Specification, "SHAPEFILE").
-use Rattle.std.specs.Prelude.{ℕ, Bool, List}
+use Rattle.std.specs.Prelude.{ℕ, Bool}
 use Rattle.dwg_grammar.specs.Codes.{rc, bd, tv, b}
 use Rattle.dwg_grammar.specs.Combinators.{seq, shaped}
 use Rattle.dwg_grammar.specs.Grammar.{Grammar}
 use Rattle.dwg_grammar.specs.Bodies.{BodyGrammar}
 use Rattle.dwg_grammar.specs.MakingBodies.{body}
 use Rattle.dwg_grammar.specs.References.{one_ref}
-use Rattle.dwg_grammar.specs.Reference.{Reference}
-use Rattle.dwg_tables.specs.declared.entry.Title.{Title}
 use Rattle.dwg_tables.specs.declared.style.Form.{Form}
 use Rattle.dwg_tables.specs.declared.style.Style.{Style}
 use Rattle.dwg_tables.specs.Entries.{entry_main, title_of, entry_of}
@@ -27,10 +25,6 @@ style_form =
     (λ form. (form.flag_a, (form.flag_b, (form.height, (form.width, (form.oblique, (form.generation, form.last_height)))))))
     (seq b (λ flag_a. seq b (λ flag_b. seq bd (λ height. seq bd (λ width. seq bd (λ oblique. seq rc (λ generation. bd)))))))
 
--- the entry's; the form of its letters; TV font; TV big_font
-abbrev pub style_main : Grammar Bool (Title × (Form × (List ℕ × List ℕ)))
-style_main = seq entry_main (λ title. seq style_form (λ form. seq tv (λ font. tv)))
-
 -- the form of the letters of a text style
 abbrev pub form_of : Style → Form
 form_of style = record {
@@ -43,23 +37,20 @@ form_of style = record {
   last_height = style.last_height;
 }
 
--- a text style from what its main bits tell and from xref
-abbrev pub style_of : Title × (Form × (List ℕ × List ℕ)) → Reference → Style
-style_of told xref = record {
-  entry = entry_of told.0 xref;
-  flag_a = told.1.0.flag_a;
-  flag_b = told.1.0.flag_b;
-  height = told.1.0.height;
-  width = told.1.0.width;
-  oblique = told.1.0.oblique;
-  generation = told.1.0.generation;
-  last_height = told.1.0.last_height;
-  font = told.1.1.0;
-  big_font = told.1.1.1;
-}
-
--- the main bits, and among the references xref
+-- the entry's; the form of its letters; TV font; TV big_font; and among the references xref
 unfoldable pub style_body : ℕ → BodyGrammar Style
 style_body base =
-    body style_main (λ told. one_ref base) style_of
+    body (seq entry_main (λ title. seq style_form (λ form. seq tv (λ font. tv)))) (λ told. one_ref base)
+    (λ told xref. record {
+      entry = entry_of told.0 xref;
+      flag_a = told.1.0.flag_a;
+      flag_b = told.1.0.flag_b;
+      height = told.1.0.height;
+      width = told.1.0.width;
+      oblique = told.1.0.oblique;
+      generation = told.1.0.generation;
+      last_height = told.1.0.last_height;
+      font = told.1.1.0;
+      big_font = told.1.1.1;
+    })
     (λ style. (title_of style.entry, (form_of style, (style.font, style.big_font)))) (λ style. style.entry.xref)

@@ -14,40 +14,25 @@ use Rattle.dwg_common.specs.LawSets.{codes, bodies}
 use Rattle.dwg_common.proofs.MemberLemmas.{told_of_joined, names_of_joined, joined_again}
 use Rattle.dwg_tables.specs.StyleBody.{style_form, style_body}
 
--- what the main bits of an entry tell is a code
-pub entry_main_is_code : IsCode AnyLetters entry_main
-unfolding entry_main
-entry_main_is_code = search codes depth 12
-
 -- the name of an application is a body
 pub app_id_is_body : (base : ℕ) → base < 2 ^ 63 → IsBody base (app_id_body base)
-unfolding app_id_body
-app_id_is_body base small = search (bodies, entry_main_is_code) depth 12
+unfolding app_id_body entry_main
+app_id_is_body base small = search bodies depth 12
 
 -- so is a layer
 pub layer_is_body : (base : ℕ) → base < 2 ^ 63 → IsBody base (layer_body base)
-unfolding layer_body
-layer_is_body base small = search (bodies, entry_main_is_code) depth 12
+unfolding layer_body entry_main
+layer_is_body base small = search bodies depth 12
 
--- the form of the letters of a text style is a code
-pub form_is_code : IsCode AnyLetters style_form
-unfolding style_form
-form_is_code = search codes depth 12
-
--- and a text style is a body
+-- and a text style
 pub style_is_body : (base : ℕ) → base < 2 ^ 63 → IsBody base (style_body base)
-unfolding style_body
-style_is_body base small = search (bodies, entry_main_is_code, form_is_code) depth 12
+unfolding style_body entry_main style_form
+style_is_body base small = search bodies depth 16
 
 -- what the main bits of a dash tell is a code
 pub stroke_is_code : IsCode AnyLetters stroke
 unfolding stroke
 stroke_is_code = search codes depth 12
-
--- so is what those of a linetype tell
-pub ltype_main_is_code : IsCode AnyLetters ltype_main
-unfolding ltype_main
-ltype_main_is_code = search (codes, entry_main_is_code, stroke_is_code) depth 12
 
 -- what is put together of a linetype is told by it
 ltype_told : (base : ℕ) (told : Pattern) (named : Reference × List Reference) → (ltype_refs base told).grammar.IsValue named
@@ -64,5 +49,5 @@ ltype_again ltype = rw (joined_again dash_of stroke_of style_of (λ dash. refl) 
 
 -- a linetype is a body
 pub ltype_is_body : (base : ℕ) → base < 2 ^ 63 → IsBody base (ltype_body base)
-unfolding ltype_body
-ltype_is_body base small = search (bodies, ltype_main_is_code, ltype_told, ltype_again) depth 8
+unfolding ltype_body ltype_main entry_main
+ltype_is_body base small = search (bodies, stroke_is_code, ltype_told, ltype_again) depth 16

@@ -1,6 +1,5 @@
 //! Names of applications.
 
-ghost use Rattle.std.specs.Prelude.{◌≡◌, IfOk};
 ghost use Rattle.dwg_tables.specs.AppIdBody.{app_id_body};
 ghost use Rattle.dwg_tables.specs.TableLaws.{app_id_is_body};
 

@@ -11,13 +11,6 @@ use dwg_bits::{BitCursor, BitSink};
 use dwg_codes::BitCode;
 use dwg_common::{CodeTwoRefs, two_refs_fit};
 
-/// Whether the first and the last entity can be told from the header of the handle `base`.
-fn ends_fit(value: &Ends, base: Handle) -> bool
-    ensures { IsTrue result ↔ (block_ends base).grammar.IsValue value.now }
-{
-    two_refs_fit((value.first, value.last), base)
-}
-
 /// Whether the first and the last entity are there exactly where they are present, and can be told from the header of the
 /// handle `base`.
 pub(crate) fn ends_fit_when(present: bool, value: &Option<Ends>, base: Handle) -> bool
@@ -28,7 +21,7 @@ pub(crate) fn ends_fit_when(present: bool, value: &Option<Ends>, base: Handle) -
             if !present {
                 return false;
             }
-            ends_fit(inner, base)
+            two_refs_fit((inner.first, inner.last), base)
         }
         None => !present,
     }

@@ -1,6 +1,5 @@
 //! Layers.
 
-ghost use Rattle.std.specs.Prelude.{◌≡◌, IfOk};
 ghost use Rattle.dwg_tables.specs.LayerBody.{layer_body};
 ghost use Rattle.dwg_tables.specs.TableLaws.{layer_is_body};
 

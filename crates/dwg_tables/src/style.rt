@@ -1,6 +1,6 @@
 //! Text styles.
 
-ghost use Rattle.std.specs.Prelude.{◌≡◌, IfOk};
+ghost use Rattle.std.specs.Prelude.{◌≡◌};
 ghost use Rattle.dwg_tables.specs.StyleBody.{form_of, style_body};
 ghost use Rattle.dwg_tables.specs.TableLaws.{style_is_body};
 
