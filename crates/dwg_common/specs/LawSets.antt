@@ -14,8 +14,8 @@ use Rattle.dwg_grammar.proofs.TruthCode.{b_is_code}
 -- what is made of codes, and the codes of the table
 pub ruleset codes = (seq_is_code, any_letters_closed, shaped_is_code, items_is_code, counted_is_code, when_is_code, restrict_is_code, b_is_code, bb_is_code, rc_is_code, rs_is_code, rl_is_code, rd_is_code, rd2_is_code, bs_is_code, bl_is_code, bd_is_code, bt_is_code, bd3_is_code, be_is_code, tv_is_code, reference_is_code)
 
--- the codes of words and of points of the plane against a default
-pub ruleset default_codes = (dd2_of_read, dd_is_code)
+-- the codes against a default
+pub ruleset default_codes = (dd_is_code, dd2_of_read)
 
 -- what is made of references
 pub ruleset parts = (then_is_part, seen_is_part, maybe_is_part, one_is_part, two_is_part, some_is_part, none_is_part)

@@ -13,7 +13,7 @@ use Rattle.dwg_grammar.specs.References.{IsReferencePart, one_ref}
 use Rattle.dwg_grammar.specs.Reference.{Reference}
 use Rattle.dwg_entities.specs.AttdefBody.{attdef_body}
 use Rattle.dwg_entities.specs.AttribBody.{attrib_main, attrib_body, attrib_of, label_of}
-use Rattle.dwg_entities.specs.BlockBody.{block_main, block_body}
+use Rattle.dwg_entities.specs.BlockBody.{block_body}
 use Rattle.dwg_entities.specs.Closing.{endblk_main, endblk_body, seqend_main, seqend_body}
 use Rattle.dwg_entities.specs.FlagLaws.{worth_told}
 use Rattle.dwg_entities.specs.InsertBody.{Setting, insert_main, attributes, insert_refs, setting_of, insert_of, insert_body}
@@ -58,7 +58,7 @@ text_is_free base small = free_of_body base _ (text_is_body base small) (λ over
 -- what the main bits of an attribute tell is a code
 attrib_main_is_code : IsCode AnyLetters attrib_main
 unfolding attrib_main
-attrib_main_is_code = search (codes, default_codes, text_main_is_code) depth 20
+attrib_main_is_code = search (codes, text_main_is_code) depth 20
 
 -- and an attribute tells what it was put together of
 attrib_told : (told : Inscription × (List ℕ × (ℕ × ℕ))) (style : Reference) → attrib_main.IsValue told → label_of (attrib_of told style) ≡ told
@@ -78,7 +78,7 @@ attrib_is_free base small = free_of_body base _ (attrib_is_body base small) (λ 
 pub attdef_is_body : (base : ℕ) → base < 2 ^ 63 → IsBody base (attdef_body base)
 unfolding attdef_body
 attdef_is_body base small =
-    body_is_body base (seq attrib_main (λ label. tv)) (λ told. one_ref base) _ _ _ (search (codes, default_codes, attrib_main_is_code) depth 20) (λ told fits. search parts)
+    body_is_body base (seq attrib_main (λ label. tv)) (λ told. one_ref base) _ _ _ (search (codes, attrib_main_is_code) depth 20) (λ told fits. search parts)
     (λ told style fits names. (ap (λ (label : Inscription × (List ℕ × (ℕ × ℕ))). let parts : (Inscription × (List ℕ × (ℕ × ℕ))) × List ℕ = (label, told.1) in parts) (attrib_told told.0 style fits.0), refl))
     (λ value. refl)
 
@@ -94,7 +94,7 @@ attributes_is_part base small = search parts
 pub insert_is_body : (base : ℕ) → base < 2 ^ 63 → IsBody base (insert_body base)
 unfolding insert_body
 insert_is_body base small =
-    body_is_body base insert_main (λ told. insert_refs base told.1.1.1.1) insert_of setting_of _ (search (codes, default_codes, scale_is_code) depth 20) (λ told fits. search parts depth 20)
+    body_is_body base insert_main (λ told. insert_refs base told.1.1.1.1) insert_of setting_of _ (search (codes, scale_is_code) depth 20) (λ told fits. search parts depth 20)
     (λ told named fits names. (
       ap (λ (there : Bool). let setting : Setting = (told.0, (told.1.0, (told.1.1.0, (told.1.1.1.0, there)))) in setting)
           (there_by_test told.1.1.1.1 (attributes base).grammar named.1 names.1),
@@ -109,7 +109,7 @@ insert_is_free base small = free_of_body base _ (insert_is_body base small) (λ 
 -- the begin of a block is a body
 pub block_is_body : (base : ℕ) → base < 2 ^ 63 → IsBody base (block_body base)
 unfolding block_body
-block_is_body base small = main_is_body base block_main (search (codes, default_codes))
+block_is_body base small = search bodies depth 12
 
 pub block_is_free : (base : ℕ) → base < 2 ^ 63 → IsFreeBody base (block_body base)
 unfolding block_body

@@ -5,7 +5,7 @@ use Rattle.dwg_grammar.specs.Combinators.{chain}
 use Rattle.dwg_grammar.specs.Grammar.{IsCode, AnyLetters}
 use Rattle.dwg_grammar.specs.Bodies.{IsBody, IsFreeBody}
 use Rattle.dwg_grammar.proofs.BodyLemmas.{free_of_body}
-use Rattle.dwg_common.specs.LawSets.{codes, default_codes}
+use Rattle.dwg_common.specs.LawSets.{codes, bodies}
 use Rattle.dwg_grammar.proofs.MadeBodies.{main_is_body}
 use Rattle.dwg_grammar.proofs.Shaped.{shaped_is_code}
 use Rattle.dwg_shapes.specs.Arcs.{arc_main, arc_body}
@@ -19,7 +19,7 @@ use Rattle.dwg_shapes.specs.VertexLaws.{vertices_is_code, width_pair_is_code, it
 -- a line
 pub line_is_body : (base : ℕ) → IsBody base (line_body base)
 unfolding line_body
-line_is_body base = main_is_body base line_main (search (codes, default_codes, line_ends_is_code) depth 12)
+line_is_body base = search (bodies, line_ends_is_code) depth 12
 
 pub line_is_free : (base : ℕ) → base < 2 ^ 63 → IsFreeBody base (line_body base)
 unfolding line_body
@@ -28,7 +28,7 @@ line_is_free base small = free_of_body base _ (line_is_body base) (λ over. tt)
 -- a point
 pub point_is_body : (base : ℕ) → IsBody base (point_body base)
 unfolding point_body
-point_is_body base = main_is_body base point_main (search (codes, default_codes) depth 12)
+point_is_body base = search bodies depth 12
 
 pub point_is_free : (base : ℕ) → base < 2 ^ 63 → IsFreeBody base (point_body base)
 unfolding point_body
@@ -37,7 +37,7 @@ point_is_free base small = free_of_body base _ (point_is_body base) (λ over. tt
 -- a circle
 pub circle_is_body : (base : ℕ) → IsBody base (circle_body base)
 unfolding circle_body
-circle_is_body base = main_is_body base circle_main (search (codes, default_codes) depth 12)
+circle_is_body base = search bodies depth 12
 
 pub circle_is_free : (base : ℕ) → base < 2 ^ 63 → IsFreeBody base (circle_body base)
 unfolding circle_body
@@ -46,7 +46,7 @@ circle_is_free base small = free_of_body base _ (circle_is_body base) (λ over. 
 -- an arc
 pub arc_is_body : (base : ℕ) → IsBody base (arc_body base)
 unfolding arc_body
-arc_is_body base = main_is_body base arc_main (search (codes, default_codes) depth 12)
+arc_is_body base = search bodies depth 12
 
 pub arc_is_free : (base : ℕ) → base < 2 ^ 63 → IsFreeBody base (arc_body base)
 unfolding arc_body
@@ -62,7 +62,7 @@ counts_told (points, (bulges, widths)) lists fits =
 -- a lightweight polyline
 lwpolyline_is_code : IsCode AnyLetters lwpolyline_main
 lwpolyline_is_code =
-    shaped_is_code _ _ polyline_parts (search (codes, default_codes, vertices_is_code, items_where_is_code, width_pair_is_code) depth 20)
+    shaped_is_code _ _ polyline_parts (search (codes, vertices_is_code, items_where_is_code, width_pair_is_code) depth 20)
     (λ parts fits. ap (λ (counts : Counts). let told : Start × (Counts × Lists) = (parts.0, (counts, parts.1.1)) in told) (counts_told parts.1.0 parts.1.1 fits.1.1)) (λ polyline. refl)
 
 pub lwpolyline_is_body : (base : ℕ) → IsBody base (lwpolyline_body base)

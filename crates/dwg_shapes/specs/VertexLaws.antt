@@ -5,7 +5,7 @@ use Rattle.dwg_grammar.specs.Combinators.{chain}
 use Rattle.dwg_grammar.proofs.CombinatorLemmas.{any_letters_closed}
 use Rattle.dwg_grammar.specs.Grammar.{Grammar, IsCode, AnyLetters}
 use Rattle.dwg_grammar.proofs.ListLemmas.{chain_is_code}
-use Rattle.dwg_common.specs.LawSets.{codes, default_codes}
+use Rattle.dwg_common.specs.LawSets.{codes}
 use Rattle.dwg_grammar.specs.declared.points.Point2.{Point2}
 use Rattle.dwg_shapes.specs.LwPolylines.{vertex, vertices, width_pair, items_where, count_of}
 use Rattle.dwg_grammar.specs.Points.{IsPoint2}
@@ -34,12 +34,12 @@ vertices_is_code count =
 
 -- a width is a code
 pub width_pair_is_code : IsCode AnyLetters width_pair
-width_pair_is_code = search (codes, default_codes)
+width_pair_is_code = search codes
 
 -- so many values are a code, where there is a count
 pub items_where_is_code : {V : Type 0} (code : Grammar Bool V) (count : Option ℕ) → IsCode AnyLetters code → IsCode AnyLetters (items_where code count)
-items_where_is_code code (Some count) is = search (codes, default_codes)
-items_where_is_code code None is = search (codes, default_codes)
+items_where_is_code code (Some count) is = search codes
+items_where_is_code code None is = search codes
 
 -- and tell their count
 pub count_told : {V : Type 0} (code : Grammar Bool V) (count : Option ℕ) (values : Option (List V)) → (items_where code count).IsValue values
