@@ -7,15 +7,15 @@ ghost use Rattle.dwg_entities.specs.BodiesLaws.{text_is_body};
 ghost use Rattle.dwg_entities.specs.Flags.{unless};
 ghost use Rattle.dwg_entities.specs.TextBody.{flags_of, lettering_of, placing_of, text_body, text_lettering, text_placing};
 
-use crate::flags::{
-    has, length_unless, number_fits, parse_unless, word_fits, worth_unless, write_unless,
-};
+use crate::flags::{has, number_fits, word_fits, worth_unless};
 use dwg_base::{ByteRun, Handle, NoMemory};
 use dwg_bits::{BitCursor, BitSink};
-use dwg_codes::{BitCode, CodeBE, CodeBS, CodeBT, CodeRC, CodeRD, Point2, Point3};
+use dwg_codes::{
+    BitCode, CodeBE, CodeBS, CodeBT, CodeRC, CodeRD, Point2, Point3, length_when, write_when,
+};
 use dwg_common::{
-    BodyCode, Code2DD, Code2RD, Lengths, known_point, parse_code, parse_ref, parse_tv, tv_bits,
-    tv_fits, write_tv,
+    BodyCode, Code2DD, Code2RD, Lengths, known_point, parse_code, parse_ref, parse_tv, parse_when,
+    tv_bits, tv_fits, write_tv,
 };
 use dwg_handles::{Ref, ref_bits, write_ref};
 use std::alloc::Global;
@@ -109,9 +109,14 @@ fn write_placing(flags: u8, text: &Text, sink: &mut BitSink)
     requires room { length ((text_placing flags).short (placing_of text.now)) ≤ sink.old.spare }
     ensures { Extends sink.old sink.new ((text_placing flags).short (placing_of text.now)) }
 {
-    write_unless::<CodeRD>(&(), flags, NO_ELEVATION, &text.elevation, sink);
+    write_when::<CodeRD>(&(), !has(flags, NO_ELEVATION), &text.elevation, sink);
     Code2RD::write(&(), &text.insertion, sink);
-    write_unless::<Code2DD>(&text.insertion, flags, NO_ALIGNMENT, &text.alignment, sink);
+    write_when::<Code2DD>(
+        &text.insertion,
+        !has(flags, NO_ALIGNMENT),
+        &text.alignment,
+        sink,
+    );
     CodeBE::write(&(), &text.extrusion, sink);
     CodeBT::write(&(), &text.thickness, sink);
 }
@@ -122,10 +127,10 @@ fn write_lettering(flags: u8, text: &Text, sink: &mut BitSink)
     requires room { length ((text_lettering flags).short (lettering_of text.now)) ≤ sink.old.spare }
     ensures { Extends sink.old sink.new ((text_lettering flags).short (lettering_of text.now)) }
 {
-    write_unless::<CodeRD>(&(), flags, NO_OBLIQUE, &text.oblique, sink);
-    write_unless::<CodeRD>(&(), flags, NO_ROTATION, &text.rotation, sink);
+    write_when::<CodeRD>(&(), !has(flags, NO_OBLIQUE), &text.oblique, sink);
+    write_when::<CodeRD>(&(), !has(flags, NO_ROTATION), &text.rotation, sink);
     CodeRD::write(&(), &text.height, sink);
-    write_unless::<CodeRD>(&(), flags, NO_WIDTH, &text.width, sink);
+    write_when::<CodeRD>(&(), !has(flags, NO_WIDTH), &text.width, sink);
 }
 
 impl BodyCode for Text {
@@ -141,13 +146,14 @@ impl BodyCode for Text {
         let Some(flags) = parse_code::<CodeRC>(&(), main) else {
             return Ok(None);
         };
-        let Some(elevation) = parse_unless::<CodeRD>(&(), flags, NO_ELEVATION, main) else {
+        let Some(elevation) = parse_when::<CodeRD>(&(), !has(flags, NO_ELEVATION), main) else {
             return Ok(None);
         };
         let Some(insertion) = parse_code::<Code2RD>(&(), main) else {
             return Ok(None);
         };
-        let Some(alignment) = parse_unless::<Code2DD>(&insertion, flags, NO_ALIGNMENT, main) else {
+        let Some(alignment) = parse_when::<Code2DD>(&insertion, !has(flags, NO_ALIGNMENT), main)
+        else {
             return Ok(None);
         };
         let Some(extrusion) = parse_code::<CodeBE>(&(), main) else {
@@ -156,28 +162,28 @@ impl BodyCode for Text {
         let Some(thickness) = parse_code::<CodeBT>(&(), main) else {
             return Ok(None);
         };
-        let Some(oblique) = parse_unless::<CodeRD>(&(), flags, NO_OBLIQUE, main) else {
+        let Some(oblique) = parse_when::<CodeRD>(&(), !has(flags, NO_OBLIQUE), main) else {
             return Ok(None);
         };
-        let Some(rotation) = parse_unless::<CodeRD>(&(), flags, NO_ROTATION, main) else {
+        let Some(rotation) = parse_when::<CodeRD>(&(), !has(flags, NO_ROTATION), main) else {
             return Ok(None);
         };
         let Some(height) = parse_code::<CodeRD>(&(), main) else {
             return Ok(None);
         };
-        let Some(width) = parse_unless::<CodeRD>(&(), flags, NO_WIDTH, main) else {
+        let Some(width) = parse_when::<CodeRD>(&(), !has(flags, NO_WIDTH), main) else {
             return Ok(None);
         };
         let Some(text) = parse_tv(alloc, main)? else {
             return Ok(None);
         };
-        let Some(generation) = parse_unless::<CodeBS>(&(), flags, NO_GENERATION, main) else {
+        let Some(generation) = parse_when::<CodeBS>(&(), !has(flags, NO_GENERATION), main) else {
             return Ok(None);
         };
-        let Some(horizontal) = parse_unless::<CodeBS>(&(), flags, NO_HORIZONTAL, main) else {
+        let Some(horizontal) = parse_when::<CodeBS>(&(), !has(flags, NO_HORIZONTAL), main) else {
             return Ok(None);
         };
-        let Some(vertical) = parse_unless::<CodeBS>(&(), flags, NO_VERTICAL, main) else {
+        let Some(vertical) = parse_when::<CodeBS>(&(), !has(flags, NO_VERTICAL), main) else {
             return Ok(None);
         };
         let Some(style) = parse_ref(refs, base) else {
@@ -245,19 +251,23 @@ impl BodyCode for Text {
         let flags = flags_of(self);
         Lengths {
             main: CodeRC::length(&(), &flags)
-                + length_unless::<CodeRD>(&(), flags, NO_ELEVATION, &self.elevation)
+                + length_when::<CodeRD>(&(), !has(flags, NO_ELEVATION), &self.elevation)
                 + Code2RD::length(&(), &self.insertion)
-                + length_unless::<Code2DD>(&self.insertion, flags, NO_ALIGNMENT, &self.alignment)
+                + length_when::<Code2DD>(
+                    &self.insertion,
+                    !has(flags, NO_ALIGNMENT),
+                    &self.alignment,
+                )
                 + CodeBE::length(&(), &self.extrusion)
                 + CodeBT::length(&(), &self.thickness)
-                + length_unless::<CodeRD>(&(), flags, NO_OBLIQUE, &self.oblique)
-                + length_unless::<CodeRD>(&(), flags, NO_ROTATION, &self.rotation)
+                + length_when::<CodeRD>(&(), !has(flags, NO_OBLIQUE), &self.oblique)
+                + length_when::<CodeRD>(&(), !has(flags, NO_ROTATION), &self.rotation)
                 + CodeRD::length(&(), &self.height)
-                + length_unless::<CodeRD>(&(), flags, NO_WIDTH, &self.width)
+                + length_when::<CodeRD>(&(), !has(flags, NO_WIDTH), &self.width)
                 + tv_bits(self.text.as_slice())
-                + length_unless::<CodeBS>(&(), flags, NO_GENERATION, &self.generation)
-                + length_unless::<CodeBS>(&(), flags, NO_HORIZONTAL, &self.horizontal)
-                + length_unless::<CodeBS>(&(), flags, NO_VERTICAL, &self.vertical),
+                + length_when::<CodeBS>(&(), !has(flags, NO_GENERATION), &self.generation)
+                + length_when::<CodeBS>(&(), !has(flags, NO_HORIZONTAL), &self.horizontal)
+                + length_when::<CodeBS>(&(), !has(flags, NO_VERTICAL), &self.vertical),
             refs: ref_bits(self.style, base),
         }
     }
@@ -269,9 +279,9 @@ impl BodyCode for Text {
         write_placing(flags, self, sink);
         write_lettering(flags, self, sink);
         write_tv(self.text.as_slice(), sink);
-        write_unless::<CodeBS>(&(), flags, NO_GENERATION, &self.generation, sink);
-        write_unless::<CodeBS>(&(), flags, NO_HORIZONTAL, &self.horizontal, sink);
-        write_unless::<CodeBS>(&(), flags, NO_VERTICAL, &self.vertical, sink);
+        write_when::<CodeBS>(&(), !has(flags, NO_GENERATION), &self.generation, sink);
+        write_when::<CodeBS>(&(), !has(flags, NO_HORIZONTAL), &self.horizontal, sink);
+        write_when::<CodeBS>(&(), !has(flags, NO_VERTICAL), &self.vertical, sink);
     }
 
     #[tactic(auto, unfolding(crate::specs::TextBody::text_body, dwg_grammar::specs::ReferenceCodes::reference))]
