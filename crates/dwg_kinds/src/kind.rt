@@ -66,8 +66,8 @@ pub enum Kind {
     Unknown,
 }
 
-/// All kinds, a row for each: the number that stands for it, its name, as it is printed, whether it is one of entities, and what
-/// must own an object of it. Behind them stand the kinds that no number of theirs stands for.
+/// All kinds, a row for each: the number that stands for it, where one does; its name, as it is printed; whether it is one of
+/// entities; and what must own an object of it.
 ///
 /// - `by_row!(kind number; ..)`: the kind of a number, and behind the `;` the arms for numbers of no row;
 /// - `by_row!(row kind)`: the row of a kind.
@@ -104,20 +104,20 @@ macro_rules! by_row {
             67 AppId "APPID" false Some(Need::Is(Kind::AppIdControl));
             77 LwPolyline "LWPOLYLINE" true Some(Need::Is(Kind::BlockHeader));
             79 XRecord "XRECORD" false Some(Need::Any);
+            PlainEntity "ENTITY" true None;
+            PlainObject "OBJECT" false None;
+            Unknown "UNKNOWN" false None;
         )
     };
-    (kind_of [$of:ident $($others:tt)*] $($number:literal $kind:ident $name:literal $is_entity:literal $owner:expr;)*) => {
+    (kind_of [$of:ident $($others:tt)*] $($($number:literal)? $kind:ident $name:literal $is_entity:literal $owner:expr;)*) => {
         match $of {
-            $($number => Kind::$kind,)*
+            $($($number => Kind::$kind,)?)*
             $($others)*
         }
     };
-    (row_of [$of:ident] $($number:literal $kind:ident $name:literal $is_entity:literal $owner:expr;)*) => {
+    (row_of [$of:ident] $($($number:literal)? $kind:ident $name:literal $is_entity:literal $owner:expr;)*) => {
         match $of {
             $(Kind::$kind => row($name, $is_entity, $owner),)*
-            Kind::PlainEntity => row("ENTITY", true, None),
-            Kind::PlainObject => row("OBJECT", false, None),
-            Kind::Unknown => row("UNKNOWN", false, None),
         }
     };
 }

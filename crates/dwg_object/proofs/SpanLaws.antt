@@ -115,6 +115,12 @@ span_within bytes span is =
     length-append (is.size ++ is.body) is.word ∙ ap (λ n. n + length is.word) (length-append is.size is.body) ∙ ap (λ n. length is.size + length is.body + n) is.two in
     (omega (arith, reach, long, is.body_place, is.body_end, is.ends), omega (arith, reach, long))
 
+-- spans of the same places are one
+span_of_places : (span other : Span) → span.from ≡ other.from → span.body ≡ other.body → span.body_end ≡ other.body_end → span.end ≡ other.end → span ≡ other
+span_of_places span other from body body_end end =
+    ap₂ (λ (f b : ℕ). record { from = f; body = b; body_end = span.body_end; end = span.end }) from body
+    ∙ ap₂ (λ (b e : ℕ). record { from = other.from; body = other.body; body_end = b; end = e }) body_end end
+
 -- spans at one place are one
 pub spans_same : (bytes : List ℕ) (span other : Span) → SpanAt bytes span → SpanAt bytes other → span.from ≡ other.from → span ≡ other
 spans_same bytes span other is was same =
@@ -123,8 +129,7 @@ spans_same bytes span other is was same =
     let wide : length is.size ≡ length was.size = ap length sizes.1 in
     let bodies : span.body ≡ other.body = omega (arith, is.body_place, was.body_place, same, wide) in
     let ends : span.body_end ≡ other.body_end = omega (arith, bodies, is.body_end, was.body_end, sizes.0) in
-    ap₂ (λ (from body : ℕ). record { from = from; body = body; body_end = span.body_end; end = span.end }) same bodies
-    ∙ ap₂ (λ (body_end end : ℕ). record { from = other.from; body = other.body; body_end = body_end; end = end }) ends (omega (arith, ends, is.ends, was.ends))
+    span_of_places span other same bodies ends (omega (arith, ends, is.ends, was.ends))
 
 -- where a span stands, no place is refused
 pub span_unrefused : (bytes : List ℕ) (place index : ℕ) (span : Span) (refusal : Refusal) → SpanAt bytes span → span.from ≡ place → SpanRefused bytes place index refusal → ⊥
