@@ -1,5 +1,5 @@
 -- Corners that are parsed are read.
-use Rattle.std.proofs.Common.{◌≡◌, sym, subst, ◌^◌, ◌<◌, Bool, List, Option, Some, None}
+use Rattle.std.proofs.Common.{◌≡◌, sym, subst, Bool, List, Option, Some, None}
 use Rattle.dwg_grammar.proofs.BodyReading.{parsed_value}
 use Rattle.dwg_grammar.proofs.CodeLemmas.{reads_some, reads_none}
 use Rattle.dwg_grammar.specs.Codes.{IsPoint3}

@@ -1,7 +1,7 @@
 -- The bodies of further kinds meet the laws of bodies.
-use Rattle.std.proofs.Common.{◌≡◌, refl, sym, ap, ℕ, ◌^◌, ◌<◌, Bool, true, false, Option}
+use Rattle.std.proofs.Common.{◌≡◌, refl, ap, ℕ, ◌^◌, ◌<◌, Bool, true, false, Option}
 use Rattle.std.specs.Prelude.{not, is_none}
-use Rattle.dwg_grammar.specs.Codes.{b, rc, bs, bd, bt, bd3, be, tv}
+use Rattle.dwg_grammar.specs.Codes.{b, rc, bs, bd, bt, bd3, tv}
 use Rattle.dwg_grammar.specs.Combinators.{when, chain}
 use Rattle.dwg_grammar.specs.Grammar.{IsCode, AnyLetters}
 use Rattle.dwg_grammar.specs.Points.{rd2}

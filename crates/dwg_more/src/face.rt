@@ -1,7 +1,6 @@
 //! Faces.
 
-ghost use Rattle.std.specs.Prelude.{◌≡◌, ◌^◌, ◌<◌, ◌≤◌, not, is_none, length};
-ghost use Rattle.dwg_bits.specs.Sink.{Extends};
+ghost use Rattle.std.specs.Prelude.{◌≡◌, ◌<◌, not, is_none, length};
 ghost use Rattle.dwg_grammar.specs.Codes.{bs};
 ghost use Rattle.dwg_grammar.specs.Combinators.{when};
 ghost use Rattle.dwg_common.specs.Parsing.{Keeps, Parses};
@@ -11,7 +10,7 @@ ghost use Rattle.dwg_more.specs.MoreLaws.{face_is_body};
 use crate::corners::{Code3DD, CodeFirstCorner};
 use dwg_base::{Handle, NoMemory};
 use dwg_bits::{BitCursor, BitSink};
-use dwg_codes::{BitCode, CodeB, CodeBS, Point3};
+use dwg_codes::{BitCode, CodeB, CodeBS, Point3, length_when, write_when};
 use dwg_common::{BodyCode, Lengths, known_point, parse_code, parse_when};
 use std::alloc::Global;
 
@@ -53,8 +52,8 @@ fn read_face(cursor: &mut BitCursor<'_>) -> Option<Face3d>
     })
 }
 
-/// The bit that says whether no flags are told.
-fn no_flags(invisible: Option<u16>) -> bool
+/// Whether no flags are told, which the bit before the corners says.
+fn has_no_flags(invisible: Option<u16>) -> bool
     ensures { result ≡ is_none invisible }
 {
     match invisible {
@@ -63,34 +62,12 @@ fn no_flags(invisible: Option<u16>) -> bool
     }
 }
 
-/// Flags are there exactly where no-flags, which they tell, is 0.
+/// Flags are there exactly where that bit is 0.
 fn known_flags(invisible: Option<u16>)
     ensures { (when (not (is_none invisible)) bs).IsValue invisible }
 {
     match invisible {
         Some(_flags) => {}
-        None => {}
-    }
-}
-
-/// How many bits flags are written by: none where there are none.
-fn flags_bits(invisible: Option<u16>) -> u64
-    ensures length { result ≡ length ((when (not (is_none invisible)) bs).short invisible) }
-    ensures few { result < 2 ^ 32 }
-{
-    match invisible {
-        Some(flags) => CodeBS::length(&(), &flags),
-        None => 0,
-    }
-}
-
-/// Writes flags, where there are some.
-fn write_flags(invisible: Option<u16>, sink: &mut BitSink)
-    requires { length ((when (not (is_none invisible)) bs).short invisible) ≤ sink.old.spare }
-    ensures { Extends sink.old sink.new ((when (not (is_none invisible)) bs).short invisible) }
-{
-    match invisible {
-        Some(flags) => CodeBS::write(&(), &flags, sink),
         None => {}
     }
 }
@@ -120,25 +97,27 @@ impl BodyCode for Face3d {
 
     #[tactic(auto, unfolding(crate::specs::Faces::face_body))]
     fn lengths(&self, _base: Handle) -> Lengths {
+        let no_flags = has_no_flags(self.invisible);
         Lengths {
-            main: CodeB::length(&(), &no_flags(self.invisible))
+            main: CodeB::length(&(), &no_flags)
                 + CodeFirstCorner::length(&(), &self.first)
                 + Code3DD::length(&self.first, &self.second)
                 + Code3DD::length(&self.second, &self.third)
                 + Code3DD::length(&self.third, &self.fourth)
-                + flags_bits(self.invisible),
+                + length_when::<CodeBS>(&(), !no_flags, &self.invisible),
             refs: 0,
         }
     }
 
     #[tactic(auto, unfolding(crate::specs::Faces::face_body))]
     fn write_main(&self, _base: Handle, sink: &mut BitSink) {
-        CodeB::write(&(), &no_flags(self.invisible), sink);
+        let no_flags = has_no_flags(self.invisible);
+        CodeB::write(&(), &no_flags, sink);
         CodeFirstCorner::write(&(), &self.first, sink);
         Code3DD::write(&self.first, &self.second, sink);
         Code3DD::write(&self.second, &self.third, sink);
         Code3DD::write(&self.third, &self.fourth, sink);
-        write_flags(self.invisible, sink);
+        write_when::<CodeBS>(&(), !no_flags, &self.invisible, sink);
     }
 
     #[tactic(auto, unfolding(crate::specs::Faces::face_body))]
