@@ -257,11 +257,11 @@ class Program:
         return Answer(_status_of(ran.returncode), out or b"", notes)
 
     @contextlib.contextmanager
-    def lines(self, words: Sequence[str], source: Union[int, IO[bytes]]) -> Iterator[Iterator[str]]:
+    def lines(self, words: Sequence[str], source: Union[int, IO[bytes]]) -> Iterator[Iterator[bytes]]:
         """The lines of the output while the program runs; what it notes goes to a file, and status 3 and above is ToolError behind the last line."""
         with tempfile.TemporaryFile() as notes, self._started(words, source, subprocess.PIPE, notes) as ran:
             assert ran.stdout is not None
-            yield (line.rstrip("\n") for line in _decoded(ran.stdout))
+            yield iter(ran.stdout)
             ran.stdout.close()
             status = _status_of(ran.wait())
             if status > Status.FOUND:
@@ -295,11 +295,6 @@ class Program:
             self._stopped = True
             for ran in self._running:
                 ran.kill()
-
-
-def _decoded(lines: Iterable[bytes]) -> Iterator[str]:
-    """Lines as text: what the program prints is ASCII."""
-    return (line.decode("ascii", "replace") for line in lines)
 
 
 def _status_of(code: int) -> Status:
@@ -470,46 +465,3 @@ def run_tool(main: Callable[[], int]) -> NoReturn:
         print(f"{name}: failure of the tool itself: {type(fault).__name__}: {one_line(str(fault))}", file=sys.stderr)
         status = Exit.FAILURE
     sys.exit(int(status))
-
-
-# ---------------------------------------------------------------------------------------------------------------------
-# The text of `show`
-# ---------------------------------------------------------------------------------------------------------------------
-
-
-@dataclass
-class Shown:
-    """An object as `show` prints it: its fields are pairs of a name and a value, in their order."""
-
-    handle: int
-    kind: str
-    form: str
-    number: int
-    fields: List[Tuple[str, str]] = field(default_factory=list)
-
-
-def objects(lines: Iterable[str]) -> Iterator[Shown]:
-    """The objects in the text of `show`, one at a time."""
-    shown: Optional[Shown] = None
-    for line in lines:
-        if line.startswith("  "):
-            if shown is not None:
-                name, _, value = line[2:].partition(" ")
-                shown.fields.append((name, value))
-        else:
-            if shown is not None:
-                yield shown
-            shown = _begun(line) if line.startswith("object ") else None
-    if shown is not None:
-        yield shown
-
-
-def _begun(line: str) -> Shown:
-    """The object that a line `object HANDLE KIND FORM NUMBER` begins; kinds may be of two words."""
-    words = line.split(" ")
-    return Shown(int(words[1], 16), " ".join(words[2:-2]), words[-2], int(words[-1]))
-
-
-def target(reference: str) -> int:
-    """The handle that a printed reference, `5.1F`, names."""
-    return int(reference.partition(".")[2], 16)
