@@ -497,9 +497,11 @@ def read_value(name: bytes, printed: bytes) -> Value:
             return Reference(int(code, 16), int(handle, 16))
         if len(printed) in (16, 33, 50):
             return Words(int(printed[place : place + 16], 16) for place in range(0, len(printed), 17))
-        return int(printed)
+        if printed.isdigit() and len(printed) <= 10:
+            return int(printed)
     except ValueError:
-        raise BadText("no value of %s: %r" % (name.decode("ascii", "replace"), printed)) from None
+        pass
+    raise BadText("no value of %s: %r" % (name.decode("ascii", "replace"), printed[:80]))
 
 
 def read_line(line: bytes) -> Tuple[str, Value]:
