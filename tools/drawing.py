@@ -8,17 +8,20 @@ from __future__ import annotations
 import argparse
 import contextlib
 import enum
+import itertools
 import os
 import re
 import shutil
 import signal
+import struct
 import subprocess
 import sys
 import tempfile
 import threading
 import unicodedata
 from dataclasses import dataclass, field
-from typing import IO, Any, Callable, Iterable, Iterator, List, NoReturn, Optional, Sequence, Set, Tuple, Union
+from functools import lru_cache
+from typing import IO, Any, Callable, Dict, Iterable, Iterator, List, NoReturn, Optional, Sequence, Set, Tuple, Union
 
 # How many bytes an input and a canonical file have at the most (docs/FORMAT.md, Limits).
 LIMIT = 33_554_432
@@ -412,6 +415,396 @@ def write_whole(path: str, data: bytes, force: bool = False) -> None:
         whole.file.write(data)
         whole.finish()
         whole.place()
+
+
+# ---------------------------------------------------------------------------------------------------------------------
+# Reading the text of `show`
+# ---------------------------------------------------------------------------------------------------------------------
+#
+# docs/FORMAT.md has the text, under "Texts". It is read line by line, and one object is held at a time.
+
+
+class BadText(Exception):
+    """A line that the text of `show` doesn't have, or a text that ends too early."""
+
+
+@dataclass(frozen=True)
+class Reference:
+    """A reference: its code and the handle that it names; 0 is the null handle."""
+
+    code: int
+    handle: int
+
+    def __str__(self) -> str:
+        return "%X.%X" % (self.code, self.handle)
+
+
+class Words(Tuple[int, ...]):
+    """One, two or three 64-bit words on a line: a number, or a point. Each is an IEEE double."""
+
+    def doubles(self) -> Tuple[float, ...]:
+        """The words as doubles, exactly."""
+        return tuple(double(word) for word in self)
+
+
+class Text(bytes):
+    """The bytes of a text, in the code page of the drawing."""
+
+
+class Bytes(bytes):
+    """Bytes that are no text."""
+
+
+Value = Union[int, Reference, Words, Text, Bytes]
+
+# The members that are printed as bytes. The digits of bytes can look like a number, so it is the name that tells.
+BYTES = {b"bytes", b"graphic", b"preview", b"texts", b"rest"}
+
+_ESCAPE = re.compile(rb"\\([0-9a-f]{2})")
+_CLASS = re.compile(rb'class (\d+) version (\d+) proxy ([01]) item (\d+) app ("[^"]*") cpp ("[^"]*") dxf ("[^"]*")')
+_DRAWING = re.compile(rb"drawing (\S+) codepage (\d+) lead (\S+) mark (\S+)")
+
+
+def double(word: int) -> float:
+    """The IEEE double that a 64-bit word is."""
+    return float(struct.unpack("<d", struct.pack("<Q", word))[0])
+
+
+def read_text(printed: bytes) -> Text:
+    """A text as it is printed, between quotation marks: a backslash and two digits are a byte."""
+    if len(printed) < 2 or printed[:1] != b'"' or printed[-1:] != b'"':
+        raise BadText("no text: %r" % printed)
+    inner = printed[1:-1]
+    if b"\\" in inner:
+        inner = _ESCAPE.sub(lambda found: bytes([int(found.group(1), 16)]), inner)
+    return Text(inner)
+
+
+def read_bytes(printed: bytes) -> Bytes:
+    """Bytes as they are printed: two digits each, or a hyphen where there are none."""
+    return Bytes(b"" if printed == b"-" else bytes.fromhex(printed.decode("ascii")))
+
+
+def read_value(name: bytes, printed: bytes) -> Value:
+    """What is printed behind the name of a field."""
+    try:
+        if printed[:1] == b'"':
+            return read_text(printed)
+        if name[name.rfind(b".") + 1 :] in BYTES:
+            return read_bytes(printed)
+        if b"." in printed:
+            code, _, handle = printed.partition(b".")
+            return Reference(int(code, 16), int(handle, 16))
+        if len(printed) in (16, 33, 50):
+            return Words(int(printed[place : place + 16], 16) for place in range(0, len(printed), 17))
+        if printed.isdigit() and len(printed) <= 10:
+            return int(printed)
+    except ValueError:
+        pass
+    raise BadText("no value of %s: %r" % (name.decode("ascii", "replace"), printed[:80]))
+
+
+def read_line(line: bytes) -> Tuple[str, Value]:
+    """A field: its path and its value."""
+    name, _, printed = line.partition(b" ")
+    return name.decode("ascii", "replace"), read_value(name, printed)
+
+
+# Many lines of a drawing are the same, so short ones are kept for a while.
+_read_short = lru_cache(maxsize=1 << 16)(read_line)
+
+
+def read_field(line: bytes) -> Tuple[str, Value]:
+    """A field: its path and its value."""
+    return _read_short(line) if len(line) < 100 else read_line(line)
+
+
+@lru_cache(maxsize=1 << 16)
+def steps(path: str) -> Tuple[Union[str, int], ...]:
+    """The steps of a path: `items[0].name` is `items`, 0, `name`."""
+    found: List[Union[str, int]] = []
+    for part in path.split("."):
+        name, *indices = part.split("[")
+        found.append(name)
+        found.extend(int(index[:-1]) for index in indices)
+    return tuple(found)
+
+
+@dataclass
+class Object:
+    """An object of a drawing: handle, kind, form (`typed`, `plain`, `raw`), type number, and its fields as they are printed."""
+
+    handle: int
+    kind: str
+    form: str
+    number: int
+    lines: List[bytes] = field(default_factory=list)
+
+    @property
+    def fields(self) -> List[Tuple[str, Value]]:
+        """The fields in their order, each with its path and its value."""
+        return [read_field(line) for line in self.lines]
+
+    def value(self, path: str) -> Optional[Value]:
+        """The value at a path, or None where the object has no such field."""
+        front = path.encode("ascii") + b" "
+        for line in self.lines:
+            if line.startswith(front):
+                return read_field(line)[1]
+        return None
+
+    def reference(self, path: str) -> Optional[Reference]:
+        """The reference at a path, or None where there is none."""
+        found = self.value(path)
+        return found if isinstance(found, Reference) else None
+
+    def target(self, path: str) -> int:
+        """The handle that the reference at a path names; 0 where there is none."""
+        found = self.reference(path)
+        return found.handle if found else 0
+
+    def integer(self, path: str, missing: int = 0) -> int:
+        """The number at a path, or what is given for a missing one."""
+        found = self.value(path)
+        return found if isinstance(found, int) else missing
+
+
+@dataclass(frozen=True)
+class Class:
+    """A class: what the objects of a type number are."""
+
+    number: int
+    version: int
+    proxy: int
+    item: int
+    app: Text
+    cpp: Text
+    dxf: Text
+
+
+@dataclass
+class Front:
+    """What the text of `show` says before its objects."""
+
+    version: str
+    codepage: int
+    lead: Bytes
+    mark: Bytes
+    variables: Bytes
+    classes: List[Class]
+    sections: List[Tuple[int, Bytes]]
+    count: int
+
+
+def _next(lines: Iterator[bytes]) -> bytes:
+    """The next line without its line feed."""
+    line = next(lines, b"")
+    if not line.endswith(b"\n"):
+        raise BadText("the text ends too early")
+    return line[:-1]
+
+
+def _after(word: bytes, line: bytes) -> bytes:
+    """What stands behind the word that a line begins with."""
+    if not line.startswith(word + b" "):
+        raise BadText("%r where %s should stand" % (line[:40], word.decode("ascii")))
+    return line[len(word) + 1 :]
+
+
+def _read_class(line: bytes) -> Class:
+    """A line of a class."""
+    found = _CLASS.fullmatch(line)
+    if not found:
+        raise BadText("no class: %r" % line[:80])
+    number, version, proxy, item = (int(part) for part in found.groups()[:4])
+    app, cpp, dxf = (read_text(part) for part in found.groups()[4:])
+    return Class(number, version, proxy, item, app, cpp, dxf)
+
+
+def read_front(lines: Iterator[bytes]) -> Front:
+    """Takes the lines before the objects."""
+    found = _DRAWING.fullmatch(_next(lines))
+    if not found:
+        raise BadText("this is no text of show")
+    version, codepage, lead, mark = found.groups()
+    variables = read_bytes(_after(b"variables", _next(lines)))
+    classes = [_read_class(_next(lines)) for _ in range(int(_after(b"classes", _next(lines))))]
+    sections: List[Tuple[int, Bytes]] = []
+    line = _next(lines)
+    while line.startswith(b"section "):
+        _, number, data = line.split(b" ")
+        sections.append((int(number), read_bytes(data)))
+        line = _next(lines)
+    count = int(_after(b"objects", line))
+    return Front(version.decode("ascii"), int(codepage), read_bytes(lead), read_bytes(mark), variables, classes, sections, count)
+
+
+def _head(line: bytes) -> Object:
+    """The line that an object begins with."""
+    parts = line.decode("ascii", "replace").split()
+    if len(parts) < 5 or parts[0] != "object":
+        raise BadText("%r where an object should begin" % line[:80])
+    return Object(int(parts[1], 16), " ".join(parts[2:-2]), parts[-2], int(parts[-1]))
+
+
+def read_objects(lines: Iterator[bytes], count: Optional[int] = None) -> Iterator[Object]:
+    """The objects behind the front, one at a time; BadText where there are fewer or more than are said."""
+    found, current = 0, None
+    for line in lines:
+        if line[:2] == b"  " and current is not None:
+            if line[-1:] != b"\n":
+                raise BadText("the text ends too early")
+            current.lines.append(line[2:-1])
+            continue
+        if current is not None:
+            yield current
+        current = _head(line)
+        found += 1
+    if current is not None:
+        yield current
+    if count is not None and found != count:
+        raise BadText("%d objects where %d are said" % (found, count))
+
+
+def objects(lines: Iterable[bytes]) -> Iterator[Object]:
+    """The objects of a text of `show`."""
+    taken = iter(lines)
+    front = read_front(taken)
+    return read_objects(taken, front.count)
+
+
+# ---------------------------------------------------------------------------------------------------------------------
+# Names and texts
+# ---------------------------------------------------------------------------------------------------------------------
+
+# What the number of a code page in the header means, of those that Python knows. Any other number is read as 30 is.
+CODE_PAGES: Dict[int, str] = {
+    1: "ascii",
+    **{number: "iso8859_%d" % (number - 1) for number in range(2, 11)},
+    11: "cp437", 12: "cp850", 13: "cp852", 14: "cp855", 15: "cp857", 16: "cp860", 17: "cp861", 18: "cp863", 19: "cp864",
+    20: "cp865", 21: "cp869", 22: "cp932", 23: "mac_roman", 24: "big5", 25: "cp949", 26: "johab", 27: "cp866",
+    28: "cp1250", 29: "cp1251", 30: "cp1252", 31: "gb2312", 32: "cp1253", 33: "cp1254", 34: "cp1255", 35: "cp1256",
+    36: "cp1257", 37: "cp874", 38: "cp932", 39: "gbk", 40: "cp949", 41: "cp950", 42: "johab", 44: "cp1258",
+}  # fmt: skip
+
+
+def code_page(number: int) -> str:
+    """Python's name of the code page of a number."""
+    return CODE_PAGES.get(number, "cp1252")
+
+
+def decoded(text: bytes, page: str) -> str:
+    """A text by its code page; a byte that the page doesn't have becomes a lone surrogate, DC80 to DCFF."""
+    return text.decode(page, "surrogateescape")
+
+
+# The kinds of objects that others refer to by a name.
+NAMED = {"LAYER", "STYLE", "LTYPE", "APPID", "BLOCK HEADER"}
+
+
+def names_of(found: Iterable[Object]) -> Dict[int, Text]:
+    """The names of layers, styles, linetypes, applications and blocks, by handle."""
+    names: Dict[int, Text] = {}
+    for one in found:
+        if one.kind in NAMED:
+            name = one.value("entry.name")
+            if isinstance(name, Text):
+                names[one.handle] = name
+    return names
+
+
+# What a type number below 500 is called where its kind is only ENTITY or OBJECT. The names are those of the Open Design Specification.
+TYPE_NAMES: Dict[int, str] = {
+    8: "MINSERT", 10: "VERTEX (2D)", 11: "VERTEX (3D)", 12: "VERTEX (MESH)", 13: "VERTEX (PFACE)", 14: "VERTEX (PFACE FACE)",
+    15: "POLYLINE (2D)", 16: "POLYLINE (3D)", 20: "DIMENSION (ORDINATE)", 21: "DIMENSION (LINEAR)", 22: "DIMENSION (ALIGNED)",
+    23: "DIMENSION (ANG 3-Pt)", 24: "DIMENSION (ANG 2-Ln)", 25: "DIMENSION (RADIUS)", 26: "DIMENSION (DIAMETER)", 28: "3DFACE",
+    29: "POLYLINE (PFACE)", 30: "POLYLINE (MESH)", 31: "SOLID", 32: "TRACE", 33: "SHAPE", 34: "VIEWPORT", 35: "ELLIPSE",
+    36: "SPLINE", 37: "REGION", 38: "3DSOLID", 39: "BODY", 40: "RAY", 41: "XLINE", 43: "OLEFRAME", 44: "MTEXT", 45: "LEADER",
+    46: "TOLERANCE", 47: "MLINE", 60: "VIEW CONTROL", 61: "VIEW", 62: "UCS CONTROL", 63: "UCS", 64: "VPORT CONTROL", 65: "VPORT",
+    68: "DIMSTYLE CONTROL", 69: "DIMSTYLE", 70: "VP ENT HDR CONTROL", 71: "VP ENT HDR", 72: "GROUP", 73: "MLINESTYLE",
+    74: "OLE2FRAME", 78: "HATCH", 80: "PLACEHOLDER", 82: "LAYOUT",
+}  # fmt: skip
+
+
+def type_name(one: Object, classes: Dict[int, str]) -> str:
+    """What an object is, in a word: its kind, or for one that is only an ENTITY or OBJECT the name of its type number."""
+    if one.kind not in ("ENTITY", "OBJECT", "UNKNOWN"):
+        return one.kind
+    return TYPE_NAMES.get(one.number) or classes.get(one.number) or "%s %d" % (one.kind, one.number)
+
+
+def class_names(front: Front) -> Dict[int, str]:
+    """The DXF names of the classes, by number; the first class of a number counts."""
+    page = code_page(front.codepage)
+    names: Dict[int, str] = {}
+    for one in front.classes:
+        names.setdefault(one.number, decoded(one.dxf, page))
+    return names
+
+
+# ---------------------------------------------------------------------------------------------------------------------
+# A drawing that is shown
+# ---------------------------------------------------------------------------------------------------------------------
+
+
+class Drawing:
+    """A drawing that can be shown more than once: a file, or what comes on standard input, kept in a file without a name meanwhile."""
+
+    def __init__(self, program: Program, path: Optional[str]) -> None:
+        self.program = program
+        self.name = "standard input" if path is None or path == "-" else one_line(path)
+        try:
+            self.file: IO[bytes] = _kept_input() if path is None or path == "-" else open(path, "rb")
+        except OSError as fault:
+            raise ToolError(f"{self.name}: {fault.strerror}", Status.READ_FAULT) from None
+
+    @contextlib.contextmanager
+    def show(self) -> Iterator[Tuple[Front, Iterator[Object]]]:
+        """What the text of `show` says before the objects, and these, one by one; ToolError with the program's status where it refuses."""
+        try:
+            os.lseek(self.file.fileno(), 0, os.SEEK_SET)
+            yield from self._shown()
+        except ToolError as fault:
+            message = str(fault)
+            raise ToolError(f"{self.name}: {message[5:] if message.startswith('dwg: ') else message}", fault.status) from None
+
+    def _shown(self) -> Iterator[Tuple[Front, Iterator[Object]]]:
+        """Yields once, and reads on behind that to the end, so that the program's status is told before any fault of the text."""
+        bad: Optional[BadText] = None
+        with self.program.lines(["show"], self.file) as lines:
+            first = next(lines, b"")
+            taken = itertools.chain([first], lines)
+            if first:
+                try:
+                    front = read_front(taken)
+                    yield front, read_objects(taken, front.count)
+                except BadText as fault:
+                    bad = fault
+            for _ in lines:
+                pass
+        if bad or not first:
+            raise ToolError(f"the text of `show` isn't as it should be: {bad or 'it is empty'}", Exit.FAILURE)
+
+    def names(self) -> Dict[int, Text]:
+        """The names of layers, styles, linetypes, applications and blocks, by handle."""
+        with self.show() as (_, found):
+            return names_of(found)
+
+
+def _kept_input() -> IO[bytes]:
+    """Standard input as a file that can be read again, with one byte more than the program takes at the most."""
+    if os.isatty(0):
+        raise ToolError("a drawing is read from standard input, and that is a terminal; name a file", Exit.USAGE)
+    kept = tempfile.TemporaryFile()
+    left = LIMIT + 1
+    while left:
+        piece = sys.stdin.buffer.read(min(left, 1 << 20))
+        if not piece:
+            break
+        kept.write(piece)
+        left -= len(piece)
+    kept.flush()
+    return kept
 
 
 # ---------------------------------------------------------------------------------------------------------------------
