@@ -26,6 +26,19 @@ from typing import IO, Any, Callable, Dict, Iterable, Iterator, List, NoReturn, 
 # How many bytes an input and a canonical file have at the most (docs/FORMAT.md, Limits).
 LIMIT = 33_554_432
 
+# The version that the program reads, and how the others are called, by the first six bytes.
+OURS = b"AC1015"
+VERSIONS = {
+    b"AC1009": "R12",
+    b"AC1012": "R13",
+    b"AC1014": "R14",
+    b"AC1018": "2004",
+    b"AC1021": "2007",
+    b"AC1024": "2010",
+    b"AC1027": "2013",
+    b"AC1032": "2018",
+}
+
 # ---------------------------------------------------------------------------------------------------------------------
 # Statuses
 # ---------------------------------------------------------------------------------------------------------------------
