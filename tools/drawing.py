@@ -69,7 +69,6 @@ class Exit(enum.IntEnum):
     EXISTS = 73
     INTERRUPTED = 130
     CLOSED_PIPE = 141
-    TERMINATED = 143
 
 
 class ToolError(Exception):
@@ -261,9 +260,9 @@ class Program:
             ran = subprocess.run([self.path, "drill", "1"], stdin=subprocess.DEVNULL, stdout=subprocess.DEVNULL, check=False)
         except OSError as fault:
             raise ProgramFailed(str(fault.strerror)) from None
-        _status_of(ran.returncode)
-        if ran.returncode != Status.DONE:
+        if _status_of(ran.returncode) != Status.DONE:
             raise ProgramFailed(f"status {ran.returncode} for `drill 1`")
+        os.environ["DWG_BUILT"] = "1"
 
     def run(self, words: Sequence[str], source: Union[int, IO[bytes], bytes, None] = None, output: Optional[IO[bytes]] = None) -> Answer:
         """Runs the program on words. The source is a file, a descriptor, bytes, or nothing; the output goes to a file where one is given."""
@@ -877,8 +876,8 @@ class Parser(argparse.ArgumentParser):
         raise ToolError(message, Exit.USAGE)
 
 
-def _terminate(*_: object) -> NoReturn:
-    raise SystemExit(Exit.TERMINATED)
+def _terminate(number: int, _: object) -> NoReturn:
+    raise SystemExit(128 + number)
 
 
 def run_tool(main: Callable[[], int]) -> NoReturn:

@@ -129,6 +129,13 @@ class Launcher(unittest.TestCase):
         self.run_it()
         self.assertEqual(self.count_of_runs(), 2)
 
+    def test_who_had_it_built_is_not_kept_waiting(self) -> None:
+        self.expect_answer(self.run_it("first", DWG_BUILT="1"), "first")
+        later = time.time() + 5
+        os.utime(self.tree / "crates/dwg_cli/src/main.rt", (later, later))
+        self.expect_answer(self.run_it("second", DWG_BUILT="1"), "second")
+        self.assertEqual(self.count_of_runs(), 1)
+
     def test_a_program_without_an_end_is_built(self) -> None:
         self.run_it()
         later = time.time() + 5
