@@ -16,9 +16,9 @@ _dwg_tool() {
     COMPREPLY=()
     if [[ $word == -* ]]; then
         mapfile -t COMPREPLY < <(compgen -W "$("$1" --help 2>/dev/null | grep -oE -- '--[a-z][a-z-]*' | sort -u)" -- "$word")
-    elif [[ $before == --program || $before == --resume || $before == --before ]]; then
+    elif [[ $before == --program || $before == --resume || $before == --before || $before == --output || $before == -o ]]; then
         mapfile -t COMPREPLY < <(compgen -f -- "$word")
-    elif [[ $before != --jobs ]]; then
+    elif [[ $before != --jobs && $before != --width && $before != --background && $before != --block && $before != --space && $before != --ignore ]]; then
         mapfile -t COMPREPLY < <(
             compgen -d -- "$word"
             compgen -f -X '!*.[dD][wW][gG]' -- "$word"

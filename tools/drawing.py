@@ -9,6 +9,7 @@ import argparse
 import contextlib
 import enum
 import itertools
+import math
 import os
 import re
 import shutil
@@ -456,7 +457,8 @@ class Words(Tuple[int, ...]):
 
     def doubles(self) -> Tuple[float, ...]:
         """The words as doubles, exactly."""
-        return tuple(double(word) for word in self)
+        count = len(self)
+        return struct.unpack(f"<{count}d", struct.pack(f"<{count}Q", *self))
 
 
 class Text(bytes):
@@ -480,6 +482,15 @@ _DRAWING = re.compile(rb"drawing (\S+) codepage (\d+) lead (\S+) mark (\S+)")
 def double(word: int) -> float:
     """The IEEE double that a 64-bit word is."""
     return float(struct.unpack("<d", struct.pack("<Q", word))[0])
+
+
+def number(word: int) -> Union[float, str]:
+    """The double that a word is; for an infinity or what is no number its name and the word, as JSON has no numbers for these."""
+    value = double(word)
+    if math.isfinite(value):
+        return value
+    name = "NaN" if math.isnan(value) else "Infinity" if value > 0 else "-Infinity"
+    return f"{name} {word:016X}"
 
 
 def read_text(printed: bytes) -> Text:
@@ -817,6 +828,26 @@ def _kept_input() -> IO[bytes]:
         left -= len(piece)
     kept.flush()
     return kept
+
+
+@contextlib.contextmanager
+def output(path: Optional[str], force: bool) -> Iterator[IO[bytes]]:
+    """Standard output, or a file that is written whole or not at all; status 5 where that fails, 73 where the file exists."""
+    try:
+        if path is None:
+            yield sys.stdout.buffer
+            sys.stdout.buffer.flush()
+            return
+        with WholeFile(path, force) as whole:
+            yield whole.file
+            whole.finish()
+            whole.place()
+    except FileExistsError:
+        raise ToolError(f"{one_line(str(path))} exists; --force replaces it", Exit.EXISTS) from None
+    except BrokenPipeError:
+        raise
+    except OSError as fault:
+        raise ToolError(f"the output can't be written: {fault.strerror}", Status.WRITE_FAULT) from None
 
 
 # ---------------------------------------------------------------------------------------------------------------------
