@@ -447,6 +447,13 @@ class Pictures(common.InFolder):
             self.assertEqual(tool("dwg-picture", path, *words).returncode, 64)
         self.assertEqual(tool("dwg-picture", "--help").returncode, 0)
 
+    def test_interrupted_and_failing(self) -> None:
+        path, out = self.file("a.dwg", made(20, 1)), self.folder / "out.svg"
+        self.assertEqual(self.interrupted("dwg-picture", path, "-o", out), 130)
+        self.assertEqual([one.name for one in self.folder.iterdir()], ["a.dwg"])
+        answer = tool("dwg-picture", path, "-o", out, "--program", self.failing('"$REAL" show | head -n 100', "exit 6"))
+        self.assertEqual((answer.returncode, out.exists()), (6, False))
+
 
 if __name__ == "__main__":
     unittest.main()
