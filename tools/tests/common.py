@@ -3,13 +3,17 @@
 from __future__ import annotations
 
 import random
+import signal
 import struct
+import subprocess
+import sys
 import tempfile
+import time
 import unittest
 from pathlib import Path
 from typing import Any, Dict, Iterator, List, Tuple
 
-from made import layout, made
+from made import TOOLS, layout, made, program_that
 
 
 def double(word: int) -> float:
@@ -87,3 +91,22 @@ class InFolder(unittest.TestCase):
         path = self.folder / name
         path.write_bytes(data)
         return path
+
+    def interrupted(self, name: str, *words: object) -> int:
+        """The status of a tool that is interrupted while the program, which never ends, shows its first objects."""
+        begun = self.folder / "begun"
+        endless = program_that(self.folder, "endless", ['"$REAL" show', f"touch {begun}", "exec sleep 60"])
+        said = [sys.executable, str(TOOLS / name), "--program", str(endless), *map(str, words)]
+        with subprocess.Popen(said, stdin=subprocess.DEVNULL, stdout=subprocess.PIPE, stderr=subprocess.PIPE) as started:
+            end = time.monotonic() + 30
+            while not begun.exists() and time.monotonic() < end:
+                time.sleep(0.02)
+            started.send_signal(signal.SIGINT)
+            started.communicate(timeout=30)
+        begun.unlink()
+        endless.unlink()
+        return started.returncode
+
+    def failing(self, *lines: str) -> Path:
+        """A program that fails."""
+        return program_that(self.folder, "failing", lines)

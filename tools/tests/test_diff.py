@@ -118,6 +118,13 @@ class Diff(common.InFolder):
         self.assertEqual(tool("dwg-diff", good, "-", given=made(3, 1)).returncode, 0)
         self.assertEqual(tool("dwg-diff", "--help").returncode, 0)
 
+    def test_interrupted_and_failing(self) -> None:
+        path = self.file("a.dwg", made(20, 1))
+        self.assertEqual(self.interrupted("dwg-diff", path, path), 130)
+        for lines in (["exit 6"], ['"$REAL" show | head -n 100'], ["kill -9 $$"]):
+            answer = tool("dwg-diff", path, path, "--program", self.failing(*lines))
+            self.assertEqual((answer.returncode, answer.stdout), (2, b""))
+
 
 if __name__ == "__main__":
     unittest.main()

@@ -134,6 +134,25 @@ class Json(common.InFolder):
         self.assertEqual(tool("dwg-json", self.file("a", made(1, 1)), "-o", self.folder / "no" / "file").returncode, 5)
         self.assertEqual(tool("dwg-json", "--help").returncode, 0)
 
+    def test_interrupted(self) -> None:
+        path = self.file("a.dwg", made(20, 1))
+        self.assertEqual(self.interrupted("dwg-json", path, "-o", self.folder / "out.json"), 130)
+        self.assertEqual([one.name for one in self.folder.iterdir()], ["a.dwg"])
+
+    def test_program_fails(self) -> None:
+        path, out = self.file("a.dwg", made(20, 1)), self.folder / "out.json"
+        cases = {
+            6: ['"$REAL" show | head -n 100', "exit 6"], 69: ['"$REAL" show | head -n 100', "kill -9 $$"], 70: ['"$REAL" show | head -n 100', "exit 0"],
+            4: ["exit 4"],
+        }  # fmt: skip
+        for status, lines in cases.items():
+            answer = tool("dwg-json", path, "-o", out, "--program", self.failing(*lines))
+            self.assertEqual((answer.returncode, answer.stdout), (status, b""), answer.stderr)
+        # A program that shows well once, and fails the second time.
+        lines = [f"if [ -e {self.folder}/once ]; then \"$REAL\" show | head -n 100; exit 0; fi", f"touch {self.folder}/once", 'exec "$REAL" show']
+        self.assertEqual(tool("dwg-json", path, "-o", out, "--program", self.failing(*lines)).returncode, 70)
+        self.assertFalse(out.exists())
+
 
 if __name__ == "__main__":
     unittest.main()

@@ -336,13 +336,13 @@ class Pictures(common.InFolder):
         one.insert(0x34, (0, 0, 0), layer=0x30)
         one.insert(0x34, (0, 0, 0), layer=0x31)
         seen = self.picture(one).seen
-        width = lambda millimetres: max(0.5, round(millimetres * 96 / 25.4, 2))
+        width = lambda millimetres: max(1.0, round(millimetres * 96 / 25.4, 2))
         expected = [
-            ("#ff0000", 0.5), ("#000000", 0.5), ("#0000ff", 0.5), ("#ff7f00", width(0.8)), ("#5b5b5b", width(2.11)),
+            ("#ff0000", 1.0), ("#000000", 1.0), ("#0000ff", 1.0), ("#ff7f00", width(0.8)), ("#5b5b5b", width(2.11)),
             # The insert's layer to what is on layer 0, its own colour and width to what is by block, and neither to what has its own.
-            ("#ff7f00", width(0.8)), ("#00ffff", width(0.35)), ("#ff0000", 0.5),
+            ("#ff7f00", width(0.8)), ("#00ffff", width(0.35)), ("#ff0000", 1.0),
             # Of the insert on a layer that is off only what is on layer 0 isn't seen: that by block is on layer 0 too.
-            ("#ff0000", 0.5),
+            ("#ff0000", 1.0),
         ]  # fmt: skip
         self.assertEqual([(found.colour, float(found.width)) for found in seen], expected)
         self.assertEqual(len(drawn), 5)
@@ -446,6 +446,13 @@ class Pictures(common.InFolder):
         for words in (("--width", "0"), ("--background", "green"), ("--space", "x")):
             self.assertEqual(tool("dwg-picture", path, *words).returncode, 64)
         self.assertEqual(tool("dwg-picture", "--help").returncode, 0)
+
+    def test_interrupted_and_failing(self) -> None:
+        path, out = self.file("a.dwg", made(20, 1)), self.folder / "out.svg"
+        self.assertEqual(self.interrupted("dwg-picture", path, "-o", out), 130)
+        self.assertEqual([one.name for one in self.folder.iterdir()], ["a.dwg"])
+        answer = tool("dwg-picture", path, "-o", out, "--program", self.failing('"$REAL" show | head -n 100', "exit 6"))
+        self.assertEqual((answer.returncode, out.exists()), (6, False))
 
 
 if __name__ == "__main__":
