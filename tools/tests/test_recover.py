@@ -166,7 +166,8 @@ class Recover(unittest.TestCase):
         self.assertEqual([one["handle"] for one in told["found"]], [f"{handle:X}" for handle in sorted(ALL)])
         text = self.words()
         self.assertIn(f"  page 0 of the map, at {place}\n", text)
-        self.assertIn("how many objects there were isn't known", text)
+        self.assertIn("  objects that only the map named: as it isn't whole, it isn't known how many there were\n", text)
+        self.assertNotIn("entries of the map", text)
 
     def test_a_cut(self) -> None:
         size = PARTS.frames[150].place + 1
@@ -178,7 +179,7 @@ class Recover(unittest.TestCase):
         kinds, layers = counts_of(lost)
         self.assertEqual(told["before"], {"objects": len(ALL), "lost": [f"{handle:X}" for handle in lost], "kinds": kinds, "layers": layers})
         text = self.words("--before", before)
-        self.assertIn(f"  the end of the map, behind {PARTS.map}\n", text)
+        self.assertIn(f"  the map from {PARTS.map} on\n", text)
         self.assertIn(f"Of {len(ALL)} objects of the older drawing {len(lost)} are not in the recovered one.\n", text)
 
     def test_a_lost_header(self) -> None:
