@@ -27,7 +27,7 @@ class House(unittest.TestCase):
         self.addCleanup(shutil.rmtree, self.folder)
 
     def test_python(self) -> None:
-        for path in [*TOOLS.glob("*.py"), *TOOLS.glob("tests/*.py"), TOOLS / "test", *(TOOLS / name for name in NAMES)]:
+        for path in [*TOOLS.glob("*.py"), *TOOLS.glob("tests/*.py"), TOOLS / "test", TOOLS / "check-docs", *(TOOLS / name for name in NAMES)]:
             py_compile.compile(str(path), cfile=str(self.folder / "compiled"), doraise=True)
 
     def test_shell(self) -> None:
