@@ -39,7 +39,7 @@ class Docs(unittest.TestCase):
 
     def test_all_documents_have_examples(self) -> None:
         for document in CHECK.DOCUMENTS:
-            self.assertGreaterEqual(len(CHECK.examples_of(document.read_text())), 8, document)
+            self.assertGreaterEqual(len(CHECK.examples_of(document.read_text())), 6, document)
 
     def judged(self, text: str) -> "subprocess.CompletedProcess[str]":
         """What the script says of a text."""
