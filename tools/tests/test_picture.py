@@ -4,8 +4,12 @@ from __future__ import annotations
 
 import math
 import re
+import shutil
+import struct
+import subprocess
 import unittest
 import xml.etree.ElementTree as ElementTree
+import zlib
 from dataclasses import dataclass
 from typing import Dict, Iterator, List, Sequence, Tuple
 
@@ -119,6 +123,42 @@ class Picture:
         filled = style.get("stroke") == "none"
         colour = style["fill"] if filled else style["stroke"]
         return Seen(name, [at(matrix, *one) for one in points], colour, style["stroke-width"], filled, element.text or "", matrix, element)
+
+
+def pixels_of(png: bytes) -> List[List[Tuple[int, ...]]]:
+    """The rows of pixels of a picture of eight bits a colour, without interlacing."""
+    place, data, wide, tall, depth, size = 8, b"", 0, 0, 0, 0
+    while place < len(png):
+        length, kind = int.from_bytes(png[place : place + 4], "big"), png[place + 4 : place + 8]
+        if kind == b"IHDR":
+            wide, tall, depth, colours = struct.unpack(">IIBB", png[place + 8 : place + 18])
+            assert depth == 8
+            size = {2: 3, 6: 4}[colours]
+        elif kind == b"IDAT":
+            data += png[place + 8 : place + 8 + length]
+        place += 12 + length
+    raw, rows, before = zlib.decompress(data), [], bytes(wide * size)
+    for row in range(tall):
+        begin = row * (wide * size + 1)
+        before = unfiltered(raw[begin], raw[begin + 1 : begin + 1 + wide * size], before, size)
+        rows.append([tuple(before[at : at + 3]) for at in range(0, wide * size, size)])
+    return rows
+
+
+def unfiltered(kind: int, line: bytes, above: bytes, size: int) -> bytes:
+    """A row of a PNG without its filter."""
+    out = bytearray(line)
+    for at, value in enumerate(line):
+        left, up, corner = out[at - size] if at >= size else 0, above[at], above[at - size] if at >= size else 0
+        if kind == 4:
+            near = min((abs(up - corner), 0, left), (abs(left - corner), 1, up), (abs(left + up - 2 * corner), 2, corner))
+            out[at] = value + near[2] & 255
+        else:
+            out[at] = value + (0, left, up, (left + up) // 2)[kind] & 255
+    return bytes(out)
+
+
+BROWSER = next(filter(None, map(shutil.which, ("chromium", "chromium-browser", "google-chrome"))), None)
 
 
 class Pictures(common.InFolder):
@@ -431,6 +471,29 @@ class Pictures(common.InFolder):
                 self.assertEqual(found.colour, "#000000" if layer == "0" else "#ff0000")
                 if kind == "TEXT":
                     self.assertEqual(found.text, body["text"])
+
+    def test_in_a_browser(self) -> None:
+        if not BROWSER:
+            self.skipTest("pictures in a browser, as chromium isn't installed")
+        one = spelled.Drawing()
+        one.block(0x30, b"B", (100.0, 0.0, 0.0))
+        one.polyline([(100, 5), (110, 5)], width=10, owner=0x30, colour=0)
+        # A field of nine squares of ten units, far from the origin: red below at the left, green above it, blue below at the right, turned round.
+        x, y = 4000000.0, 5000000.0
+        one.polyline([(x, y + 5), (x + 10, y + 5)], width=10, colour=1)
+        one.polyline([(x, y + 25), (x + 10, y + 25)], widths=[(10, 10), (0, 0)], colour=3)
+        one.insert(0x30, (x + 30, y + 10, 0), rotation=math.pi, colour=5)
+        one.insert(0x30, (-x - 10, y + 10, 0), normal=spelled.DOWN, scale=(-1, 1, 1), colour=6)
+        one.arc((x + 25, y + 25, 0), 4.9, 0, math.pi, colour=4, weight=23)
+        svg, shot = self.file("a.svg", tool("dwg-picture", "--width", "312", given=one.file()).stdout), self.folder / "a.png"
+        words = [BROWSER, "--headless", "--no-sandbox", "--disable-gpu", f"--user-data-dir={self.folder / 'profile'}", "--window-size=312,500"]
+        subprocess.run([*words, f"--screenshot={shot}", svg.as_uri()], stdout=subprocess.DEVNULL, stderr=subprocess.DEVNULL, timeout=100, check=True)
+        rows = pixels_of(shot.read_bytes())
+        # The view has 30 units and a margin of 0.6 on each side: ten pixels a unit.
+        found = lambda right, up: rows[round(312 - 10 * (up + 0.6))][round(10 * (right + 0.6))]
+        squares = {(5, 5): (255, 0, 0), (5, 25): (0, 255, 0), (25, 5): (0, 0, 255), (15, 15): (255, 0, 255), (25, 15): (255, 255, 255), (15, 5): (255, 255, 255)}
+        self.assertEqual({place: found(*place) for place in squares}, squares)
+        self.assertEqual((found(25, 29.9), found(25, 20.1)), ((0, 255, 255), (255, 255, 255)))
 
     def test_output_and_trouble(self) -> None:
         path, out = self.file("a.dwg", made(3, 1)), self.folder / "out.svg"
