@@ -401,7 +401,7 @@ class Check(unittest.TestCase):
             for index in range(30):
                 (folder / f"{index:02}.dwg").write_bytes(made.made(1))
             # The first few are slow, and all others would take long.
-            seldom = [f'[ "$1" = audit ] || exec "$REAL" "$@"', f'echo $$ >>"{folder}/pids"', f'[ "$(wc -l <"{folder}/pids")" -lt 8 ] || exec sleep 30', 'sleep 0.1; exec "$REAL" "$@"']
+            seldom = ['[ "$1" = audit ] || exec "$REAL" "$@"', f'echo $$ >>"{folder}/pids"', f'[ "$(wc -l <"{folder}/pids")" -lt 8 ] || exec sleep 30', 'sleep 0.1; exec "$REAL" "$@"']
             slow = program_that(self.folder, "slow", seldom)
             words = [str(TOOLS / "dwg-check"), "--program", str(slow), "--jobs", "2", "--resume", str(folder / "log"), str(folder)]
             started = subprocess.Popen(words, stdout=subprocess.PIPE, stderr=subprocess.PIPE, start_new_session=True)
