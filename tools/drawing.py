@@ -244,6 +244,11 @@ class ProgramFailed(ToolError):
         super().__init__(f"the program dwg gave no answer: {why}", Exit.NO_PROGRAM)
         self.why = why
 
+    @property
+    def is_interrupt(self) -> bool:
+        """Whether the program was interrupted: Ctrl-C reaches it before the tool."""
+        return self.why == f"killed by signal {int(signal.SIGINT)}"
+
 
 class Program:
     """Runs the program. Several threads may run it at once; `stop` ends all that runs."""
@@ -905,8 +910,11 @@ def run_tool(main: Callable[[], int]) -> NoReturn:
         status = int(main())
         sys.stdout.flush()
     except ToolError as fault:
-        print(f"{name}: {fault}", file=sys.stderr)
-        status = fault.status
+        if isinstance(fault, ProgramFailed) and fault.is_interrupt:
+            status = Exit.INTERRUPTED
+        else:
+            print(f"{name}: {fault}", file=sys.stderr)
+            status = fault.status
     except KeyboardInterrupt:
         status = Exit.INTERRUPTED
     except BrokenPipeError:

@@ -395,8 +395,8 @@ class Check(unittest.TestCase):
         self.assertEqual(read_table(tool("dwg-check", "--resume", self.folder / "log", self.folder).stdout)[0][1], "sound")
 
     def test_interrupted(self) -> None:
-        for number, status in ((signal.SIGINT, 130), (signal.SIGTERM, 143)):
-            folder = self.folder / number.name
+        for name, number, send, status in (("one", signal.SIGINT, os.kill, 130), ("all", signal.SIGINT, os.killpg, 130), ("end", signal.SIGTERM, os.kill, 143)):
+            folder = self.folder / name
             folder.mkdir()
             for index in range(30):
                 (folder / f"{index:02}.dwg").write_bytes(made.made(1))
@@ -404,13 +404,13 @@ class Check(unittest.TestCase):
             seldom = [f'[ "$1" = audit ] || exec "$REAL" "$@"', f'echo $$ >>"{folder}/pids"', f'[ "$(wc -l <"{folder}/pids")" -lt 8 ] || exec sleep 30', 'sleep 0.1; exec "$REAL" "$@"']
             slow = program_that(self.folder, "slow", seldom)
             words = [str(TOOLS / "dwg-check"), "--program", str(slow), "--jobs", "2", "--resume", str(folder / "log"), str(folder)]
-            started = subprocess.Popen(words, stdout=subprocess.PIPE, stderr=subprocess.PIPE)
+            started = subprocess.Popen(words, stdout=subprocess.PIPE, stderr=subprocess.PIPE, start_new_session=True)
             for _ in range(200):
                 if (folder / "pids").exists() and (folder / "pids").read_bytes().count(b"\n") >= 9:
                     break
                 time.sleep(0.05)
             begin = time.monotonic()
-            started.send_signal(number)
+            send(started.pid, number)
             out, said = started.communicate(timeout=20)
             self.assertLess(time.monotonic() - begin, 3)
             self.assertEqual((started.returncode, out, said), (status, b"", b""))
