@@ -133,7 +133,6 @@ def count_by_libdxfrw(counter: Path, drawing: Path) -> Count:
     if ran.status or not told:
         return Count(None, ran.words(), ran)
     entities = re.search(r" entities (\d+)", lines[-1])
-    # Its error is that of the part that it reads first of those that it can't read.
     return Count(int(entities[1]) if entities else 0, "" if told[1] == "1" else f"error: {told[2]}", ran)
 
 

@@ -244,6 +244,11 @@ class ProgramFailed(ToolError):
         super().__init__(f"the program dwg gave no answer: {why}", Exit.NO_PROGRAM)
         self.why = why
 
+    @property
+    def is_interrupt(self) -> bool:
+        """Whether the program was interrupted: Ctrl-C reaches it before the tool."""
+        return self.why == f"killed by signal {int(signal.SIGINT)}"
+
 
 class Program:
     """Runs the program. Several threads may run it at once; `stop` ends all that runs."""
@@ -854,6 +859,22 @@ def output(path: Optional[str], force: bool) -> Iterator[IO[bytes]]:
 # Running a tool
 # ---------------------------------------------------------------------------------------------------------------------
 
+# What a tool that shows one drawing ends with.
+ONE_DRAWING: List[Tuple[int, str]] = [
+    (Status.DONE, "done"),
+    (Status.REFUSED, "the file is no drawing, as the program tells with its first fault"),
+    (Status.READ_FAULT, "the file can't be read"),
+    (Status.WRITE_FAULT, "the output can't be written"),
+    (Status.NO_MEMORY, "the program had no memory"),
+    (Status.TOO_LONG, "the file has more than 33,554,432 bytes"),
+    (Exit.USAGE, "the words aren't understood, or name what isn't there"),
+    (Exit.NO_PROGRAM, "the program dwg isn't found or gives no answer"),
+    (Exit.FAILURE, "failure of the tool itself"),
+    (Exit.EXISTS, "the output is there already"),
+    (Exit.INTERRUPTED, "interrupted"),
+    (Exit.CLOSED_PIPE, "nobody reads the output any more"),
+]
+
 TESTED = "This tool is tested (tools/test), not proved as the program is."
 
 
@@ -889,8 +910,11 @@ def run_tool(main: Callable[[], int]) -> NoReturn:
         status = int(main())
         sys.stdout.flush()
     except ToolError as fault:
-        print(f"{name}: {fault}", file=sys.stderr)
-        status = fault.status
+        if isinstance(fault, ProgramFailed) and fault.is_interrupt:
+            status = Exit.INTERRUPTED
+        else:
+            print(f"{name}: {fault}", file=sys.stderr)
+            status = fault.status
     except KeyboardInterrupt:
         status = Exit.INTERRUPTED
     except BrokenPipeError:

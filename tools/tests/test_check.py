@@ -127,7 +127,7 @@ def with_section(size: int) -> bytes:
     variables, classes, pages = WRITER.framed(WRITER.VARIABLES, b""), WRITER.framed(WRITER.CLASSES, b""), WRITER.page(b"")
     at = 79
     places = [at, at + 38, at + 76, at + 80]
-    header = WRITER.header([(0, places[0], 38), (1, places[1], 38), (2, places[2], 4), (4, places[3] if size else 9, size)])
+    header = WRITER.header([(0, places[0], 38), (1, places[1], 38), (2, places[2], 4), (4, places[3] if size else 1 << 31, size)])
     return header + variables + classes + pages + bytes(range(1, size + 1))
 
 
@@ -191,6 +191,7 @@ def add_others(files: Files) -> None:
     files.add("empty.dwg", b"", other("empty"))
     files.add("zeros.dwg", bytes(1000), other("zero bytes"))
     files.add("noise.dwg", noise(3000, 2), other("unknown bytes"))
+    files.add("noise with a word.dwg", noise(300, 9) + b"AC1015" + b"\1" * 40, other("unknown bytes"))
     files.add("picture.dwg", b"\xff\xd8\xff\xe0\0\x10JFIF\0" + noise(900, 3), other("JPEG picture"))
     files.add("picture2.dwg", b"\x89PNG\r\n\x1a\n" + noise(900, 4), other("PNG picture"))
     files.add("paper.dwg", b"%PDF-1.4\n%\xe2\xe3\xcf\xd3\n" + noise(900, 5), other("PDF document"))
@@ -394,23 +395,27 @@ class Check(unittest.TestCase):
         self.assertEqual(read_table(tool("dwg-check", "--resume", self.folder / "log", self.folder).stdout)[0][1], "sound")
 
     def test_interrupted(self) -> None:
-        for number, status in ((signal.SIGINT, 130), (signal.SIGTERM, 143)):
-            folder = self.folder / number.name
+        for name, number, send, status in (("one", signal.SIGINT, os.kill, 130), ("all", signal.SIGINT, os.killpg, 130), ("end", signal.SIGTERM, os.kill, 143)):
+            folder = self.folder / name
             folder.mkdir()
             for index in range(30):
                 (folder / f"{index:02}.dwg").write_bytes(made.made(1))
-            slow = program_that(self.folder, "slow", [f'[ "$1" != audit ] || {{ echo $$ >>"{folder}/pids"; sleep 0.3; }}', 'exec "$REAL" "$@"'])
+            # The first few are slow, and all others would take long.
+            seldom = ['[ "$1" = audit ] || exec "$REAL" "$@"', f'echo $$ >>"{folder}/pids"', f'[ "$(wc -l <"{folder}/pids")" -lt 8 ] || exec sleep 30', 'sleep 0.1; exec "$REAL" "$@"']
+            slow = program_that(self.folder, "slow", seldom)
             words = [str(TOOLS / "dwg-check"), "--program", str(slow), "--jobs", "2", "--resume", str(folder / "log"), str(folder)]
-            started = subprocess.Popen(words, stdout=subprocess.PIPE, stderr=subprocess.PIPE)
+            started = subprocess.Popen(words, stdout=subprocess.PIPE, stderr=subprocess.PIPE, start_new_session=True)
             for _ in range(200):
-                if (folder / "log").exists() and (folder / "log").read_bytes().count(b"\n") >= 4:
+                if (folder / "pids").exists() and (folder / "pids").read_bytes().count(b"\n") >= 9:
                     break
                 time.sleep(0.05)
             begin = time.monotonic()
-            started.send_signal(number)
+            send(started.pid, number)
             out, said = started.communicate(timeout=20)
             self.assertLess(time.monotonic() - begin, 3)
             self.assertEqual((started.returncode, out, said), (status, b"", b""))
+            for pid in (folder / "pids").read_text().split():
+                self.assertFalse(pathlib.Path(f"/proc/{pid}").exists())
             lines = (folder / "log").read_bytes().split(b"\n")
             self.assertEqual(lines[-1], b"")
             self.assertTrue(4 <= len(lines) - 1 < 30)

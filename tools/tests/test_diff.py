@@ -3,12 +3,14 @@
 from __future__ import annotations
 
 import json
+import os
+import subprocess
 import unittest
 from typing import Any, Dict, List
 
 import common
 import spelled
-from made import made, tool
+from made import PROGRAM, TOOLS, made, tool
 
 
 class Diff(common.InFolder):
@@ -117,6 +119,10 @@ class Diff(common.InFolder):
         self.assertEqual(tool("dwg-diff", "-", "-").returncode, 2)
         self.assertEqual(tool("dwg-diff", good, "-", given=made(3, 1)).returncode, 0)
         self.assertEqual(tool("dwg-diff", "--help").returncode, 0)
+        other = self.file("other.dwg", made(4, 1))
+        with open("/dev/full", "wb") as full:
+            ran = subprocess.run([TOOLS / "dwg-diff", good, other], stdout=full, stderr=subprocess.PIPE, check=False, env={**os.environ, "DWG": PROGRAM})
+        self.assertEqual((ran.returncode, ran.stderr), (2, b"dwg-diff: the output can't be written: No space left on device\n"))
 
     def test_interrupted_and_failing(self) -> None:
         path = self.file("a.dwg", made(20, 1))

@@ -70,7 +70,7 @@ class Launcher(unittest.TestCase):
     def environment(self, more: Dict[str, str]) -> Dict[str, str]:
         """What the launcher sees."""
         path = more.pop("PATH", f"{self.bin}:/usr/bin:/bin")
-        return {"PATH": path, "RUNS": str(self.runs), "LC_ALL": "C", **more}
+        return {"PATH": path, "RUNS": str(self.runs), "LC_ALL": "C", "DWG_PAUSE": "0.1", **more}
 
     def start(self, *words: str, **more: str) -> "subprocess.Popen[bytes]":
         """Starts the launcher in a process group of its own."""

@@ -250,13 +250,19 @@ class Pictures(common.InFolder):
         one = spelled.Drawing()
         one.polyline([(0, 0), (4, 0)], width=2)
         one.polyline([(0, 0), (4, 0), (4, 4)], widths=[(2, 0), (1, 1), (0, 0)])
-        thin, wide, other, taper, even = self.picture(one).seen
+        one.polyline([(0, 0), (4, 0), (4, 4)], widths=[(1, 2), (2, 1), (1, 1)])
+        one.polyline([(0, 0), (4, 0), (4, 4)], widths=[(1, 2), (2, 1), (1, 1)], closed=True)
+        thin, wide, other, taper, even, _, _, _, inner, outer, *closed = self.picture(one).seen
         self.assertEqual((wide.element.get("class"), wide.element.get("stroke-width"), wide.filled), ("wide", "2", False))
         self.near(wide.points, thin.points)
         self.near(other.points, [(0, 0), (4, 0), (4, 4)])
         self.assertTrue(taper.filled and even.filled)
         self.near(taper.points, [(0, 1), (4, 0), (4, 0), (0, -1), (0, 1)])
         self.near(even.points, [(3.5, 0), (3.5, 4), (4.5, 4), (4.5, 0), (3.5, 0)])
+        # Where two wide segments meet the corners of both are joined, at the left and at the right.
+        self.near(inner.points, [(4, 0), (4, 1), (3, 0), (4, 0)])
+        self.near(outer.points, [(4, 0), (4, -1), (5, 0), (4, 0)])
+        self.assertEqual(len(closed), 1 + 3 + 3 * 2)
 
     def test_texts(self) -> None:
         one = spelled.Drawing()

@@ -328,6 +328,66 @@ class Chains(unittest.TestCase):
         self.assertEqual(self.breaks({5: 6, 6: 0, 7: 7}, 5, 6), ["behind 7: what follows is 7, a ring of 1 that stands apart"])
         self.assertEqual(self.breaks({5: 0x2F, 6: 0}, 5, 6, [0x2F]), ["behind 5: what follows is 2F, of kind LAYER, which is no member of the block"])
 
+    def test_members(self) -> None:
+        """Who is a member of which block, by a text that is written here: both spaces, a block with an attribute of its own, a raw entity."""
+        text = """drawing AC1015 codepage 30 lead - mark -
+variables -
+classes 0
+objects 12
+object 1 BLOCK CONTROL typed 48
+  model 3.18
+  paper 3.1B
+object 10 LAYER typed 51
+  entry.name "W\\e4nde"
+object 18 BLOCK HEADER typed 49
+  entry.name "*MODEL_SPACE"
+  ends.first 4.30
+  ends.last 4.30
+object 1B BLOCK HEADER typed 49
+  entry.name "*PAPER_SPACE"
+  ends.first 4.31
+  ends.last 4.31
+object 20 BLOCK HEADER typed 49
+  entry.name "TAG"
+  ends.first 4.32
+  ends.last 4.33
+object 21 BLOCK typed 4
+  mode 0
+  owner 4.20
+  layer 5.10
+object 22 ATTRIB typed 2
+  mode 0
+  owner 4.20
+  layer 5.10
+object 30 LINE typed 19
+  mode 2
+  layer 5.10
+object 31 LINE typed 19
+  mode 1
+  layer 5.11
+object 32 LINE typed 19
+  mode 0
+  owner 4.20
+  layer 5.10
+object 33 ENTITY plain 35
+  mode 0
+  owner 4.20
+  links.previous 4.32
+  links.next 4.0
+  layer 5.10
+object 34 LINE raw 19
+  bytes 00
+"""
+        lines = iter(text.encode().splitlines(keepends=True))
+        front = RECOVER.drawing.read_front(lines)
+        survey = RECOVER.surveyed(front, RECOVER.drawing.read_objects(lines, front.count))
+        chains = RECOVER.Chains(survey)
+        self.assertEqual(chains.members, {0x18: [0x30], 0x1B: [0x31], 0x20: [0x32, 0x33]})
+        self.assertEqual(list(chains.broken()), [])
+        counts = RECOVER.counted(survey, survey.kinds)
+        self.assertEqual(counts.layers, {"W\u00e4nde": 5, "(layer 11, which isn't there)": 1})
+        self.assertEqual((counts.kinds["ELLIPSE"], counts.kinds["LINE"]), (1, 4))
+
     def test_as_the_audit(self) -> None:
         """A chain is broken exactly where the audit has a finding of the rule, over changed drawings."""
         for handle in (0x2E, 0x30, 0x31, 0x40, LAST - 1, LAST, 0x18, 0x19, 0x22, 0x23, 0x24, 0x20, 1):
