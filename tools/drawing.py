@@ -921,6 +921,10 @@ def run_tool(main: Callable[[], int]) -> NoReturn:
         # Nobody reads the output any more; what is left of it goes nowhere.
         os.dup2(os.open(os.devnull, os.O_WRONLY), 1)
         status = Exit.CLOSED_PIPE
+    except OSError as fault:
+        where = f"{one_line(os.fsdecode(fault.filename))}: " if fault.filename else ""
+        print(f"{name}: {where}{fault.strerror or fault}", file=sys.stderr)
+        status = Exit.FAILURE
     except Exception as fault:  # pylint: disable=broad-except
         print(f"{name}: failure of the tool itself: {type(fault).__name__}: {one_line(str(fault))}", file=sys.stderr)
         status = Exit.FAILURE

@@ -461,6 +461,16 @@ class Check(unittest.TestCase):
         ran = subprocess.run(["bash", "-c", '"$1" --jobs 1 "$2" | head -n 1; echo ${PIPESTATUS[0]}', "bash", str(TOOLS / "dwg-check"), str(self.folder)], capture_output=True, check=True, env={**os.environ, "DWG": made.PROGRAM})
         self.assertEqual((ran.stdout.decode().splitlines()[-1], ran.stderr), ("141", b""))
 
+    @unittest.skipUnless(os.path.exists("/dev/full"), "a full disk, as there is no /dev/full")
+    def test_a_full_disk(self) -> None:
+        self.some(["a.dwg"])
+        with open("/dev/full", "wb") as full:
+            words = [str(TOOLS / "dwg-check"), "--program", made.PROGRAM, str(self.folder)]
+            ran = subprocess.run(words, stdout=full, stderr=subprocess.PIPE, check=False)
+        self.assertEqual((ran.returncode, ran.stderr), (70, b"dwg-check: No space left on device\n"))
+        ran = tool("dwg-check", "--resume", "/dev/full", self.folder)
+        self.assertEqual((ran.returncode, ran.stderr), (70, b"dwg-check: /dev/full: no regular file\n"))
+
     def test_nothing_is_written(self) -> None:
         self.some(["a.dwg"])
         before = sorted((path.name, path.stat().st_mtime_ns) for path in self.folder.iterdir())
