@@ -1,0 +1,482 @@
+"""dwg-check over drawings, damaged ones and others. What is expected is worked out from what was done to each file."""
+
+from __future__ import annotations
+
+import gzip
+import io
+import json
+import os
+import pathlib
+import random
+import shutil
+import signal
+import subprocess
+import tempfile
+import time
+import unittest
+import zipfile
+from typing import Dict, List, Optional, Tuple
+
+import made
+from made import TOOLS, WRITER, flipped, hole, layout, program_that, tool, unescaped
+
+LIMIT = 33_554_432
+COLUMNS = ["path", "verdict", "detail", "findings", "bytes", "trailing", "version"]
+
+
+def expected(verdict: str, detail: str = "", findings: Optional[int] = None, trailing: Optional[int] = None, version: str = "AC1015") -> Tuple[str, ...]:
+    """What a line says between its path and its end, without the size."""
+    return (verdict, detail, "" if findings is None else str(findings), "" if trailing is None else str(trailing), version)
+
+
+SOUND = expected("sound", findings=0, trailing=0)
+
+
+def damaged(refusal: str, version: str = "AC1015") -> Tuple[str, ...]:
+    """What the line of a damaged file says."""
+    return expected("damaged", refusal, version=version)
+
+
+def trailing(count: int, end: int, what: str, findings: int = 0, zero: bool = False) -> Tuple[str, ...]:
+    """What the line of a drawing with bytes behind it says."""
+    return expected("trailing bytes", f"{count} from {end}{', all 0' if zero else ''}; {what}", findings, count)
+
+
+def other(detail: str) -> Tuple[str, ...]:
+    """What the line of a file that is no drawing says."""
+    return expected("no drawing", detail, version="")
+
+
+def noise(size: int, seed: int) -> bytes:
+    """Bytes that are no text."""
+    return bytes([0]) + random.Random(seed).randbytes(size - 1) if hasattr(random.Random, "randbytes") else os.urandom(size)
+
+
+def cut_at(data: bytes, size: int) -> str:
+    """The first fault of a canonical file that was cut, by the order in which its parts are read."""
+    parts = layout(data)
+    if size < 70:
+        return f"header 0 at {size}: short"
+    for name, place in (("variables", parts.variables), ("classes", parts.classes)):
+        if size < place + 20:
+            return f"{name} 0 at {place}: short"
+        if size < place + 38:
+            return f"{name} 0 at {place + 16}: length"
+    for index, (place, length) in enumerate(parts.pages):
+        if size < place + length + 2:
+            return f"map {index} at {place}: short"
+    raise AssertionError("nothing is cut")
+
+
+class Files:
+    """Files in a folder, and what is expected of each."""
+
+    def __init__(self, folder: pathlib.Path) -> None:
+        self.folder = folder
+        self.expected: Dict[str, Tuple[str, ...]] = {}
+
+    def add(self, name: str, data: bytes, expects: Tuple[str, ...]) -> None:
+        """Writes a file."""
+        (self.folder / name).write_bytes(data)
+        self.expected[name] = expects
+
+
+def add_drawings(files: Files) -> None:
+    """Drawings that are sound or not, with and without bytes behind them."""
+    for count in (1, 2, 5, 20, 100, 3000):
+        files.add(f"made {count}.dwg", made.made(count, count), SOUND)
+    for path in ("smallest", "one_class"):
+        # Without a table of blocks there is one finding, of the rule `control`.
+        files.add(f"{path}.dwg", (made.DATA / f"{path}.dwg").read_bytes(), expected("unsound", "finding 0 control - 0 0", 1, 0))
+    unsound = (made.DATA / "unsound.dwg").read_bytes()
+    files.add("unsound.dwg", unsound, expected("unsound", "finding 31 resolve layer 0 3F", 3, 0))
+    data = made.made(20)
+    for count in (1, 2, 40, 5000):
+        files.add(f"zeros behind {count}.dwg", data + bytes(count), trailing(count, len(data), "sound", zero=True))
+        files.add(f"noise behind {count}.dwg", data + b"\x1a" * count, trailing(count, len(data), "sound"))
+    files.add("unsound with more.DWG", unsound + b"end", trailing(3, len(unsound), "unsound 3", 3))
+    files.add("twice.dwg", data + data, trailing(len(data), len(data), "sound"))
+
+
+def add_parts_behind(files: Files) -> None:
+    """Drawings whose last part is another than the map."""
+    data = made.made(5)
+    picture = WRITER.HEADER_SENTINEL * 4
+    content = (1 + 9 + len(picture)).to_bytes(4, "little") + b"\x01\x02" + bytes(8) + picture
+    begin = bytes.fromhex("1F256D07D43628289D57CA3F9D44102B")
+    preview = begin + content + bytes(255 - byte for byte in begin)
+    moved = made.with_preview_at(data, len(data)) + preview
+    files.add("preview behind.dwg", moved, SOUND)
+    files.add("more behind a preview.dwg", moved + b"xy", trailing(2, len(moved), "sound"))
+    files.add("no preview there.dwg", made.with_preview_at(data, 1 << 31), SOUND)
+    begin = bytes.fromhex("D47B21CE28939FBF53244009123CAA01")
+    second = bytes(7) + begin + bytes(90) + bytes(255 - byte for byte in begin)
+    files.add("second header behind.dwg", data + second, SOUND)
+    files.add("more behind a second header.dwg", data + second + bytes(9), trailing(9, len(data) + len(second), "sound", zero=True))
+    control = expected("unsound", "finding 0 control - 0 0", 1, 0)
+    for size, behind in ((10, 0), (10, 4), (0, 4)):
+        section = with_section(size)
+        line = control if not behind else trailing(behind, len(section), "unsound 1", 1)
+        files.add(f"section {size} {behind}.dwg", section + b"more"[:behind], line)
+    files.add("objects behind.dwg", map_first(b""), control)
+    files.add("more behind objects.dwg", map_first(b"12345"), trailing(5, len(map_first(b"")), "unsound 1", 1))
+
+
+def with_section(size: int) -> bytes:
+    """A drawing without objects that ends with an unknown section."""
+    variables, classes, pages = WRITER.framed(WRITER.VARIABLES, b""), WRITER.framed(WRITER.CLASSES, b""), WRITER.page(b"")
+    at = 79
+    places = [at, at + 38, at + 76, at + 80]
+    header = WRITER.header([(0, places[0], 38), (1, places[1], 38), (2, places[2], 4), (4, places[3] if size else 1 << 31, size)])
+    return header + variables + classes + pages + bytes(range(1, size + 1))
+
+
+def map_first(more: bytes) -> bytes:
+    """A drawing whose objects, two that nobody knows, stand behind the map; the second stands before the first."""
+    frames = [WRITER.frame(1, 300), WRITER.frame(2, 10)]
+    variables, classes = WRITER.framed(WRITER.VARIABLES, b""), WRITER.framed(WRITER.CLASSES, b"")
+    size = len(WRITER.pages([(1, 9000), (2, 9000)], 2030))
+    begin = 70 + 76 + size
+    pages = WRITER.pages([(1, begin + len(frames[1])), (2, begin)], 2030)
+    pages = pages + bytes(size - len(pages)) if len(pages) < size else pages
+    header = WRITER.header([(0, 70, 38), (1, 108, 38), (2, 146, len(pages))])
+    return header + variables + classes + pages + frames[1] + frames[0] + more
+
+
+def add_damaged(files: Files) -> None:
+    """Drawings that were cut, overwritten and changed."""
+    data = made.made(300)
+    parts = layout(data)
+    for size in (6, 7, 24, 25, 42, 69, 70, 89, 90, 107, 108, 127, 128, 145, 146, 183, 2000, parts.map, parts.map + 1, len(data) - 5, len(data) - 1):
+        files.add(f"cut {size}.dwg", data[:size], damaged(cut_at(data, size)))
+    for index in range(0, len(parts.frames), 12):
+        frame = parts.frames[index]
+        for place in (frame.place + 2, frame.place + 2 + frame.size // 2, frame.place + 2 + frame.size, frame.place + 3 + frame.size):
+            files.add(f"flip {index} {place}.dwg", flipped(data, place), damaged(f"objects {index} at {frame.place}: check"))
+    for index, (place, size) in enumerate(parts.pages[:-1]):
+        files.add(f"page {index}.dwg", flipped(data, place + size // 2), damaged(f"map {index} at {place + size}: check"))
+        files.add(f"page hole {index}.dwg", hole(data, place, size), damaged(f"map {index} at {place}: size"))
+        files.add(f"page word {index}.dwg", flipped(data, place + size), damaged(f"map {index} at {place + size}: check"))
+    for place, word in ((12, "check"), (13, "check"), (20, "check"), (30, "check"), (51, "check"), (52, "check"), (54, "sentinel"), (69, "sentinel")):
+        at = 54 if word == "sentinel" else 52
+        files.add(f"header {place}.dwg", flipped(data, place), damaged(f"header 0 at {at}: {word}"))
+    files.add("header count.dwg", flipped(data, 21), damaged("header 0 at 21: count"))
+    for name, place in (("variables", parts.variables), ("classes", parts.classes)):
+        for offset, at, word in ((0, 0, "begin"), (15, 0, "begin"), (18, 16, "length"), (20, 20, "check"), (22, 22, "end"), (37, 22, "end")):
+            files.add(f"{name} {offset}.dwg", flipped(data, place + offset), damaged(f"{name} 0 at {place + at}: {word}"))
+    add_lost_header(files, data)
+
+
+def add_lost_header(files: Files, data: bytes) -> None:
+    """Drawings whose first bytes are others, so that they don't look like drawings."""
+    rest = "header 0 at 0: version (the rest of the header is that of AC1015)"
+    for place in range(6):
+        files.add(f"version {place}.dwg", flipped(data, place, 1), damaged(rest, version=""))
+    files.add("no version.dwg", hole(data, 0, 6), damaged(rest, version=""))
+    files.add("no header.dwg", hole(data, 0, 70), damaged("header 0 at 0: version (header variables at 70)", version=""))
+    files.add("no variables.dwg", hole(data, 0, 108), damaged("header 0 at 0: version (classes at 108)", version=""))
+    # The first sector takes the objects along that begin in it; where it ends inside one, the frames behind that are whole.
+    kept = sum(frame.place >= 512 for frame in layout(data).frames)
+    files.add("no sector.dwg", hole(data, 0, 512), damaged(f"header 0 at 0: version (recover keeps {kept} objects)", version=""))
+
+
+def add_others(files: Files) -> None:
+    """Files that are no drawings of R2000."""
+    names = {"1009": "R12", "1012": "R13", "1014": "R14", "1018": "2004", "1021": "2007", "1024": "2010", "1027": "2013", "1032": "2018"}
+    for number, name in names.items():
+        version = f"AC{number}"
+        files.add(f"{version}.dwg", version.encode() + bytes(5) + noise(500, int(number)), expected("other version", f"{version} {name}", version=version))
+    files.add("AC1099.dwg", b"AC1099" + noise(90, 1), expected("other version", "AC1099", version="AC1099"))
+    files.add("six.dwg", b"AC1018", expected("other version", "AC1018 2004", version="AC1018"))
+    files.add("empty.dwg", b"", other("empty"))
+    files.add("zeros.dwg", bytes(1000), other("zero bytes"))
+    files.add("noise.dwg", noise(3000, 2), other("unknown bytes"))
+    files.add("noise with a word.dwg", noise(300, 9) + b"AC1015" + b"\1" * 40, other("unknown bytes"))
+    files.add("picture.dwg", b"\xff\xd8\xff\xe0\0\x10JFIF\0" + noise(900, 3), other("JPEG picture"))
+    files.add("picture2.dwg", b"\x89PNG\r\n\x1a\n" + noise(900, 4), other("PNG picture"))
+    files.add("paper.dwg", b"%PDF-1.4\n%\xe2\xe3\xcf\xd3\n" + noise(900, 5), other("PDF document"))
+    packed = io.BytesIO()
+    with zipfile.ZipFile(packed, "w") as archive:
+        archive.writestr("plan.dwg", made.made(5))
+    files.add("packed.dwg", packed.getvalue(), other("zip archive"))
+    files.add("packed2.dwg", gzip.compress(made.made(5)), other("gzip archive"))
+    dxf = "  0\r\nSECTION\r\n  2\r\nHEADER\r\n  9\r\n$ACADVER\r\n  1\r\nAC1015\r\n  0\r\nENDSEC\r\n  0\r\nEOF\r\n"
+    files.add("text.dwg", dxf.encode(), other("DXF text"))
+    files.add("commented.dwg", ("999\nmade by hand\n" + dxf.replace("\r", "")).encode(), other("DXF text"))
+    files.add("binary.dwg", b"AutoCAD Binary DXF\r\n\x1a\0" + noise(90, 6), other("binary DXF"))
+    for index, text in enumerate((b"hello\n", b"AC1015 is a version\n", b"AC10", "Gr\u00fc\u00dfe\n".encode("latin-1") * 3, "\u6587\u5b57".encode() * 30000, b"\x1b[1mbold\x1b[0m\n")):
+        files.add(f"words {index}.dwg", text, other("text"))
+    files.add("wide.dwg", "text".encode("utf-16"), other("text in UTF-16"))
+    data = made.made(5)
+    for count in (1, 3, 128, 70_000):
+        files.add(f"behind {count}.dwg", bytes([3] * count) + data, other(f"AC1015 begins at {count}"))
+    files.add("behind zeros.dwg", bytes(128) + data, other("AC1015 begins at 128"))
+    files.add("another behind.dwg", noise(200, 7) + b"AC1018" + bytes(6) + noise(90, 8), other("AC1018 begins at 200"))
+    sparse = files.folder / "large.dwg"
+    for name, size, expects in (("large", LIMIT + 1, expected("too large", f"more than {LIMIT} bytes")), ("largest", LIMIT, trailing(LIMIT - len(data), len(data), "sound", zero=True))):
+        sparse = files.folder / f"{name}.dwg"
+        sparse.write_bytes(data)
+        os.truncate(sparse, size)
+        files.expected[sparse.name] = expects
+
+
+def read_table(text: bytes) -> List[List[str]]:
+    """The lines of a table behind its header."""
+    lines = text.decode("utf-8").split("\n")
+    assert lines[0].split("\t") == COLUMNS and lines[-1] == ""
+    return [line.split("\t") for line in lines[1:-1]]
+
+
+class Check(unittest.TestCase):
+    """Each test has a folder of its own."""
+
+    maxDiff = None
+
+    def setUp(self) -> None:
+        self.folder = pathlib.Path(tempfile.mkdtemp(prefix="dwg check "))
+        self.addCleanup(shutil.rmtree, self.folder)
+
+    def some(self, names: List[str], count: int = 5) -> List[str]:
+        """Sound drawings of these names, in the folder; their paths."""
+        for name in names:
+            (self.folder / name).parent.mkdir(parents=True, exist_ok=True)
+            (self.folder / name).write_bytes(made.made(count))
+        return [str(self.folder / name) for name in names]
+
+    def test_verdicts(self) -> None:
+        files = Files(self.folder)
+        for add in (add_drawings, add_parts_behind, add_damaged, add_others):
+            add(files)
+        ran = tool("dwg-check", self.folder)
+        self.assertEqual(ran.returncode, 1, ran.stderr)
+        rows = read_table(ran.stdout)
+        names = sorted(files.expected)
+        self.assertEqual([row[0] for row in rows], [f"{self.folder}/{name}" for name in names])
+        self.assertGreater(len(names), 200)
+        for row, name in zip(rows, names):
+            with self.subTest(name):
+                self.assertEqual(tuple(row[1:4] + row[5:]), files.expected[name])
+                self.assertEqual(row[4], str((self.folder / name).stat().st_size))
+        counts: Dict[str, int] = {}
+        for verdict, *_ in files.expected.values():
+            counts[verdict] = counts.get(verdict, 0) + 1
+        for verdict, count in counts.items():
+            self.assertIn(f"{count} {verdict}".encode(), ran.stderr)
+        self.check_json(files, names)
+
+    def check_json(self, files: Files, names: List[str]) -> None:
+        """The same by JSON, one file at a time."""
+        ran = tool("dwg-check", "--json", "--jobs", "1", "--quiet", self.folder)
+        self.assertEqual((ran.returncode, ran.stderr), (1, b""))
+        rows = [json.loads(line) for line in ran.stdout.splitlines()]
+        self.assertEqual(len(rows), len(names))
+        for row, name in zip(rows, names):
+            verdict, detail, findings, behind, version = files.expected[name]
+            said = tuple("" if value is None else str(value) for value in (row["findings"], row["trailing"], row["version"]))
+            self.assertEqual((row["verdict"], row["detail"], *said), (verdict, detail, findings, behind, version))
+            self.assertEqual(row["mtime_ns"], (self.folder / name).stat().st_mtime_ns)
+            if verdict == "damaged":
+                told = row["refusal"]
+                self.assertTrue(detail.startswith(f"{told['part']} {told['index']} at {told['place']}: {told['reason']}"))
+            else:
+                self.assertIsNone(row["refusal"])
+
+    def test_all_sound(self) -> None:
+        self.some(["a.dwg", "b.dwg"])
+        ran = tool("dwg-check", self.folder)
+        self.assertEqual((ran.returncode, ran.stderr), (0, b"dwg-check: 2 files: 2 sound\n"))
+
+    def test_unreadable(self) -> None:
+        self.some(["good.dwg"])
+        os.mkfifo(self.folder / "pipe.dwg")
+        words = [f"{self.folder}/missing.dwg", "/proc/self/mem", str(self.folder)]
+        ran = tool("dwg-check", *words)
+        rows = [(row[0], row[1], row[2]) for row in read_table(ran.stdout)]
+        self.assertEqual(
+            rows,
+            [
+                (words[0], "unreadable", "No such file or directory"),
+                (words[1], "unreadable", "Input/output error"),
+                (f"{self.folder}/good.dwg", "sound", ""),
+                (f"{self.folder}/pipe.dwg", "unreadable", "no regular file"),
+            ],
+        )
+        self.assertEqual(ran.returncode, 1)
+
+    def test_no_answer(self) -> None:
+        self.some(["a.dwg"])
+        for lines, why in ((["exit 6"], "no memory"), (["kill -9 $$"], "killed by signal 9"), (["exit 99"], "status 99")):
+            stand_in = program_that(self.folder, "stand-in", ['[ "$1" = audit ] || exec "$REAL" "$@"', *lines])
+            ran = tool("dwg-check", "--program", stand_in, self.folder)
+            self.assertEqual([row[1:3] for row in read_table(ran.stdout)], [["failed", why]])
+
+    def test_names(self) -> None:
+        names = [b"a b.dwg", b"line\nfeed.dwg", b"tab\t.dwg", b"back\\slash.dwg", b"back\\n.dwg", b"return\r.dwg", b"\xe4.dwg", "\u00e4\u6587.DwG".encode(), "\u2028\u0085.dwg".encode(), b"\x01\x7f.dwg"]
+        folder = os.fsencode(self.folder)
+        for name in names:
+            with open(os.path.join(folder, name), "wb") as file:
+                file.write(made.made(1))
+        ran = tool("dwg-check", self.folder)
+        rows = read_table(ran.stdout)
+        self.assertEqual([unescaped(row[0]) for row in rows], [os.path.join(folder, name) for name in sorted(names)])
+        self.assertTrue(all(row[1] == "sound" for row in rows))
+        given = b"".join(os.path.join(folder, name) + b"\0" for name in names)
+        ran = tool("dwg-check", "--null", "--json", "-", given=given)
+        paths = [os.fsencode(json.loads(line)["path"]) for line in ran.stdout.splitlines()]
+        self.assertEqual(paths, [os.path.join(folder, name) for name in names])
+
+    def test_bash_reads_the_names(self) -> None:
+        name = b"a\\x41 \n\xe4.dwg"
+        with open(os.path.join(os.fsencode(self.folder), name), "wb") as file:
+            file.write(made.made(1))
+        path = read_table(tool("dwg-check", self.folder).stdout)[0][0]
+        ran = subprocess.run(["bash", "-c", 'printf %b "$1"', "bash", path], capture_output=True, check=True)
+        self.assertEqual(ran.stdout, os.path.join(os.fsencode(self.folder), name))
+
+    def test_which_files(self) -> None:
+        self.some(["b/2.DWG", "b/1.dwg", "b/c/3.dwg", "a.dwg", "z.bak", "b.dwg/inside.dwg"])
+        (self.folder / "link.dwg").symlink_to("a.dwg")
+        (self.folder / "loop").symlink_to(self.folder)
+        walked = ["a.dwg", "b/1.dwg", "b/2.DWG", "b/c/3.dwg", "b.dwg/inside.dwg"]
+        paths = lambda ran: [os.path.relpath(row[0], self.folder) for row in read_table(ran.stdout)]
+        self.assertEqual(paths(tool("dwg-check", self.folder)), walked)
+        self.assertEqual(paths(tool("dwg-check", "--all", self.folder)), walked + ["z.bak"])
+        self.assertEqual(paths(tool("dwg-check", self.folder / "link.dwg")), ["link.dwg"])
+        given = f"{self.folder}/z.bak\n{self.folder}/b\n".encode()
+        self.assertEqual(paths(tool("dwg-check", self.folder / "a.dwg", "-", given=given)), ["a.dwg", "z.bak", "b/1.dwg", "b/2.DWG", "b/c/3.dwg"])
+        os.mkdir(self.folder / "nothing")
+        ran = tool("dwg-check", self.folder / "nothing")
+        self.assertEqual((ran.returncode, read_table(ran.stdout), ran.stderr), (0, [], b"dwg-check: 0 files\n"))
+
+    def test_order(self) -> None:
+        paths = self.some([f"{index:02}.dwg" for index in range(40)], 1)
+        (self.folder / "00.dwg").write_bytes(made.made(3000))
+        self.assertEqual([row[0] for row in read_table(tool("dwg-check", "--jobs", "4", *paths).stdout)], paths)
+        backwards = paths[::-1]
+        self.assertEqual([row[0] for row in read_table(tool("dwg-check", "--jobs", "3", *backwards).stdout)], backwards)
+
+    def counting(self) -> pathlib.Path:
+        """A program that notes each audit."""
+        return program_that(self.folder, "counting", [f'[ "$1" != audit ] || echo >>"{self.folder}/count"', 'exec "$REAL" "$@"'])
+
+    def audits(self) -> int:
+        """How many audits there were since this was last asked."""
+        count = self.folder / "count"
+        number = len(count.read_bytes()) if count.exists() else 0
+        count.write_bytes(b"")
+        return number
+
+    def test_resume(self) -> None:
+        paths = self.some([f"d/{name}.dwg" for name in "abcde"])
+        log, program = self.folder / "log", self.counting()
+        run = lambda: tool("dwg-check", "--program", program, "--resume", log, self.folder / "d", self.folder / "none.dwg")
+        first = run()
+        self.assertEqual(([row[0] for row in read_table(first.stdout)][:5], self.audits()), (paths, 5))
+        again = run()
+        self.assertEqual((again.stdout, self.audits()), (first.stdout, 0))
+        (self.folder / "d" / "b.dwg").write_bytes(made.made(6))
+        (self.folder / "d" / "f.dwg").write_bytes(made.made(7))
+        os.utime(self.folder / "d" / "c.dwg", ns=(5, 5))
+        third = run()
+        self.assertEqual((len(read_table(third.stdout)), self.audits()), (7, 3))
+        # A line that was cut off counts for nothing, and doesn't spoil the one behind it.
+        kept = log.read_bytes()
+        first_line = kept.index(b"\n")
+        log.write_bytes(kept[: first_line - 20])
+        self.assertEqual((run().stdout, self.audits()), (third.stdout, 6))
+        self.assertEqual((run().stdout, self.audits()), (third.stdout, 0))
+        inside = tool("dwg-check", "--program", program, "--all", "--resume", self.folder / "d" / "log", self.folder / "d")
+        self.assertEqual(len(read_table(inside.stdout)), 6)
+
+    def test_resume_tries_failed_ones_again(self) -> None:
+        self.some(["a.dwg"])
+        broken = program_that(self.folder, "broken", ['[ "$1" = audit ] || exec "$REAL" "$@"', "exit 6"])
+        self.assertEqual(read_table(tool("dwg-check", "--program", broken, "--resume", self.folder / "log", self.folder).stdout)[0][1], "failed")
+        self.assertEqual(read_table(tool("dwg-check", "--resume", self.folder / "log", self.folder).stdout)[0][1], "sound")
+
+    def test_interrupted(self) -> None:
+        for name, number, send, status in (("one", signal.SIGINT, os.kill, 130), ("all", signal.SIGINT, os.killpg, 130), ("end", signal.SIGTERM, os.kill, 143)):
+            folder = self.folder / name
+            folder.mkdir()
+            for index in range(30):
+                (folder / f"{index:02}.dwg").write_bytes(made.made(1))
+            # The first few are slow, and all others would take long.
+            seldom = ['[ "$1" = audit ] || exec "$REAL" "$@"', f'echo $$ >>"{folder}/pids"', f'[ "$(wc -l <"{folder}/pids")" -lt 8 ] || exec sleep 30', 'sleep 0.1; exec "$REAL" "$@"']
+            slow = program_that(self.folder, "slow", seldom)
+            words = [str(TOOLS / "dwg-check"), "--program", str(slow), "--jobs", "2", "--resume", str(folder / "log"), str(folder)]
+            started = subprocess.Popen(words, stdout=subprocess.PIPE, stderr=subprocess.PIPE, start_new_session=True)
+            for _ in range(200):
+                if (folder / "pids").exists() and (folder / "pids").read_bytes().count(b"\n") >= 9:
+                    break
+                time.sleep(0.05)
+            begin = time.monotonic()
+            send(started.pid, number)
+            out, said = started.communicate(timeout=20)
+            self.assertLess(time.monotonic() - begin, 3)
+            self.assertEqual((started.returncode, out, said), (status, b"", b""))
+            for pid in (folder / "pids").read_text().split():
+                self.assertFalse(pathlib.Path(f"/proc/{pid}").exists())
+            lines = (folder / "log").read_bytes().split(b"\n")
+            self.assertEqual(lines[-1], b"")
+            self.assertTrue(4 <= len(lines) - 1 < 30)
+            self.assertTrue(all(json.loads(line)["verdict"] == "sound" for line in lines[:-1]))
+            rest = tool("dwg-check", "--resume", folder / "log", folder)
+            self.assertEqual((rest.returncode, len(read_table(rest.stdout))), (0, 30))
+
+    def test_progress_on_a_terminal(self) -> None:
+        for index in range(12):
+            (self.folder / f"{index:02}.dwg").write_bytes(made.made(1))
+        slow = program_that(self.folder, "slow", ['[ "$1" != audit ] || sleep 0.5', 'exec "$REAL" "$@"'])
+        for words, shown in (([], True), (["--quiet"], False)):
+            ours, theirs = os.openpty()
+            started = subprocess.Popen([str(TOOLS / "dwg-check"), "--program", str(slow), "--jobs", "2", *words, str(self.folder)], stdout=subprocess.PIPE, stderr=theirs)
+            os.close(theirs)
+            said = b""
+            while True:
+                try:
+                    said += os.read(ours, 4096)
+                except OSError:
+                    break
+            os.close(ours)
+            assert started.stdout is not None
+            self.assertEqual(len(read_table(started.stdout.read())), 12)
+            started.stdout.close()
+            self.assertEqual(started.wait(), 0)
+            self.assertEqual((b" of 12, " in said, b"/s, " in said, b" left" in said), (shown, shown, shown), said)
+
+    def test_words(self) -> None:
+        for words in ([], ["--nothing", "x"], ["--jobs", "0", "x"], ["--jobs", "many", "x"], ["--al", "x"]):
+            ran = tool("dwg-check", *words)
+            self.assertEqual((ran.returncode, ran.stdout), (64, b""), words)
+        self.assertEqual(tool("dwg-check", "--program", "/nowhere/dwg", "x").returncode, 69)
+        self.assertEqual(tool("dwg-check", "x", DWG="/nowhere/dwg").returncode, 69)
+        self.assertEqual(tool("dwg-check", "--program", "/bin/false", "x").returncode, 69)
+        self.assertEqual(tool("dwg-check", "--resume", "/nowhere/log", "x").returncode, 70)
+        told = tool("dwg-check", "--help")
+        self.assertEqual(told.returncode, 0)
+        self.assertTrue(told.stdout.decode().splitlines()[-1].startswith("This tool is tested"))
+
+    def test_closed_output(self) -> None:
+        self.some([f"{index}.dwg" for index in range(20)])
+        ran = subprocess.run(["bash", "-c", '"$1" --jobs 1 "$2" | head -n 1; echo ${PIPESTATUS[0]}', "bash", str(TOOLS / "dwg-check"), str(self.folder)], capture_output=True, check=True, env={**os.environ, "DWG": made.PROGRAM})
+        self.assertEqual((ran.stdout.decode().splitlines()[-1], ran.stderr), ("141", b""))
+
+    @unittest.skipUnless(os.path.exists("/dev/full"), "a full disk, as there is no /dev/full")
+    def test_a_full_disk(self) -> None:
+        self.some(["a.dwg"])
+        with open("/dev/full", "wb") as full:
+            words = [str(TOOLS / "dwg-check"), "--program", made.PROGRAM, str(self.folder)]
+            ran = subprocess.run(words, stdout=full, stderr=subprocess.PIPE, check=False)
+        self.assertEqual((ran.returncode, ran.stderr), (70, b"dwg-check: No space left on device\n"))
+        ran = tool("dwg-check", "--resume", "/dev/full", self.folder)
+        self.assertEqual((ran.returncode, ran.stderr), (70, b"dwg-check: /dev/full: no regular file\n"))
+
+    def test_nothing_is_written(self) -> None:
+        self.some(["a.dwg"])
+        before = sorted((path.name, path.stat().st_mtime_ns) for path in self.folder.iterdir())
+        tool("dwg-check", self.folder)
+        self.assertEqual(sorted((path.name, path.stat().st_mtime_ns) for path in self.folder.iterdir()), before)
+
+
+if __name__ == "__main__":
+    unittest.main()

@@ -1,0 +1,136 @@
+"""dwg-diff over drawings whose differences are known, since they were spelled or made so."""
+
+from __future__ import annotations
+
+import json
+import os
+import subprocess
+import unittest
+from typing import Any, Dict, List
+
+import common
+import spelled
+from made import PROGRAM, TOOLS, made, tool
+
+
+class Diff(common.InFolder):
+    """What dwg-diff prints, and its statuses."""
+
+    def diff(self, old: bytes, new: bytes, *words: str) -> Any:
+        """The answer for two drawings."""
+        return tool("dwg-diff", self.file("old.dwg", old), self.file("new.dwg", new), *words)
+
+    def told(self, old: bytes, new: bytes, *words: str) -> List[Dict[str, Any]]:
+        """What is told as JSON, without the counts."""
+        answer = self.diff(old, new, "--json", *words)
+        self.assertEqual((answer.returncode, answer.stderr), (1, b""))
+        return [json.loads(line) for line in answer.stdout.splitlines()][:-1]
+
+    def test_same(self) -> None:
+        for count, seed in ((1, 7), (50, 3)):
+            for words in ((), ("--json",)):
+                answer = self.diff(made(count, seed), made(count, seed), *words)
+                self.assertEqual((answer.returncode, answer.stdout, answer.stderr), (0, b"", b""))
+
+    def test_one_more(self) -> None:
+        # By docs/FORMAT.md the entity that was last loses its links, the block's last is another, and an entity comes.
+        found = self.told(made(50, 3), made(51, 3))
+        kinds = {handle: kind for handle, kind, _, _ in common.made_entities(51, 3)}
+        last = lambda handle: {"code": 4, "handle": f"{handle:X}"}
+        links = [{"field": "links.previous", "old": last(0x30 + 49), "new": None}, {"field": "links.next", "old": last(0), "new": None}]
+        expected = [
+            {"change": "changed", "what": "object", "handle": "18", "kind": "BLOCK HEADER", "fields": [{"field": "ends.last", "old": last(0x62), "new": last(0x63)}]},
+            {"change": "changed", "what": "object", "handle": "62", "kind": kinds[0x62], "layer": "WALLS", "fields": links},
+            {"change": "added", "what": "object", "handle": "63", "kind": kinds[0x63], "layer": "0"},
+        ]
+        self.assertEqual(found, expected)
+        self.assertEqual(self.told(made(50, 3), made(51, 3), "--ignore", "links", "ends.last"), expected[2:])
+        self.assertEqual(self.told(made(51, 3), made(50, 3), "--ignore", "links", "--ignore", "ends"), [{**expected[2], "change": "removed"}])
+        lines = self.diff(made(50, 3), made(51, 3)).stdout.decode().splitlines()
+        self.assertEqual(lines[:2], ["changed object 18 BLOCK HEADER", "  ends.last: 4.62 -> 4.63"])
+        self.assertEqual(lines[-2:], [f'added object 63 {kinds[0x63]} on "0"', "objects: 1 added, 0 removed, 2 changed"])
+
+    def test_other_seed(self) -> None:
+        old, new = list(common.made_entities(40, 1)), list(common.made_entities(40, 2))
+        found = {one["handle"]: one for one in self.told(made(40, 1), made(40, 2))}
+        self.assertEqual(set(found), {f"{handle:X}" for handle, _, _, _ in old})
+        for (handle, kind, _, body), (_, other, _, other_body) in zip(old, new):
+            changes = {change["field"]: (change["old"], change["new"]) for change in found[f"{handle:X}"]["fields"]}
+            self.assertEqual(changes.get("kind"), (kind, other) if kind != other else None)
+            for name in set(body) | set(other_body):
+                if not isinstance(body.get(name, other_body.get(name)), list) or name != "points":
+                    expected = (body.get(name), other_body.get(name))
+                    self.assertEqual(changes.get(name, (None, None)), expected if expected[0] != expected[1] else (None, None))
+
+    def spelled(self, **changed: Any) -> bytes:
+        """A drawing that some words change."""
+        one = spelled.Drawing()
+        if "layer" in changed:
+            one.frames = [frame for frame in one.frames if frame[0] != one.WALLS]
+            one.layer(one.WALLS, changed["layer"], 1)
+        if changed.get("class", True):
+            one.of_class(500, changed.get("dxf", b"WIPEOUT"))
+        one.line((0, 0, 0), changed.get("end", (1, 0, 0)), layer=changed.get("on", 0))
+        one.polyline(changed.get("points", [(0, 0), (1, 0), (1, 1), (0, 1)]))
+        one.text(changed.get("text", b"one"), (0, 0), 1.0)
+        one.entity(47, changed.get("bits", "1" * 800))
+        return one.file(changed.get("page", 30))
+
+    def fields(self, **changed: Any) -> Dict[str, Any]:
+        """The fields that differ where one thing was changed."""
+        found = self.told(self.spelled(), self.spelled(**changed))
+        self.assertEqual(len(found), 1)
+        return {change["field"]: (change["old"], change["new"]) for change in found[0]["fields"]}
+
+    def test_fields(self) -> None:
+        self.assertEqual(self.fields(end=(1, -0.0, 0)), {"end": ([1.0, 0.0, 0.0], [1.0, -0.0, 0.0])})
+        self.assertEqual(self.fields(text=b"tw\xf6"), {"text": ("one", "twö")})
+        layers = [{"code": 5, "handle": "10", "name": "0"}, {"code": 5, "handle": "11", "name": "WALLS"}]
+        self.assertEqual(self.fields(on=0x11), {"layer": tuple(layers)})
+        self.assertEqual(self.fields(layer=b"W\xe4nde"), {"entry.name": ("WALLS", "Wände")})
+        self.assertEqual(self.fields(page=29), {"codepage": (30, 29)})
+        self.assertEqual(self.fields(dxf=b"OTHER"), {"dxf": ("WIPEOUT", "OTHER")})
+
+    def test_lists(self) -> None:
+        self.assertEqual(self.fields(points=[(0, 0), (1, 0), (5, 5), (1, 1), (0, 1)]), {"points[2]": (None, [5.0, 5.0])})
+        self.assertEqual(self.fields(points=[(1, 0), (1, 1), (0, 1)]), {"points[0]": ([0.0, 0.0], None)})
+        self.assertEqual(self.fields(points=[(0, 0), (1, 0), (2, 2), (0, 1)]), {"points[2]": ([1.0, 1.0], [2.0, 2.0])})
+        double = {"points[1]": ([1.0, 0.0], [0.0, 0.0]), "points[2]": ([1.0, 1.0], [1.0, 0.0]), "points[3]": ([0.0, 1.0], [1.0, 1.0]), "points[4]": (None, [0.0, 1.0])}
+        found = self.fields(points=[(0, 0), (0, 0), (1, 0), (1, 1), (0, 1)])
+        self.assertIn(found, [{"points[1]": (None, [0.0, 0.0])}, double])
+
+    def test_classes_and_bytes(self) -> None:
+        found = self.told(self.spelled(), self.spelled(**{"class": False}))
+        self.assertEqual(found, [{"change": "removed", "what": "class", "number": 500}])
+        self.assertEqual(self.diff(self.spelled(), self.spelled(**{"class": False}), "--ignore", "classes").returncode, 0)
+        answer = self.diff(self.spelled(), self.spelled(bits="1" * 400 + "0" + "1" * 399))
+        self.assertIn(b"  rest: 100 bytes -> 100 bytes, unlike from byte 50\n", answer.stdout)
+
+    def test_trouble(self) -> None:
+        good = self.file("good.dwg", made(3, 1))
+        for name, data in [*common.foreign().items(), *common.damaged(made(20, 2), 12, 3)]:
+            with self.subTest(name):
+                for pair in ((good, self.file("bad", data)), (self.folder / "bad", good)):
+                    answer = tool("dwg-diff", *pair)
+                    self.assertEqual((answer.returncode, answer.stdout), (2, b""))
+                    self.assertIn(b"/bad: refused: ", answer.stderr)
+        self.assertEqual(tool("dwg-diff", good).returncode, 2)
+        self.assertEqual(tool("dwg-diff", good, self.folder / "none").returncode, 2)
+        self.assertEqual(tool("dwg-diff", "-", "-").returncode, 2)
+        self.assertEqual(tool("dwg-diff", good, "-", given=made(3, 1)).returncode, 0)
+        self.assertEqual(tool("dwg-diff", "--help").returncode, 0)
+        other = self.file("other.dwg", made(4, 1))
+        with open("/dev/full", "wb") as full:
+            ran = subprocess.run([TOOLS / "dwg-diff", good, other], stdout=full, stderr=subprocess.PIPE, check=False, env={**os.environ, "DWG": PROGRAM})
+        self.assertEqual((ran.returncode, ran.stderr), (2, b"dwg-diff: the output can't be written: No space left on device\n"))
+
+    def test_interrupted_and_failing(self) -> None:
+        path = self.file("a.dwg", made(20, 1))
+        self.assertEqual(self.interrupted("dwg-diff", path, path), 130)
+        for lines in (["exit 6"], ['"$REAL" show | head -n 100'], ["kill -9 $$"]):
+            answer = tool("dwg-diff", path, path, "--program", self.failing(*lines))
+            self.assertEqual((answer.returncode, answer.stdout), (2, b""))
+
+
+if __name__ == "__main__":
+    unittest.main()

@@ -1,0 +1,100 @@
+"""What the documents show is what is printed, and the script that says so sees what isn't."""
+
+from __future__ import annotations
+
+import os
+import pathlib
+import re
+import shutil
+import subprocess
+import tempfile
+import unittest
+
+import made
+from made import TOOLS, TOP
+
+CHECK = made.module(TOOLS / "check-docs", "check_docs")
+LAST = re.compile(r"^(\d+) examples? are as shown, (\d+) aren't, (\d+) not run \(rt ci\)$")
+
+
+def check(*documents: pathlib.Path) -> "subprocess.CompletedProcess[str]":
+    """What the script says of documents."""
+    words = [str(TOOLS / "check-docs"), *map(str, documents)]
+    return subprocess.run(words, capture_output=True, text=True, check=False, env={**os.environ, "DWG": made.PROGRAM})
+
+
+class Docs(unittest.TestCase):
+    """Documents of one's own stand in a folder of their own."""
+
+    def setUp(self) -> None:
+        self.folder = pathlib.Path(tempfile.mkdtemp(prefix="dwg shown "))
+        self.addCleanup(shutil.rmtree, self.folder)
+
+    def test_shown(self) -> None:
+        ran = check()
+        last = LAST.match(ran.stdout.splitlines()[-1])
+        assert last is not None, ran.stdout
+        self.assertEqual((ran.returncode, last[2], last[3], ran.stderr), (0, "0", "1", ""), ran.stdout)
+        self.assertGreaterEqual(int(last[1]), 30)
+
+    def test_all_documents_have_examples(self) -> None:
+        for document in CHECK.DOCUMENTS:
+            self.assertGreaterEqual(len(CHECK.examples_of(document.read_text())), 6, document)
+
+    def judged(self, text: str) -> "subprocess.CompletedProcess[str]":
+        """What the script says of a text."""
+        path = self.folder / "page.md"
+        path.write_text(text)
+        return check(path)
+
+    def test_right(self) -> None:
+        text = "A page.\n\n```sh\necho one > made; cat made; echo two >&2; exit 3\n```\n\n```text\none\ntwo\n```\n\n```sh\ncat made >/dev/null\n```\n\n```sh\nrt ci\n```\n"
+        ran = self.judged(text)
+        self.assertEqual((ran.returncode, ran.stdout), (0, "2 examples are as shown, 0 aren't, 1 not run (rt ci)\n"))
+
+    def test_program_and_tools(self) -> None:
+        text = "```sh\n./dwg drill 1 | head -n 1; dwg drill 2 | head -n 1; tools/dwg-check --quiet samples/cut.dwg | wc -l; dwg-diff --help | head -c 15\n```\n\n```text\ndrill 1\ndrill 2\n2\nusage: dwg-diff\n```\n"
+        self.assertEqual(self.judged(text).returncode, 0)
+
+    def test_wrong(self) -> None:
+        for text, place in (
+            ("```sh\necho one\n```\n\n```text\ntwo\n```\n", "page.md:2: echo one: prints something else"),
+            ("```sh\necho one\n```\n\n```text\none\none\n```\n", "page.md:2: echo one: prints something else"),
+            ("a\n\n```sh\necho one\n```\n", "page.md:4: echo one: prints something else"),
+            ("```sh\necho one\n```\n\nWords between.\n\n```text\none\n```\n", "page.md:2: echo one: prints something else"),
+            ("```text\none\n```\n", "page.md:2: a text: no command prints this"),
+            ("```sh\nfalse\n```\n", "page.md:2: false: ends with status 1"),
+            ("```sh\n./dwg audit < crates/dwg_cli/data/items.dwg\n```\n\n```text\naudit no\n```\n", "page.md:2: ./dwg audit < crates/dwg_cli/data/items.dwg: prints something else"),
+        ):
+            ran = self.judged(text)
+            self.assertEqual(ran.returncode, 1, text)
+            self.assertIn(place, ran.stdout)
+
+    def test_left_out(self) -> None:
+        for shown, printed, expected in (
+            ("a", "a", True),
+            ("a", "a b", False),
+            ("...", "", True),
+            ("a ...", "a b c", True),
+            ("a ...", "b a", False),
+            ("... c", "a b c", True),
+            ("... c", "a b", False),
+            ("a ... c", "a c", True),
+            ("a ... a", "a", False),
+            ("a ... b ... c", "a x b y c", True),
+            ("a ... b ... c", "a x y c", False),
+            ("a ... b ... b", "a b", False),
+            ("a ... b c ... d ... e", "a b x b c d x e", True),
+            ("a ... d ... b c ... e", "a b x b c d x e", False),
+        ):
+            self.assertEqual(CHECK.is_shown(printed.split(), shown.split()), expected, (shown, printed))
+
+    def test_words(self) -> None:
+        ran = check(self.folder / "nosuch.md")
+        self.assertEqual(ran.returncode, 70)
+        ran = subprocess.run([str(TOOLS / "check-docs"), "--nosuch"], capture_output=True, check=False)
+        self.assertEqual(ran.returncode, 64)
+
+
+if __name__ == "__main__":
+    unittest.main()

@@ -1,0 +1,144 @@
+"""Notes and statuses of the program, file names on a line, and files written whole."""
+
+from __future__ import annotations
+
+import os
+import pathlib
+import shutil
+import tempfile
+import unittest
+
+import made
+from drawing import Answer, Exit, Found, Kept, Loss, Program, ProgramFailed, Refusal, Said, Status, ToolError, TooLarge, WholeFile, find_program, one_line, read_note, read_notes, read_recovery, write_whole
+
+# A note of each form in docs/FORMAT.md, and its value.
+NOTES = {
+    "dwg: refused: objects 14 at 1871: check": Refusal("objects", 14, 1871, "check"),
+    "dwg: refused: header 0 at 60: short": Refusal("header", 0, 60, "short"),
+    "lost: file header": Loss("file header"),
+    "lost: header variables": Loss("header variables"),
+    "lost: classes": Loss("classes"),
+    "lost: section 7 at 4000": Loss("section", number=7, place=4000),
+    "lost: map page 3 at 12345": Loss("map page", number=3, place=12345),
+    "lost: map end at 99": Loss("map end", place=99),
+    "lost: object 1C7 at 12593": Loss("object", handle=0x1C7, place=12593),
+    "lost: object 0 at 0": Loss("object", handle=0, place=0),
+    "found: object 7FFFFFFFFFFFFFFF at 33554431": Found((1 << 63) - 1, 33554431),
+    "kept 367": Kept(367),
+    "dwg: drawing too large: 33554433 bytes": TooLarge(33554433),
+    "dwg: read fault": Said("read fault"),
+    "dwg: input too long": Said("input too long"),
+    "dwg: not sound": Said("not sound"),
+    "kept many": Said("kept many"),
+}
+
+
+class Notes(unittest.TestCase):
+    """Lines of notes become values."""
+
+    def test_each_form(self) -> None:
+        for line, value in NOTES.items():
+            self.assertEqual(read_note(line), value)
+        self.assertEqual(str(read_note("dwg: refused: map 0 at 7: pair")), "map 0 at 7: pair")
+
+    def test_recovery(self) -> None:
+        notes = b"dwg: refused: objects 0 at 183: check\nlost: classes\nlost: object C at 183\nfound: object D at 9\nkept 1\n"
+        told = read_recovery(notes)
+        self.assertEqual((told.refusal, told.kept), (Refusal("objects", 0, 183, "check"), 1))
+        self.assertEqual((told.losses, told.found), ([Loss("classes"), Loss("object", handle=12, place=183)], [Found(13, 9)]))
+        self.assertEqual((read_recovery(b"").refusal, read_recovery(b"").kept), (None, None))
+        for cut in (notes[:-7], b"kept 3\n", notes.replace(b"lost: classes", b"lost: nothing")):
+            with self.assertRaises(ValueError):
+                read_recovery(cut)
+
+
+class Names(unittest.TestCase):
+    """A name on a line can be told apart from each other name, and is read back."""
+
+    def test_escapes(self) -> None:
+        rows = {"a b": "a b", "a\\b": "a\\\\b", "a\tb\nc\r": "a\\tb\\nc\\r", "\u00e4\u6587": "\u00e4\u6587", "\udce4": "\\xe4", "\x1b\x7f": "\\x1b\\x7f", "\u0085\u2028": "\\xc2\\x85\\xe2\\x80\\xa8"}
+        for name, line in rows.items():
+            self.assertEqual(one_line(name), line)
+            self.assertEqual(made.unescaped(line), os.fsencode(name))
+
+
+class Running(unittest.TestCase):
+    """The program is found and run, and what isn't an answer is told."""
+
+    def setUp(self) -> None:
+        self.folder = pathlib.Path(tempfile.mkdtemp(prefix="dwg drawing "))
+        self.addCleanup(shutil.rmtree, self.folder)
+
+    def test_answers(self) -> None:
+        program = Program(made.PROGRAM)
+        program.prepare()
+        data = made.made(3)
+        self.assertEqual(program.run(["audit"], data), Answer(Status.DONE, b"audit yes\n", b""))
+        self.assertEqual(program.run(["audit"], data[:60]), Answer(Status.REFUSED, b"", b"dwg: refused: header 0 at 60: short\n"))
+        self.assertEqual(read_notes(program.run(["nothing"]).notes)[0].__class__, Said)
+        self.assertEqual(program.run(["rewrite"], program.run(["make", "3", "7"]).output).output, data)
+
+    def test_lines(self) -> None:
+        path = self.folder / "a.dwg"
+        path.write_bytes(made.made(3))
+        program = Program(made.PROGRAM)
+        with open(path, "rb") as file, program.lines(["show"], file) as lines:
+            self.assertEqual(b"".join(lines), made.dwg("show", given=made.made(3)).stdout)
+        path.write_bytes(b"AC1015")
+        with self.assertRaises(ToolError) as told, open(path, "rb") as file, program.lines(["show"], file) as lines:
+            self.assertEqual(list(lines), [])
+        self.assertEqual((told.exception.status, str(told.exception)), (3, "dwg: refused: header 0 at 6: short"))
+
+    def test_no_answer(self) -> None:
+        for line, why in (("exit 70", "status 70"), ("kill -15 $$", "killed by signal 15")):
+            program = Program(str(made.program_that(self.folder, "dwg", [line])))
+            with self.assertRaises(ProgramFailed) as told:
+                program.run(["audit"])
+            self.assertEqual((told.exception.why, told.exception.status), (why, Exit.NO_PROGRAM))
+            with self.assertRaises(ProgramFailed):
+                program.prepare()
+
+    def test_found(self) -> None:
+        here = made.program_that(self.folder, "dwg", ["exit 0"])
+        kept = os.environ.pop("DWG", None)
+        try:
+            self.assertEqual(find_program(str(here)), str(here))
+            self.assertEqual(find_program(), str(made.TOP / "dwg"))
+            os.environ["DWG"] = str(here)
+            self.assertEqual(find_program(), str(here))
+            os.environ["DWG"] = str(self.folder)
+            with self.assertRaises(ToolError):
+                find_program()
+        finally:
+            os.environ.pop("DWG", None)
+            if kept is not None:
+                os.environ["DWG"] = kept
+
+
+class Whole(unittest.TestCase):
+    """A file is written whole or not at all."""
+
+    def setUp(self) -> None:
+        self.folder = pathlib.Path(tempfile.mkdtemp(prefix="dwg whole "))
+        self.addCleanup(shutil.rmtree, self.folder)
+        self.path = self.folder / "file"
+
+    def test_written(self) -> None:
+        write_whole(str(self.path), b"one")
+        with self.assertRaises(FileExistsError):
+            write_whole(str(self.path), b"two")
+        self.assertEqual(self.path.read_bytes(), b"one")
+        write_whole(str(self.path), b"two", force=True)
+        self.assertEqual((self.path.read_bytes(), os.listdir(self.folder)), (b"two", ["file"]))
+
+    def test_left(self) -> None:
+        with self.assertRaises(KeyError), WholeFile(str(self.path)) as whole:
+            whole.file.write(b"half")
+            raise KeyError
+        with WholeFile(str(self.path)) as whole:
+            whole.file.write(b"never placed")
+        self.assertEqual(os.listdir(self.folder), [])
+
+
+if __name__ == "__main__":
+    unittest.main()

@@ -1,0 +1,158 @@
+"""dwg-json over made drawings, whose fields docs/FORMAT.md tells, spelled ones, damaged and foreign files."""
+
+from __future__ import annotations
+
+import json
+import math
+import unittest
+from typing import Any, Dict, List
+
+import common
+import spelled
+from made import made, tool
+
+
+def lines_of(answer: Any) -> List[Dict[str, Any]]:
+    """The lines of an answer."""
+    return [json.loads(line) for line in answer.stdout.splitlines()]
+
+
+class Json(common.InFolder):
+    """What dwg-json prints."""
+
+    def test_made(self) -> None:
+        for count, seed in ((1, 7), (50, 3), (300, 4294967295)):
+            path = self.file("made.dwg", made(count, seed))
+            answer = tool("dwg-json", path)
+            self.assertEqual((answer.returncode, answer.stderr), (0, b""))
+            self.assertEqual(tool("dwg-json", given=path.read_bytes()).stdout, answer.stdout)
+            head, *objects = lines_of(answer)
+            expected = {"drawing": "AC1015", "codepage": 30, "encoding": "cp1252", "lead": "00000000000000", "mark": "0000", "variables": ""}
+            self.assertEqual(head, {**expected, "classes": 0, "objects": 29 + count})
+            self.assertEqual(len(objects), 29 + count)
+            found = {one["object"]: one for one in objects}
+            for handle, kind, layer, body in common.made_entities(count, seed):
+                one = found[f"{handle:X}"]
+                self.assertEqual((one["kind"], one["form"], one["mode"], one["colour"], one["lineweight"]), (kind, "typed", 2, "by-layer", 29))
+                self.assertEqual(one["layer"], {"code": 5, "handle": "10" if layer == "0" else "17", "name": layer})
+                self.assertEqual({name: one[name] for name in body}, body)
+                self.assertEqual("links" in one, handle == 0x30 + count)
+                if kind == "TEXT":
+                    self.assertEqual(one["style"], {"code": 5, "handle": "11", "name": "STANDARD"})
+
+    def test_fixed_objects(self) -> None:
+        found = {one["object"]: one for one in lines_of(tool("dwg-json", given=made(1, 7)))[1:]}
+        name = lambda handle, name: {"code": 2, "handle": handle, "name": name}
+        self.assertEqual(found["2"]["entries"], [name("10", "0"), name("17", "WALLS")])
+        self.assertEqual(found["C"]["items"], [{"name": "NOTES", "target": {"code": 2, "handle": "D"}}])
+        self.assertEqual((found["E"]["bytes"], found["E"]["targets"]), ("010203", [{"code": 4, "handle": "10", "name": "0"}]))
+        self.assertEqual((found["17"]["entry"]["name"], found["17"]["colour"]), ("WALLS", 1))
+        self.assertEqual(found["17"]["linetype"], {"code": 5, "handle": "16", "name": "CONTINUOUS"})
+        self.assertEqual(found["16"]["texts"], "00" * 256)
+        self.assertEqual((found["2E"]["text"]["text"], found["2E"]["text"]["height"], found["2E"]["tag"]), ("A1", 1.0, "NO"))
+        self.assertEqual(found["22"]["attrib"]["tag"], "NO")
+        self.assertEqual(found["30"]["block"], {"code": 5, "handle": "20", "name": "TAG"})
+        self.assertEqual(found["30"]["attributes"]["seqend"], {"code": 3, "handle": "2F"})
+        self.assertEqual((found["30"]["scale"], found["31"].get("app"), found["20"]["inserts"][0]["count"]), ([1.0, 1.0, 1.0], None, 1))
+
+    def test_numbers(self) -> None:
+        one = spelled.Drawing()
+        values = (0.1, -0.0, 5e-324, 1.7976931348623157e308, 1 / 3, 123456789.123456789)
+        handles = [one.point((value, 2.0, 0.0)) for value in values]
+        strange = one.point((math.inf, -math.inf, math.nan))
+        found = {said["object"]: said for said in lines_of(tool("dwg-json", given=one.file()))[1:]}
+        for handle, value in zip(handles, values):
+            x = found[f"{handle:X}"]["place"][0]
+            self.assertEqual((x, math.copysign(1, x)), (value, math.copysign(1, value)))
+        self.assertEqual(found[f"{strange:X}"]["place"], ["Infinity 7FF0000000000000", "-Infinity FFF0000000000000", "NaN 7FF8000000000000"])
+
+    def test_colours(self) -> None:
+        one = spelled.Drawing()
+        handles = [one.point((0, 0, 0), colour=colour) for colour in (0, 1, 7, 255, 256)]
+        found = {said["object"]: said for said in lines_of(tool("dwg-json", given=one.file()))[1:]}
+        self.assertEqual([found[f"{handle:X}"]["colour"] for handle in handles], ["by-block", 1, 7, 255, "by-layer"])
+
+    def test_texts(self) -> None:
+        one = spelled.Drawing()
+        contents = {b"Gr\xfc\xdfe \x80 \"\\\n\x00": "Grüße € \"\\\n\0", b"\x81\x8d": "\udc81\udc8d", b"": ""}
+        handles = [one.text(content, (0, 0), 1.0) for content in contents]
+        answer = tool("dwg-json", given=one.file())
+        found = {said["object"]: said for said in lines_of(answer)[1:]}
+        self.assertEqual([found[f"{handle:X}"]["text"] for handle in handles], list(contents.values()))
+        self.assertEqual(answer.stderr, b"dwg-json: texts with bytes that the code page doesn't have: 1\n")
+        self.assertTrue(answer.stdout.isascii() if hasattr(answer.stdout, "isascii") else True)
+        cyrillic = spelled.Drawing()
+        handle = cyrillic.text("Стена".encode("cp1251"), (0, 0), 1.0)
+        head, *objects = lines_of(tool("dwg-json", given=cyrillic.file(29)))
+        self.assertEqual((head["codepage"], head["encoding"]), (29, "cp1251"))
+        self.assertEqual([said["text"] for said in objects if said["object"] == f"{handle:X}"], ["Стена"])
+
+    def test_classes_and_plain(self) -> None:
+        one = spelled.Drawing()
+        one.of_class(500, b"WIPEOUT")
+        handle = one.entity(500, "10110", [(5, one.WALLS)])
+        unknown = one.frame(300, one.free(), "1", "")
+        _, first, *objects = lines_of(tool("dwg-json", given=one.file()))
+        self.assertEqual(first, {"class": 500, "version": 0, "proxy": 0, "item": 498, "app": "APP", "cpp": "CPP", "dxf": "WIPEOUT"})
+        found = {said["object"]: said for said in objects}
+        plain, raw = found[f"{handle:X}"], found[f"{unknown:X}"]
+        self.assertEqual((plain["kind"], plain["form"], plain["type"], plain["bits"], plain["rest"]), ("ENTITY", "plain", 500, 5, "b0"))
+        self.assertEqual(plain["refs"], [{"code": 5, "handle": "11", "name": "WALLS"}])
+        self.assertEqual((raw["kind"], raw["form"], raw["type"]), ("UNKNOWN", "raw", 300))
+
+    def test_output(self) -> None:
+        path, out = self.file("a b.dwg", made(3, 1)), self.folder / "out.json"
+        self.assertEqual(tool("dwg-json", path, "--output", out).returncode, 0)
+        self.assertEqual(out.read_bytes(), tool("dwg-json", path).stdout)
+        self.assertEqual(tool("dwg-json", path, "--output", out).returncode, 73)
+        out.write_bytes(b"old")
+        self.assertEqual(tool("dwg-json", self.file("bad", b"no"), "--output", out, "--force").returncode, 3)
+        self.assertEqual(out.read_bytes(), b"old")
+        self.assertEqual(tool("dwg-json", path, "--output", out, "--force").returncode, 0)
+        self.assertEqual(len(out.read_bytes().splitlines()), 33)
+        self.assertEqual(sorted(one.name for one in self.folder.iterdir()), ["a b.dwg", "bad", "out.json"])
+        pretty = tool("dwg-json", path, "--pretty").stdout.decode("ascii")
+        decoder, place, count = json.JSONDecoder(), 0, 0
+        while place < len(pretty.rstrip()):
+            _, place = decoder.raw_decode(pretty, place)
+            place, count = place + 1, count + 1
+        self.assertEqual(count, 33)
+
+    def test_damaged_and_foreign(self) -> None:
+        for name, data in [*common.foreign().items(), *common.damaged(made(40, 2), 60, 8)]:
+            with self.subTest(name):
+                answer = tool("dwg-json", given=data)
+                self.assertEqual((answer.returncode, answer.stdout), (3, b""))
+                self.assertRegex(answer.stderr, rb"\Adwg-json: standard input: refused: \w+ \d+ at \d+: \w+\n\Z")
+
+    def test_faults(self) -> None:
+        self.assertEqual(tool("dwg-json", self.folder / "none").returncode, 4)
+        self.assertEqual(tool("dwg-json", self.folder).returncode, 4)
+        self.assertEqual(tool("dwg-json", given=bytes(33_554_433)).returncode, 7)
+        self.assertEqual(tool("dwg-json", "--nothing").returncode, 64)
+        self.assertEqual(tool("dwg-json", "--program", self.folder / "none").returncode, 69)
+        self.assertEqual(tool("dwg-json", self.file("a", made(1, 1)), "-o", self.folder / "no" / "file").returncode, 5)
+        self.assertEqual(tool("dwg-json", "--help").returncode, 0)
+
+    def test_interrupted(self) -> None:
+        path = self.file("a.dwg", made(20, 1))
+        self.assertEqual(self.interrupted("dwg-json", path, "-o", self.folder / "out.json"), 130)
+        self.assertEqual([one.name for one in self.folder.iterdir()], ["a.dwg"])
+
+    def test_program_fails(self) -> None:
+        path, out = self.file("a.dwg", made(20, 1)), self.folder / "out.json"
+        cases = {
+            6: ['"$REAL" show | head -n 100', "exit 6"], 69: ['"$REAL" show | head -n 100', "kill -9 $$"], 70: ['"$REAL" show | head -n 100', "exit 0"],
+            4: ["exit 4"],
+        }  # fmt: skip
+        for status, lines in cases.items():
+            answer = tool("dwg-json", path, "-o", out, "--program", self.failing(*lines))
+            self.assertEqual((answer.returncode, answer.stdout), (status, b""), answer.stderr)
+        # A program that shows well once, and fails the second time.
+        lines = [f"if [ -e {self.folder}/once ]; then \"$REAL\" show | head -n 100; exit 0; fi", f"touch {self.folder}/once", 'exec "$REAL" show']
+        self.assertEqual(tool("dwg-json", path, "-o", out, "--program", self.failing(*lines)).returncode, 70)
+        self.assertFalse(out.exists())
+
+
+if __name__ == "__main__":
+    unittest.main()

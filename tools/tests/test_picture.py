@@ -1,0 +1,528 @@
+"""dwg-picture: the SVG is read back by a small reader of its own, and where its elements lie is compared with what geometry says."""
+
+from __future__ import annotations
+
+import math
+import re
+import shutil
+import struct
+import subprocess
+import unittest
+import xml.etree.ElementTree as ElementTree
+import zlib
+from dataclasses import dataclass
+from typing import Dict, Iterator, List, Sequence, Tuple
+
+import common
+import spelled
+from made import made, tool
+
+SVG = "{http://www.w3.org/2000/svg}"
+LINK = "{http://www.w3.org/1999/xlink}href"
+Point = Tuple[float, float]
+Matrix = Tuple[float, float, float, float, float, float]
+
+
+def times(outer: Matrix, inner: Matrix) -> Matrix:
+    """The map that takes the inner one first."""
+    a, b, c, d, e, f = outer
+    return (
+        a * inner[0] + c * inner[1], b * inner[0] + d * inner[1], a * inner[2] + c * inner[3], b * inner[2] + d * inner[3],
+        a * inner[4] + c * inner[5] + e, b * inner[4] + d * inner[5] + f,
+    )  # fmt: skip
+
+
+def at(matrix: Matrix, x: float, y: float) -> Point:
+    """Where a point goes."""
+    return matrix[0] * x + matrix[2] * y + matrix[4], matrix[1] * x + matrix[3] * y + matrix[5]
+
+
+def matrix_of(element: ElementTree.Element) -> Matrix:
+    """The map of an element's attribute."""
+    said = element.get("transform", "matrix(1 0 0 1 0 0)")
+    name, numbers = said.rstrip(")").split("(")
+    values = tuple(map(float, numbers.split()))
+    if name == "scale":
+        return values[0], 0, 0, values[1], 0, 0
+    return values  # type: ignore[return-value]
+
+
+def arc_points(begin: Point, radius: float, large: bool, left: bool, end: Point) -> List[Point]:
+    """Points along an arc of a path, by the rules of SVG: of the two circles the one that the flags say."""
+    half = math.dist(begin, end) / 2 if hasattr(math, "dist") else math.hypot(begin[0] - end[0], begin[1] - end[1]) / 2
+    radius = max(radius, half)
+    toward = math.atan2(end[1] - begin[1], end[0] - begin[0])
+    away = math.sqrt(max(0.0, radius * radius - half * half)) * (1 if left != large else -1)
+    centre = (begin[0] + end[0]) / 2 - away * math.sin(toward), (begin[1] + end[1]) / 2 + away * math.cos(toward)
+    first, last = (math.atan2(y - centre[1], x - centre[0]) for x, y in (begin, end))
+    sweep = (last - first) % (2 * math.pi) if left else -((first - last) % (2 * math.pi))
+    return [(centre[0] + radius * math.cos(first + sweep * k / 8), centre[1] + radius * math.sin(first + sweep * k / 8)) for k in range(9)]
+
+
+def path_points(path: str) -> List[Point]:
+    """Points along a path: its corners, and eight parts of each arc."""
+    found: List[Point] = []
+    for letter, numbers in re.findall(r"([MLAhz])([^MLAhz]*)", path):
+        values = [float(one) for one in numbers.split()]
+        if letter in "ML":
+            found.append((values[0], values[1]))
+        elif letter == "A":
+            found += arc_points(found[-1], values[0], bool(values[3]), bool(values[4]), (values[5], values[6]))[1:]
+        elif letter == "z":
+            found.append(found[0])
+    return found
+
+
+@dataclass
+class Seen:
+    """An element as it is seen: points along it with y upward, its colour, its width, whether it is filled, its text and its map."""
+
+    name: str
+    points: List[Point]
+    colour: str
+    width: str
+    filled: bool
+    text: str
+    matrix: Matrix
+    element: ElementTree.Element
+
+
+class Picture:
+    """A picture, read back."""
+
+    def __init__(self, svg: bytes) -> None:
+        self.root = ElementTree.fromstring(svg)
+        self.named: Dict[str, ElementTree.Element] = {one.get("id", ""): one for one in self.root.iter() if one.get("id")}
+        self.seen = list(self.walk(self.root, (1, 0, 0, -1, 0, 0), {}))
+        self.box = tuple(map(float, self.root.get("viewBox", "").split()))
+
+    def walk(self, element: ElementTree.Element, outer: Matrix, style: Dict[str, str], depth: int = 0) -> Iterator[Seen]:
+        """All that is seen of an element."""
+        if element.tag in (SVG + "defs", SVG + "style", SVG + "rect"):
+            return
+        matrix = times(outer, matrix_of(element))
+        style = {**style, **{name: element.get(name, "") for name in ("stroke", "stroke-width", "fill") if element.get(name)}}
+        if element.tag == SVG + "use":
+            yield from self.walk(self.named[element.get(LINK, "#")[1:]], matrix, style, depth + 1)
+        elif element.tag in (SVG + "g", SVG + "svg"):
+            for child in element:
+                yield from self.walk(child, matrix, style, depth + 1)
+        else:
+            yield self.shape(element, matrix, style)
+
+    def shape(self, element: ElementTree.Element, matrix: Matrix, style: Dict[str, str]) -> Seen:
+        """One shape."""
+        name = element.tag[len(SVG) :]
+        if name == "path":
+            points = path_points(element.get("d", ""))
+        elif name == "circle":
+            x, y, radius = (float(element.get(part, "0")) for part in ("cx", "cy", "r"))
+            points = [(x + radius * math.cos(k * math.pi / 4), y + radius * math.sin(k * math.pi / 4)) for k in range(9)]
+        else:
+            points = [(0.0, float(element.get("y", "0")))]
+        filled = style.get("stroke") == "none"
+        colour = style["fill"] if filled else style["stroke"]
+        return Seen(name, [at(matrix, *one) for one in points], colour, style["stroke-width"], filled, element.text or "", matrix, element)
+
+
+def pixels_of(png: bytes) -> List[List[Tuple[int, ...]]]:
+    """The rows of pixels of a picture of eight bits a colour, without interlacing."""
+    place, data, wide, tall, depth, size = 8, b"", 0, 0, 0, 0
+    while place < len(png):
+        length, kind = int.from_bytes(png[place : place + 4], "big"), png[place + 4 : place + 8]
+        if kind == b"IHDR":
+            wide, tall, depth, colours = struct.unpack(">IIBB", png[place + 8 : place + 18])
+            assert depth == 8
+            size = {2: 3, 6: 4}[colours]
+        elif kind == b"IDAT":
+            data += png[place + 8 : place + 8 + length]
+        place += 12 + length
+    raw, rows, before = zlib.decompress(data), [], bytes(wide * size)
+    for row in range(tall):
+        begin = row * (wide * size + 1)
+        before = unfiltered(raw[begin], raw[begin + 1 : begin + 1 + wide * size], before, size)
+        rows.append([tuple(before[at : at + 3]) for at in range(0, wide * size, size)])
+    return rows
+
+
+def unfiltered(kind: int, line: bytes, above: bytes, size: int) -> bytes:
+    """A row of a PNG without its filter."""
+    out = bytearray(line)
+    for at, value in enumerate(line):
+        left, up, corner = out[at - size] if at >= size else 0, above[at], above[at - size] if at >= size else 0
+        if kind == 4:
+            near = min((abs(up - corner), 0, left), (abs(left - corner), 1, up), (abs(left + up - 2 * corner), 2, corner))
+            out[at] = value + near[2] & 255
+        else:
+            out[at] = value + (0, left, up, (left + up) // 2)[kind] & 255
+    return bytes(out)
+
+
+BROWSER = next(filter(None, map(shutil.which, ("chromium", "chromium-browser", "google-chrome"))), None)
+
+
+class Pictures(common.InFolder):
+    """What dwg-picture draws."""
+
+    def picture(self, one: spelled.Drawing, *words: str) -> Picture:
+        """The picture of a spelled drawing, of which nothing is left out."""
+        answer = tool("dwg-picture", *words, given=one.file())
+        self.assertEqual((answer.returncode, answer.stderr), (0, b""))
+        return Picture(answer.stdout)
+
+    def near(self, found: Sequence[Point], expected: Sequence[Point], about: float = 1e-6) -> None:
+        """That points are those expected."""
+        self.assertEqual(len(found), len(expected), (found, expected))
+        for one, other in zip(found, expected):
+            self.assertLess(math.hypot(one[0] - other[0], one[1] - other[1]), about, (found, expected))
+
+    def test_line_and_point(self) -> None:
+        one = spelled.Drawing()
+        one.line((0, 0, 5), (3, 4, -2))
+        one.line((-1, 7, 0), (2, -3, 0), normal=spelled.DOWN)
+        one.point((2, 1, 9))
+        line, down, dot = self.picture(one).seen
+        # The middle, from which coordinates count, is the median of the places: (0, 1) of (0, 0), (-1, 7) and (2, 1).
+        self.near(line.points, [(0, -1), (3, 3)])
+        self.near(down.points, [(-1, 6), (2, -4)])
+        self.near(dot.points, [(2, 0)])
+
+    def test_far_away(self) -> None:
+        one = spelled.Drawing()
+        one.line((4500000.125, 5300000.25, 0), (4500001.25, 5300002.5, 0))
+        one.circle((-4500000.0625, 5300000.5, 0), 0.5, normal=spelled.DOWN)
+        one.point((4500000.125, 5300000.25, 0))
+        line, circle, _ = self.picture(one).seen
+        self.near(line.points, [(0, 0), (1.125, 2.25)], 1e-9)
+        self.near([circle.points[0], circle.points[4]], [(-0.5625, 0.25), (0.4375, 0.25)], 1e-9)
+        numbers = re.findall(r"-?\d+\.?\d*", line.element.get("d", "") + circle.element.get("cx", "") + circle.element.get("transform", ""))
+        self.assertTrue(all(abs(float(number)) < 10 for number in numbers), numbers)
+
+    def test_circle_and_arc(self) -> None:
+        one = spelled.Drawing()
+        one.point((0, 0, 0))
+        one.circle((0, 0, 0), 2)
+        one.arc((0, 0, 0), 2, 0, math.pi / 2)
+        one.arc((0, 0, 0), 2, math.pi / 2, 0)
+        one.arc((0, 0, 0), 2, math.pi * 1.75, math.pi * 2.25)
+        one.arc((3, 0, 0), 2, 0, math.pi / 2, normal=spelled.DOWN)
+        _, circle, quarter, rest, right, mirrored = self.picture(one).seen
+        self.near(circle.points[:3:2], [(2, 0), (0, 2)])
+        root = math.sqrt(2)
+        self.near([quarter.points[0], quarter.points[8], quarter.points[-1]], [(2, 0), (root, root), (0, 2)])
+        self.near([rest.points[0], rest.points[8], rest.points[-1]], [(0, 2), (-root, -root), (2, 0)])
+        self.near([right.points[0], right.points[8], right.points[-1]], [(root, -root), (2, 0), (root, root)])
+        # Seen from below: x is turned round, so that the arc goes from the left to the top.
+        self.near([mirrored.points[0], mirrored.points[8], mirrored.points[-1]], [(-5, 0), (-3 - root, root), (-3, 2)])
+
+    def test_projection(self) -> None:
+        one = spelled.Drawing()
+        one.circle((1, 2, 3), 5, normal=(1.0, 0.0, 0.0))
+        one.circle((0, 0, 10), 5, normal=(0.0, math.sin(1), math.cos(1)))
+        one.point((0, 0, 0))
+        standing, tilted, _ = self.picture(one).seen
+        # In the plane of normal X the axes are Y and Z, and the elevation goes along X: the circle is a line at x = 3.
+        self.near([standing.points[0], standing.points[2], standing.points[4]], [(3, 6), (3, 1), (3, -4)])
+        # Z cross (0, s, c) is -X, and the other axis is (0, -c, s).
+        sine, cosine = math.sin(1), math.cos(1)
+        self.near([tilted.points[0], tilted.points[2]], [(-5, 10 * sine), (0, 10 * sine - 5 * cosine)])
+
+    def test_polylines(self) -> None:
+        one = spelled.Drawing()
+        one.polyline([(0, 0), (2, 0), (2, 2)])
+        one.polyline([(0, 0), (2, 0), (2, 2)], closed=True)
+        one.polyline([(0, 0), (2, 0)], [1.0, 0.0])
+        one.polyline([(0, 0), (2, 0)], [-1.0, 0.0])
+        one.polyline([(0, 0), (1, 1)], [math.tan(math.pi / 8), 0.0])
+        one.polyline([(0, 0), (1, 1)], [math.tan(3 * math.pi / 8), 0.0])
+        one.polyline([(0, 0), (2, 0)], [1.0, 0.0], normal=spelled.DOWN, elevation=4)
+        opened, closed, lower, upper, quarter, most, mirrored = self.picture(one).seen
+        self.near(opened.points, [(0, 0), (2, 0), (2, 2)])
+        self.near(closed.points, [(0, 0), (2, 0), (2, 2), (0, 0), (0, 0)])
+        self.near([lower.points[0], lower.points[4], lower.points[-1]], [(0, 0), (1, -1), (2, 0)])
+        self.near([upper.points[0], upper.points[4], upper.points[-1]], [(0, 0), (1, 1), (2, 0)])
+        # A quarter of a circle to the left from (0, 0) to (1, 1) goes around (0, 1); three quarters go around (1, 0).
+        self.near([quarter.points[4]], [(math.sqrt(0.5), 1 - math.sqrt(0.5))])
+        self.near([most.points[4]], [(1 + math.sqrt(0.5), -math.sqrt(0.5))])
+        self.near([mirrored.points[0], mirrored.points[4], mirrored.points[-1]], [(0, 0), (-1, -1), (-2, 0)])
+
+    def test_widths(self) -> None:
+        one = spelled.Drawing()
+        one.polyline([(0, 0), (4, 0)], width=2)
+        one.polyline([(0, 0), (4, 0), (4, 4)], widths=[(2, 0), (1, 1), (0, 0)])
+        one.polyline([(0, 0), (4, 0), (4, 4)], widths=[(1, 2), (2, 1), (1, 1)])
+        one.polyline([(0, 0), (4, 0), (4, 4)], widths=[(1, 2), (2, 1), (1, 1)], closed=True)
+        thin, wide, other, taper, even, _, _, _, inner, outer, *closed = self.picture(one).seen
+        self.assertEqual((wide.element.get("class"), wide.element.get("stroke-width"), wide.filled), ("wide", "2", False))
+        self.near(wide.points, thin.points)
+        self.near(other.points, [(0, 0), (4, 0), (4, 4)])
+        self.assertTrue(taper.filled and even.filled)
+        self.near(taper.points, [(0, 1), (4, 0), (4, 0), (0, -1), (0, 1)])
+        self.near(even.points, [(3.5, 0), (3.5, 4), (4.5, 4), (4.5, 0), (3.5, 0)])
+        # Where two wide segments meet the corners of both are joined, at the left and at the right.
+        self.near(inner.points, [(4, 0), (4, 1), (3, 0), (4, 0)])
+        self.near(outer.points, [(4, 0), (4, -1), (5, 0), (4, 0)])
+        self.assertEqual(len(closed), 1 + 3 + 3 * 2)
+
+    def test_texts(self) -> None:
+        one = spelled.Drawing()
+        one.text(b"plain", (1, 2), 0.72)
+        one.text(b"up", (0, 0), 0.72, {"rotation": math.pi / 2, "width": 0.5})
+        one.text(b"right", (0, 0), 0.72, {"horizontal": 2, "alignment": (5, 6)})
+        one.text(b"middle", (0, 0), 0.72, {"horizontal": 4, "alignment": (5, 6)})
+        one.text(b"top", (0, 0), 0.72, {"horizontal": 1, "vertical": 3, "alignment": (5, 6)})
+        one.text(b"fit", (0, 0), 0.72, {"horizontal": 5, "alignment": (3, 4)})
+        one.text(b"back", (0, 0), 0.72, {"generation": 2})
+        one.text(b"down", (0, 0), 0.72, {"generation": 4})
+        one.text(b"slant", (0, 0), 0.72, {"oblique": math.pi / 4})
+        one.text(b"mirror", (1, 0), 0.72, {"normal": spelled.DOWN})
+        one.text(b"45%%d %%c5 %%p1 %%uA%%u \\U+20AC <&> %%%", (0, 0), 0.72)
+        one.text(b" ", (0, 0), 0.72)
+        seen = {found.text: found for found in self.picture(one).seen}
+        self.assertEqual(len(seen), 11)
+        self.assertIn("45\u00b0 \u23005 \u00b11 A \u20ac <&> %", seen)
+        self.near(seen["plain"].points, [(1, 2)])
+        self.assertEqual(seen["plain"].element.get("font-size"), "1")
+        # What is to the right and upward of a letter; y in the text is downward.
+        sides = lambda text: [round(value, 6) + 0.0 for value in seen[text].matrix[:2]] + [round(-value, 6) + 0.0 for value in seen[text].matrix[2:4]]
+        self.assertEqual(sides("plain"), [1, 0, 0, 1])
+        self.assertEqual(sides("up"), [0, 0.5, -1, 0])
+        self.assertEqual(sides("back"), [-1, 0, 0, 1])
+        self.assertEqual(sides("down"), [1, 0, 0, -1])
+        self.assertEqual(sides("slant"), [1, 0, 1, 1])
+        self.assertEqual(sides("mirror"), [-1, 0, 0, 1])
+        self.near(seen["mirror"].points, [(-1, 0)])
+        self.assertEqual(seen["right"].element.get("text-anchor"), "end")
+        self.near(seen["right"].points, [(5, 6)])
+        self.assertEqual(seen["middle"].element.get("text-anchor"), "middle")
+        self.near(seen["middle"].points, [(5, 5.64)])
+        self.near(seen["top"].points, [(5, 5.28)])
+        self.assertEqual(seen["fit"].element.get("textLength"), "5")
+        self.assertEqual(sides("fit"), [0.6, 0.8, -0.8, 0.6])
+
+    def test_inserts(self) -> None:
+        one = spelled.Drawing()
+        block, inner = 0x30, 0x31
+        one.block(block, b"TAG", (10.0, 10.0, 0.0))
+        one.block(inner, b"INNER")
+        one.line((10, 10, 0), (12, 10, 0), owner=block)
+        one.definition(b"shown never", b"NO", (10, 10), 1.0, owner=block)
+        one.definition(b"constant", b"NO", (10, 10), 1.0, flags=2, owner=block)
+        one.insert(inner, (11, 10, 0), (1, -1, 1), owner=block)
+        one.line((0, 0, 0), (0, 1, 0), owner=inner)
+        one.point((0, 0, 0))
+        first = one.insert(block, (0, 0, 0))
+        one.attribute(b"A1", b"NO", (7, 7), 1.0, owner=first)
+        one.attribute(b"hidden", b"NO", (7, 7), 1.0, owner=first, flags=1)
+        one.insert(block, (5, 0, 0), (2, 3, 1), math.pi / 2)
+        one.insert(block, (5, 0, 0), normal=spelled.DOWN)
+        picture = self.picture(one)
+        _, *seen = picture.seen
+        texts = [found for found in seen if found.text]
+        self.assertEqual(sorted(found.text for found in texts), ["A1", "constant", "constant", "constant"])
+        self.near([found.points[0] for found in texts if found.text == "A1"], [(7, 7)])
+        lines = [found.points for found in seen if not found.text]
+        self.near(lines[0] + lines[1], [(0, 0), (2, 0), (1, 0), (1, -1)])
+        self.near(lines[2] + lines[3], [(5, 0), (5, 4), (5, 2), (8, 2)])
+        self.near(lines[4] + lines[5], [(-5, 0), (-7, 0), (-6, 0), (-6, -1)])
+        self.assertEqual(len(picture.named), 2)
+        seen = self.picture(one, "--block", "tag").seen
+        self.assertEqual([found.text for found in seen if found.text], ["NO", "NO"])
+
+    def test_loop_and_missing(self) -> None:
+        one = spelled.Drawing()
+        one.block(0x30, b"A")
+        one.block(0x31, b"B")
+        one.block(0x32, b"X", is_xref=True)
+        one.line((0, 0, 0), (1, 0, 0), owner=0x30)
+        one.insert(0x31, (0, 1, 0), owner=0x30)
+        one.insert(0x30, (0, 1, 0), owner=0x31)
+        one.insert(0x30, (0, 0, 0))
+        one.insert(0x99, (0, 0, 0))
+        one.insert(0x32, (0, 0, 0))
+        answer = tool("dwg-picture", given=one.file())
+        self.assertEqual(answer.returncode, 0)
+        expected = ["not drawn: 1 INSERT (an external reference)", "not drawn: 1 INSERT (of a block that isn't there)", "block A inserts itself"]
+        self.assertEqual(answer.stderr.decode().splitlines(), [f"dwg-picture: {line}" for line in expected])
+        self.near(Picture(answer.stdout).seen[0].points, [(0, 0), (1, 0)])
+
+    def test_deep(self) -> None:
+        one = spelled.Drawing()
+        for depth in range(200):
+            one.block(0x200 + depth, b"B%d" % depth)
+        one.last = 0x400
+        for depth in range(200):
+            one.line((0, depth, 0), (1, depth, 0), owner=0x200 + depth)
+            one.insert(0x200 + depth + 1, (0, 0, 0), owner=0x200 + depth)
+            one.insert(0x200 + depth + 1, (5, 0, 0), owner=0x200 + depth)
+        one.insert(0x200, (0, 0, 0))
+        answer = tool("dwg-picture", given=one.file())
+        self.assertEqual(answer.returncode, 0)
+        self.assertEqual(answer.stderr, b"dwg-picture: not drawn: 2 INSERT (more than 64 deep)\n")
+        self.assertEqual(answer.stdout.count(b"<defs>"), 64)
+
+    def test_colours_and_layers(self) -> None:
+        one = spelled.Drawing()
+        one.layer(0x30, b"OFF", 3, values=2)
+        one.layer(0x31, b"FROZEN", 3, values=1)
+        one.layer(0x32, b"THICK", 30, values=0x3F0 & ~0x3E0 | 15 << 5)
+        one.layer(0x33, b"NEGATIVE", 0x10000 - 3)
+        one.block(0x34, b"BLOCK")
+        one.line((0, 0, 0), (1, 0, 0), owner=0x34)
+        one.line((0, 0, 0), (1, 0, 0), owner=0x34, colour=0, weight=30)
+        one.line((0, 0, 0), (1, 0, 0), owner=0x34, layer=one.WALLS, weight=0)
+        drawn = [
+            one.line((0, 0, 0), (1, 0, 0), layer=one.WALLS), one.line((0, 0, 0), (1, 0, 0)), one.line((0, 0, 0), (1, 0, 0), colour=5),
+            one.line((0, 0, 0), (1, 0, 0), layer=0x32), one.line((0, 0, 0), (1, 0, 0), colour=251, weight=23),
+        ]  # fmt: skip
+        for layer in (0x30, 0x31, 0x33):
+            one.line((0, 0, 0), (1, 0, 0), layer=layer)
+        one.line((0, 0, 0), (1, 0, 0), invisible=1)
+        one.insert(0x34, (0, 0, 0), layer=0x32, colour=4, weight=9)
+        one.insert(0x34, (0, 0, 0), layer=0x30)
+        one.insert(0x34, (0, 0, 0), layer=0x31)
+        seen = self.picture(one).seen
+        width = lambda millimetres: max(1.0, round(millimetres * 96 / 25.4, 2))
+        expected = [
+            ("#ff0000", 1.0), ("#000000", 1.0), ("#0000ff", 1.0), ("#ff7f00", width(0.8)), ("#5b5b5b", width(2.11)),
+            # The insert's layer to what is on layer 0, its own colour and width to what is by block, and neither to what has its own.
+            ("#ff7f00", width(0.8)), ("#00ffff", width(0.35)), ("#ff0000", 1.0),
+            # Of the insert on a layer that is off only what is on layer 0 isn't seen: that by block is on layer 0 too.
+            ("#ff0000", 1.0),
+        ]  # fmt: skip
+        self.assertEqual([(found.colour, float(found.width)) for found in seen], expected)
+        self.assertEqual(len(drawn), 5)
+        white = [found.colour for found in self.picture(one, "--background", "black").seen]
+        self.assertEqual(white[1], "#ffffff")
+        self.assertEqual([found.colour for found in self.picture(one, "--background", "#102030").seen], white)
+
+    def test_all_colours(self) -> None:
+        # Some colours of the table that AutoCAD has, from its documentation of the colour index.
+        known = {
+            1: "#ff0000", 2: "#ffff00", 3: "#00ff00", 4: "#00ffff", 5: "#0000ff", 6: "#ff00ff", 8: "#808080", 9: "#c0c0c0", 10: "#ff0000",
+            11: "#ff7f7f", 12: "#a50000", 13: "#a55252", 14: "#7f0000", 15: "#7f3f3f", 16: "#4c0000", 17: "#4c2626", 18: "#260000",
+            19: "#261313", 20: "#ff3f00", 21: "#ff9f7f", 22: "#a52900", 23: "#a56752", 30: "#ff7f00", 40: "#ffbf00", 50: "#ffff00",
+            60: "#bfff00", 90: "#00ff00", 110: "#00ff7f", 130: "#00ffff", 150: "#007fff", 170: "#0000ff", 190: "#7f00ff", 210: "#ff00ff",
+            230: "#ff007f", 240: "#ff003f", 250: "#333333", 251: "#5b5b5b", 252: "#848484", 253: "#adadad", 254: "#d6d6d6", 255: "#ffffff",
+        }  # fmt: skip
+        one = spelled.Drawing()
+        for colour in range(1, 256):
+            one.point((colour, 0, 0), colour=colour)
+        colours = {index: found.colour for index, found in enumerate(self.picture(one).seen, 1)}
+        self.assertEqual(len(colours), 255)
+        self.assertEqual({index: colours[index] for index in known}, known)
+        self.assertEqual(colours[7], "#000000")
+
+    def test_spaces(self) -> None:
+        one = spelled.Drawing()
+        one.line((0, 0, 0), (1, 0, 0))
+        one.line((0, 0, 0), (2, 0, 0), mode=1)
+        one.line((0, 0, 0), (3, 0, 0), owner=one.MODEL)
+        one.line((0, 0, 0), (4, 0, 0), owner=one.PAPER)
+        ends = lambda *words: [found.points[1][0] for found in self.picture(one, *words).seen]
+        self.assertEqual(ends(), [1, 3])
+        self.assertEqual(ends("--space", "paper"), [2, 4])
+        self.assertEqual(ends("--block", "*Paper_Space"), [2, 4])
+        answer = tool("dwg-picture", "--block", "none", given=one.file())
+        self.assertEqual((answer.returncode, answer.stdout), (64, b""))
+
+    def test_extents(self) -> None:
+        one = spelled.Drawing()
+        one.block(0x30, b"B")
+        one.circle((0, 0, 0), 1, owner=0x30)
+        one.point((0, 0, 0))
+        one.arc((10, 0, 0), 5, -math.pi / 4, math.pi / 4)
+        one.polyline([(0, 0), (0, 6)], [1.0, 0.0])
+        one.insert(0x30, (-3, 0, 0), (2, 2, 2), math.pi / 3)
+        picture = self.picture(one, "--width", "500")
+        # From -5 (the inserted circle) to 15 (the arc) and from -3.54 (the arc) to 6 (the polyline), with two parts of a hundred around.
+        x, y, wide, tall = picture.box
+        low = -5 * math.sqrt(0.5)
+        expected = (-5 - 0.4, -6 - 0.4, 20.8, 6 - low + 0.8)
+        for found, value in zip((x, y, wide, tall), expected):
+            self.assertAlmostEqual(found, value, delta=0.02)
+        self.assertEqual((picture.root.get("width"), picture.root.get("height")), ("500", str(round(500 * tall / wide))))
+
+    def test_undrawn(self) -> None:
+        one = spelled.Drawing()
+        one.of_class(500, b"WIPEOUT")
+        one.block(0x30, b"B")
+        one.entity(35, "1" * 30, owner=0x30)
+        one.insert(0x30, (0, 0, 0), colour=1)
+        one.insert(0x30, (0, 0, 0), colour=2)
+        for number in (35, 35, 31, 78, 44, 500, 501):
+            one.entity(number, "1" * 30)
+        one.circle((math.nan, 0, 0), 1)
+        one.circle((0, 0, 0), math.inf)
+        one.line((0, 1e300, 0), (0, 0, 0))
+        one.entity(35, "1" * 30, mode=1)
+        answer = tool("dwg-picture", given=one.file())
+        self.assertEqual(answer.returncode, 0)
+        counts = ["2 CIRCLE (a number that is none or too large)", "3 ELLIPSE", "1 HATCH", "1 LINE (a number that is none or too large)", "1 MTEXT", "1 SOLID", "1 WIPEOUT"]
+        lines = answer.stderr.decode().splitlines()
+        self.assertEqual(lines[0], "dwg-picture: nothing is drawn")
+        self.assertEqual(lines[1:], [f"dwg-picture: not drawn: {count}" for count in counts])
+
+    def test_made(self) -> None:
+        for count, seed in ((1, 7), (50, 3), (400, 11)):
+            answer = tool("dwg-picture", given=made(count, seed))
+            self.assertEqual((answer.returncode, answer.stderr), (0, b""))
+            kinds = [kind for _, kind, _, _ in common.made_entities(count, seed)]
+            seen = Picture(answer.stdout).seen
+            # The insert of the block draws its line and its attribute.
+            self.assertEqual(len(seen), count + 2)
+            self.assertEqual(sum(found.name == "circle" for found in seen), kinds.count("CIRCLE"))
+            self.assertEqual(sum(found.name == "text" for found in seen), kinds.count("TEXT") + 1)
+            for found, (_, kind, layer, body) in zip(seen[2:], common.made_entities(count, seed)):
+                self.assertEqual(found.colour, "#000000" if layer == "0" else "#ff0000")
+                if kind == "TEXT":
+                    self.assertEqual(found.text, body["text"])
+
+    def test_in_a_browser(self) -> None:
+        if not BROWSER:
+            self.skipTest("pictures in a browser, as chromium isn't installed")
+        one = spelled.Drawing()
+        one.block(0x30, b"B", (100.0, 0.0, 0.0))
+        one.polyline([(100, 5), (110, 5)], width=10, owner=0x30, colour=0)
+        # A field of nine squares of ten units, far from the origin: red below at the left, green above it, blue below at the right, turned round.
+        x, y = 4000000.0, 5000000.0
+        one.polyline([(x, y + 5), (x + 10, y + 5)], width=10, colour=1)
+        one.polyline([(x, y + 25), (x + 10, y + 25)], widths=[(10, 10), (0, 0)], colour=3)
+        one.insert(0x30, (x + 30, y + 10, 0), rotation=math.pi, colour=5)
+        one.insert(0x30, (-x - 10, y + 10, 0), normal=spelled.DOWN, scale=(-1, 1, 1), colour=6)
+        one.arc((x + 25, y + 25, 0), 4.9, 0, math.pi, colour=4, weight=23)
+        svg, shot = self.file("a.svg", tool("dwg-picture", "--width", "312", given=one.file()).stdout), self.folder / "a.png"
+        words = [BROWSER, "--headless", "--no-sandbox", "--disable-gpu", f"--user-data-dir={self.folder / 'profile'}", "--window-size=312,500"]
+        subprocess.run([*words, f"--screenshot={shot}", svg.as_uri()], stdout=subprocess.DEVNULL, stderr=subprocess.DEVNULL, timeout=100, check=True)
+        rows = pixels_of(shot.read_bytes())
+        # The view has 30 units and a margin of 0.6 on each side: ten pixels a unit.
+        found = lambda right, up: rows[round(312 - 10 * (up + 0.6))][round(10 * (right + 0.6))]
+        squares = {(5, 5): (255, 0, 0), (5, 25): (0, 255, 0), (25, 5): (0, 0, 255), (15, 15): (255, 0, 255), (25, 15): (255, 255, 255), (15, 5): (255, 255, 255)}
+        self.assertEqual({place: found(*place) for place in squares}, squares)
+        self.assertEqual((found(25, 29.9), found(25, 20.1)), ((0, 255, 255), (255, 255, 255)))
+
+    def test_output_and_trouble(self) -> None:
+        path, out = self.file("a.dwg", made(3, 1)), self.folder / "out.svg"
+        self.assertEqual(tool("dwg-picture", path, "-o", out).returncode, 0)
+        self.assertEqual(out.read_bytes(), tool("dwg-picture", path).stdout)
+        self.assertEqual(tool("dwg-picture", path, "-o", out).returncode, 73)
+        for name, data in [*common.foreign().items(), *common.damaged(made(20, 2), 20, 4)]:
+            with self.subTest(name):
+                answer = tool("dwg-picture", "-o", out, "--force", given=data)
+                self.assertEqual((answer.returncode, answer.stdout), (3, b""))
+                self.assertRegex(answer.stderr, rb"\Adwg-picture: standard input: refused: ")
+        self.assertEqual(sorted(one.name for one in self.folder.iterdir()), ["a.dwg", "out.svg"])
+        for words in (("--width", "0"), ("--background", "green"), ("--space", "x")):
+            self.assertEqual(tool("dwg-picture", path, *words).returncode, 64)
+        self.assertEqual(tool("dwg-picture", "--help").returncode, 0)
+
+    def test_interrupted_and_failing(self) -> None:
+        path, out = self.file("a.dwg", made(20, 1)), self.folder / "out.svg"
+        self.assertEqual(self.interrupted("dwg-picture", path, "-o", out), 130)
+        self.assertEqual([one.name for one in self.folder.iterdir()], ["a.dwg"])
+        answer = tool("dwg-picture", path, "-o", out, "--program", self.failing('"$REAL" show | head -n 100', "exit 6"))
+        self.assertEqual((answer.returncode, out.exists()), (6, False))
+
+
+if __name__ == "__main__":
+    unittest.main()

@@ -1,0 +1,411 @@
+"""dwg-recover over damaged drawings. What is expected is worked out from what a drawing had and what was done to it."""
+
+from __future__ import annotations
+
+import collections
+import json
+import os
+import pathlib
+import re
+import shutil
+import signal
+import subprocess
+import tempfile
+import time
+import unittest
+from typing import Any, Dict, Iterable, List, Optional, Tuple
+
+import made
+from made import TOOLS, dwg, flipped, layout, program_that, shown, tool
+
+RECOVER = made.module(TOOLS / "dwg-recover", "dwg_recover")
+
+# The drawing that is damaged: handles 30 to 30 + COUNT are the model space, the first an INSERT.
+COUNT = 200
+DATA = made.made(COUNT)
+FIRST, LAST = 0x30, 0x30 + COUNT
+OBJECTS = shown(DATA)
+PARTS = layout(DATA)
+
+
+def layer_of(fields: List[str]) -> Optional[str]:
+    """The name of an entity's layer: a made drawing has two."""
+    found = [re.fullmatch(r"layer 5\.(\w+)", line) for line in fields]
+    return next(({"10": "0", "17": "WALLS"}[at[1]] for at in found if at), None)
+
+
+def counts_of(handles: Iterable[int]) -> Tuple[Dict[str, int], Dict[str, int]]:
+    """Kinds and layers of some objects of the drawing."""
+    wanted = set(handles)
+    some = [(kind, layer_of(fields)) for handle, kind, fields in OBJECTS if handle in wanted]
+    return collections.Counter(kind for kind, _ in some), collections.Counter(layer for _, layer in some if layer)
+
+
+def without(handles: Iterable[int]) -> bytes:
+    """The drawing with a byte changed in the body of each of some objects."""
+    data = DATA
+    for frame in PARTS.frames:
+        if frame.handle in set(handles):
+            data = flipped(data, frame.place + 2 + frame.size // 2)
+    return data
+
+
+ALL = {handle for handle, _, _ in OBJECTS}
+PLACES = {frame.handle: frame.place for frame in PARTS.frames}
+
+
+class Recover(unittest.TestCase):
+    """Each test has a folder of its own."""
+
+    maxDiff = None
+
+    def setUp(self) -> None:
+        self.folder = pathlib.Path(tempfile.mkdtemp(prefix="dwg recover "))
+        self.addCleanup(shutil.rmtree, self.folder)
+        self.source, self.out = self.folder / "in.dwg", self.folder / "out.dwg"
+        self.notes = self.folder / "out.dwg.notes"
+
+    def report(self, data: bytes, *words: object) -> Dict[str, Any]:
+        """What is said of a file, as JSON; the output is that of the program, and its notes are beside it."""
+        self.source.write_bytes(data)
+        ran = tool("dwg-recover", "--json", "--force", *words, self.source, self.out)
+        answer = dwg("recover", given=data)
+        self.assertEqual((ran.returncode, ran.stderr), (answer.returncode, b""))
+        self.assertEqual((self.out.read_bytes(), self.notes.read_bytes()), (answer.stdout, answer.stderr))
+        self.assertEqual((self.source.read_bytes(), sorted(os.listdir(self.folder))), (data, sorted({"in.dwg", "out.dwg", "out.dwg.notes"} | set(self.more()))))
+        told: Dict[str, Any] = json.loads(ran.stdout)
+        return told
+
+    def more(self) -> List[str]:
+        """Other files of the test."""
+        return [name for name in os.listdir(self.folder) if name.startswith("more")]
+
+    def words(self, *words: object) -> str:
+        """What is said in words of the same file."""
+        ran = tool("dwg-recover", "--force", *words, self.source, self.out)
+        self.assertEqual(ran.stderr, b"")
+        return ran.stdout.decode()
+
+    def test_nothing_lost(self) -> None:
+        told = self.report(DATA)
+        self.assertEqual((told["whole"], told["refusal"], told["audit"]["sound"], told["chains"], told["before"]), (True, None, True, [], None))
+        kinds, layers = counts_of(ALL)
+        self.assertEqual(told["kept"], {"objects": len(OBJECTS), "kinds": kinds, "layers": layers})
+        self.assertEqual((self.out.read_bytes(), self.notes.read_bytes()), (DATA, b""))
+        text = self.words()
+        self.assertIn("is a drawing: nothing of it was lost", text)
+        self.assertIn("passes the audit", text)
+        self.assertNotIn("Lost", text)
+        self.assertEqual(self.out.stat().st_mode & 0o777, 0o666 & ~current_mask())
+
+    def test_lost_objects(self) -> None:
+        lost = [0x40, 0x41, 0x60]
+        (self.folder / "more before.txt").write_bytes(dwg("show", given=DATA).stdout)
+        (self.folder / "more before.dwg").write_bytes(DATA)
+        told = self.report(without(lost))
+        index = next(at for at, frame in enumerate(PARTS.frames) if frame.handle == 0x40)
+        self.assertEqual(told["refusal"], {"part": "objects", "index": index, "place": PLACES[0x40], "reason": "check"})
+        kinds, layers = counts_of(ALL - set(lost))
+        self.assertEqual(told["kept"], {"objects": len(ALL) - 3, "kinds": kinds, "layers": layers})
+        said = told["lost"]
+        self.assertEqual((said["entries"], said["map_whole"], said["header"], said["map_end"]), (len(ALL), True, False, None))
+        self.assertEqual(said["objects"], [{"handle": f"{handle:X}", "place": PLACES[handle]} for handle in lost])
+        self.check_chain(told, lost)
+        lost_kinds, lost_layers = counts_of(lost)
+        for before in ("more before.txt", "more before.dwg"):
+            told = self.report(without(lost), "--before", self.folder / before)
+            self.assertEqual(told["before"], {"objects": len(ALL), "lost": ["40", "41", "60"], "kinds": lost_kinds, "layers": lost_layers})
+        text = self.words("--before", self.folder / "more before.txt")
+        self.assertIn(f"  3 of {len(ALL)} entries of the map\n", text)
+        self.assertIn("Found without an entry of the map: 0 objects.\n", text)
+        self.assertIn(f"Of {len(ALL)} objects of the older drawing 3 are not in the recovered one.\n", text)
+        self.assertIn('  the chain of block 18 "*MODEL_SPACE" breaks; 16 of 198 entities reached from its first:\n', text)
+        self.assertIn("    behind 3F: what follows is 40, which isn't there\n    behind 5F: what follows is 60, which isn't there\n", text)
+
+    def check_chain(self, told: Dict[str, Any], lost: List[int]) -> None:
+        """The chain of the model space breaks behind the objects before lost ones."""
+        (chain,) = told["chains"]
+        members = [handle for handle in range(FIRST, LAST + 1) if handle not in lost]
+        breaks = [handle for handle in members if handle != LAST and handle + 1 in lost]
+        self.assertEqual((chain["block"], chain["name"], chain["members"], chain["reached"]), ("18", "*MODEL_SPACE", len(members), breaks[0] - FIRST + 1))
+        expected = [
+            {"where": "inside", "behind": f"{handle:X}", "target": f"{handle + 1:X}", "why": f"what follows is {handle + 1:X}, which isn't there"} for handle in breaks
+        ]
+        self.assertEqual(chain["breaks"], expected)
+        self.assertEqual(told["audit"]["rules"].get("chain"), 1)
+
+    def test_ends_of_the_chain(self) -> None:
+        told = self.report(without([FIRST, LAST]))
+        (chain,) = told["chains"]
+        self.assertEqual((chain["members"], chain["reached"]), (COUNT - 1, 0))
+        # The last entity leads back to the one before it, and is the only one with links.
+        self.assertEqual(
+            [(one["where"], one["behind"], one["target"]) for one in chain["breaks"]],
+            [("begin", None, f"{FIRST:X}"), ("inside", f"{LAST - 1:X}", f"{LAST:X}"), ("end", None, f"{LAST:X}")],
+        )
+        self.assertEqual(told["audit"]["missing"], [f"{FIRST:X}", f"{LAST:X}"])
+        self.assertIn("    at its begin: its first is 30, which isn't there\n", self.words())
+
+    def test_a_lost_layer(self) -> None:
+        told = self.report(without([0x17]))
+        _, layers = counts_of(ALL)
+        self.assertEqual(told["kept"]["layers"], {"0": layers["0"], "(layer 17, which isn't there)": layers["WALLS"]})
+        self.assertEqual(told["audit"]["missing"], ["17"])
+
+    def test_a_lost_table_of_blocks(self) -> None:
+        told = self.report(without([1]))
+        self.assertEqual(told["audit"]["rules"]["control"], 1)
+        # Without it entities of the spaces have no owner, and the chain of the model space no members.
+        self.assertEqual([(chain["block"], chain["members"]) for chain in told["chains"]], [("18", 0)])
+
+    def test_a_lost_page(self) -> None:
+        place, size = PARTS.pages[0]
+        told = self.report(flipped(DATA, place + size))
+        self.assertEqual(told["lost"]["pages"], [{"index": 0, "place": place}])
+        self.assertEqual((told["lost"]["map_whole"], told["kept"]["objects"]), (False, len(ALL)))
+        self.assertEqual([one["handle"] for one in told["found"]], [f"{handle:X}" for handle in sorted(ALL)])
+        text = self.words()
+        self.assertIn(f"  page 0 of the map, at {place}\n", text)
+        self.assertIn("  objects that only the map named: as it isn't whole, it isn't known how many there were\n", text)
+        self.assertNotIn("entries of the map", text)
+
+    def test_a_cut(self) -> None:
+        size = PARTS.frames[150].place + 1
+        before = self.folder / "more before.txt"
+        before.write_bytes(dwg("show", given=DATA).stdout)
+        told = self.report(DATA[:size], "--before", before)
+        self.assertEqual((told["lost"]["map_end"], told["lost"]["objects"], told["kept"]["objects"]), (PARTS.map, [], 150))
+        lost = sorted(ALL)[150:]
+        kinds, layers = counts_of(lost)
+        self.assertEqual(told["before"], {"objects": len(ALL), "lost": [f"{handle:X}" for handle in lost], "kinds": kinds, "layers": layers})
+        text = self.words("--before", before)
+        self.assertIn(f"  the map from {PARTS.map} on\n", text)
+        self.assertIn(f"Of {len(ALL)} objects of the older drawing {len(lost)} are not in the recovered one.\n", text)
+
+    def test_a_lost_header(self) -> None:
+        told = self.report(flipped(DATA, 60))
+        self.assertEqual((told["lost"]["header"], told["lost"]["map_whole"], told["kept"]["objects"]), (True, False, len(ALL)))
+        self.assertIn("  the file header: ", self.words())
+
+    def test_another_version(self) -> None:
+        told = self.report(b"AC1014" + DATA[6:])
+        self.assertEqual(told["version"], "AC1014 (R14)")
+        self.assertIn("It says that it is of version AC1014 (R14), which dwg doesn't read", self.words())
+
+    def refused(self, status: int, *words: object, **more: str) -> bytes:
+        """A run that ends with a status, says why in a line, and changes nothing."""
+        before = {path: (path.read_bytes(), path.stat().st_mtime_ns) for path in self.folder.iterdir() if path.is_file()}
+        ran = tool("dwg-recover", *words, **more)
+        self.assertEqual((ran.returncode, ran.stdout), (status, b""), ran.stderr)
+        self.assertTrue(ran.stderr.startswith(b"dwg-recover: ") or status == 64)
+        self.assertEqual({path: (path.read_bytes(), path.stat().st_mtime_ns) for path in self.folder.iterdir() if path.is_file()}, before)
+        return ran.stderr
+
+    def test_the_input_is_never_the_output(self) -> None:
+        self.source.write_bytes(without([0x40]))
+        (self.folder / "symbolic").symlink_to("in.dwg")
+        os.link(self.source, self.folder / "hard")
+        same = [self.source, self.folder / "symbolic", self.folder / "hard", f"{self.folder}/../{self.folder.name}/in.dwg"]
+        for out in same:
+            self.assertIn(b"is the input itself", self.refused(73, self.source, out))
+            self.refused(73, "--force", self.source, out)
+            self.refused(73, "--force", out, self.source)
+        (self.folder / "x.notes").write_bytes(DATA)
+        self.assertIn(b"is the input itself", self.refused(73, "--force", self.folder / "x.notes", self.folder / "x"))
+
+    def test_an_output_that_is_there(self) -> None:
+        self.source.write_bytes(without([0x40]))
+        self.out.write_bytes(b"precious")
+        self.assertIn(b"is there already", self.refused(73, self.source, self.out))
+        self.out.unlink()
+        self.notes.write_bytes(b"precious")
+        self.refused(73, self.source, self.out)
+        self.notes.unlink()
+        self.out.symlink_to("nowhere")
+        self.refused(73, self.source, self.out)
+        self.out.unlink()
+        self.out.mkdir()
+        self.refused(73, "--force", self.source, self.out)
+        self.out.rmdir()
+        self.assertEqual(tool("dwg-recover", self.source, self.out).returncode, 1)
+        self.refused(73, self.source, self.out)
+        self.assertEqual(tool("dwg-recover", "--force", self.source, self.out).returncode, 1)
+
+    def test_nothing_kept(self) -> None:
+        for data in (b"", b"\xff\xd8\xff\xe0 picture", bytes(5000)):
+            self.source.write_bytes(data)
+            self.assertIn(b"no object was kept", self.refused(65, self.source, self.out))
+        self.assertEqual(self.report(b"", "--even-empty")["kept"], {"objects": 0, "kinds": {}, "layers": {}})
+        # A drawing without objects is whole.
+        self.assertTrue(self.report((made.DATA / "smallest.dwg").read_bytes())["whole"])
+
+    def test_faults_of_the_system(self) -> None:
+        self.source.write_bytes(without([0x40]))
+        self.refused(4, self.folder / "missing", self.out)
+        self.refused(4, self.source, self.out, "--before", self.folder / "missing")
+        self.refused(4, self.folder, self.out)
+        self.refused(5, self.source, self.folder / "missing" / "out.dwg")
+        self.refused(64, self.source)
+        self.refused(64, "--before", self.source.parent / "in.dwg", "--nonsense", self.source, self.out)
+        text = self.folder / "text"
+        text.write_bytes(b"no text of show\n")
+        self.refused(64, "--before", text, self.source, self.out)
+        self.refused(69, "--program", "/nowhere/dwg", self.source, self.out)
+        os.truncate(self.source, 33_554_433)
+        self.refused(7, self.source, self.out)
+
+    def test_statuses_of_the_program(self) -> None:
+        self.source.write_bytes(without([0x40]))
+        for lines, status in ((["printf x; exit 5"], 5), (["exit 6"], 6), (['echo "dwg: drawing too large: 33554433 bytes" >&2; exit 8'], 8), (["kill -9 $$"], 69)):
+            stand_in = program_that(self.folder, "stand-in", ['[ "$1" = recover ] || exec "$REAL" "$@"', *lines])
+            self.refused(status, "--program", stand_in, self.source, self.out)
+
+    def test_an_output_that_comes_meanwhile(self) -> None:
+        self.source.write_bytes(without([0x40]))
+        stand_in = program_that(self.folder, "stand-in", [f'[ "$1" != recover ] || echo precious >"{self.out}"', 'exec "$REAL" "$@"'])
+        ran = tool("dwg-recover", "--program", stand_in, self.source, self.out)
+        self.assertEqual((ran.returncode, self.out.read_bytes()), (73, b"precious\n"))
+
+    def test_interrupted(self) -> None:
+        self.source.write_bytes(without([0x40]))
+        slow = program_that(self.folder, "slow", [f'if [ "$1" = recover ]; then "$REAL" "$@" | head -c 500; echo x >"{self.folder}/begun"; exec sleep 30; fi', 'exec "$REAL" "$@"'])
+        for number, status in ((signal.SIGINT, 130), (signal.SIGTERM, 143)):
+            started = subprocess.Popen([str(TOOLS / "dwg-recover"), "--program", str(slow), str(self.source), str(self.out)], stdout=subprocess.PIPE, stderr=subprocess.PIPE)
+            for _ in range(200):
+                if (self.folder / "begun").exists():
+                    break
+                time.sleep(0.05)
+            started.send_signal(number)
+            out, said = started.communicate(timeout=20)
+            self.assertEqual((started.returncode, out, said), (status, b"", b""))
+            (self.folder / "begun").unlink()
+            self.assertEqual(sorted(os.listdir(self.folder)), ["in.dwg", "slow"])
+
+    def test_names(self) -> None:
+        source = os.path.join(os.fsencode(self.folder), b"a\nb\xe4.dwg")
+        with open(source, "wb") as file:
+            file.write(without([0x40]))
+        out = self.folder / "o\tut.dwg"
+        ran = tool("dwg-recover", os.fsdecode(source), out)
+        first = ran.stdout.decode().splitlines()[0]
+        self.assertIn(f"{self.folder}/a\\nb\\xe4.dwg is damaged: objects ", first)
+        self.assertIn(f"{self.folder}/o\\tut.dwg, the notes are in", first)
+
+    def test_help(self) -> None:
+        told = tool("dwg-recover", "--help").stdout.decode()
+        self.assertTrue(told.splitlines()[-1].startswith("This tool is tested"))
+        for status in (0, 1, 4, 5, 6, 7, 8, 64, 65, 69, 70, 73, 130):
+            self.assertRegex(told, rf"(?m)^  {status} +\w")
+
+
+class Chains(unittest.TestCase):
+    """Where chains break, of small blocks that are written here."""
+
+    def breaks(self, nexts: Dict[int, int], first: int, last: int, more: Iterable[int] = ()) -> List[str]:
+        """The breaks of a block with these members and these objects beside."""
+        survey = RECOVER.Survey()
+        survey.spaces = [(1, 2)]
+        survey.blocks[1] = RECOVER.Block("B", first, last)
+        survey.nexts = nexts
+        for handle in nexts:
+            survey.modes[handle], survey.kinds[handle] = 2, "LINE"
+        for handle in more:
+            survey.kinds[handle] = "LAYER"
+        return [str(one) for chain in RECOVER.Chains(survey).broken() for one in chain.breaks]
+
+    def test_whole(self) -> None:
+        self.assertEqual(self.breaks({}, 0, 0), [])
+        self.assertEqual(self.breaks({5: 9}, 5, 5), [])
+        self.assertEqual(self.breaks({5: 7, 7: 6, 6: 0}, 5, 6), [])
+
+    def test_broken(self) -> None:
+        self.assertEqual(self.breaks({}, 5, 5, [5]), ["at its begin: its first is 5, of kind LAYER, which is no member of the block", "at its end: its last is 5, of kind LAYER, which is no member of the block"])
+        self.assertEqual(self.breaks({5: 0}, 0, 0), ["at its begin: its first is missing", "behind 5: what follows is missing", "at its end: its last is missing"])
+        self.assertEqual(self.breaks({5: 0, 6: 0}, 5, 6), ["behind 5: what follows is missing"])
+        self.assertEqual(self.breaks({5: 6, 6: 5, 7: 0}, 5, 7), ["behind 6: what follows is 5, the first"])
+        self.assertEqual(self.breaks({5: 7, 6: 7, 7: 0}, 5, 7), ["behind 6: what follows is 7, which follows 5 too"])
+        self.assertEqual(self.breaks({5: 6, 6: 0, 7: 8, 8: 7}, 5, 6), ["behind 8: what follows is 7, a ring of 2 that stands apart"])
+        self.assertEqual(self.breaks({5: 6, 6: 0, 7: 7}, 5, 6), ["behind 7: what follows is 7, a ring of 1 that stands apart"])
+        self.assertEqual(self.breaks({5: 0x2F, 6: 0}, 5, 6, [0x2F]), ["behind 5: what follows is 2F, of kind LAYER, which is no member of the block"])
+
+    def test_members(self) -> None:
+        """Who is a member of which block, by a text that is written here: both spaces, a block with an attribute of its own, a raw entity."""
+        text = """drawing AC1015 codepage 30 lead - mark -
+variables -
+classes 0
+objects 12
+object 1 BLOCK CONTROL typed 48
+  model 3.18
+  paper 3.1B
+object 10 LAYER typed 51
+  entry.name "W\\e4nde"
+object 18 BLOCK HEADER typed 49
+  entry.name "*MODEL_SPACE"
+  ends.first 4.30
+  ends.last 4.30
+object 1B BLOCK HEADER typed 49
+  entry.name "*PAPER_SPACE"
+  ends.first 4.31
+  ends.last 4.31
+object 20 BLOCK HEADER typed 49
+  entry.name "TAG"
+  ends.first 4.32
+  ends.last 4.33
+object 21 BLOCK typed 4
+  mode 0
+  owner 4.20
+  layer 5.10
+object 22 ATTRIB typed 2
+  mode 0
+  owner 4.20
+  layer 5.10
+object 30 LINE typed 19
+  mode 2
+  layer 5.10
+object 31 LINE typed 19
+  mode 1
+  layer 5.11
+object 32 LINE typed 19
+  mode 0
+  owner 4.20
+  layer 5.10
+object 33 ENTITY plain 35
+  mode 0
+  owner 4.20
+  links.previous 4.32
+  links.next 4.0
+  layer 5.10
+object 34 LINE raw 19
+  bytes 00
+"""
+        lines = iter(text.encode().splitlines(keepends=True))
+        front = RECOVER.drawing.read_front(lines)
+        survey = RECOVER.surveyed(front, RECOVER.drawing.read_objects(lines, front.count))
+        chains = RECOVER.Chains(survey)
+        self.assertEqual(chains.members, {0x18: [0x30], 0x1B: [0x31], 0x20: [0x32, 0x33]})
+        self.assertEqual(list(chains.broken()), [])
+        counts = RECOVER.counted(survey, survey.kinds)
+        self.assertEqual(counts.layers, {"W\u00e4nde": 5, "(layer 11, which isn't there)": 1})
+        self.assertEqual((counts.kinds["ELLIPSE"], counts.kinds["LINE"]), (1, 4))
+
+    def test_as_the_audit(self) -> None:
+        """A chain is broken exactly where the audit has a finding of the rule, over changed drawings."""
+        for handle in (0x2E, 0x30, 0x31, 0x40, LAST - 1, LAST, 0x18, 0x19, 0x22, 0x23, 0x24, 0x20, 1):
+            recovered = dwg("recover", given=without([handle])).stdout
+            found = {line.split()[1] for line in dwg("audit", given=recovered).stdout.decode().splitlines() if " chain " in line}
+            with tempfile.NamedTemporaryFile() as file:
+                file.write(recovered)
+                file.flush()
+                survey = RECOVER.survey_of(RECOVER.Program(made.PROGRAM), file.name)
+            self.assertEqual({f"{chain.block:X}" for chain in RECOVER.Chains(survey).broken()}, found, f"{handle:X}")
+
+
+def current_mask() -> int:
+    """The mask of modes of new files."""
+    mask = os.umask(0)
+    os.umask(mask)
+    return mask
+
+
+if __name__ == "__main__":
+    unittest.main()
