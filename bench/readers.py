@@ -26,6 +26,8 @@ TOP = Path(__file__).resolve().parents[1]
 PACKAGES = {"ogrinfo": "gdal-bin", "g++": "g++", "dpkg-source": "dpkg-dev"}
 # ezdxf is a package for the interpreter of the system.
 PYTHON = "/usr/bin/python3"
+# The keys by which Debian's lists are signed.
+KEYS = "/usr/share/keyrings/debian-archive-keyring.gpg"
 
 
 @dataclass
@@ -88,14 +90,14 @@ def install() -> List[str]:
 
 
 def fetch_librecad(folder: Path) -> Optional[Path]:
-    """The unpacked source package of LibreCAD, by a list of sources of its own, so that nothing of the system is changed."""
+    """The unpacked source package of LibreCAD, by a list of sources of its own, made of those of the system, so that nothing of it is changed."""
     found = sorted(folder.glob("librecad-*/libraries/libdxfrw/src"))
     if found:
         return found[-1]
-    release = dict(re.findall(r'^(\w+)="?([^"\n]*)', Path("/etc/os-release").read_text(encoding="utf-8"), re.MULTILINE))
-    key = "/usr/share/keyrings/debian-archive-keyring.gpg"
+    asked = ["apt-get", "indextargets", "--format", "$(REPO_URI) $(CODENAME) $(COMPONENT)", "Created-By: Packages"]
+    known = sorted(set(subprocess.run(asked, stdout=subprocess.PIPE, text=True, check=False).stdout.splitlines()))
     (folder / "lists" / "partial").mkdir(parents=True, exist_ok=True)
-    (folder / "sources.list").write_text(f"deb-src [signed-by={key}] http://deb.debian.org/debian {release.get('VERSION_CODENAME', 'stable')} main\n", encoding="utf-8")
+    (folder / "sources.list").write_text("".join(f"deb-src [signed-by={KEYS}] {one}\n" for one in known), encoding="utf-8")
     options = {"Dir::Etc::SourceList": folder / "sources.list", "Dir::Etc::SourceParts": os.devnull, "Dir::State::Lists": folder / "lists"}
     words = [part for name, value in options.items() for part in ("-o", f"{name}={value}")]
     for command in (["update"], ["source", "librecad"]):
