@@ -1,12 +1,12 @@
 -- What the checker looks up, by places.
-use Rattle.std.proofs.Common.{◌≡◌, refl, sym, ap, ◌∙◌, subst, ◌<◌, ◌+◌, ◌^◌, ℕ, suc, Bool, true, false, List, [], ◌∷◌, length, map, drop, get_or, Option, Some, None, arith}
+use Rattle.std.proofs.Common.{◌≡◌, refl, sym, ap, ◌∙◌, subst, ◌<◌, ◌+◌, ◌^◌, ℕ, suc, Bool, true, false, List, [], ◌∷◌, length, drop, get_or, Option, Some, None, arith}
 use Rattle.dwg_base.specs.declared.device.NoMemory.{NoMemory}
 use Rattle.std.specs.Prelude.{◌↔◌, IfOk, IsTrue, Result, Ok, Err, ◌==◌, ◌&&◌, ◌||◌, ◌≤◌, not, if◌then◌else◌}
 use Rattle.std.specs.List.{list_all, slice_get}
-use Rattle.std.specs.Option.{option_and_then, option_map, option_map_or}
-use Rattle.std.proofs.lemmas.List.{drop_all, drop_more, length-map}
+use Rattle.std.specs.Option.{option_and_then, option_map_or}
+use Rattle.std.proofs.lemmas.List.{drop_all, drop_more}
 use Rattle.std.proofs.lemmas.List.Sums.{sum_by_more_le_part}
-use Rattle.std.proofs.lemmas.Option.{get_or_from_slice_get, slice_get-map, slice_get_within}
+use Rattle.std.proofs.lemmas.Option.{get_or_from_slice_get, slice_get_within}
 use Rattle.dwg_cert.specs.AcceptTests.{AcceptanceIsTold, are_handles, is_accepted, is_in_place, is_placed, is_placed_in}
 use Rattle.dwg_cert.specs.Accepts.{Accepts, entry_at, handles_in}
 use Rattle.dwg_cert.specs.Certified.{AcceptedIsSound}
@@ -28,15 +28,6 @@ pub entry_placed : (objects : List ObjectValue) (cert : List Entry) (handle : �
 unfolding entry_at
 entry_placed objects cert handle place same at =
     ap (option_and_then (slice_get cert)) (at ∙ ap (λ (handles : List ℕ). place_in handles handle) (sym same)) ∙ placed_by_key (λ (entry : Entry). entry.handle) cert handle
-
--- a number at a place of a table is what is said of the thing there
-pub tabled_at : {A : Type 0} (f : A → ℕ) (things : List A) (table : List ℕ) (place : ℕ) (x : A) → table ≡ map f things → slice_get things place ≡ Some x → get_or table place 0 ≡ f x
-tabled_at {A} f things table place x is stands =
-    get_or_from_slice_get table place (f x) 0 (ap (λ (t : List ℕ). slice_get t place) is ∙ slice_get-map f things place ∙ ap (option_map f) stands)
-
--- a place of the objects is one of a table of them
-pub within_table : {A B : Type 0} (f : A → B) (things : List A) (table : List B) (place : ℕ) → table ≡ map f things → place < length things → place < length table
-within_table f things table place is within = omega (arith, ap length is, length-map things f, within)
 
 -- what a place asks of an object, by the block that stands at its home
 pub in_place_by_home : (objects : List ObjectValue) (cert : List Entry) (x : ObjectValue)

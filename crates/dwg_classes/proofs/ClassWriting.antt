@@ -114,12 +114,6 @@ one_so_far classes left class old mid new more so_far = record {
   writable = so_far.writable.1;
 }
 
--- the same by its place
-pub written_at : (classes : List Class) (i : ℕ) (class : Class) (old mid new : Written) → i < length classes → class ≡ get_or classes i class → Extends mid new (any_class.short class)
-    → AreWrittenSoFar classes (drop i classes) old mid → AreWrittenSoFar classes (drop (i + 1) classes) old new
-written_at classes i class old mid new inside here more so_far =
-    one_so_far classes (drop (i + 1) classes) class old mid new more (subst (λ (left : List Class). AreWrittenSoFar classes left old mid) (left_at classes i class inside here) so_far)
-
 -- there is room for the class at a place, where there was room for all
 pub room_at : (classes : List Class) (i : ℕ) (class : Class) (old mid : Written) → i < length classes → class ≡ get_or classes i class → length (short_all numbered_class classes) ≤ old.spare
     → AreWrittenSoFar classes (drop i classes) old mid → length (any_class.short class) ≤ mid.spare

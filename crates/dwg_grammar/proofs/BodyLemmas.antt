@@ -1,7 +1,7 @@
 -- What holds of every body: its spellings are told apart, and what is parsed is what is spelled.
-use Rattle.std.proofs.Common.{◌≡◌, refl, sym, ◌∙◌, ap, ap₂, ℕ, Bool, List, Option, Some, None}
-use Rattle.std.proofs.lemmas.Option.{some_pair_parts, none-some}
-use Rattle.dwg_grammar.specs.Bodies.{BodyGrammar, BeginsWithBody, IsBody, IsUniqueBody, ReadsBody, IsFreeBody, IsLawfulBody}
+use Rattle.std.proofs.Common.{◌≡◌, sym, ◌∙◌, ap, ap₂, ℕ, Bool, List, Option, Some}
+use Rattle.std.proofs.lemmas.Option.{some_pair_parts}
+use Rattle.dwg_grammar.specs.Bodies.{BodyGrammar, BeginsWithBody, IsBody, IsUniqueBody, IsFreeBody, IsLawfulBody}
 
 -- what begins with a body is parsed
 pub begins_parsed : {V : Type 0} (base : ℕ) (body : BodyGrammar V) (value : V) (main main_left references references_left : List Bool) → IsBody base body
@@ -20,16 +20,6 @@ unique_body {V} base body is value other main main_left other_main_left referenc
     let behind : (main_left ≡ other_main_left) × (references_left ≡ other_references_left) =
     some_pair_parts main_left other_main_left references_left other_references_left (ap (λ (pair : List Bool × List Bool). Some pair) parts.1) in
     (parts.0, behind.0, behind.1)
-
--- a parse that doesn't answer had no fronts that spell a value
-pub body_unread : {V : Type 0} (base : ℕ) (body : BodyGrammar V) (main references : List Bool) → IsBody base body → body.parse main references ≡ None
-    → ReadsBody body None main main references references
-body_unread {V} base body main references is none = (none_begins, refl, refl)
-  where
-    none_begins : (value : V) (main_behind references_behind : List Bool) → BeginsWithBody body value main main_behind references references_behind → ⊥
-    none_begins value main_behind references_behind begins =
-        none-some {A = V × (List Bool × List Bool)} (value, (main_behind, references_behind))
-        (sym none ∙ begins_parsed base body value main main_behind references references_behind is begins)
 
 -- every body is lawful
 pub lawful_of_body : {V : Type 0} (base : ℕ) (body : BodyGrammar V) → IsBody base body → IsLawfulBody base body

@@ -11,8 +11,7 @@ use Rattle.dwg_grammar.proofs.NumberLemmas.{rc_is_code}
 use Rattle.dwg_grammar.specs.Reference.{Reference}
 use Rattle.dwg_grammar.specs.ReferenceCodes.{reference}
 use Rattle.dwg_grammar.proofs.ReferenceLemmas.{reference_is_code}
-use Rattle.dwg_grammar.specs.Bodies.{BodyGrammar, BeginsWithBody, IsBody, ReadsBody}
-use Rattle.dwg_grammar.proofs.BodyLemmas.{body_unread}
+use Rattle.dwg_grammar.specs.Bodies.{BodyGrammar, BeginsWithBody, IsBody}
 
 -- letters that begin with no value are parsed as none
 unparsed : {A V : Type 0} (code : Grammar A V) (letters : List A) (found : Option (V × List A)) → IsCode AnyLetters code → (BeginsWith code letters → ⊥) → code.parse letters ≡ found → found ≡ None
@@ -69,12 +68,6 @@ pub body_value : {V : Type 0} (base : ℕ) (body : BodyGrammar V) (found : Optio
 body_value base body found value main main_left references references_left is same was =
     let begins = body_read base body found value main main_left references references_left is same was in
     is.value value begins.main_front begins.reference_front (length references_left) begins.spelled
-
--- and where nothing is parsed nothing is read
-pub body_missing : {V : Type 0} (base : ℕ) (body : BodyGrammar V) (found : Option V) (main main_left references references_left : List Bool) → IsBody base body → found ≡ None
-    → body.parse main references ≡ option_map (λ (one : V). (one, (main_left, references_left))) found → ReadsBody body None main main references references
-body_missing {V} base body found main main_left references references_left is same was =
-    body_unread base body main references is (was ∙ ap (option_map (λ (one : V). (one, (main_left, references_left)))) same)
 
 -- what is parsed by a code has a spelling
 pub parsed_value : {V : Type 0} (code : Grammar Bool V) (value : V) (old new : List Bool) → IsCode AnyLetters code → code.parse old ≡ Some (value, new) → code.IsValue value

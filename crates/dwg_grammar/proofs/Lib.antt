@@ -8,7 +8,6 @@ pub mod CountedLemmas
 pub mod DefaultLemmas
 pub mod ListLemmas
 pub mod MadeBodies
-pub mod MainBodies
 pub mod ModularBytes
 pub mod ModularLemmas
 pub mod NumberLemmas

@@ -1,9 +1,8 @@
 -- What the scan reads at a place: the object of a frame that is kept, which is kept with it.
 use Rattle.std.specs.Bool.{then_some}
-use Rattle.std.proofs.Common.{◌≡◌, refl, sym, ◌∙◌, ap, ap₂, subst, ℕ, Bool, true, false, List, [], ◌∷◌, ◌++◌, map, Option, Some, None}
+use Rattle.std.proofs.Common.{◌≡◌, refl, sym, ◌∙◌, ap, subst, ℕ, Bool, true, false, List, Option, Some, None}
 use Rattle.std.specs.Prelude.{option_map, Ok}
 use Rattle.std.specs.Option.{IsSome}
-use Rattle.std.proofs.lemmas.List.{map-append}
 use Rattle.std.proofs.lemmas.Option.{same_Some}
 use Rattle.dwg_classes.specs.declared.class.Class.{Class}
 use Rattle.dwg_object.proofs.FormLaws.{form_at}
@@ -14,12 +13,11 @@ use Rattle.dwg_object.specs.FrameLines.{span_body, tried_span}
 use Rattle.dwg_object.specs.Objects.{ObjectValue, value_of}
 use Rattle.dwg_recover.specs.declared.frame.Frame.{Frame}
 use Rattle.dwg_recover.specs.declared.objects.FrameObject.{FrameObject}
-use Rattle.dwg_recover.specs.declared.objects.KeptObjects.{KeptObjects}
 use Rattle.dwg_recover.proofs.FoundLemmas.{span_inside}
 use Rattle.dwg_recover.proofs.FrameScanning.{is_kept, not_common, read_at, span_there}
 use Rattle.dwg_recover.specs.Frames.{has_common_part, is_free, is_new, keep_free, own_of_span, scanned}
-use Rattle.dwg_recover.specs.KeptObjects.{HoldsObjects, IsKeptAt, TellsPlace, common_at}
-use Rattle.dwg_recover.specs.Recovering.{body_tried, frame_body, object_of}
+use Rattle.dwg_recover.specs.KeptObjects.{IsKeptAt, TellsPlace, common_at}
+use Rattle.dwg_recover.specs.Recovering.{body_tried, frame_body}
 
 -- an object that is taken where a test holds, as a value
 value_taken : (test : Bool) (object : Object) → option_map value_of (then_some test object) ≡ then_some test (value_of object)
@@ -76,11 +74,3 @@ kept_at classes bytes kept place told found is tells = subst (TellsPlace classes
 pub none_at : (classes : List Class) (bytes : List ℕ) (kept : List Frame) (place : ℕ) (told : Option FrameObject) → told ≡ None → TellsPlace classes bytes kept place told
     → kept ≡ keep_free kept (scanned classes bytes place)
 none_at classes bytes kept place told is tells = subst (TellsPlace classes bytes kept place) is tells
-
--- the objects of frames and that of one more are those of all
-pub objects_with : (classes : List Class) (bytes : List ℕ) (kept more : KeptObjects) (place : ℕ) (found : FrameObject) → HoldsObjects classes bytes kept → IsKeptAt classes bytes kept.frames place found
-    → more.frames ≡ kept.frames ++ found.frame ∷ [] → more.objects.items ≡ kept.objects.items ++ found.object ∷ [] → HoldsObjects classes bytes more
-objects_with classes bytes kept more place found holds is frames objects =
-    ap (map value_of) objects ∙ map-append value_of kept.objects.items (found.object ∷ [])
-    ∙ ap₂ (λ (values : List ObjectValue) (value : ObjectValue). values ++ value ∷ []) holds is.object
-    ∙ sym (ap (map (object_of classes bytes)) frames ∙ map-append (object_of classes bytes) kept.frames (found.frame ∷ []))
