@@ -7,13 +7,10 @@ use Rattle.dwg_grammar.specs.Grammar.{Grammar, IsCode, AnyLetters}
 use Rattle.dwg_grammar.specs.Reference.{Reference}
 use Rattle.dwg_common.specs.declared.app_data.AppData.{AppData}
 use Rattle.dwg_common.specs.declared.entity.Links.{Links}
-use Rattle.dwg_common.specs.declared.entity.Look.{Look}
-use Rattle.dwg_common.specs.declared.entity.Named.{Named}
-use Rattle.dwg_common.specs.declared.entity.Start.{Start}
 use Rattle.dwg_common.specs.AppListLaws.{app_list_is_code}
 use Rattle.dwg_common.specs.LawSets.{codes, parts, bodies}
 use Rattle.dwg_grammar.specs.Bodies.{IsBody}
-use Rattle.dwg_common.specs.Entities.{graphic, links, entity_refs, entity_of, main_of_entity, named_of_entity, entity_common}
+use Rattle.dwg_common.specs.Entities.{StartParts, LookParts, NamedParts, graphic, links, entity_refs, entity_of, start_of, look_of, named_of, entity_common}
 use Rattle.dwg_common.specs.NonEntities.{object_refs, object_common}
 use Rattle.dwg_grammar.specs.References.{IsReferencePart}
 use Rattle.dwg_grammar.proofs.Shaped.{shaped_is_code}
@@ -35,7 +32,7 @@ pub links_is_part : (base : ℕ) → base < 2 ^ 63 → IsReferencePart base (lin
 links_is_part base small = search parts
 
 -- and so are all that an entity names
-pub entity_refs_is_part : (base : ℕ) (told : Start × Look) → base < 2 ^ 63 → IsReferencePart base (entity_refs base told)
+pub entity_refs_is_part : (base : ℕ) (told : StartParts × LookParts) → base < 2 ^ 63 → IsReferencePart base (entity_refs base told)
 entity_refs_is_part base (start, look) small = search parts depth 16
 
 -- where links are there by a test, they are missing where it fails
@@ -44,12 +41,12 @@ links_missing true code value none = ap is_none none
 links_missing false code value (inner, same, fits) = ap is_none same
 
 -- what is put together of an entity is told by it
-entity_told : (base : ℕ) (told : Start × Look) (named : Named) → (entity_refs base told).grammar.IsValue named
-    → (main_of_entity (entity_of told named) ≡ told) × (named_of_entity (entity_of told named) ≡ named)
+entity_told : (base : ℕ) (told : StartParts × LookParts) (named : NamedParts) → (entity_refs base told).grammar.IsValue named
+    → (◌≡◌ {A = StartParts × LookParts} (start_of (entity_of told named), look_of (entity_of told named)) told) × (named_of (entity_of told named) ≡ named)
 unfolding chain
-entity_told base (start, look) named names = (
-  ap₂ (λ (count : ℕ) (missing : Bool). (record { app = start.app; graphic = start.graphic; mode = start.mode; reactors = count; nolinks = missing }, look))
-      names.1.0.0 (links_missing start.nolinks (links base).grammar named.links names.1.1.1.0),
+entity_told base ((app, (picture, (mode, (count, nolinks)))), look) named names = (
+  ap₂ (λ (reactors : ℕ) (missing : Bool). let parts : StartParts × LookParts = ((app, (picture, (mode, (reactors, missing)))), look) in parts)
+      names.1.0.0 (links_missing nolinks (links base).grammar named.1.1.1.0 names.1.1.1.0),
   refl,
 )
 

@@ -5,10 +5,9 @@ use Rattle.dwg_grammar.specs.Combinators.{seq, restrict, when, counted, shaped}
 use Rattle.dwg_grammar.specs.Grammar.{Grammar}
 use Rattle.dwg_common.specs.declared.entity.EntityCommon.{EntityCommon}
 use Rattle.dwg_common.specs.declared.entity.Links.{Links}
-use Rattle.dwg_common.specs.declared.entity.Look.{Look}
-use Rattle.dwg_common.specs.declared.entity.Named.{Named}
-use Rattle.dwg_common.specs.declared.entity.Start.{Start}
+use Rattle.dwg_common.specs.declared.app_data.AppData.{AppData}
 use Rattle.dwg_common.specs.AppList.{app_list}
+use Rattle.dwg_grammar.specs.Reference.{Reference}
 use Rattle.dwg_grammar.specs.Bodies.{BodyGrammar}
 use Rattle.dwg_grammar.specs.MakingBodies.{body}
 use Rattle.dwg_grammar.specs.References.{ReferencePart, one_ref, two_refs, some_refs, maybe_refs, then_refs, seen_refs}
@@ -22,95 +21,68 @@ abbrev pub entity_mode : Grammar Bool ℕ
 entity_mode = restrict (λ mode. nat_lt mode 3) bb
 
 -- application data; B graphic; BB mode; BL count of reactors; B nolinks
-abbrev pub entity_start : ℕ → Grammar Bool Start
-entity_start base =
-    shaped (λ parts. record { app = parts.0; graphic = parts.1.0; mode = parts.1.1.0; reactors = parts.1.1.1.0; nolinks = parts.1.1.1.1 })
-    (λ start. (start.app, (start.graphic, (start.mode, (start.reactors, start.nolinks)))))
-    (seq (app_list base) (λ app. seq graphic (λ graphic. seq entity_mode (λ mode. seq bl (λ reactors. b)))))
+abbrev pub StartParts : Type 0
+StartParts = List AppData × (Option (List ℕ) × (ℕ × (ℕ × Bool)))
+
+abbrev pub entity_start : ℕ → Grammar Bool StartParts
+entity_start base = seq (app_list base) (λ app. seq graphic (λ graphic. seq entity_mode (λ mode. seq bl (λ reactors. b))))
 
 -- BS colour; BD linetype scale; BB linetype flag; BB plotstyle flag; BS invisible; RC lineweight
-abbrev pub entity_look : Grammar Bool Look
-entity_look =
-    shaped (λ parts. record {
-      colour = parts.0;
-      linetype_scale = parts.1.0;
-      linetype_flag = parts.1.1.0;
-      plotstyle_flag = parts.1.1.1.0;
-      invisible = parts.1.1.1.1.0;
-      lineweight = parts.1.1.1.1.1;
-    })
-    (λ look. (look.colour, (look.linetype_scale, (look.linetype_flag, (look.plotstyle_flag, (look.invisible, look.lineweight))))))
-    (seq bs (λ colour. seq bd (λ linetype_scale. seq bb (λ linetype_flag. seq bb (λ plotstyle_flag. seq bs (λ invisible. rc))))))
+abbrev pub LookParts : Type 0
+LookParts = ℕ × (ℕ × (ℕ × (ℕ × (ℕ × ℕ))))
+
+abbrev pub entity_look : Grammar Bool LookParts
+entity_look = seq bs (λ colour. seq bd (λ linetype_scale. seq bb (λ linetype_flag. seq bb (λ plotstyle_flag. seq bs (λ invisible. rc)))))
 
 -- previous, next
 abbrev pub links : ℕ → ReferencePart Links
 links base = seen_refs (λ parts. record { previous = parts.0; next = parts.1 }) (λ links. (links.previous, links.next)) (two_refs base)
 
 -- owner where the mode is 0; reactors; xdict; previous and next where nolinks is 0; layer; linetype where its flag is 3; plotstyle where its flag is 3
-abbrev pub entity_refs : ℕ → Start × Look → ReferencePart Named
-entity_refs base (start, look) =
-    seen_refs (λ parts. record {
-      owner = parts.0;
-      reactors = parts.1.0;
-      xdict = parts.1.1.0;
-      links = parts.1.1.1.0;
-      layer = parts.1.1.1.1.0;
-      linetype = parts.1.1.1.1.1.0;
-      plotstyle = parts.1.1.1.1.1.1;
-    })
-    (λ named. (named.owner, (named.reactors, (named.xdict, (named.links, (named.layer, (named.linetype, named.plotstyle)))))))
-    (then_refs (maybe_refs (start.mode == 0) (one_ref base))
-    (then_refs (some_refs base start.reactors)
+abbrev pub NamedParts : Type 0
+NamedParts = Option Reference × (List Reference × (Reference × (Option Links × (Reference × (Option Reference × Option Reference)))))
+
+abbrev pub entity_refs : ℕ → StartParts × LookParts → ReferencePart NamedParts
+entity_refs base ((_, (_, (mode, (reactors, nolinks)))), (_, (_, (linetype_flag, (plotstyle_flag, _))))) =
+    then_refs (maybe_refs (mode == 0) (one_ref base))
+    (then_refs (some_refs base reactors)
     (then_refs (one_ref base)
-    (then_refs (maybe_refs (not start.nolinks) (links base))
+    (then_refs (maybe_refs (not nolinks) (links base))
     (then_refs (one_ref base)
-    (then_refs (maybe_refs (look.linetype_flag == 3) (one_ref base)) (maybe_refs (look.plotstyle_flag == 3) (one_ref base))))))))
+    (then_refs (maybe_refs (linetype_flag == 3) (one_ref base)) (maybe_refs (plotstyle_flag == 3) (one_ref base)))))))
 
 -- what the main bits of an entity tell, and what it names
-abbrev pub main_of_entity : EntityCommon → Start × Look
-main_of_entity common = (
-  record { app = common.app; graphic = common.graphic; mode = common.mode; reactors = length common.reactors; nolinks = is_none common.links },
-  record {
-    colour = common.colour;
-    linetype_scale = common.linetype_scale;
-    linetype_flag = common.linetype_flag;
-    plotstyle_flag = common.plotstyle_flag;
-    invisible = common.invisible;
-    lineweight = common.lineweight;
-  },
-)
+abbrev pub start_of : EntityCommon → StartParts
+start_of common = (common.app, (common.graphic, (common.mode, (length common.reactors, is_none common.links))))
 
-abbrev pub named_of_entity : EntityCommon → Named
-named_of_entity common = record {
-  owner = common.owner;
-  reactors = common.reactors;
-  xdict = common.xdict;
-  links = common.links;
-  layer = common.layer;
-  linetype = common.linetype;
-  plotstyle = common.plotstyle;
-}
+abbrev pub look_of : EntityCommon → LookParts
+look_of common = (common.colour, (common.linetype_scale, (common.linetype_flag, (common.plotstyle_flag, (common.invisible, common.lineweight)))))
 
-abbrev pub entity_of : Start × Look → Named → EntityCommon
-entity_of (start, look) named = record {
-  app = start.app;
-  graphic = start.graphic;
-  mode = start.mode;
-  owner = named.owner;
-  reactors = named.reactors;
-  xdict = named.xdict;
-  links = named.links;
-  colour = look.colour;
-  linetype_scale = look.linetype_scale;
-  linetype_flag = look.linetype_flag;
-  linetype = named.linetype;
-  plotstyle_flag = look.plotstyle_flag;
-  plotstyle = named.plotstyle;
-  invisible = look.invisible;
-  lineweight = look.lineweight;
-  layer = named.layer;
+abbrev pub named_of : EntityCommon → NamedParts
+named_of common = (common.owner, (common.reactors, (common.xdict, (common.links, (common.layer, (common.linetype, common.plotstyle))))))
+
+-- an entity's common part from these: that links are missing is told by the links
+abbrev pub entity_of : StartParts × LookParts → NamedParts → EntityCommon
+entity_of ((app, (picture, (mode, (count, nolinks)))), (colour, (linetype_scale, (linetype_flag, (plotstyle_flag, (invisible, lineweight))))))
+    (owner, (reactors, (xdict, (neighbours, (layer, (linetype, plotstyle)))))) = record {
+  app = app;
+  graphic = picture;
+  mode = mode;
+  owner = owner;
+  reactors = reactors;
+  xdict = xdict;
+  links = neighbours;
+  colour = colour;
+  linetype_scale = linetype_scale;
+  linetype_flag = linetype_flag;
+  linetype = linetype;
+  plotstyle_flag = plotstyle_flag;
+  plotstyle = plotstyle;
+  invisible = invisible;
+  lineweight = lineweight;
+  layer = layer;
 }
 
 -- the common part of an entity with this handle: what it begins with, then its look, and what it names
 unfoldable pub entity_common : ℕ → BodyGrammar EntityCommon
-entity_common base = body (seq (entity_start base) (λ start. entity_look)) (entity_refs base) entity_of main_of_entity named_of_entity
+entity_common base = body (seq (entity_start base) (λ start. entity_look)) (entity_refs base) entity_of (λ common. (start_of common, look_of common)) named_of

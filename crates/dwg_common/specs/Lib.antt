@@ -6,6 +6,8 @@ pub mod Members
 pub mod AppList
 -- What all entities have.
 pub mod Entities
+-- What a reader of entities has read, as the parts that the grammar tells.
+pub mod EntityReading
 -- What all objects have that are no entities.
 pub mod NonEntities
 -- Sets of laws on codes, parts of the references and bodies.

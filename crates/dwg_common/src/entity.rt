@@ -1,8 +1,7 @@
 //! What all entities have.
 
-ghost use Rattle.std.specs.Prelude.{◌≡◌};
 ghost use Rattle.dwg_common.specs.CommonLaws.{entity_is_body};
-ghost use Rattle.dwg_common.specs.Entities.{entity_common, main_of_entity};
+ghost use Rattle.dwg_common.specs.Entities.{entity_common};
 
 use crate::app_data::AppData;
 use crate::body::{BodyCode, Lengths};
@@ -111,20 +110,6 @@ pub(crate) struct Named {
     pub(crate) plotstyle: Option<Ref>,
 }
 
-/// How an entity looks.
-fn look_of(common: &EntityCommon) -> Look
-    ensures { result ≡ (main_of_entity common.now).1 }
-{
-    Look {
-        colour: common.colour,
-        linetype_scale: common.linetype_scale,
-        linetype_flag: common.linetype_flag,
-        plotstyle_flag: common.plotstyle_flag,
-        invisible: common.invisible,
-        lineweight: common.lineweight,
-    }
-}
-
 #[tactic(auto, unfolding(crate::specs::Entities::entity_common))]
 impl BodyCode for EntityCommon {
     ghost grammar = { entity_common };
@@ -168,7 +153,7 @@ impl BodyCode for EntityCommon {
         if !start_fits(self, base) {
             return false;
         }
-        if !look_fits(look_of(self)) {
+        if !look_fits(self) {
             return false;
         }
         names_fit(self, base)
@@ -176,14 +161,14 @@ impl BodyCode for EntityCommon {
 
     fn lengths(&self, base: Handle) -> Lengths {
         Lengths {
-            main: start_bits(self, base) + look_bits(look_of(self)),
+            main: start_bits(self, base) + look_bits(self),
             refs: names_bits(self, base),
         }
     }
 
     fn write_main(&self, base: Handle, sink: &mut BitSink) {
         write_start(self, base, sink);
-        write_look(look_of(self), sink);
+        write_look(self, sink);
     }
 
     fn write_refs(&self, base: Handle, sink: &mut BitSink) {

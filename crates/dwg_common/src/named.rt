@@ -1,10 +1,11 @@
 //! What an entity names, as bits (Open Design Specification, "Common entity data").
 
-ghost use Rattle.std.specs.Prelude.{◌≡◌, ◌^◌, ◌<◌, ◌≤◌, ◌↔◌, length, is_none, not, IfOk, IsTrue};
+ghost use Rattle.std.specs.Prelude.{◌≡◌, ◌^◌, ◌<◌, ◌≤◌, ◌↔◌, length, is_none, not, option_map, IfOk, IsTrue};
 ghost use Rattle.dwg_bits.specs.Sink.{Extends};
 ghost use Rattle.dwg_grammar.specs.Combinators.{items, when};
 ghost use Rattle.dwg_grammar.specs.ReferenceCodes.{reference};
-ghost use Rattle.dwg_common.specs.Entities.{entity_refs, links, main_of_entity, named_of_entity};
+ghost use Rattle.dwg_common.specs.Entities.{entity_refs, links, look_of, named_of, start_of};
+ghost use Rattle.dwg_common.specs.EntityReading.{look_read, named_read, start_read};
 ghost use Rattle.dwg_common.specs.Parsing.{Keeps, Parses};
 
 use crate::entity::{EntityCommon, Links, Look, Named, Start};
@@ -32,7 +33,7 @@ pub(crate) fn read_named(
     start: &Start,
     look: Look,
 ) -> Result<Option<Named>, NoMemory>
-    ensures parsed { IfOk result (λ found. Parses (entity_refs base (start.now, look)).grammar found cursor.old cursor.new) }
+    ensures parsed { IfOk result (λ found. Parses (entity_refs base (start_read start.now, look_read look)).grammar (option_map named_read found) cursor.old cursor.new) }
     ensures kept { Keeps cursor.old cursor.new }
 {
     let Some(owner) = parse_when::<CodeH>(&base, start.mode == TO_OWNER, cursor) else {
@@ -105,7 +106,7 @@ fn links_fit_where_there(value: &Option<Links>, base: Handle) -> bool
 /// plot style exactly where their flags are 3, and each reference reaches its target.
 #[tactic(auto, unfolding(dwg_grammar::specs::ReferenceCodes::reference))]
 pub(crate) fn names_fit(common: &EntityCommon, base: Handle) -> bool
-    ensures { IsTrue result ↔ (entity_refs base (main_of_entity common.now)).grammar.IsValue (named_of_entity common.now) }
+    ensures { IsTrue result ↔ (entity_refs base (start_of common.now, look_of common.now)).grammar.IsValue (named_of common.now) }
 {
     if !ref_fits_when(common.mode == TO_OWNER, &common.owner, base) {
         return false;
@@ -131,9 +132,9 @@ pub(crate) fn names_fit(common: &EntityCommon, base: Handle) -> bool
 /// How many bits what an entity names is written by.
 #[tactic(auto, unfolding(dwg_grammar::specs::Combinators::chain))]
 pub(crate) fn names_bits(common: &EntityCommon, base: Handle) -> u64
-    requires value { (entity_refs base (main_of_entity common.now)).grammar.IsValue (named_of_entity common.now) }
-    requires few { length ((entity_refs base (main_of_entity common.now)).grammar.short (named_of_entity common.now)) < 2 ^ 62 }
-    ensures { result ≡ length ((entity_refs base (main_of_entity common.now)).grammar.short (named_of_entity common.now)) }
+    requires value { (entity_refs base (start_of common.now, look_of common.now)).grammar.IsValue (named_of common.now) }
+    requires few { length ((entity_refs base (start_of common.now, look_of common.now)).grammar.short (named_of common.now)) < 2 ^ 62 }
+    ensures { result ≡ length ((entity_refs base (start_of common.now, look_of common.now)).grammar.short (named_of common.now)) }
 {
     length_when::<CodeH>(&base, common.mode == TO_OWNER, &common.owner)
         + refs_bits(common.reactors.as_slice(), base)
@@ -147,9 +148,9 @@ pub(crate) fn names_bits(common: &EntityCommon, base: Handle) -> u64
 /// Writes what an entity names.
 #[tactic(auto, unfolding(dwg_grammar::specs::Combinators::chain))]
 pub(crate) fn write_names(common: &EntityCommon, base: Handle, sink: &mut BitSink)
-    requires value { (entity_refs base (main_of_entity common.now)).grammar.IsValue (named_of_entity common.now) }
-    requires room { length ((entity_refs base (main_of_entity common.now)).grammar.short (named_of_entity common.now)) ≤ sink.old.spare }
-    ensures { Extends sink.old sink.new ((entity_refs base (main_of_entity common.now)).grammar.short (named_of_entity common.now)) }
+    requires value { (entity_refs base (start_of common.now, look_of common.now)).grammar.IsValue (named_of common.now) }
+    requires room { length ((entity_refs base (start_of common.now, look_of common.now)).grammar.short (named_of common.now)) ≤ sink.old.spare }
+    ensures { Extends sink.old sink.new ((entity_refs base (start_of common.now, look_of common.now)).grammar.short (named_of common.now)) }
 {
     write_when::<CodeH>(&base, common.mode == TO_OWNER, &common.owner, sink);
     write_refs(common.reactors.as_slice(), base, sink);

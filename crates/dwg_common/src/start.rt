@@ -1,9 +1,10 @@
 //! What an entity begins with, as bits (Open Design Specification, "Common entity data").
 
-ghost use Rattle.std.specs.Prelude.{◌≡◌, ◌^◌, ◌<◌, ◌≤◌, ◌↔◌, length, IfOk, IsTrue};
+ghost use Rattle.std.specs.Prelude.{◌≡◌, ◌^◌, ◌<◌, ◌≤◌, ◌↔◌, length, option_map, IfOk, IsTrue};
 ghost use Rattle.dwg_bits.specs.Sink.{Extends};
 ghost use Rattle.dwg_common.specs.Parsing.{Keeps, Parses};
-ghost use Rattle.dwg_common.specs.Entities.{entity_mode, entity_start, main_of_entity};
+ghost use Rattle.dwg_common.specs.Entities.{entity_mode, entity_start, start_of};
+ghost use Rattle.dwg_common.specs.EntityReading.{start_read};
 
 use crate::app_list::{app_fits, app_length, read_items, write_app};
 use crate::counts::TOO_MANY;
@@ -37,7 +38,7 @@ pub(crate) fn read_start(
     cursor: &mut BitCursor<'_>,
     base: Handle,
 ) -> Result<Option<Start>, NoMemory>
-    ensures parsed { IfOk result (λ found. Parses (entity_start base) found cursor.old cursor.new) }
+    ensures parsed { IfOk result (λ found. Parses (entity_start base) (option_map start_read found) cursor.old cursor.new) }
     ensures kept { Keeps cursor.old cursor.new }
 {
     let Some(app) = read_items(alloc, cursor, base)? else {
@@ -67,7 +68,7 @@ pub(crate) fn read_start(
 /// Whether what an entity begins with can be told: its application data and its picture can, its mode is 0, 1 or 2, and it
 /// has fewer than 2^32 reactors.
 pub(crate) fn start_fits(common: &EntityCommon, base: Handle) -> bool
-    ensures { IsTrue result ↔ (entity_start base).IsValue (main_of_entity common.now).0 }
+    ensures { IsTrue result ↔ (entity_start base).IsValue (start_of common.now) }
 {
     if !app_fits(common.app.as_slice(), base) {
         return false;
@@ -83,9 +84,9 @@ pub(crate) fn start_fits(common: &EntityCommon, base: Handle) -> bool
 
 /// How many bits what an entity begins with is written by.
 pub(crate) fn start_bits(common: &EntityCommon, base: Handle) -> u64
-    requires value { (entity_start base).IsValue (main_of_entity common.now).0 }
-    requires few { length ((entity_start base).short (main_of_entity common.now).0) < 2 ^ 62 }
-    ensures { result ≡ length ((entity_start base).short (main_of_entity common.now).0) }
+    requires value { (entity_start base).IsValue (start_of common.now) }
+    requires few { length ((entity_start base).short (start_of common.now)) < 2 ^ 62 }
+    ensures { result ≡ length ((entity_start base).short (start_of common.now)) }
 {
     let reactors = common.reactors.as_slice().len() as u32;
     app_length(common.app.as_slice(), base)
@@ -97,9 +98,9 @@ pub(crate) fn start_bits(common: &EntityCommon, base: Handle) -> u64
 
 /// Writes what an entity begins with.
 pub(crate) fn write_start(common: &EntityCommon, base: Handle, sink: &mut BitSink)
-    requires value { (entity_start base).IsValue (main_of_entity common.now).0 }
-    requires room { length ((entity_start base).short (main_of_entity common.now).0) ≤ sink.old.spare }
-    ensures { Extends sink.old sink.new ((entity_start base).short (main_of_entity common.now).0) }
+    requires value { (entity_start base).IsValue (start_of common.now) }
+    requires room { length ((entity_start base).short (start_of common.now)) ≤ sink.old.spare }
+    ensures { Extends sink.old sink.new ((entity_start base).short (start_of common.now)) }
 {
     let reactors = common.reactors.as_slice().len() as u32;
     write_app(common.app.as_slice(), base, sink);

@@ -94,12 +94,11 @@ apps_least base listed letters spelled = until_least base listed letters spelled
 entity_apps : (base : ℕ) (common : EntityCommon) (main references : List Bool) (over : ℕ) → (entity_common base).Spells common main references over
     → 8 * length common.app ≤ length main
 unfolding entity_common
-entity_apps base common main references over (told, named, is, (front, back, (inner, seen, (first, behind, apps, others, cut)), look, same), names) =
+entity_apps base common main references over (told, named, is, (front, back, (first, behind, apps, others, cut), look, same), names) =
     omega (
       arith,
-      apps_least base inner.0 first apps,
+      apps_least base told.0.0 first apps,
       ap (λ (one : EntityCommon). length one.app) is,
-      ap (λ one. length one.app) seen,
       ap length same,
       length-append front back,
       ap length cut,
