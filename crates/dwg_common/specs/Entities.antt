@@ -65,23 +65,23 @@ named_of common = (common.owner, (common.reactors, (common.xdict, (common.links,
 abbrev pub entity_of : StartParts × LookParts → NamedParts → EntityCommon
 entity_of ((app, (picture, (mode, (count, nolinks)))), (colour, (linetype_scale, (linetype_flag, (plotstyle_flag, (invisible, lineweight))))))
     (owner, (reactors, (xdict, (neighbours, (layer, (linetype, plotstyle)))))) = record {
-  app = app;
-  graphic = picture;
-  mode = mode;
-  owner = owner;
-  reactors = reactors;
-  xdict = xdict;
-  links = neighbours;
-  colour = colour;
-  linetype_scale = linetype_scale;
-  linetype_flag = linetype_flag;
-  linetype = linetype;
-  plotstyle_flag = plotstyle_flag;
-  plotstyle = plotstyle;
-  invisible = invisible;
-  lineweight = lineweight;
-  layer = layer;
-}
+      app = app;
+      graphic = picture;
+      mode = mode;
+      owner = owner;
+      reactors = reactors;
+      xdict = xdict;
+      links = neighbours;
+      colour = colour;
+      linetype_scale = linetype_scale;
+      linetype_flag = linetype_flag;
+      linetype = linetype;
+      plotstyle_flag = plotstyle_flag;
+      plotstyle = plotstyle;
+      invisible = invisible;
+      lineweight = lineweight;
+      layer = layer;
+    }
 
 -- the common part of an entity with this handle: what it begins with, then its look, and what it names
 unfoldable pub entity_common : ℕ → BodyGrammar EntityCommon
