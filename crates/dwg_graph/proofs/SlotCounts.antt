@@ -42,11 +42,6 @@ use Rattle.dwg_object.specs.OwnBodies.{body_kind, own_body}
 use Rattle.dwg_object.proofs.OwnLaws.{own_is_body}
 use Rattle.dwg_object.specs.Written.{common_main, common_refs, object_bits, own_main, own_refs}
 use Rattle.dwg_object.proofs.WrittenLemmas.{bytes_padded, length_of_object}
-use Rattle.dwg_shapes.specs.Arcs.{arc_body}
-use Rattle.dwg_shapes.specs.Circles.{circle_body}
-use Rattle.dwg_shapes.specs.Lines.{line_body}
-use Rattle.dwg_shapes.specs.LwPolylines.{lwpolyline_body}
-use Rattle.dwg_shapes.specs.Points.{point_body}
 use Rattle.dwg_tables.specs.AppIdBody.{app_id_body}
 use Rattle.dwg_tables.specs.BlockHeaderBody.{block_header_body}
 use Rattle.dwg_tables.specs.declared.block_header.Ends.{Ends}
@@ -137,7 +132,7 @@ common_counted handle (commons.Object common) more = simp (length-append, length
 
 -- and a kind as many of its own as its body names
 own_counted : (base : ℕ) (body : Body) → count_of (held_by_body body) ≡ length ((own_body (body_kind body) base).references body)
-unfolding held_by_body own_body text_body attrib_body attdef_body block_body endblk_body seqend_body insert_body arc_body circle_body line_body point_body lwpolyline_body dictionary_body block_control_body block_header_body layer_control_body layer_body style_control_body style_body ltype_control_body ltype_body appid_control_body app_id_body xrecord_body
+unfolding held_by_body own_body text_body attrib_body attdef_body block_body endblk_body seqend_body insert_body dictionary_body block_control_body block_header_body layer_control_body layer_body style_control_body style_body ltype_control_body ltype_body appid_control_body app_id_body xrecord_body
 own_counted base (bodies.Insert body) =
     omega (arith, length-append {A = Reference}, three_counted (λ (all : Attributes). all.first) (λ all. all.last) (λ all. all.seqend) body.attributes)
 own_counted base (bodies.BlockHeader body) = omega (arith, length-append {A = Reference}, two_counted (λ (ends : Ends). ends.first) (λ ends. ends.last) body.ends)

@@ -9,11 +9,11 @@ use Rattle.dwg_shapes.specs.declared.arc.Arc.{Arc}
 use Rattle.dwg_shapes.specs.declared.circle.Circle.{Circle}
 use Rattle.dwg_shapes.specs.declared.line.Line.{Line}
 use Rattle.dwg_shapes.specs.declared.point.Point.{Point}
-use Rattle.dwg_shapes.specs.Arcs.{arc_body}
+use Rattle.dwg_shapes.specs.Arcs.{arc_main, arc_body}
 use Rattle.dwg_shapes.specs.Circles.{circle_body, circle_main}
-use Rattle.dwg_shapes.specs.Lines.{heights, is_flat, line_ends, line_body}
-use Rattle.dwg_shapes.specs.LwPolylines.{vertex, lwpolyline_body}
-use Rattle.dwg_shapes.specs.Points.{point_body}
+use Rattle.dwg_shapes.specs.Lines.{heights, is_flat, line_ends, line_main, line_body}
+use Rattle.dwg_shapes.specs.LwPolylines.{vertex, lwpolyline_main, lwpolyline_body}
+use Rattle.dwg_shapes.specs.Points.{point_main, point_body}
 use Rattle.dwg_make.proofs.CodeSizes.{Few, no_letters, both, loosely, bs_few, bl_few, b_few, rd_few, dd_few, bd_few, bt_few, bd3_few, be_few, chain_few}
 use Rattle.dwg_make.proofs.PartsMade.{IsMade}
 
@@ -30,7 +30,7 @@ ends_few start end =
 
 -- a line whose words lie in their ranges
 pub line_made : (base : ℕ) (line : Line) → IsPoint3 line.start → IsPoint3 line.end → line.thickness < 2 ^ 64 → IsPoint3 line.extrusion → IsMade (line_body base) line
-unfolding line_body
+unfolding line_main
 line_made base line start end thickness extrusion = record {
   fits = ((record { start = start; end = end }, (thickness, extrusion)), refl);
   main = loosely 65536 (omega arith) (both (ends_few line.start line.end) (both (bt_few line.thickness) (be_few line.extrusion)));
@@ -39,7 +39,7 @@ line_made base line start end thickness extrusion = record {
 
 -- a point
 pub point_made : (base : ℕ) (point : Point) → IsPoint3 point.place → point.thickness < 2 ^ 64 → IsPoint3 point.extrusion → point.angle < 2 ^ 64 → IsMade (point_body base) point
-unfolding point_body
+unfolding point_main
 point_made base point place thickness extrusion angle = record {
   fits = ((place, (thickness, (extrusion, angle))), refl);
   main = loosely 65536 (omega arith) (both (bd3_few point.place) (both (bt_few point.thickness) (both (be_few point.extrusion) (bd_few point.angle))));
@@ -48,11 +48,12 @@ point_made base point place thickness extrusion angle = record {
 
 -- the main bits of a circle
 circle_few : (circle : Circle) → Few 530 (circle_main.short circle)
+unfolding circle_main
 circle_few circle = both (bd3_few circle.centre) (both (bd_few circle.radius) (both (bt_few circle.thickness) (be_few circle.extrusion)))
 
 -- a circle
 pub circle_made : (base : ℕ) (circle : Circle) → IsPoint3 circle.centre → circle.radius < 2 ^ 64 → circle.thickness < 2 ^ 64 → IsPoint3 circle.extrusion → IsMade (circle_body base) circle
-unfolding circle_body
+unfolding circle_main
 circle_made base circle centre radius thickness extrusion = record {
   fits = ((centre, (radius, (thickness, extrusion))), refl);
   main = loosely 65536 (omega arith) (circle_few circle);
@@ -62,7 +63,7 @@ circle_made base circle centre radius thickness extrusion = record {
 -- an arc
 pub arc_made : (base : ℕ) (arc : Arc) → IsPoint3 arc.centre → arc.radius < 2 ^ 64 → arc.thickness < 2 ^ 64 → IsPoint3 arc.extrusion → arc.start_angle < 2 ^ 64 → arc.end_angle < 2 ^ 64
     → IsMade (arc_body base) arc
-unfolding arc_body
+unfolding arc_main circle_main
 arc_made base arc centre radius thickness extrusion start end = record {
   fits = (((centre, (radius, (thickness, extrusion))), (start, end)), refl);
   main = loosely 65536 (omega arith)
@@ -78,7 +79,7 @@ vertex_few (Some before) point = both (dd_few before.x point.x) (dd_few before.y
 -- a polyline of four points and nothing else
 pub lwpolyline_made : (base : ℕ) (a b c d : Point2) → IsPoint2 a → IsPoint2 b → IsPoint2 c → IsPoint2 d
     → IsMade (lwpolyline_body base) (record { flag = 0; width = None; elevation = None; thickness = None; normal = None; points = a ∷ b ∷ c ∷ d ∷ []; bulges = None; widths = None })
-unfolding lwpolyline_body chain
+unfolding lwpolyline_main chain
 lwpolyline_made base a b c d is_a is_b is_c is_d = record {
   fits = (
     (

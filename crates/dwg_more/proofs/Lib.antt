@@ -1,2 +1,1 @@
 pub mod CornerWords
-pub mod CornerReading

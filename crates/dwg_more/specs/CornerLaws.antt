@@ -4,28 +4,22 @@ use Rattle.std.specs.Prelude.{◌==◌, if◌then◌else◌}
 use Rattle.std.proofs.lemmas.Bool.Decides.{nat_tests, Decides-eqb}
 use Rattle.std.proofs.lemmas.List.{length-append}
 use Rattle.dwg_bits.proofs.BitLaws.{length_of_low_bits}
-use Rattle.dwg_grammar.specs.Codes.{b, rd, dd, IsPoint3}
-use Rattle.dwg_grammar.proofs.CombinatorLemmas.{any_letters_closed, always_is_code, seq_is_code, tagged_is_code}
-use Rattle.dwg_grammar.proofs.DefaultLemmas.{dd_is_code}
+use Rattle.dwg_common.specs.LawSets.{codes, default_codes}
+use Rattle.dwg_grammar.specs.Codes.{b, rd, IsPoint3}
+use Rattle.dwg_grammar.proofs.CombinatorLemmas.{any_letters_closed, always_is_code, tagged_is_code}
 use Rattle.dwg_grammar.specs.Grammar.{IsCode, AnyLetters}
-use Rattle.dwg_grammar.proofs.NumberLemmas.{rd_is_code}
 use Rattle.dwg_grammar.proofs.TruthCode.{b_is_code}
-use Rattle.dwg_grammar.proofs.Shaped.{shaped_is_code}
 use Rattle.dwg_grammar.specs.declared.points.Point3.{Point3}
 use Rattle.dwg_more.specs.Faces.{height, corner_by, first_corner, dd3}
 
 -- the z word is a code by each z-zero
 height_is_code : (z_zero : Bool) → IsCode AnyLetters (height z_zero)
 height_is_code true = always_is_code AnyLetters 0
-height_is_code false = rd_is_code
+height_is_code false = search codes
 
 -- so is the corner
 corner_by_is_code : (z_zero : Bool) → IsCode AnyLetters (corner_by z_zero)
-corner_by_is_code z_zero =
-    shaped_is_code _ _ _
-    (seq_is_code AnyLetters rd _ any_letters_closed rd_is_code (λ x x_fits.
-    seq_is_code AnyLetters rd _ any_letters_closed rd_is_code (λ y y_fits. height_is_code z_zero)))
-    (λ words fits. refl) (λ corner. refl)
+corner_by_is_code z_zero = search (codes, height_is_code) depth 12
 
 -- the z word has 64 bits
 height_value : (z_zero : Bool) (z : ℕ) → (height z_zero).IsValue z → z < 2 ^ 64
@@ -74,12 +68,8 @@ first_corner_is_code =
 
 -- a 3DD is a code for each default of three words
 pub dd3_is_code : (default : Point3) → IsPoint3 default → IsCode AnyLetters (dd3 default)
-dd3_is_code default is =
-    shaped_is_code _ _ _
-    (seq_is_code AnyLetters (dd default.x) _ any_letters_closed (dd_is_code default.x is.x) (λ x x_fits.
-    seq_is_code AnyLetters (dd default.y) _ any_letters_closed (dd_is_code default.y is.y) (λ y y_fits. dd_is_code default.z is.z)))
-    (λ words fits. refl) (λ point. refl)
+dd3_is_code default is = search (codes, default_codes, is.x, is.y, is.z) depth 12
 
--- and its values have words
-pub dd3_value : (default point : Point3) → (dd3 default).IsValue point → IsPoint3 point
-dd3_value default point fits = record { x = fits.0; y = fits.1.0; z = fits.1.1 }
+-- so for each that was read
+pub dd3_of_read : (before default : Point3) → (dd3 before).IsValue default → IsCode AnyLetters (dd3 default)
+dd3_of_read before default fits = dd3_is_code default (record { x = fits.0; y = fits.1.0; z = fits.1.1 })

@@ -8,7 +8,7 @@ use Rattle.dwg_grammar.specs.MakingBodies.{main_body}
 use Rattle.dwg_more.specs.declared.ellipse.Ellipse.{Ellipse}
 
 -- 3BD centre; 3BD axis; 3BD extrusion; BD ratio; BD start angle; BD end angle
-abbrev pub ellipse_main : Grammar Bool Ellipse
+unfoldable pub ellipse_main : Grammar Bool Ellipse
 ellipse_main =
     shaped (λ parts. record {
       centre = parts.0;
@@ -22,5 +22,5 @@ ellipse_main =
     (seq bd3 (λ centre. seq bd3 (λ axis. seq bd3 (λ extrusion. seq bd (λ ratio. seq bd (λ start_angle. bd))))))
 
 -- an ellipse: no references
-unfoldable pub ellipse_body : ℕ → BodyGrammar Ellipse
+abbrev pub ellipse_body : ℕ → BodyGrammar Ellipse
 ellipse_body base = main_body ellipse_main

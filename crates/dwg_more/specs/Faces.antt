@@ -30,7 +30,7 @@ dd3 default =
     (seq (dd default.x) (λ x. seq (dd default.y) (λ y. dd default.z)))
 
 -- B no-flags; the first corner; 3DD for each other, whose default is the corner before; BS where no-flags is 0
-abbrev pub face_main : Grammar Bool Face3d
+unfoldable pub face_main : Grammar Bool Face3d
 face_main =
     shaped (λ parts. record {
       first = parts.1.0;
@@ -43,5 +43,5 @@ face_main =
     (seq b (λ no_flags. seq first_corner (λ first. seq (dd3 first) (λ second. seq (dd3 second) (λ third. seq (dd3 third) (λ fourth. when (not no_flags) bs))))))
 
 -- a face: no references
-unfoldable pub face_body : ℕ → BodyGrammar Face3d
+abbrev pub face_body : ℕ → BodyGrammar Face3d
 face_body base = main_body face_main

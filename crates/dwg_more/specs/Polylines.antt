@@ -26,9 +26,9 @@ polyline_body base =
     (λ polyline. (polyline.flags_a, polyline.flags_b)) (λ polyline. (polyline.first, (polyline.last, polyline.seqend)))
 
 -- RC flags; 3BD place
-abbrev pub vertex_main : Grammar Bool Vertex3d
+unfoldable pub vertex_main : Grammar Bool Vertex3d
 vertex_main = shaped (λ parts. record { flags = parts.0; place = parts.1 }) (λ vertex. (vertex.flags, vertex.place)) (seq rc (λ flags. bd3))
 
 -- a vertex in space: no references
-unfoldable pub vertex_body : ℕ → BodyGrammar Vertex3d
+abbrev pub vertex_body : ℕ → BodyGrammar Vertex3d
 vertex_body base = main_body vertex_main

@@ -9,18 +9,18 @@ use Rattle.dwg_more.specs.declared.ray.Ray.{Ray}
 use Rattle.dwg_more.specs.declared.xline.XLine.{XLine}
 
 -- 3BD point; 3BD vector
-abbrev pub ray_main : Grammar Bool Ray
+unfoldable pub ray_main : Grammar Bool Ray
 ray_main = shaped (λ parts. record { point = parts.0; vector = parts.1 }) (λ ray. (ray.point, ray.vector)) (seq bd3 (λ point. bd3))
 
 -- as a ray
-abbrev pub xline_main : Grammar Bool XLine
+unfoldable pub xline_main : Grammar Bool XLine
 xline_main =
     shaped (λ ray. record { point = ray.point; vector = ray.vector }) (λ xline. record { point = xline.point; vector = xline.vector }) ray_main
 
 -- a ray: no references
-unfoldable pub ray_body : ℕ → BodyGrammar Ray
+abbrev pub ray_body : ℕ → BodyGrammar Ray
 ray_body base = main_body ray_main
 
 -- a line without ends: no references
-unfoldable pub xline_body : ℕ → BodyGrammar XLine
+abbrev pub xline_body : ℕ → BodyGrammar XLine
 xline_body base = main_body xline_main

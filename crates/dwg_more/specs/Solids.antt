@@ -10,7 +10,7 @@ use Rattle.dwg_more.specs.declared.solid.Solid.{Solid}
 use Rattle.dwg_more.specs.declared.trace.Trace.{Trace}
 
 -- BT thickness; BD elevation; 2RD for each of four corners; BE extrusion
-abbrev pub solid_main : Grammar Bool Solid
+unfoldable pub solid_main : Grammar Bool Solid
 solid_main =
     shaped (λ parts. record {
       thickness = parts.0;
@@ -24,7 +24,7 @@ solid_main =
     (λ solid. (solid.thickness, (solid.elevation, (solid.first, (solid.second, (solid.third, (solid.fourth, solid.extrusion)))))))
     (seq bt (λ thickness. seq bd (λ elevation. seq rd2 (λ first. seq rd2 (λ second. seq rd2 (λ third. seq rd2 (λ fourth. be)))))))
 
--- the solid with the fields of a trace, and the trace with those of a solid
+-- the solid with the fields of a trace
 abbrev pub solid_of : Trace → Solid
 solid_of trace = record {
   thickness = trace.thickness;
@@ -36,6 +36,7 @@ solid_of trace = record {
   extrusion = trace.extrusion;
 }
 
+-- the trace with the fields of a solid
 abbrev pub trace_of : Solid → Trace
 trace_of solid = record {
   thickness = solid.thickness;
@@ -48,13 +49,13 @@ trace_of solid = record {
 }
 
 -- as a solid
-abbrev pub trace_main : Grammar Bool Trace
+unfoldable pub trace_main : Grammar Bool Trace
 trace_main = shaped trace_of solid_of solid_main
 
 -- a solid: no references
-unfoldable pub solid_body : ℕ → BodyGrammar Solid
+abbrev pub solid_body : ℕ → BodyGrammar Solid
 solid_body base = main_body solid_main
 
 -- a trace: no references
-unfoldable pub trace_body : ℕ → BodyGrammar Trace
+abbrev pub trace_body : ℕ → BodyGrammar Trace
 trace_body base = main_body trace_main

@@ -89,7 +89,7 @@ impl BitCode for CodeFirstCorner {
 
     ghost IsContext = { λ context. ⊤ };
 
-    #[tactic(auto, using(crate::proofs::CornerReading::first_read, crate::proofs::CornerReading::first_unread, crate::proofs::CornerReading::first_value))]
+    #[tactic(auto, using(dwg_common::proofs::PartReading::part_read, dwg_common::proofs::PartReading::part_unread, dwg_grammar::proofs::BodyReading::parsed_value, crate::specs::CornerLaws::first_corner_is_code))]
     fn read(_context: &(), cursor: &mut BitCursor<'_>) -> Option<Point3> {
         let mut ahead = *cursor;
         let corner = read_first(&mut ahead)?;
@@ -140,7 +140,7 @@ impl BitCode for Code3DD {
 
     ghost IsContext = { IsPoint3 };
 
-    #[tactic(auto, using(crate::proofs::CornerReading::dd3_read, crate::proofs::CornerReading::dd3_unread, crate::proofs::CornerReading::dd3_value))]
+    #[tactic(auto, using(dwg_common::proofs::PartReading::part_read, dwg_common::proofs::PartReading::part_unread, dwg_grammar::proofs::BodyReading::parsed_value, crate::specs::CornerLaws::dd3_is_code))]
     fn read(context: &Point3, cursor: &mut BitCursor<'_>) -> Option<Point3> {
         // The laws of a DD ask that its default is a word.
         known_point(context);

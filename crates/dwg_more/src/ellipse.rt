@@ -29,6 +29,7 @@ pub struct Ellipse {
 }
 
 /// Reads an ellipse, as it is parsed.
+#[tactic(auto, unfolding(crate::specs::Ellipses::ellipse_main))]
 fn read_ellipse(cursor: &mut BitCursor<'_>) -> Option<Ellipse>
     ensures parsed { Parses ellipse_main result cursor.old cursor.new }
     ensures kept { Keeps cursor.old cursor.new }
@@ -52,7 +53,6 @@ fn read_ellipse(cursor: &mut BitCursor<'_>) -> Option<Ellipse>
 impl BodyCode for Ellipse {
     ghost grammar = { ellipse_body };
 
-    #[tactic(auto, unfolding(crate::specs::Ellipses::ellipse_body))]
     fn parse(
         _alloc: Global,
         main: &mut BitCursor<'_>,
@@ -62,7 +62,7 @@ impl BodyCode for Ellipse {
         Ok(read_ellipse(main))
     }
 
-    #[tactic(auto, unfolding(crate::specs::Ellipses::ellipse_body))]
+    #[tactic(auto, unfolding(crate::specs::Ellipses::ellipse_main))]
     fn fits(&self, _base: Handle) -> bool {
         known_point(&self.centre);
         known_point(&self.axis);
@@ -73,7 +73,7 @@ impl BodyCode for Ellipse {
         true
     }
 
-    #[tactic(auto, unfolding(crate::specs::Ellipses::ellipse_body))]
+    #[tactic(auto, unfolding(crate::specs::Ellipses::ellipse_main))]
     fn lengths(&self, _base: Handle) -> Lengths {
         Lengths {
             main: Code3BD::length(&(), &self.centre)
@@ -86,7 +86,7 @@ impl BodyCode for Ellipse {
         }
     }
 
-    #[tactic(auto, unfolding(crate::specs::Ellipses::ellipse_body))]
+    #[tactic(auto, unfolding(crate::specs::Ellipses::ellipse_main))]
     fn write_main(&self, _base: Handle, sink: &mut BitSink) {
         Code3BD::write(&(), &self.centre, sink);
         Code3BD::write(&(), &self.axis, sink);
@@ -96,7 +96,6 @@ impl BodyCode for Ellipse {
         CodeBD::write(&(), &self.end_angle, sink);
     }
 
-    #[tactic(auto, unfolding(crate::specs::Ellipses::ellipse_body))]
     fn write_refs(&self, _base: Handle, _sink: &mut BitSink) {}
 
     ghost laws = { λ base small. ellipse_is_body base };

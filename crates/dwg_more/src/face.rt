@@ -30,6 +30,7 @@ pub struct Face3d {
 }
 
 /// Reads a face, as it is parsed.
+#[tactic(auto, unfolding(crate::specs::Faces::face_main))]
 fn read_face(cursor: &mut BitCursor<'_>) -> Option<Face3d>
     ensures parsed { Parses face_main result cursor.old cursor.new }
     ensures kept { Keeps cursor.old cursor.new }
@@ -75,7 +76,6 @@ fn known_flags(invisible: Option<u16>)
 impl BodyCode for Face3d {
     ghost grammar = { face_body };
 
-    #[tactic(auto, unfolding(crate::specs::Faces::face_body))]
     fn parse(
         _alloc: Global,
         main: &mut BitCursor<'_>,
@@ -85,7 +85,7 @@ impl BodyCode for Face3d {
         Ok(read_face(main))
     }
 
-    #[tactic(auto, unfolding(crate::specs::Faces::face_body))]
+    #[tactic(auto, unfolding(crate::specs::Faces::face_main))]
     fn fits(&self, _base: Handle) -> bool {
         known_point(&self.first);
         known_point(&self.second);
@@ -95,7 +95,7 @@ impl BodyCode for Face3d {
         true
     }
 
-    #[tactic(auto, unfolding(crate::specs::Faces::face_body))]
+    #[tactic(auto, unfolding(crate::specs::Faces::face_main))]
     fn lengths(&self, _base: Handle) -> Lengths {
         let no_flags = has_no_flags(self.invisible);
         Lengths {
@@ -109,7 +109,7 @@ impl BodyCode for Face3d {
         }
     }
 
-    #[tactic(auto, unfolding(crate::specs::Faces::face_body))]
+    #[tactic(auto, unfolding(crate::specs::Faces::face_main))]
     fn write_main(&self, _base: Handle, sink: &mut BitSink) {
         let no_flags = has_no_flags(self.invisible);
         CodeB::write(&(), &no_flags, sink);
@@ -120,7 +120,6 @@ impl BodyCode for Face3d {
         write_when::<CodeBS>(&(), !no_flags, &self.invisible, sink);
     }
 
-    #[tactic(auto, unfolding(crate::specs::Faces::face_body))]
     fn write_refs(&self, _base: Handle, _sink: &mut BitSink) {}
 
     ghost laws = { λ base small. face_is_body base };

@@ -22,6 +22,7 @@ pub struct Ray {
 }
 
 /// The words of a ray lie in the range of their type.
+#[tactic(auto, unfolding(crate::specs::Rays::ray_main))]
 pub(crate) fn known_ray(ray: &Ray)
     ensures { ray_main.IsValue ray.now }
 {
@@ -30,6 +31,7 @@ pub(crate) fn known_ray(ray: &Ray)
 }
 
 /// How many bits a ray is written by.
+#[tactic(auto, unfolding(crate::specs::Rays::ray_main))]
 pub(crate) fn ray_bits(ray: &Ray) -> u64
     requires { ray_main.IsValue ray.now }
     ensures length { result ≡ length (ray_main.short ray.now) }
@@ -39,6 +41,7 @@ pub(crate) fn ray_bits(ray: &Ray) -> u64
 }
 
 /// Writes a ray.
+#[tactic(auto, unfolding(crate::specs::Rays::ray_main))]
 pub(crate) fn write_ray(ray: &Ray, sink: &mut BitSink)
     requires value { ray_main.IsValue ray.now }
     requires room { length (ray_main.short ray.now) ≤ sink.old.spare }
@@ -49,6 +52,7 @@ pub(crate) fn write_ray(ray: &Ray, sink: &mut BitSink)
 }
 
 /// Reads a ray, as it is parsed.
+#[tactic(auto, unfolding(crate::specs::Rays::ray_main))]
 pub(crate) fn read_ray(cursor: &mut BitCursor<'_>) -> Option<Ray>
     ensures parsed { Parses ray_main result cursor.old cursor.new }
     ensures kept { Keeps cursor.old cursor.new }
@@ -61,7 +65,6 @@ pub(crate) fn read_ray(cursor: &mut BitCursor<'_>) -> Option<Ray>
 impl BodyCode for Ray {
     ghost grammar = { ray_body };
 
-    #[tactic(auto, unfolding(crate::specs::Rays::ray_body))]
     fn parse(
         _alloc: Global,
         main: &mut BitCursor<'_>,
@@ -71,13 +74,11 @@ impl BodyCode for Ray {
         Ok(read_ray(main))
     }
 
-    #[tactic(auto, unfolding(crate::specs::Rays::ray_body))]
     fn fits(&self, _base: Handle) -> bool {
         known_ray(self);
         true
     }
 
-    #[tactic(auto, unfolding(crate::specs::Rays::ray_body))]
     fn lengths(&self, _base: Handle) -> Lengths {
         Lengths {
             main: ray_bits(self),
@@ -85,12 +86,10 @@ impl BodyCode for Ray {
         }
     }
 
-    #[tactic(auto, unfolding(crate::specs::Rays::ray_body))]
     fn write_main(&self, _base: Handle, sink: &mut BitSink) {
         write_ray(self, sink);
     }
 
-    #[tactic(auto, unfolding(crate::specs::Rays::ray_body))]
     fn write_refs(&self, _base: Handle, _sink: &mut BitSink) {}
 
     ghost laws = { λ base small. ray_is_body base };

@@ -41,6 +41,7 @@ fn known_corner(corner: &Point2)
 }
 
 /// The words of a solid lie in the range of their type.
+#[tactic(auto, unfolding(crate::specs::Solids::solid_main))]
 pub(crate) fn known_solid(solid: &Solid)
     ensures { solid_main.IsValue solid.now }
 {
@@ -54,6 +55,7 @@ pub(crate) fn known_solid(solid: &Solid)
 }
 
 /// How many bits a solid is written by.
+#[tactic(auto, unfolding(crate::specs::Solids::solid_main))]
 pub(crate) fn solid_bits(solid: &Solid) -> u64
     requires { solid_main.IsValue solid.now }
     ensures length { result ≡ length (solid_main.short solid.now) }
@@ -69,6 +71,7 @@ pub(crate) fn solid_bits(solid: &Solid) -> u64
 }
 
 /// Writes a solid.
+#[tactic(auto, unfolding(crate::specs::Solids::solid_main))]
 pub(crate) fn write_solid(solid: &Solid, sink: &mut BitSink)
     requires value { solid_main.IsValue solid.now }
     requires room { length (solid_main.short solid.now) ≤ sink.old.spare }
@@ -84,6 +87,7 @@ pub(crate) fn write_solid(solid: &Solid, sink: &mut BitSink)
 }
 
 /// Reads a solid, as it is parsed.
+#[tactic(auto, unfolding(crate::specs::Solids::solid_main))]
 pub(crate) fn read_solid(cursor: &mut BitCursor<'_>) -> Option<Solid>
     ensures parsed { Parses solid_main result cursor.old cursor.new }
     ensures kept { Keeps cursor.old cursor.new }
@@ -109,7 +113,6 @@ pub(crate) fn read_solid(cursor: &mut BitCursor<'_>) -> Option<Solid>
 impl BodyCode for Solid {
     ghost grammar = { solid_body };
 
-    #[tactic(auto, unfolding(crate::specs::Solids::solid_body))]
     fn parse(
         _alloc: Global,
         main: &mut BitCursor<'_>,
@@ -119,13 +122,11 @@ impl BodyCode for Solid {
         Ok(read_solid(main))
     }
 
-    #[tactic(auto, unfolding(crate::specs::Solids::solid_body))]
     fn fits(&self, _base: Handle) -> bool {
         known_solid(self);
         true
     }
 
-    #[tactic(auto, unfolding(crate::specs::Solids::solid_body))]
     fn lengths(&self, _base: Handle) -> Lengths {
         Lengths {
             main: solid_bits(self),
@@ -133,12 +134,10 @@ impl BodyCode for Solid {
         }
     }
 
-    #[tactic(auto, unfolding(crate::specs::Solids::solid_body))]
     fn write_main(&self, _base: Handle, sink: &mut BitSink) {
         write_solid(self, sink);
     }
 
-    #[tactic(auto, unfolding(crate::specs::Solids::solid_body))]
     fn write_refs(&self, _base: Handle, _sink: &mut BitSink) {}
 
     ghost laws = { λ base small. solid_is_body base };

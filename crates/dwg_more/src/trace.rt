@@ -47,6 +47,7 @@ fn solid_of(trace: &Trace) -> Solid
 }
 
 /// Reads a trace, as it is parsed.
+#[tactic(auto, unfolding(crate::specs::Solids::trace_main))]
 fn read_trace(cursor: &mut BitCursor<'_>) -> Option<Trace>
     ensures parsed { Parses trace_main result cursor.old cursor.new }
     ensures kept { Keeps cursor.old cursor.new }
@@ -66,7 +67,6 @@ fn read_trace(cursor: &mut BitCursor<'_>) -> Option<Trace>
 impl BodyCode for Trace {
     ghost grammar = { trace_body };
 
-    #[tactic(auto, unfolding(crate::specs::Solids::trace_body))]
     fn parse(
         _alloc: Global,
         main: &mut BitCursor<'_>,
@@ -76,13 +76,13 @@ impl BodyCode for Trace {
         Ok(read_trace(main))
     }
 
-    #[tactic(auto, unfolding(crate::specs::Solids::trace_body))]
+    #[tactic(auto, unfolding(crate::specs::Solids::trace_main))]
     fn fits(&self, _base: Handle) -> bool {
         known_solid(&solid_of(self));
         true
     }
 
-    #[tactic(auto, unfolding(crate::specs::Solids::trace_body))]
+    #[tactic(auto, unfolding(crate::specs::Solids::trace_main))]
     fn lengths(&self, _base: Handle) -> Lengths {
         Lengths {
             main: solid_bits(&solid_of(self)),
@@ -90,12 +90,11 @@ impl BodyCode for Trace {
         }
     }
 
-    #[tactic(auto, unfolding(crate::specs::Solids::trace_body))]
+    #[tactic(auto, unfolding(crate::specs::Solids::trace_main))]
     fn write_main(&self, _base: Handle, sink: &mut BitSink) {
         write_solid(&solid_of(self), sink);
     }
 
-    #[tactic(auto, unfolding(crate::specs::Solids::trace_body))]
     fn write_refs(&self, _base: Handle, _sink: &mut BitSink) {}
 
     ghost laws = { λ base small. trace_is_body base };

@@ -21,6 +21,7 @@ pub struct Vertex3d {
 }
 
 /// Reads a vertex, as it is parsed.
+#[tactic(auto, unfolding(crate::specs::Polylines::vertex_main))]
 fn read_vertex(cursor: &mut BitCursor<'_>) -> Option<Vertex3d>
     ensures parsed { Parses vertex_main result cursor.old cursor.new }
     ensures kept { Keeps cursor.old cursor.new }
@@ -33,7 +34,6 @@ fn read_vertex(cursor: &mut BitCursor<'_>) -> Option<Vertex3d>
 impl BodyCode for Vertex3d {
     ghost grammar = { vertex_body };
 
-    #[tactic(auto, unfolding(crate::specs::Polylines::vertex_body))]
     fn parse(
         _alloc: Global,
         main: &mut BitCursor<'_>,
@@ -43,14 +43,14 @@ impl BodyCode for Vertex3d {
         Ok(read_vertex(main))
     }
 
-    #[tactic(auto, unfolding(crate::specs::Polylines::vertex_body))]
+    #[tactic(auto, unfolding(crate::specs::Polylines::vertex_main))]
     fn fits(&self, _base: Handle) -> bool {
         let _flags = self.flags;
         known_point(&self.place);
         true
     }
 
-    #[tactic(auto, unfolding(crate::specs::Polylines::vertex_body))]
+    #[tactic(auto, unfolding(crate::specs::Polylines::vertex_main))]
     fn lengths(&self, _base: Handle) -> Lengths {
         Lengths {
             main: CodeRC::length(&(), &self.flags) + Code3BD::length(&(), &self.place),
@@ -58,13 +58,12 @@ impl BodyCode for Vertex3d {
         }
     }
 
-    #[tactic(auto, unfolding(crate::specs::Polylines::vertex_body))]
+    #[tactic(auto, unfolding(crate::specs::Polylines::vertex_main))]
     fn write_main(&self, _base: Handle, sink: &mut BitSink) {
         CodeRC::write(&(), &self.flags, sink);
         Code3BD::write(&(), &self.place, sink);
     }
 
-    #[tactic(auto, unfolding(crate::specs::Polylines::vertex_body))]
     fn write_refs(&self, _base: Handle, _sink: &mut BitSink) {}
 
     ghost laws = { λ base small. vertex_is_body base };

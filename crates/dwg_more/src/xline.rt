@@ -32,6 +32,7 @@ fn ray_of(xline: &XLine) -> Ray
 }
 
 /// Reads a line without ends, as it is parsed.
+#[tactic(auto, unfolding(crate::specs::Rays::xline_main))]
 fn read_xline(cursor: &mut BitCursor<'_>) -> Option<XLine>
     ensures parsed { Parses xline_main result cursor.old cursor.new }
     ensures kept { Keeps cursor.old cursor.new }
@@ -46,7 +47,6 @@ fn read_xline(cursor: &mut BitCursor<'_>) -> Option<XLine>
 impl BodyCode for XLine {
     ghost grammar = { xline_body };
 
-    #[tactic(auto, unfolding(crate::specs::Rays::xline_body))]
     fn parse(
         _alloc: Global,
         main: &mut BitCursor<'_>,
@@ -56,13 +56,13 @@ impl BodyCode for XLine {
         Ok(read_xline(main))
     }
 
-    #[tactic(auto, unfolding(crate::specs::Rays::xline_body))]
+    #[tactic(auto, unfolding(crate::specs::Rays::xline_main))]
     fn fits(&self, _base: Handle) -> bool {
         known_ray(&ray_of(self));
         true
     }
 
-    #[tactic(auto, unfolding(crate::specs::Rays::xline_body))]
+    #[tactic(auto, unfolding(crate::specs::Rays::xline_main))]
     fn lengths(&self, _base: Handle) -> Lengths {
         Lengths {
             main: ray_bits(&ray_of(self)),
@@ -70,12 +70,11 @@ impl BodyCode for XLine {
         }
     }
 
-    #[tactic(auto, unfolding(crate::specs::Rays::xline_body))]
+    #[tactic(auto, unfolding(crate::specs::Rays::xline_main))]
     fn write_main(&self, _base: Handle, sink: &mut BitSink) {
         write_ray(&ray_of(self), sink);
     }
 
-    #[tactic(auto, unfolding(crate::specs::Rays::xline_body))]
     fn write_refs(&self, _base: Handle, _sink: &mut BitSink) {}
 
     ghost laws = { λ base small. xline_is_body base };

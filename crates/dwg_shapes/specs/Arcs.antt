@@ -9,7 +9,7 @@ use Rattle.dwg_shapes.specs.declared.arc.Arc.{Arc}
 use Rattle.dwg_shapes.specs.Circles.{circle_parts}
 
 -- the parts of its circle; BD start angle; BD end angle
-abbrev pub arc_main : Grammar Bool Arc
+unfoldable pub arc_main : Grammar Bool Arc
 arc_main =
     shaped (λ parts. record {
       centre = parts.0.0;
@@ -23,5 +23,5 @@ arc_main =
     (seq circle_parts (λ circle. seq bd (λ start_angle. bd)))
 
 -- an arc: no references
-unfoldable pub arc_body : ℕ → BodyGrammar Arc
+abbrev pub arc_body : ℕ → BodyGrammar Arc
 arc_body base = main_body arc_main

@@ -12,11 +12,12 @@ use Rattle.dwg_shapes.specs.declared.circle.Circle.{Circle}
 abbrev pub circle_parts : Grammar Bool (Point3 × (ℕ × (ℕ × Point3)))
 circle_parts = seq bd3 (λ centre. seq bd (λ radius. seq bt (λ thickness. be)))
 
-abbrev pub circle_main : Grammar Bool Circle
+-- the main bits of a circle
+unfoldable pub circle_main : Grammar Bool Circle
 circle_main =
     shaped (λ parts. record { centre = parts.0; radius = parts.1.0; thickness = parts.1.1.0; extrusion = parts.1.1.1 })
     (λ circle. (circle.centre, (circle.radius, (circle.thickness, circle.extrusion)))) circle_parts
 
 -- a circle: no references
-unfoldable pub circle_body : ℕ → BodyGrammar Circle
+abbrev pub circle_body : ℕ → BodyGrammar Circle
 circle_body base = main_body circle_main

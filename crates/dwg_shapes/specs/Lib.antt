@@ -8,6 +8,8 @@ pub mod Circles
 pub mod Arcs
 -- LWPOLYLINE.
 pub mod LwPolylines
+-- What a reader of lightweight polylines has read, as the parts that the grammar tells.
+pub mod PolylineReading
 -- The ends of a line are a code.
 pub mod EndLaws
 -- The points of a lightweight polyline are a code, and so are lists that are there by their counts.

@@ -41,16 +41,17 @@ is_flat ends = if ends.start.z == 0 then ends.end.z == 0 else false
 abbrev pub line_ends : Grammar Bool LineEnds
 line_ends = tagged b ends_by AreEnds is_flat
 
--- the ends; BT thickness; BE extrusion
+-- both ends of a line that is there
 abbrev pub ends_of : Line → LineEnds
 ends_of line = record { start = line.start; end = line.end }
 
-abbrev pub line_main : Grammar Bool Line
+-- the ends; BT thickness; BE extrusion
+unfoldable pub line_main : Grammar Bool Line
 line_main =
     shaped (λ parts. record { start = parts.0.start; end = parts.0.end; thickness = parts.1.0; extrusion = parts.1.1 })
     (λ line. (ends_of line, (line.thickness, line.extrusion)))
     (seq line_ends (λ ends. seq bt (λ thickness. be)))
 
 -- a line: no references
-unfoldable pub line_body : ℕ → BodyGrammar Line
+abbrev pub line_body : ℕ → BodyGrammar Line
 line_body base = main_body line_main

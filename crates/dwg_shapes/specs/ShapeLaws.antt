@@ -12,44 +12,40 @@ use Rattle.dwg_shapes.specs.Arcs.{arc_main, arc_body}
 use Rattle.dwg_shapes.specs.Circles.{circle_main, circle_body}
 use Rattle.dwg_shapes.specs.EndLaws.{line_ends_is_code}
 use Rattle.dwg_shapes.specs.Lines.{line_main, line_body}
-use Rattle.dwg_shapes.specs.LwPolylines.{Start, Counts, Lists, polyline_lists, polyline_parts, width_pair, counts_of, lwpolyline_main, lwpolyline_body}
+use Rattle.dwg_shapes.specs.LwPolylines.{StartParts, Counts, Lists, polyline_lists, polyline_parts, width_pair, counts_of, lwpolyline_main, lwpolyline_body}
 use Rattle.dwg_shapes.specs.Points.{point_main, point_body}
 use Rattle.dwg_shapes.specs.VertexLaws.{vertices_is_code, width_pair_is_code, items_where_is_code, count_told}
 
 -- a line
 pub line_is_body : (base : ℕ) → IsBody base (line_body base)
-unfolding line_body
+unfolding line_main
 line_is_body base = search (bodies, line_ends_is_code) depth 12
 
 pub line_is_free : (base : ℕ) → base < 2 ^ 63 → IsFreeBody base (line_body base)
-unfolding line_body
 line_is_free base small = free_of_body base _ (line_is_body base) (λ over. tt)
 
 -- a point
 pub point_is_body : (base : ℕ) → IsBody base (point_body base)
-unfolding point_body
+unfolding point_main
 point_is_body base = search bodies depth 12
 
 pub point_is_free : (base : ℕ) → base < 2 ^ 63 → IsFreeBody base (point_body base)
-unfolding point_body
 point_is_free base small = free_of_body base _ (point_is_body base) (λ over. tt)
 
 -- a circle
 pub circle_is_body : (base : ℕ) → IsBody base (circle_body base)
-unfolding circle_body
+unfolding circle_main
 circle_is_body base = search bodies depth 12
 
 pub circle_is_free : (base : ℕ) → base < 2 ^ 63 → IsFreeBody base (circle_body base)
-unfolding circle_body
 circle_is_free base small = free_of_body base _ (circle_is_body base) (λ over. tt)
 
 -- an arc
 pub arc_is_body : (base : ℕ) → IsBody base (arc_body base)
-unfolding arc_body
+unfolding arc_main
 arc_is_body base = search bodies depth 12
 
 pub arc_is_free : (base : ℕ) → base < 2 ^ 63 → IsFreeBody base (arc_body base)
-unfolding arc_body
 arc_is_free base small = free_of_body base _ (arc_is_body base) (λ over. tt)
 
 -- the lists of a lightweight polyline tell their counts
@@ -61,16 +57,15 @@ counts_told (points, (bulges, widths)) lists fits =
 
 -- a lightweight polyline
 lwpolyline_is_code : IsCode AnyLetters lwpolyline_main
+unfolding lwpolyline_main
 lwpolyline_is_code =
     shaped_is_code _ _ polyline_parts (search (codes, vertices_is_code, items_where_is_code, width_pair_is_code) depth 20)
-    (λ parts fits. ap (λ (counts : Counts). let told : Start × (Counts × Lists) = (parts.0, (counts, parts.1.1)) in told) (counts_told parts.1.0 parts.1.1 fits.1.1)) (λ polyline. refl)
+    (λ parts fits. ap (λ (counts : Counts). let told : StartParts × (Counts × Lists) = (parts.0, (counts, parts.1.1)) in told) (counts_told parts.1.0 parts.1.1 fits.1.1)) (λ polyline. refl)
 
 pub lwpolyline_is_body : (base : ℕ) → IsBody base (lwpolyline_body base)
-unfolding lwpolyline_body
 lwpolyline_is_body base = main_is_body base lwpolyline_main lwpolyline_is_code
 
 pub lwpolyline_is_free : (base : ℕ) → base < 2 ^ 63 → IsFreeBody base (lwpolyline_body base)
-unfolding lwpolyline_body
 lwpolyline_is_free base small = free_of_body base _ (lwpolyline_is_body base) (λ over. tt)
 
 -- any bits may follow each of these bodies

@@ -29,6 +29,7 @@ pub struct Arc {
 }
 
 /// Reads an arc, as it is parsed.
+#[tactic(auto, unfolding(crate::specs::Arcs::arc_main))]
 fn read_arc(cursor: &mut BitCursor<'_>) -> Option<Arc>
     ensures parsed { Parses arc_main result cursor.old cursor.new }
     ensures kept { Keeps cursor.old cursor.new }
@@ -52,7 +53,6 @@ fn read_arc(cursor: &mut BitCursor<'_>) -> Option<Arc>
 impl BodyCode for Arc {
     ghost grammar = { arc_body };
 
-    #[tactic(auto, unfolding(crate::specs::Arcs::arc_body))]
     fn parse(
         _alloc: Global,
         main: &mut BitCursor<'_>,
@@ -62,7 +62,7 @@ impl BodyCode for Arc {
         Ok(read_arc(main))
     }
 
-    #[tactic(auto, unfolding(crate::specs::Arcs::arc_body))]
+    #[tactic(auto, unfolding(crate::specs::Arcs::arc_main))]
     fn fits(&self, _base: Handle) -> bool {
         known_point(&self.centre);
         let _radius = self.radius;
@@ -73,7 +73,7 @@ impl BodyCode for Arc {
         true
     }
 
-    #[tactic(auto, unfolding(crate::specs::Arcs::arc_body))]
+    #[tactic(auto, unfolding(crate::specs::Arcs::arc_main))]
     fn lengths(&self, _base: Handle) -> Lengths {
         Lengths {
             main: Code3BD::length(&(), &self.centre)
@@ -86,7 +86,7 @@ impl BodyCode for Arc {
         }
     }
 
-    #[tactic(auto, unfolding(crate::specs::Arcs::arc_body))]
+    #[tactic(auto, unfolding(crate::specs::Arcs::arc_main))]
     fn write_main(&self, _base: Handle, sink: &mut BitSink) {
         Code3BD::write(&(), &self.centre, sink);
         CodeBD::write(&(), &self.radius, sink);
@@ -96,7 +96,6 @@ impl BodyCode for Arc {
         CodeBD::write(&(), &self.end_angle, sink);
     }
 
-    #[tactic(auto, unfolding(crate::specs::Arcs::arc_body))]
     fn write_refs(&self, _base: Handle, _sink: &mut BitSink) {}
 
     ghost laws = { λ base small. arc_is_body base };

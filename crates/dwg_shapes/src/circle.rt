@@ -25,6 +25,7 @@ pub struct Circle {
 }
 
 /// Reads a circle, as it is parsed.
+#[tactic(auto, unfolding(crate::specs::Circles::circle_main))]
 fn read_circle(cursor: &mut BitCursor<'_>) -> Option<Circle>
     ensures parsed { Parses circle_main result cursor.old cursor.new }
     ensures kept { Keeps cursor.old cursor.new }
@@ -44,7 +45,6 @@ fn read_circle(cursor: &mut BitCursor<'_>) -> Option<Circle>
 impl BodyCode for Circle {
     ghost grammar = { circle_body };
 
-    #[tactic(auto, unfolding(crate::specs::Circles::circle_body))]
     fn parse(
         _alloc: Global,
         main: &mut BitCursor<'_>,
@@ -54,7 +54,7 @@ impl BodyCode for Circle {
         Ok(read_circle(main))
     }
 
-    #[tactic(auto, unfolding(crate::specs::Circles::circle_body))]
+    #[tactic(auto, unfolding(crate::specs::Circles::circle_main))]
     fn fits(&self, _base: Handle) -> bool {
         known_point(&self.centre);
         let _radius = self.radius;
@@ -63,7 +63,7 @@ impl BodyCode for Circle {
         true
     }
 
-    #[tactic(auto, unfolding(crate::specs::Circles::circle_body))]
+    #[tactic(auto, unfolding(crate::specs::Circles::circle_main))]
     fn lengths(&self, _base: Handle) -> Lengths {
         Lengths {
             main: Code3BD::length(&(), &self.centre)
@@ -74,7 +74,7 @@ impl BodyCode for Circle {
         }
     }
 
-    #[tactic(auto, unfolding(crate::specs::Circles::circle_body))]
+    #[tactic(auto, unfolding(crate::specs::Circles::circle_main))]
     fn write_main(&self, _base: Handle, sink: &mut BitSink) {
         Code3BD::write(&(), &self.centre, sink);
         CodeBD::write(&(), &self.radius, sink);
@@ -82,7 +82,6 @@ impl BodyCode for Circle {
         CodeBE::write(&(), &self.extrusion, sink);
     }
 
-    #[tactic(auto, unfolding(crate::specs::Circles::circle_body))]
     fn write_refs(&self, _base: Handle, _sink: &mut BitSink) {}
 
     ghost laws = { λ base small. circle_is_body base };

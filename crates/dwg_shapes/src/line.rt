@@ -39,6 +39,7 @@ fn read_heights(z_zero: bool, cursor: &mut BitCursor<'_>) -> Option<(u64, u64)>
 }
 
 /// Reads a line, as it is parsed.
+#[tactic(auto, unfolding(crate::specs::Lines::line_main))]
 fn read_line(cursor: &mut BitCursor<'_>) -> Option<Line>
     ensures parsed { Parses line_main result cursor.old cursor.new }
     ensures kept { Keeps cursor.old cursor.new }
@@ -118,7 +119,6 @@ fn write_ends(line: &Line, sink: &mut BitSink)
 impl BodyCode for Line {
     ghost grammar = { line_body };
 
-    #[tactic(auto, unfolding(crate::specs::Lines::line_body))]
     fn parse(
         _alloc: Global,
         main: &mut BitCursor<'_>,
@@ -128,7 +128,7 @@ impl BodyCode for Line {
         Ok(read_line(main))
     }
 
-    #[tactic(auto, unfolding(crate::specs::Lines::line_body))]
+    #[tactic(auto, unfolding(crate::specs::Lines::line_main))]
     fn fits(&self, _base: Handle) -> bool {
         known_point(&self.start);
         known_point(&self.end);
@@ -137,7 +137,7 @@ impl BodyCode for Line {
         true
     }
 
-    #[tactic(auto, unfolding(crate::specs::Lines::line_body))]
+    #[tactic(auto, unfolding(crate::specs::Lines::line_main))]
     fn lengths(&self, _base: Handle) -> Lengths {
         let z_zero = is_flat(self);
         Lengths {
@@ -153,14 +153,13 @@ impl BodyCode for Line {
         }
     }
 
-    #[tactic(auto, unfolding(crate::specs::Lines::line_body))]
+    #[tactic(auto, unfolding(crate::specs::Lines::line_main))]
     fn write_main(&self, _base: Handle, sink: &mut BitSink) {
         write_ends(self, sink);
         CodeBT::write(&(), &self.thickness, sink);
         CodeBE::write(&(), &self.extrusion, sink);
     }
 
-    #[tactic(auto, unfolding(crate::specs::Lines::line_body))]
     fn write_refs(&self, _base: Handle, _sink: &mut BitSink) {}
 
     ghost laws = { λ base small. line_is_body base };

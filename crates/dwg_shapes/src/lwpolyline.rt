@@ -1,12 +1,14 @@
 //! Light polylines: polylines of a plane.
 
-ghost use Rattle.std.specs.Prelude.{◌≡◌, ◌==◌, ◌^◌, ◌<◌, ◌≤◌, ◌↔◌, length, option_map, IfOk, IsTrue};
+ghost use Rattle.std.specs.Prelude.{◌≡◌, ◌==◌, ◌^◌, ◌<◌, ◌≤◌, ◌↔◌, length, option_map, IsTrue};
 ghost use Rattle.std.specs.List.{AllByRecursion};
 ghost use Rattle.dwg_bits.specs.Sink.{Extends};
 ghost use Rattle.dwg_grammar.specs.Codes.{bd, bd3};
 ghost use Rattle.dwg_grammar.specs.Combinators.{when};
 ghost use Rattle.dwg_grammar.specs.Flags.{has};
+ghost use Rattle.dwg_common.specs.Parsing.{Keeps, Parses};
 ghost use Rattle.dwg_shapes.specs.LwPolylines.{counts_of, items_where, lists_of, lwpolyline_body, polyline_counts, polyline_start, start_of, width_pair};
+ghost use Rattle.dwg_shapes.specs.PolylineReading.{start_read};
 ghost use Rattle.dwg_shapes.specs.ShapeLaws.{lwpolyline_is_body};
 
 use crate::lists::{
@@ -51,6 +53,21 @@ pub struct LwPolyline {
     pub bulges: Option<Items<u64>>,
     /// How wide it is behind each point, fewer than 2^32.
     pub widths: Option<Items<Width>>,
+}
+
+/// What is read of a lightweight polyline before the counts of its lists.
+#[derive(Clone, Copy)]
+struct Start {
+    /// Its flag.
+    flag: u16,
+    /// How wide it is throughout.
+    width: Option<u64>,
+    /// The height of its plane.
+    elevation: Option<u64>,
+    /// How thick it is.
+    thickness: Option<u64>,
+    /// The direction in which it is thick.
+    normal: Option<Point3>,
 }
 
 /// The bit of the flag of a lightweight polyline that has a width.
@@ -126,6 +143,25 @@ fn known_widths_where(widths: &Option<Items<Width>>)
     }
 }
 
+/// Reads what a lightweight polyline begins with, as it is parsed.
+fn read_start(cursor: &mut BitCursor<'_>) -> Option<Start>
+    ensures parsed { Parses polyline_start (option_map start_read result) cursor.old cursor.new }
+    ensures kept { Keeps cursor.old cursor.new }
+{
+    let flag = parse_code::<CodeBS>(&(), cursor)?;
+    let width = parse_when::<CodeBD>(&(), has(flag, WIDTH), cursor)?;
+    let elevation = parse_when::<CodeBD>(&(), has(flag, ELEVATION), cursor)?;
+    let thickness = parse_when::<CodeBD>(&(), has(flag, THICKNESS), cursor)?;
+    let normal = parse_when::<Code3BD>(&(), has(flag, NORMAL), cursor)?;
+    Some(Start {
+        flag,
+        width,
+        elevation,
+        thickness,
+        normal,
+    })
+}
+
 /// Writes what a lightweight polyline begins with.
 fn write_start(polyline: &LwPolyline, sink: &mut BitSink)
     requires value { polyline_start.IsValue (start_of polyline.now) }
@@ -166,35 +202,23 @@ fn write_counts(polyline: &LwPolyline, sink: &mut BitSink)
 impl BodyCode for LwPolyline {
     ghost grammar = { lwpolyline_body };
 
-    #[tactic(auto, unfolding(crate::specs::LwPolylines::lwpolyline_body))]
+    #[tactic(auto, unfolding(crate::specs::LwPolylines::lwpolyline_main))]
     fn parse(
         alloc: Global,
         main: &mut BitCursor<'_>,
         _refs: &mut BitCursor<'_>,
         _base: Handle,
     ) -> Result<Option<LwPolyline>, NoMemory> {
-        let Some(flag) = parse_code::<CodeBS>(&(), main) else {
-            return Ok(None);
-        };
-        let Some(width) = parse_when::<CodeBD>(&(), has(flag, WIDTH), main) else {
-            return Ok(None);
-        };
-        let Some(elevation) = parse_when::<CodeBD>(&(), has(flag, ELEVATION), main) else {
-            return Ok(None);
-        };
-        let Some(thickness) = parse_when::<CodeBD>(&(), has(flag, THICKNESS), main) else {
-            return Ok(None);
-        };
-        let Some(normal) = parse_when::<Code3BD>(&(), has(flag, NORMAL), main) else {
+        let Some(start) = read_start(main) else {
             return Ok(None);
         };
         let Some(points_count) = parse_code::<CodeBL>(&(), main) else {
             return Ok(None);
         };
-        let Some(bulges_count) = parse_when::<CodeBL>(&(), has(flag, BULGES), main) else {
+        let Some(bulges_count) = parse_when::<CodeBL>(&(), has(start.flag, BULGES), main) else {
             return Ok(None);
         };
-        let Some(widths_count) = parse_when::<CodeBL>(&(), has(flag, WIDTHS), main) else {
+        let Some(widths_count) = parse_when::<CodeBL>(&(), has(start.flag, WIDTHS), main) else {
             return Ok(None);
         };
         let Some(points) = read_vertices(alloc, points_count, main)? else {
@@ -207,18 +231,18 @@ impl BodyCode for LwPolyline {
             return Ok(None);
         };
         Ok(Some(LwPolyline {
-            flag,
-            width,
-            elevation,
-            thickness,
-            normal,
+            flag: start.flag,
+            width: start.width,
+            elevation: start.elevation,
+            thickness: start.thickness,
+            normal: start.normal,
             points,
             bulges,
             widths,
         }))
     }
 
-    #[tactic(auto, unfolding(crate::specs::LwPolylines::lwpolyline_body))]
+    #[tactic(auto, unfolding(crate::specs::LwPolylines::lwpolyline_main))]
     fn fits(&self, _base: Handle) -> bool {
         if !word_fits_when(has(self.flag, WIDTH), self.width) {
             return false;
@@ -247,7 +271,7 @@ impl BodyCode for LwPolyline {
         true
     }
 
-    #[tactic(auto, unfolding(crate::specs::LwPolylines::lwpolyline_body))]
+    #[tactic(auto, unfolding(crate::specs::LwPolylines::lwpolyline_main))]
     fn lengths(&self, _base: Handle) -> Lengths {
         let points = self.points.as_slice().len() as u32;
         let bulges = count_when(has(self.flag, BULGES), &self.bulges);
@@ -268,7 +292,7 @@ impl BodyCode for LwPolyline {
         }
     }
 
-    #[tactic(auto, unfolding(crate::specs::LwPolylines::lwpolyline_body))]
+    #[tactic(auto, unfolding(crate::specs::LwPolylines::lwpolyline_main))]
     fn write_main(&self, _base: Handle, sink: &mut BitSink) {
         write_start(self, sink);
         write_counts(self, sink);
@@ -277,7 +301,6 @@ impl BodyCode for LwPolyline {
         write_list_where::<CodeWidth>(&(), &self.widths, sink);
     }
 
-    #[tactic(auto, unfolding(crate::specs::LwPolylines::lwpolyline_body))]
     fn write_refs(&self, _base: Handle, _sink: &mut BitSink) {}
 
     ghost laws = { λ base small. lwpolyline_is_body base };

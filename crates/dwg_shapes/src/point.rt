@@ -25,6 +25,7 @@ pub struct Point {
 }
 
 /// Reads a point, as it is parsed.
+#[tactic(auto, unfolding(crate::specs::Points::point_main))]
 fn read_point(cursor: &mut BitCursor<'_>) -> Option<Point>
     ensures parsed { Parses point_main result cursor.old cursor.new }
     ensures kept { Keeps cursor.old cursor.new }
@@ -44,7 +45,6 @@ fn read_point(cursor: &mut BitCursor<'_>) -> Option<Point>
 impl BodyCode for Point {
     ghost grammar = { point_body };
 
-    #[tactic(auto, unfolding(crate::specs::Points::point_body))]
     fn parse(
         _alloc: Global,
         main: &mut BitCursor<'_>,
@@ -54,7 +54,7 @@ impl BodyCode for Point {
         Ok(read_point(main))
     }
 
-    #[tactic(auto, unfolding(crate::specs::Points::point_body))]
+    #[tactic(auto, unfolding(crate::specs::Points::point_main))]
     fn fits(&self, _base: Handle) -> bool {
         known_point(&self.place);
         let _thickness = self.thickness;
@@ -63,7 +63,7 @@ impl BodyCode for Point {
         true
     }
 
-    #[tactic(auto, unfolding(crate::specs::Points::point_body))]
+    #[tactic(auto, unfolding(crate::specs::Points::point_main))]
     fn lengths(&self, _base: Handle) -> Lengths {
         Lengths {
             main: Code3BD::length(&(), &self.place)
@@ -74,7 +74,7 @@ impl BodyCode for Point {
         }
     }
 
-    #[tactic(auto, unfolding(crate::specs::Points::point_body))]
+    #[tactic(auto, unfolding(crate::specs::Points::point_main))]
     fn write_main(&self, _base: Handle, sink: &mut BitSink) {
         Code3BD::write(&(), &self.place, sink);
         CodeBT::write(&(), &self.thickness, sink);
@@ -82,7 +82,6 @@ impl BodyCode for Point {
         CodeBD::write(&(), &self.angle, sink);
     }
 
-    #[tactic(auto, unfolding(crate::specs::Points::point_body))]
     fn write_refs(&self, _base: Handle, _sink: &mut BitSink) {}
 
     ghost laws = { λ base small. point_is_body base };
