@@ -99,12 +99,12 @@ ltype_made base name word = record {
 }
 
 -- the content of a block without path, description and preview, by the counts of its marks
-content_told : (counts : List ℕ) → mark_counts.IsValue counts → block_content.IsValue (record { base = ORIGIN; path = []; counts = counts; description = []; preview = [] })
+content_told : (counts : List ℕ) → mark_counts.IsValue counts → block_content.IsValue (ORIGIN, ([], (counts, ([], []))))
 unfolding block_content
 content_told counts are =
     (record { x = omega arith; y = omega arith; z = omega arith }, (word_fits [] no_word, (are, (word_fits [] no_word, (omega arith, tt)))))
 
-content_few : (counts : List ℕ) → Few 100 (mark_counts.short counts) → Few 880 (block_content.short (record { base = ORIGIN; path = []; counts = counts; description = []; preview = [] }))
+content_few : (counts : List ℕ) → Few 100 (mark_counts.short counts) → Few 880 (block_content.short (ORIGIN, ([], (counts, ([], [])))))
 unfolding block_content chain
 content_few counts few = both (bd3_few ORIGIN) (both (word_few [] no_word) (both few (both (word_few [] no_word) (both (bl_few 0) no_letters))))
 

@@ -14,6 +14,8 @@ pub mod InsertMarks
 pub mod InsertMarkLaws
 -- The header of a block.
 pub mod BlockHeaderBody
+-- What the readers of entries have read, as the parts that the grammar tells.
+pub mod TableReading
 -- The entries of tables meet the laws of bodies.
 pub mod TableLaws
 -- The header of a block meets the laws of bodies.

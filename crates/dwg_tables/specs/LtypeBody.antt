@@ -1,7 +1,7 @@
 -- A linetype (Open Design Specification, "LTYPE").
 use Rattle.std.specs.Prelude.{ℕ, Bool, List, length, map}
 use Rattle.dwg_grammar.specs.Codes.{rc, rd, bs, bd, tv}
-use Rattle.dwg_grammar.specs.Combinators.{seq, items, counted, shaped}
+use Rattle.dwg_grammar.specs.Combinators.{seq, items, counted}
 use Rattle.dwg_grammar.specs.Grammar.{Grammar}
 use Rattle.dwg_grammar.specs.Bodies.{BodyGrammar}
 use Rattle.dwg_grammar.specs.MakingBodies.{body}
@@ -9,39 +9,29 @@ use Rattle.dwg_grammar.specs.References.{ReferencePart, one_ref, some_refs, then
 use Rattle.dwg_grammar.specs.Reference.{Reference}
 use Rattle.dwg_tables.specs.declared.ltype.Dash.{Dash}
 use Rattle.dwg_tables.specs.declared.ltype.Ltype.{Ltype}
-use Rattle.dwg_tables.specs.declared.ltype.Pattern.{Pattern}
-use Rattle.dwg_tables.specs.declared.ltype.Stroke.{Stroke}
-use Rattle.dwg_tables.specs.Entries.{entry_main, title_of, entry_of}
+use Rattle.dwg_tables.specs.Entries.{TitleParts, entry_main, title_of, entry_of}
 use Rattle.dwg_common.specs.Members.{joined}
 
 -- BD length; BS code; RD x; RD y; BD scale; BD rotation; BS flag
-unfoldable pub stroke : Grammar Bool Stroke
-stroke =
-    shaped (λ parts. record {
-      length = parts.0;
-      code = parts.1.0;
-      x = parts.1.1.0;
-      y = parts.1.1.1.0;
-      scale = parts.1.1.1.1.0;
-      rotation = parts.1.1.1.1.1.0;
-      flag = parts.1.1.1.1.1.1;
-    })
-    (λ stroke. (stroke.length, (stroke.code, (stroke.x, (stroke.y, (stroke.scale, (stroke.rotation, stroke.flag)))))))
-    (seq bd (λ length. seq bs (λ code. seq rd (λ x. seq rd (λ y. seq bd (λ scale. seq bd (λ rotation. bs)))))))
+abbrev pub StrokeParts : Type 0
+StrokeParts = ℕ × (ℕ × (ℕ × (ℕ × (ℕ × (ℕ × ℕ)))))
+
+unfoldable pub stroke : Grammar Bool StrokeParts
+stroke = seq bd (λ length. seq bs (λ code. seq rd (λ x. seq rd (λ y. seq bd (λ scale. seq bd (λ rotation. bs))))))
 
 -- what the main bits of a dash tell, and the dash of these and of its style
-abbrev pub stroke_of : Dash → Stroke
-stroke_of dash = record { length = dash.length; code = dash.code; x = dash.x; y = dash.y; scale = dash.scale; rotation = dash.rotation; flag = dash.flag }
+abbrev pub stroke_of : Dash → StrokeParts
+stroke_of dash = (dash.length, (dash.code, (dash.x, (dash.y, (dash.scale, (dash.rotation, dash.flag))))))
 
-abbrev pub dash_of : Stroke → Reference → Dash
-dash_of stroke style = record {
-  length = stroke.length;
-  code = stroke.code;
-  x = stroke.x;
-  y = stroke.y;
-  scale = stroke.scale;
-  rotation = stroke.rotation;
-  flag = stroke.flag;
+abbrev pub dash_of : StrokeParts → Reference → Dash
+dash_of (length, (code, (x, (y, (scale, (rotation, flag)))))) style = record {
+  length = length;
+  code = code;
+  x = x;
+  y = y;
+  scale = scale;
+  rotation = rotation;
+  flag = flag;
   style = style;
 }
 
@@ -50,46 +40,32 @@ abbrev pub style_of : Dash → Reference
 style_of dash = dash.style
 
 -- the entry's; TV description; BD length; RC alignment; RC count of dashes; what the main bits of each tell; 256 bytes
-unfoldable pub ltype_main : Grammar Bool Pattern
-ltype_main =
-    shaped (λ parts. record {
-      title = parts.0;
-      description = parts.1.0;
-      length = parts.1.1.0;
-      alignment = parts.1.1.1.0;
-      strokes = parts.1.1.1.1.0;
-      texts = parts.1.1.1.1.1;
-    })
-    (λ pattern. (pattern.title, (pattern.description, (pattern.length, (pattern.alignment, (pattern.strokes, pattern.texts))))))
-    (seq entry_main (λ title. seq tv (λ description. seq bd (λ length. seq rc (λ alignment. seq (counted rc stroke) (λ strokes. items rc 256))))))
+abbrev pub PatternParts : Type 0
+PatternParts = TitleParts × (List ℕ × (ℕ × (ℕ × (List StrokeParts × List ℕ))))
+
+unfoldable pub ltype_main : Grammar Bool PatternParts
+ltype_main = seq entry_main (λ title. seq tv (λ description. seq bd (λ length. seq rc (λ alignment. seq (counted rc stroke) (λ strokes. items rc 256)))))
 
 -- xref; the style of each dash
-abbrev pub ltype_refs : ℕ → Pattern → ReferencePart (Reference × List Reference)
-ltype_refs base told = then_refs (one_ref base) (some_refs base (length told.strokes))
+abbrev pub ltype_refs : ℕ → PatternParts → ReferencePart (Reference × List Reference)
+ltype_refs base (title, (description, (extent, (alignment, (strokes, texts))))) = then_refs (one_ref base) (some_refs base (length strokes))
 
 -- what the main bits of a linetype tell, and what it names
-abbrev pub pattern_of : Ltype → Pattern
-pattern_of ltype = record {
-  title = title_of ltype.entry;
-  description = ltype.description;
-  length = ltype.length;
-  alignment = ltype.alignment;
-  strokes = map stroke_of ltype.dashes;
-  texts = ltype.texts;
-}
+abbrev pub pattern_of : Ltype → PatternParts
+pattern_of ltype = (title_of ltype.entry, (ltype.description, (ltype.length, (ltype.alignment, (map stroke_of ltype.dashes, ltype.texts)))))
 
 abbrev pub named_of_ltype : Ltype → Reference × List Reference
 named_of_ltype ltype = (ltype.entry.xref, map style_of ltype.dashes)
 
 -- a linetype from these
-abbrev pub ltype_of : Pattern → Reference × List Reference → Ltype
-ltype_of told named = record {
-  entry = entry_of told.title named.0;
-  description = told.description;
-  length = told.length;
-  alignment = told.alignment;
-  dashes = joined dash_of told.strokes named.1;
-  texts = told.texts;
+abbrev pub ltype_of : PatternParts → Reference × List Reference → Ltype
+ltype_of (title, (description, (length, (alignment, (strokes, texts))))) (xref, styles) = record {
+  entry = entry_of title xref;
+  description = description;
+  length = length;
+  alignment = alignment;
+  dashes = joined dash_of strokes styles;
+  texts = texts;
 }
 
 -- the main bits, and the references

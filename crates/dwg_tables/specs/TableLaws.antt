@@ -5,11 +5,10 @@ use Rattle.dwg_grammar.specs.Grammar.{IsCode, AnyLetters}
 use Rattle.dwg_grammar.specs.Bodies.{IsBody}
 use Rattle.dwg_grammar.specs.Reference.{Reference}
 use Rattle.dwg_tables.specs.declared.ltype.Ltype.{Ltype}
-use Rattle.dwg_tables.specs.declared.ltype.Pattern.{Pattern}
 use Rattle.dwg_tables.specs.AppIdBody.{app_id_body}
 use Rattle.dwg_tables.specs.Entries.{entry_main}
 use Rattle.dwg_tables.specs.LayerBody.{layer_body}
-use Rattle.dwg_tables.specs.LtypeBody.{stroke, stroke_of, dash_of, style_of, ltype_main, ltype_refs, pattern_of, named_of_ltype, ltype_of, ltype_body}
+use Rattle.dwg_tables.specs.LtypeBody.{PatternParts, stroke, stroke_of, dash_of, style_of, ltype_main, ltype_refs, pattern_of, named_of_ltype, ltype_of, ltype_body}
 use Rattle.dwg_common.specs.LawSets.{codes, bodies}
 use Rattle.dwg_common.proofs.MemberLemmas.{told_of_joined, names_of_joined, joined_again}
 use Rattle.dwg_tables.specs.StyleBody.{style_form, style_body}
@@ -35,12 +34,12 @@ unfolding stroke
 stroke_is_code = search codes depth 12
 
 -- what is put together of a linetype is told by it
-ltype_told : (base : ℕ) (told : Pattern) (named : Reference × List Reference) → (ltype_refs base told).grammar.IsValue named
+ltype_told : (base : ℕ) (told : PatternParts) (named : Reference × List Reference) → (ltype_refs base told).grammar.IsValue named
     → (pattern_of (ltype_of told named) ≡ told) × (named_of_ltype (ltype_of told named) ≡ named)
 unfolding chain
 ltype_told base told named names = (
-  rw (told_of_joined dash_of stroke_of (λ one style. refl) told.strokes named.1 names.1.0),
-  rw (names_of_joined dash_of style_of (λ one style. refl) told.strokes named.1 names.1.0),
+  rw (told_of_joined dash_of stroke_of (λ one style. refl) told.1.1.1.1.0 named.1 names.1.0),
+  rw (names_of_joined dash_of style_of (λ one style. refl) told.1.1.1.1.0 named.1 names.1.0),
 )
 
 -- and it is put together of these

@@ -1,10 +1,11 @@
 //! What the main bits of the header of a block tell behind its flags (Open Design Specification, "BLOCK HEADER").
 #![tactic(auto, unfolding(crate::specs::BlockHeaderBody::block_content))]
 
-ghost use Rattle.std.specs.Prelude.{◌≡◌, ◌^◌, ◌<◌, ◌≤◌, ◌↔◌, length, IfOk, IsTrue};
+ghost use Rattle.std.specs.Prelude.{◌≡◌, ◌^◌, ◌<◌, ◌≤◌, ◌↔◌, length, option_map, IfOk, IsTrue};
 ghost use Rattle.dwg_bits.specs.Sink.{Extends};
 ghost use Rattle.dwg_common.specs.Parsing.{Keeps, Parses};
 ghost use Rattle.dwg_tables.specs.BlockHeaderBody.{block_content, content_of};
+ghost use Rattle.dwg_tables.specs.TableReading.{content_read};
 
 use crate::block_header::{BlockContent, BlockHeader};
 use crate::marks::{counts_bits, counts_fit, read_counts, write_counts};
@@ -22,7 +23,7 @@ pub(crate) fn read_content(
     alloc: Global,
     cursor: &mut BitCursor<'_>,
 ) -> Result<Option<BlockContent>, NoMemory>
-    ensures parsed { IfOk result (λ found. Parses block_content found cursor.old cursor.new) }
+    ensures parsed { IfOk result (λ found. Parses block_content (option_map content_read found) cursor.old cursor.new) }
     ensures kept { Keeps cursor.old cursor.new }
 {
     let Some(base) = parse_code::<Code3BD>(&(), cursor) else {

@@ -1,11 +1,10 @@
 //! Headers of blocks.
 
-ghost use Rattle.std.specs.Prelude.{◌≡◌};
-ghost use Rattle.dwg_tables.specs.BlockHeaderBody.{block_header_body, flags_of};
+ghost use Rattle.dwg_tables.specs.BlockHeaderBody.{block_header_body};
 ghost use Rattle.dwg_tables.specs.BlockHeaderLaws.{block_header_is_body};
 
 use crate::block_content::{content_bits, content_fits, read_content, write_content};
-use crate::block_flags::{flags_bits, known_flags, read_flags, write_flags};
+use crate::block_flags::{flags_bits, read_flags, write_flags};
 use crate::block_names::{block_names_bits, block_names_fit, read_block_names, write_block_names};
 use crate::entry::{Entry, entry_of};
 use crate::members::join_all;
@@ -117,19 +116,6 @@ pub(crate) struct BlockNames {
     pub(crate) layout: Ref,
 }
 
-/// What single bits of a header tell.
-fn flags_of(header: &BlockHeader) -> BlockFlags
-    ensures { result ≡ flags_of header.now }
-{
-    BlockFlags {
-        anonymous: header.anonymous,
-        has_attributes: header.has_attributes,
-        is_xref: header.is_xref,
-        overlaid: header.overlaid,
-        loaded: header.loaded,
-    }
-}
-
 #[tactic(auto, unfolding(crate::specs::BlockHeaderBody::block_header_body))]
 impl BodyCode for BlockHeader {
     ghost grammar = { block_header_body };
@@ -176,34 +162,33 @@ impl BodyCode for BlockHeader {
         }))
     }
 
+    #[tactic(auto, unfolding(crate::specs::BlockHeaderBody::block_header_body, crate::specs::BlockHeaderBody::block_flags))]
     fn fits(&self, base: Handle) -> bool {
-        let flags = flags_of(self);
-        known_flags(flags);
+        // Its flags can be told: each is of one bit.
         if !title_fits(&self.entry) {
             return false;
         }
         if !content_fits(self) {
             return false;
         }
-        block_names_fit(self, flags, base)
+        block_names_fit(self, base)
     }
 
     fn lengths(&self, base: Handle) -> Lengths {
-        let flags = flags_of(self);
         Lengths {
-            main: title_bits(&self.entry) + flags_bits(flags) + content_bits(self),
-            refs: block_names_bits(self, flags, base),
+            main: title_bits(&self.entry) + flags_bits(self) + content_bits(self),
+            refs: block_names_bits(self, base),
         }
     }
 
     fn write_main(&self, _base: Handle, sink: &mut BitSink) {
         write_title(&self.entry, sink);
-        write_flags(flags_of(self), sink);
+        write_flags(self, sink);
         write_content(self, sink);
     }
 
     fn write_refs(&self, base: Handle, sink: &mut BitSink) {
-        write_block_names(self, flags_of(self), base, sink);
+        write_block_names(self, base, sink);
     }
 
     ghost laws = { λ base small. block_header_is_body base small };

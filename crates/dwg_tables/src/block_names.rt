@@ -1,9 +1,10 @@
 //! What the header of a block names, as bits (Open Design Specification, "BLOCK HEADER").
 
-ghost use Rattle.std.specs.Prelude.{◌≡◌, ◌^◌, ◌<◌, ◌≤◌, ◌↔◌, length, IfOk, IfSome, IsTrue};
+ghost use Rattle.std.specs.Prelude.{◌≡◌, ◌^◌, ◌<◌, ◌≤◌, ◌↔◌, length, option_map, IfOk, IfSome, IsTrue};
 ghost use Rattle.dwg_bits.specs.Sink.{Extends};
 ghost use Rattle.dwg_common.specs.Parsing.{Keeps, Parses};
-ghost use Rattle.dwg_tables.specs.BlockHeaderBody.{block_refs, content_of, has_ends, names_of};
+ghost use Rattle.dwg_tables.specs.BlockHeaderBody.{block_refs, content_of, flags_of, has_ends, names_of};
+ghost use Rattle.dwg_tables.specs.TableReading.{content_read, flags_read, names_read};
 
 use crate::block_header::{BlockContent, BlockFlags, BlockHeader, BlockNames, InsertMark};
 use crate::ends::{CodeEnds, ends_fit_when};
@@ -16,10 +17,10 @@ use dwg_handles::CodeH;
 use std::alloc::Global;
 
 /// Whether the entities of a block are in this drawing: it is no external reference and no overlaid one.
-fn has_ends(flags: BlockFlags) -> bool
-    ensures { result ≡ has_ends flags }
+fn has_ends(is_xref: bool, overlaid: bool) -> bool
+    ensures { result ≡ has_ends is_xref overlaid }
 {
-    !flags.is_xref && !flags.overlaid
+    !is_xref && !overlaid
 }
 
 /// Reads what the header of the handle `base` names, as it is parsed: its entities where they are in this drawing, and an
@@ -31,7 +32,7 @@ pub(crate) fn read_block_names(
     cursor: &mut BitCursor<'_>,
     base: Handle,
 ) -> Result<Option<BlockNames>, NoMemory>
-    ensures parsed { IfOk result (λ found. Parses (block_refs base flags content.now).grammar found cursor.old cursor.new) }
+    ensures parsed { IfOk result (λ found. Parses (block_refs base (flags_read flags, content_read content.now)).grammar (option_map names_read found) cursor.old cursor.new) }
     ensures as_many { IfOk result (λ found. IfSome found (λ names. length names.targets ≡ length content.now.counts)) }
     ensures kept { Keeps cursor.old cursor.new }
 {
@@ -41,7 +42,7 @@ pub(crate) fn read_block_names(
     let Some(block) = parse_code::<CodeH>(&base, cursor) else {
         return Ok(None);
     };
-    let Some(ends) = parse_when::<CodeEnds>(&base, has_ends(flags), cursor) else {
+    let Some(ends) = parse_when::<CodeEnds>(&base, has_ends(flags.is_xref, flags.overlaid), cursor) else {
         return Ok(None);
     };
     let Some(endblk) = parse_code::<CodeH>(&base, cursor) else {
@@ -66,8 +67,8 @@ pub(crate) fn read_block_names(
 /// Whether what a header names can be told from it: its entities are there exactly where it is no external reference and no
 /// overlaid one, and each reference reaches its target.
 #[tactic(auto, unfolding(dwg_grammar::specs::ReferenceCodes::reference, dwg_grammar::specs::Combinators::chain), using(dwg_common::proofs::MemberLemmas::parts_counted))]
-pub(crate) fn block_names_fit(header: &BlockHeader, flags: BlockFlags, base: Handle) -> bool
-    ensures { IsTrue result ↔ (block_refs base flags (content_of header.now)).grammar.IsValue (names_of header.now) }
+pub(crate) fn block_names_fit(header: &BlockHeader, base: Handle) -> bool
+    ensures { IsTrue result ↔ (block_refs base (flags_of header.now, content_of header.now)).grammar.IsValue (names_of header.now) }
 {
     if !header.entry.xref.fits(base) {
         return false;
@@ -75,7 +76,7 @@ pub(crate) fn block_names_fit(header: &BlockHeader, flags: BlockFlags, base: Han
     if !header.block.fits(base) {
         return false;
     }
-    if !ends_fit_when(has_ends(flags), &header.ends, base) {
+    if !ends_fit_when(has_ends(header.is_xref, header.overlaid), &header.ends, base) {
         return false;
     }
     if !header.endblk.fits(base) {
@@ -89,14 +90,14 @@ pub(crate) fn block_names_fit(header: &BlockHeader, flags: BlockFlags, base: Han
 
 /// How many bits what a header names is written by.
 #[tactic(auto, unfolding(dwg_grammar::specs::Combinators::chain))]
-pub(crate) fn block_names_bits(header: &BlockHeader, flags: BlockFlags, base: Handle) -> u64
-    requires value { (block_refs base flags (content_of header.now)).grammar.IsValue (names_of header.now) }
-    requires few { length ((block_refs base flags (content_of header.now)).grammar.short (names_of header.now)) < 2 ^ 62 }
-    ensures { result ≡ length ((block_refs base flags (content_of header.now)).grammar.short (names_of header.now)) }
+pub(crate) fn block_names_bits(header: &BlockHeader, base: Handle) -> u64
+    requires value { (block_refs base (flags_of header.now, content_of header.now)).grammar.IsValue (names_of header.now) }
+    requires few { length ((block_refs base (flags_of header.now, content_of header.now)).grammar.short (names_of header.now)) < 2 ^ 62 }
+    ensures { result ≡ length ((block_refs base (flags_of header.now, content_of header.now)).grammar.short (names_of header.now)) }
 {
     CodeH::length(&base, &header.entry.xref)
         + CodeH::length(&base, &header.block)
-        + length_when::<CodeEnds>(&base, has_ends(flags), &header.ends)
+        + length_when::<CodeEnds>(&base, has_ends(header.is_xref, header.overlaid), &header.ends)
         + CodeH::length(&base, &header.endblk)
         + parts_bits::<CodeH, InsertMark>(&base, header.inserts.as_slice())
         + CodeH::length(&base, &header.layout)
@@ -106,17 +107,16 @@ pub(crate) fn block_names_bits(header: &BlockHeader, flags: BlockFlags, base: Ha
 #[tactic(auto, unfolding(dwg_grammar::specs::Combinators::chain))]
 pub(crate) fn write_block_names(
     header: &BlockHeader,
-    flags: BlockFlags,
     base: Handle,
     sink: &mut BitSink,
 )
-    requires value { (block_refs base flags (content_of header.now)).grammar.IsValue (names_of header.now) }
-    requires room { length ((block_refs base flags (content_of header.now)).grammar.short (names_of header.now)) ≤ sink.old.spare }
-    ensures { Extends sink.old sink.new ((block_refs base flags (content_of header.now)).grammar.short (names_of header.now)) }
+    requires value { (block_refs base (flags_of header.now, content_of header.now)).grammar.IsValue (names_of header.now) }
+    requires room { length ((block_refs base (flags_of header.now, content_of header.now)).grammar.short (names_of header.now)) ≤ sink.old.spare }
+    ensures { Extends sink.old sink.new ((block_refs base (flags_of header.now, content_of header.now)).grammar.short (names_of header.now)) }
 {
     CodeH::write(&base, &header.entry.xref, sink);
     CodeH::write(&base, &header.block, sink);
-    write_when::<CodeEnds>(&base, has_ends(flags), &header.ends, sink);
+    write_when::<CodeEnds>(&base, has_ends(header.is_xref, header.overlaid), &header.ends, sink);
     CodeH::write(&base, &header.endblk, sink);
     write_parts::<CodeH, InsertMark>(&base, header.inserts.as_slice(), sink);
     CodeH::write(&base, &header.layout, sink);

@@ -2,6 +2,7 @@
 
 ghost use Rattle.std.specs.Prelude.{◌≡◌};
 ghost use Rattle.dwg_tables.specs.Entries.{entry_of};
+ghost use Rattle.dwg_tables.specs.TableReading.{title_read};
 
 use dwg_base::ByteRun;
 use dwg_handles::Ref;
@@ -37,7 +38,7 @@ pub(crate) struct Title {
 
 /// An entry from what its main bits tell and from the block that it is of.
 pub(crate) fn entry_of(title: Title, xref: Ref) -> Entry
-    ensures { result ≡ entry_of title xref }
+    ensures { result ≡ entry_of (title_read title) xref }
 {
     Entry {
         name: title.name,

@@ -4,6 +4,7 @@ ghost use Rattle.std.specs.Prelude.{◌≡◌, length, IfOk, IfSome};
 ghost use Rattle.dwg_common.specs.Parsing.{Keeps, Parses};
 ghost use Rattle.dwg_tables.specs.LtypeBody.{ltype_body, ltype_refs};
 ghost use Rattle.dwg_tables.specs.TableLaws.{ltype_is_body};
+ghost use Rattle.dwg_tables.specs.TableReading.{pattern_read};
 
 use crate::entry::{Entry, Title, entry_of};
 use crate::members::{join_all, names_fit, parts_bits, read_names, write_parts};
@@ -13,6 +14,7 @@ use dwg_bits::{BitCursor, BitSink};
 use dwg_common::{BodyCode, Lengths, parse_ref};
 use dwg_handles::{CodeH, Ref, ref_bits, write_ref};
 use std::alloc::Global;
+use std::marker::Model;
 
 /// A dash of a linetype, a gap or a sign in it (Open Design Specification, "LTYPE").
 #[derive(Clone, Copy, Debug, PartialEq, Eq)]
@@ -52,8 +54,8 @@ pub struct Ltype {
     pub texts: ByteRun,
 }
 
-/// What the main bits of a dash tell.
-#[derive(Clone, Copy)]
+/// What the main bits of a dash tell. Contracts see it as these in the order in which they stand.
+#[derive(Drop)]
 pub(crate) struct Stroke {
     /// How long it is.
     pub(crate) length: u64,
@@ -69,6 +71,14 @@ pub(crate) struct Stroke {
     pub(crate) rotation: u64,
     /// What is told of its sign by single bits.
     pub(crate) flag: u16,
+}
+
+impl Model for Stroke {
+    ghost use Rattle.dwg_tables.specs.LtypeBody.{StrokeParts};
+
+    ghost Value = { StrokeParts };
+
+    ghost view = { λ stroke. (stroke.length, (stroke.code, (stroke.x, (stroke.y, (stroke.scale, (stroke.rotation, stroke.flag)))))) };
 }
 
 /// What the main bits of a linetype tell.
@@ -96,7 +106,7 @@ fn read_named(
     refs: &mut BitCursor<'_>,
     base: Handle,
 ) -> Result<Option<(Ref, Items<Ref>)>, NoMemory>
-    ensures parsed { IfOk result (λ found. Parses (ltype_refs base told.now).grammar found refs.old refs.new) }
+    ensures parsed { IfOk result (λ found. Parses (ltype_refs base (pattern_read told.now)).grammar found refs.old refs.new) }
     ensures as_many { IfOk result (λ found. IfSome found (λ named. length named.1 ≡ length told.now.strokes)) }
     ensures kept { Keeps refs.old refs.new }
 {

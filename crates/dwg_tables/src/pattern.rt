@@ -1,11 +1,12 @@
 //! What the main bits of a linetype tell, as bits (Open Design Specification, "LTYPE").
 
-ghost use Rattle.std.specs.Prelude.{◌≡◌, ◌^◌, ◌<◌, ◌≤◌, ◌↔◌, length, map, IfOk, IsTrue};
+ghost use Rattle.std.specs.Prelude.{◌≡◌, ◌^◌, ◌<◌, ◌≤◌, ◌↔◌, length, map, option_map, IfOk, IsTrue};
 ghost use Rattle.dwg_bits.specs.Sink.{Extends};
 ghost use Rattle.dwg_grammar.specs.Codes.{rc};
 ghost use Rattle.dwg_grammar.specs.Combinators.{counted, items};
 ghost use Rattle.dwg_common.specs.Parsing.{Keeps, Parses};
 ghost use Rattle.dwg_tables.specs.LtypeBody.{ltype_main, pattern_of, stroke, stroke_of};
+ghost use Rattle.dwg_tables.specs.TableReading.{pattern_read};
 
 use crate::dash::{CodeStroke, known_strokes};
 use crate::ltype::{Dash, Ltype, Pattern, Stroke};
@@ -48,7 +49,7 @@ pub(crate) fn read_pattern(
     alloc: Global,
     cursor: &mut BitCursor<'_>,
 ) -> Result<Option<Pattern>, NoMemory>
-    ensures parsed { IfOk result (λ found. Parses ltype_main found cursor.old cursor.new) }
+    ensures parsed { IfOk result (λ found. Parses ltype_main (option_map pattern_read found) cursor.old cursor.new) }
     ensures kept { Keeps cursor.old cursor.new }
 {
     let Some(title) = read_title(alloc, cursor)? else {

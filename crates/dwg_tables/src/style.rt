@@ -1,7 +1,6 @@
 //! Text styles.
 
-ghost use Rattle.std.specs.Prelude.{◌≡◌};
-ghost use Rattle.dwg_tables.specs.StyleBody.{form_of, style_body};
+ghost use Rattle.dwg_tables.specs.StyleBody.{style_body};
 ghost use Rattle.dwg_tables.specs.TableLaws.{style_is_body};
 
 use crate::entry::{Entry, entry_of};
@@ -57,21 +56,6 @@ pub(crate) struct Form {
     pub(crate) last_height: u64,
 }
 
-/// The form of the letters of a text style.
-fn form_of(style: &Style) -> Form
-    ensures { result ≡ form_of style.now }
-{
-    Form {
-        flag_a: style.flag_a,
-        flag_b: style.flag_b,
-        height: style.height,
-        width: style.width,
-        oblique: style.oblique,
-        generation: style.generation,
-        last_height: style.last_height,
-    }
-}
-
 #[tactic(auto, unfolding(crate::specs::StyleBody::style_body, dwg_grammar::specs::ReferenceCodes::reference))]
 impl BodyCode for Style {
     ghost grammar = { style_body };
@@ -112,7 +96,7 @@ impl BodyCode for Style {
     }
 
     fn fits(&self, base: Handle) -> bool {
-        known_form(form_of(self));
+        known_form(self);
         if !title_fits(&self.entry) {
             return false;
         }
@@ -128,7 +112,7 @@ impl BodyCode for Style {
     fn lengths(&self, base: Handle) -> Lengths {
         Lengths {
             main: title_bits(&self.entry)
-                + form_bits(form_of(self))
+                + form_bits(self)
                 + tv_bits(self.font.as_slice())
                 + tv_bits(self.big_font.as_slice()),
             refs: ref_bits(self.entry.xref, base),
@@ -137,7 +121,7 @@ impl BodyCode for Style {
 
     fn write_main(&self, _base: Handle, sink: &mut BitSink) {
         write_title(&self.entry, sink);
-        write_form(form_of(self), sink);
+        write_form(self, sink);
         write_tv(self.font.as_slice(), sink);
         write_tv(self.big_font.as_slice(), sink);
     }

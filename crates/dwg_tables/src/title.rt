@@ -2,10 +2,11 @@
 //! "SHAPEFILE", "LTYPE", "APPID" and "BLOCK HEADER").
 #![tactic(auto, unfolding(crate::specs::Entries::entry_main))]
 
-ghost use Rattle.std.specs.Prelude.{◌≡◌, ◌^◌, ◌<◌, ◌≤◌, ◌↔◌, length, IfOk, IsTrue};
+ghost use Rattle.std.specs.Prelude.{◌≡◌, ◌^◌, ◌<◌, ◌≤◌, ◌↔◌, length, option_map, IfOk, IsTrue};
 ghost use Rattle.dwg_bits.specs.Sink.{Extends};
 ghost use Rattle.dwg_common.specs.Parsing.{Keeps, Parses};
 ghost use Rattle.dwg_tables.specs.Entries.{entry_main, title_of};
+ghost use Rattle.dwg_tables.specs.TableReading.{title_read};
 
 use crate::entry::{Entry, Title};
 use dwg_base::NoMemory;
@@ -20,7 +21,7 @@ pub(crate) fn read_title(
     alloc: Global,
     cursor: &mut BitCursor<'_>,
 ) -> Result<Option<Title>, NoMemory>
-    ensures parsed { IfOk result (λ found. Parses entry_main found cursor.old cursor.new) }
+    ensures parsed { IfOk result (λ found. Parses entry_main (option_map title_read found) cursor.old cursor.new) }
     ensures kept { Keeps cursor.old cursor.new }
 {
     let Some(name) = parse_tv(alloc, cursor)? else {
