@@ -77,22 +77,22 @@ names_of header = (header.entry.xref, (header.block, (header.ends, (header.endbl
 abbrev pub header_of : TitleParts × (FlagParts × ContentParts) → NameParts → BlockHeader
 header_of (title, ((anonymous, (has_attributes, (is_xref, (overlaid, loaded)))), (base, (path, (counts, (description, preview))))))
     (xref, (block, (ends, (endblk, (targets, layout))))) = record {
-  entry = entry_of title xref;
-  anonymous = anonymous;
-  has_attributes = has_attributes;
-  is_xref = is_xref;
-  overlaid = overlaid;
-  loaded = loaded;
-  base = base;
-  path = path;
-  inserts = joined mark_of counts targets;
-  description = description;
-  preview = preview;
-  block = block;
-  ends = ends;
-  endblk = endblk;
-  layout = layout;
-}
+      entry = entry_of title xref;
+      anonymous = anonymous;
+      has_attributes = has_attributes;
+      is_xref = is_xref;
+      overlaid = overlaid;
+      loaded = loaded;
+      base = base;
+      path = path;
+      inserts = joined mark_of counts targets;
+      description = description;
+      preview = preview;
+      block = block;
+      ends = ends;
+      endblk = endblk;
+      layout = layout;
+    }
 
 -- the main bits, and the references
 unfoldable pub block_header_body : ℕ → BodyGrammar BlockHeader

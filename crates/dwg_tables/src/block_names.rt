@@ -42,7 +42,8 @@ pub(crate) fn read_block_names(
     let Some(block) = parse_code::<CodeH>(&base, cursor) else {
         return Ok(None);
     };
-    let Some(ends) = parse_when::<CodeEnds>(&base, has_ends(flags.is_xref, flags.overlaid), cursor) else {
+    let Some(ends) = parse_when::<CodeEnds>(&base, has_ends(flags.is_xref, flags.overlaid), cursor)
+    else {
         return Ok(None);
     };
     let Some(endblk) = parse_code::<CodeH>(&base, cursor) else {
@@ -76,7 +77,11 @@ pub(crate) fn block_names_fit(header: &BlockHeader, base: Handle) -> bool
     if !header.block.fits(base) {
         return false;
     }
-    if !ends_fit_when(has_ends(header.is_xref, header.overlaid), &header.ends, base) {
+    if !ends_fit_when(
+        has_ends(header.is_xref, header.overlaid),
+        &header.ends,
+        base,
+    ) {
         return false;
     }
     if !header.endblk.fits(base) {
@@ -97,7 +102,11 @@ pub(crate) fn block_names_bits(header: &BlockHeader, base: Handle) -> u64
 {
     CodeH::length(&base, &header.entry.xref)
         + CodeH::length(&base, &header.block)
-        + length_when::<CodeEnds>(&base, has_ends(header.is_xref, header.overlaid), &header.ends)
+        + length_when::<CodeEnds>(
+            &base,
+            has_ends(header.is_xref, header.overlaid),
+            &header.ends,
+        )
         + CodeH::length(&base, &header.endblk)
         + parts_bits::<CodeH, InsertMark>(&base, header.inserts.as_slice())
         + CodeH::length(&base, &header.layout)
@@ -105,18 +114,19 @@ pub(crate) fn block_names_bits(header: &BlockHeader, base: Handle) -> u64
 
 /// Writes what a header names.
 #[tactic(auto, unfolding(dwg_grammar::specs::Combinators::chain))]
-pub(crate) fn write_block_names(
-    header: &BlockHeader,
-    base: Handle,
-    sink: &mut BitSink,
-)
+pub(crate) fn write_block_names(header: &BlockHeader, base: Handle, sink: &mut BitSink)
     requires value { (block_refs base (flags_of header.now, content_of header.now)).grammar.IsValue (names_of header.now) }
     requires room { length ((block_refs base (flags_of header.now, content_of header.now)).grammar.short (names_of header.now)) ≤ sink.old.spare }
     ensures { Extends sink.old sink.new ((block_refs base (flags_of header.now, content_of header.now)).grammar.short (names_of header.now)) }
 {
     CodeH::write(&base, &header.entry.xref, sink);
     CodeH::write(&base, &header.block, sink);
-    write_when::<CodeEnds>(&base, has_ends(header.is_xref, header.overlaid), &header.ends, sink);
+    write_when::<CodeEnds>(
+        &base,
+        has_ends(header.is_xref, header.overlaid),
+        &header.ends,
+        sink,
+    );
     CodeH::write(&base, &header.endblk, sink);
     write_parts::<CodeH, InsertMark>(&base, header.inserts.as_slice(), sink);
     CodeH::write(&base, &header.layout, sink);
