@@ -3,6 +3,7 @@ use Rattle.std.specs.Prelude.{ℕ, ◌+◌, List, [], ◌∷◌, ◌++◌, map, 
 use Rattle.std.specs.Option.{option_map, option_map_or}
 use Rattle.dwg_common.specs.declared.entity.EntityCommon.{EntityCommon}
 use Rattle.dwg_common.specs.declared.object.ObjectCommon.{ObjectCommon}
+use Rattle.dwg_entities.specs.declared.insert.Insert as declared
 use Rattle.dwg_graph.specs.declared.slot.Slot.{Slot}
 use Rattle.dwg_grammar.specs.Reference.{Reference}
 use Rattle.dwg_kinds.specs.declared.field.Field.{Field}
@@ -12,6 +13,7 @@ use Rattle.dwg_object.specs.declared.body.Body.{Body}
 use Rattle.dwg_object.specs.declared.common.Common.TheVariants as commons
 use Rattle.dwg_object.specs.declared.common.Common.{Common}
 use Rattle.dwg_object.specs.Objects.{ObjectValue, TypedValue, PlainValue, RawValue}
+use Rattle.dwg_tables.specs.declared.block_header.BlockHeader.{BlockHeader}
 
 -- a field of an object, and its references in their order
 pub record FieldReferences : Type 0 where
@@ -51,26 +53,34 @@ unfoldable pub held_by_common : Common → List FieldReferences
 held_by_common (commons.Entity common) = held_by_entity common
 held_by_common (commons.Object common) = held_by_object common
 
+-- what an insert holds of its own
+abbrev pub held_by_insert : declared.Insert → List FieldReferences
+held_by_insert insert =
+    one Block insert.block
+    ∷ maybe First (option_map (λ attributes. attributes.first) insert.attributes)
+    ∷ maybe Last (option_map (λ attributes. attributes.last) insert.attributes)
+    ∷ maybe Seqend (option_map (λ attributes. attributes.seqend) insert.attributes) ∷ []
+
+-- what the header of a block holds of its own
+abbrev pub held_by_block : BlockHeader → List FieldReferences
+held_by_block header =
+    one Block header.block
+    ∷ maybe First (option_map (λ ends. ends.first) header.ends)
+    ∷ maybe Last (option_map (λ ends. ends.last) header.ends)
+    ∷ one Xref header.entry.xref
+    ∷ one Endblk header.endblk
+    ∷ listed Insert (map (λ mark. mark.target) header.inserts)
+    ∷ one Layout header.layout ∷ []
+
 -- what the kinds hold of their own; those that aren't listed refer to nothing
 unfoldable pub held_by_body : Body → List FieldReferences
 held_by_body (bodies.Text body) = one Style body.style ∷ []
 held_by_body (bodies.Attrib body) = one Style body.text.style ∷ []
 held_by_body (bodies.Attdef body) = one Style body.attrib.text.style ∷ []
-held_by_body (bodies.Insert body) =
-    one Block body.block
-    ∷ maybe First (option_map (λ attributes. attributes.first) body.attributes)
-    ∷ maybe Last (option_map (λ attributes. attributes.last) body.attributes)
-    ∷ maybe Seqend (option_map (λ attributes. attributes.seqend) body.attributes) ∷ []
+held_by_body (bodies.Insert body) = held_by_insert body
 held_by_body (bodies.Dictionary body) = listed Item (map (λ item. item.target) body.items) ∷ []
 held_by_body (bodies.BlockControl body) = listed Entry body.entries ∷ one Model body.model ∷ one Paper body.paper ∷ []
-held_by_body (bodies.BlockHeader body) =
-    one Block body.block
-    ∷ maybe First (option_map (λ ends. ends.first) body.ends)
-    ∷ maybe Last (option_map (λ ends. ends.last) body.ends)
-    ∷ one Xref body.entry.xref
-    ∷ one Endblk body.endblk
-    ∷ listed Insert (map (λ mark. mark.target) body.inserts)
-    ∷ one Layout body.layout ∷ []
+held_by_body (bodies.BlockHeader body) = held_by_block body
 held_by_body (bodies.LayerControl body) = listed Entry body.entries ∷ []
 held_by_body (bodies.Layer body) = one Linetype body.linetype ∷ one Plotstyle body.plotstyle ∷ one Xref body.entry.xref ∷ []
 held_by_body (bodies.StyleControl body) = listed Entry body.entries ∷ []

@@ -11,11 +11,38 @@ use crate::slot::Slot;
 use crate::walk::Walk;
 use dwg_base::{Items, NoMemory};
 use dwg_common::{EntityCommon, ObjectCommon};
+use dwg_entities::Insert;
 use dwg_kinds::Field;
 use dwg_object::{Body, Common, Object};
+use dwg_tables::BlockHeader;
 
 /// More slots than any object has: a search that is to pass so many counts them.
 const MANY: u64 = 1 << 62;
+
+/// What an insert holds of its own.
+#[tactic(auto, using(crate::proofs::Passing::passes_end))]
+fn insert_slots(walk: Walk, insert: &Insert) -> Walk
+    ensures { PassesFields walk (tables.held_by_insert insert.now) result }
+{
+    walk.one(Field::Block, insert.block)
+        .maybe(Field::First, insert.attributes.map(|named| named.first))
+        .maybe(Field::Last, insert.attributes.map(|named| named.last))
+        .maybe(Field::Seqend, insert.attributes.map(|named| named.seqend))
+}
+
+/// What the header of a block holds of its own.
+#[tactic(auto, using(crate::proofs::Passing::passes_end))]
+fn block_slots(walk: Walk, header: &BlockHeader) -> Walk
+    ensures { PassesFields walk (tables.held_by_block header.now) result }
+{
+    walk.one(Field::Block, header.block)
+        .maybe(Field::First, header.ends.map(|ends| ends.first))
+        .maybe(Field::Last, header.ends.map(|ends| ends.last))
+        .one(Field::Xref, header.entry.xref)
+        .one(Field::Endblk, header.endblk)
+        .listed(Field::Insert, &header.inserts)
+        .one(Field::Layout, header.layout)
+}
 
 /// What the kinds hold of their own; those that aren't listed refer to nothing.
 #[tactic(auto, using(crate::proofs::Passing::passes_end), unfolding(crate::specs::Slots::held_by_body))]
@@ -26,24 +53,13 @@ fn body_slots(walk: Walk, body: &Body) -> Walk
         Body::Text(body) => walk.one(Field::Style, body.style),
         Body::Attrib(body) => walk.one(Field::Style, body.text.style),
         Body::Attdef(body) => walk.one(Field::Style, body.attrib.text.style),
-        Body::Insert(body) => walk
-            .one(Field::Block, body.block)
-            .maybe(Field::First, body.attributes.map(|named| named.first))
-            .maybe(Field::Last, body.attributes.map(|named| named.last))
-            .maybe(Field::Seqend, body.attributes.map(|named| named.seqend)),
+        Body::Insert(body) => insert_slots(walk, body),
         Body::Dictionary(body) => walk.listed(Field::Item, &body.items),
         Body::BlockControl(body) => walk
             .references(Field::Entry, &body.entries)
             .one(Field::Model, body.model)
             .one(Field::Paper, body.paper),
-        Body::BlockHeader(body) => walk
-            .one(Field::Block, body.block)
-            .maybe(Field::First, body.ends.map(|ends| ends.first))
-            .maybe(Field::Last, body.ends.map(|ends| ends.last))
-            .one(Field::Xref, body.entry.xref)
-            .one(Field::Endblk, body.endblk)
-            .listed(Field::Insert, &body.inserts)
-            .one(Field::Layout, body.layout),
+        Body::BlockHeader(body) => block_slots(walk, body),
         Body::LayerControl(body) => walk.references(Field::Entry, &body.entries),
         Body::Layer(body) => walk
             .one(Field::Linetype, body.linetype)
