@@ -1,5 +1,5 @@
 -- Texts, attributes and their definitions, inserts, and the begin and end of blocks meet the laws of bodies.
-use Rattle.std.proofs.Common.{◌≡◌, refl, ap, ℕ, ◌^◌, ◌<◌, Bool, List, arith}
+use Rattle.std.proofs.Common.{◌≡◌, refl, ap, ℕ, ◌^◌, ◌<◌, Bool, List, Option, arith}
 use Rattle.dwg_grammar.specs.Codes.{rd, bs, tv}
 use Rattle.dwg_grammar.proofs.CombinatorLemmas.{always_is_code}
 use Rattle.dwg_grammar.proofs.BodyLemmas.{free_of_body}
@@ -16,7 +16,9 @@ use Rattle.dwg_entities.specs.AttribBody.{attrib_main, attrib_body, attrib_of, l
 use Rattle.dwg_entities.specs.BlockBody.{block_body}
 use Rattle.dwg_entities.specs.Closing.{endblk_main, endblk_body, seqend_main, seqend_body}
 use Rattle.dwg_entities.specs.FlagLaws.{worth_told}
-use Rattle.dwg_entities.specs.InsertBody.{Setting, insert_main, attributes, insert_refs, setting_of, insert_of, insert_body}
+use Rattle.dwg_entities.specs.declared.insert.Attributes.{Attributes}
+use Rattle.dwg_entities.specs.InsertBody.{Setting, attributes, insert_refs, setting_of, insert_of, insert_body}
+use Rattle.dwg_entities.specs.MInsertBody.{minsert_main, repeats_of, minsert_of, minsert_body}
 use Rattle.dwg_grammar.specs.Points.{dd2}
 use Rattle.dwg_entities.specs.ScaleLaws.{scale_is_code}
 use Rattle.dwg_entities.specs.TextBody.{Inscription, flags_of, text_main, inscription_of, text_of, text_body}
@@ -90,21 +92,36 @@ attdef_is_free base small = free_of_body base _ (attdef_is_body base small) (λ 
 pub attributes_is_part : (base : ℕ) → base < 2 ^ 63 → IsReferencePart base (attributes base)
 attributes_is_part base small = search parts
 
--- an insert is a body: that it has attributes is told by these
+-- an insert tells what it was put together of: that it has attributes is told by these
+setting_told : (base : ℕ) (told : Setting) (named : Reference × Option Attributes) → (insert_refs base told.1.1.1.1).grammar.IsValue named
+    → setting_of (insert_of told named) ≡ told
+setting_told base told named names =
+    ap (λ (there : Bool). let setting : Setting = (told.0, (told.1.0, (told.1.1.0, (told.1.1.1.0, there)))) in setting)
+    (there_by_test told.1.1.1.1 (attributes base).grammar named.1 names.1)
+
+-- it is a body
 pub insert_is_body : (base : ℕ) → base < 2 ^ 63 → IsBody base (insert_body base)
 unfolding insert_body
-insert_is_body base small =
-    body_is_body base insert_main (λ told. insert_refs base told.1.1.1.1) insert_of setting_of _ (search (codes, scale_is_code) depth 20) (λ told fits. search parts depth 20)
-    (λ told named fits names. (
-      ap (λ (there : Bool). let setting : Setting = (told.0, (told.1.0, (told.1.1.0, (told.1.1.1.0, there)))) in setting)
-          (there_by_test told.1.1.1.1 (attributes base).grammar named.1 names.1),
-      refl,
-    ))
-    (λ value. refl)
+insert_is_body base small = search (bodies, scale_is_code, setting_told) depth 20
 
 pub insert_is_free : (base : ℕ) → base < 2 ^ 63 → IsFreeBody base (insert_body base)
 unfolding insert_body
 insert_is_free base small = free_of_body base _ (insert_is_body base small) (λ over. tt)
+
+-- one in columns and rows tells what it was put together of
+repeats_told : (base : ℕ) (told : Setting × (ℕ × (ℕ × (ℕ × ℕ)))) (named : Reference × Option Attributes) → (insert_refs base told.0.1.1.1.1).grammar.IsValue named
+    → repeats_of (minsert_of told named) ≡ told
+repeats_told base told named names =
+    ap (λ (setting : Setting). let parts : Setting × (ℕ × (ℕ × (ℕ × ℕ))) = (setting, told.1) in parts) (setting_told base told.0 named names)
+
+-- it is a body
+pub minsert_is_body : (base : ℕ) → base < 2 ^ 63 → IsBody base (minsert_body base)
+unfolding minsert_body minsert_main
+minsert_is_body base small = search (bodies, scale_is_code, repeats_told) depth 20
+
+pub minsert_is_free : (base : ℕ) → base < 2 ^ 63 → IsFreeBody base (minsert_body base)
+unfolding minsert_body
+minsert_is_free base small = free_of_body base _ (minsert_is_body base small) (λ over. tt)
 
 -- the begin of a block is a body
 pub block_is_body : (base : ℕ) → base < 2 ^ 63 → IsBody base (block_body base)
@@ -134,4 +151,4 @@ unfolding seqend_body
 seqend_is_free base small = free_of_body base _ (seqend_is_body base small) (λ over. tt)
 
 -- any bits may follow each of these bodies
-pub ruleset bodies_are_free = (text_is_free, attrib_is_free, attdef_is_free, insert_is_free, block_is_free, endblk_is_free, seqend_is_free)
+pub ruleset bodies_are_free = (text_is_free, attrib_is_free, attdef_is_free, insert_is_free, minsert_is_free, block_is_free, endblk_is_free, seqend_is_free)

@@ -12,10 +12,11 @@ use Rattle.dwg_entities.specs.declared.insert.Attributes.{Attributes}
 use Rattle.dwg_entities.specs.declared.insert.Insert.{Insert}
 use Rattle.dwg_entities.specs.Scale.{scale}
 
--- 3BD place; scale; BD rotation; 3BD extrusion; B attributes
+-- what its main bits tell: place, scale, rotation, extrusion, whether it has attributes
 abbrev pub Setting : Type 0
 Setting = Point3 × (Point3 × (ℕ × (Point3 × Bool)))
 
+-- 3BD place; scale; BD rotation; 3BD extrusion; B attributes
 abbrev pub insert_main : Grammar Bool Setting
 insert_main = seq bd3 (λ place. seq scale (λ scale. seq bd (λ rotation. seq bd3 (λ extrusion. b))))
 
@@ -29,7 +30,7 @@ attributes base =
 abbrev pub insert_refs : ℕ → Bool → ReferencePart (Reference × Option Attributes)
 insert_refs base there = then_refs (one_ref base) (maybe_refs there (attributes base))
 
--- what the main bits of an insert tell
+-- what the main bits of an insert tell of it
 abbrev pub setting_of : Insert → Setting
 setting_of insert = (insert.place, (insert.scale, (insert.rotation, (insert.extrusion, is_some insert.attributes))))
 
@@ -38,5 +39,6 @@ abbrev pub insert_of : Setting → Reference × Option Attributes → Insert
 insert_of (place, (scale, (rotation, (extrusion, there)))) (block, attributes) =
     record { place = place; scale = scale; rotation = rotation; extrusion = extrusion; block = block; attributes = attributes }
 
+-- the main bits, and the references that they tell of
 unfoldable pub insert_body : ℕ → BodyGrammar Insert
 insert_body base = body insert_main (λ told. insert_refs base told.1.1.1.1) insert_of setting_of (λ insert. (insert.block, insert.attributes))

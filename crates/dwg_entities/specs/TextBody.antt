@@ -25,10 +25,11 @@ text_lettering flags = seq (unless flags 0x04 rd) (λ oblique. seq (unless flags
 abbrev pub text_wording : ℕ → Grammar Bool (List ℕ × (Option ℕ × (Option ℕ × Option ℕ)))
 text_wording flags = seq tv (λ text. seq (unless flags 0x20 bs) (λ generation. seq (unless flags 0x40 bs) (λ horizontal. unless flags 0x80 bs)))
 
--- RC flags, and the parts by them
+-- what its main bits tell: its flags, where it stands, the form of its letters, its words
 abbrev pub Inscription : Type 0
 Inscription = ℕ × ((Option ℕ × (Point2 × (Option Point2 × (Point3 × ℕ)))) × ((Option ℕ × (Option ℕ × (ℕ × Option ℕ))) × (List ℕ × (Option ℕ × (Option ℕ × Option ℕ)))))
 
+-- RC flags, and the parts by them
 unfoldable pub text_main : Grammar Bool Inscription
 text_main = seq rc (λ flags. seq (text_placing flags) (λ placing. seq (text_lettering flags) (λ lettering. text_wording flags)))
 
@@ -38,13 +39,15 @@ flags_of text =
     worth_unless text.elevation 0x01 + worth_unless text.alignment 0x02 + worth_unless text.oblique 0x04 + worth_unless text.rotation 0x08 + worth_unless text.width 0x10
     + worth_unless text.generation 0x20 + worth_unless text.horizontal 0x40 + worth_unless text.vertical 0x80
 
--- what the main bits of a text tell
+-- where a text stands
 abbrev pub placing_of : Text → Option ℕ × (Point2 × (Option Point2 × (Point3 × ℕ)))
 placing_of text = (text.elevation, (text.insertion, (text.alignment, (text.extrusion, text.thickness))))
 
+-- the form of its letters
 abbrev pub lettering_of : Text → Option ℕ × (Option ℕ × (ℕ × Option ℕ))
 lettering_of text = (text.oblique, (text.rotation, (text.height, text.width)))
 
+-- what the main bits of a text tell of it
 abbrev pub inscription_of : Text → Inscription
 inscription_of text = (flags_of text, (placing_of text, (lettering_of text, (text.text, (text.generation, (text.horizontal, text.vertical))))))
 

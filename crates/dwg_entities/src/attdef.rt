@@ -1,6 +1,6 @@
 //! The definition of an attribute.
 
-ghost use Rattle.std.specs.Prelude.{◌≡◌, IfOk};
+ghost use Rattle.std.specs.Prelude.{◌≡◌};
 ghost use Rattle.dwg_entities.specs.AttdefBody.{attdef_body};
 ghost use Rattle.dwg_entities.specs.BodiesLaws.{attdef_is_body};
 
@@ -22,7 +22,7 @@ pub struct Attdef {
 impl BodyCode for Attdef {
     ghost grammar = { attdef_body };
 
-    #[tactic(auto, using(crate::proofs::BehindTexts::attdef_parsed))]
+    #[tactic(auto, using(crate::proofs::GoingOn::attdef_parsed))]
     fn parse(
         alloc: Global,
         main: &mut BitCursor<'_>,

@@ -1,6 +1,6 @@
 //! An attribute of an insert.
 
-ghost use Rattle.std.specs.Prelude.{◌≡◌, IfOk};
+ghost use Rattle.std.specs.Prelude.{◌≡◌};
 ghost use Rattle.dwg_entities.specs.AttribBody.{attrib_body};
 ghost use Rattle.dwg_entities.specs.BodiesLaws.{attrib_is_body};
 
@@ -27,7 +27,7 @@ pub struct Attrib {
 impl BodyCode for Attrib {
     ghost grammar = { attrib_body };
 
-    #[tactic(auto, using(crate::proofs::BehindTexts::attrib_parsed))]
+    #[tactic(auto, using(crate::proofs::GoingOn::attrib_parsed))]
     fn parse(
         alloc: Global,
         main: &mut BitCursor<'_>,

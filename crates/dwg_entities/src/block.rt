@@ -1,6 +1,6 @@
 //! The begin of a block.
 
-ghost use Rattle.std.specs.Prelude.{◌≡◌, IfOk};
+ghost use Rattle.std.specs.Prelude.{◌≡◌};
 ghost use Rattle.dwg_entities.specs.BlockBody.{block_body};
 ghost use Rattle.dwg_entities.specs.BodiesLaws.{block_is_body};
 

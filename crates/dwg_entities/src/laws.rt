@@ -7,6 +7,7 @@ ghost use Rattle.dwg_entities.specs.AttribBody.{attrib_body};
 ghost use Rattle.dwg_entities.specs.BlockBody.{block_body};
 ghost use Rattle.dwg_entities.specs.Closing.{endblk_body, seqend_body};
 ghost use Rattle.dwg_entities.specs.InsertBody.{insert_body};
+ghost use Rattle.dwg_entities.specs.MInsertBody.{minsert_body};
 ghost use Rattle.dwg_entities.specs.TextBody.{text_body};
 
 /// What holds of these bodies, in the object of any handle: main bits and reference bits spell at most one by their fronts;
@@ -17,6 +18,7 @@ pub fn entity_laws()
     ensures attrib { (base : ℕ) → base < 2 ^ 63 → IsFreeBody base (attrib_body base) }
     ensures attdef { (base : ℕ) → base < 2 ^ 63 → IsFreeBody base (attdef_body base) }
     ensures insert { (base : ℕ) → base < 2 ^ 63 → IsFreeBody base (insert_body base) }
+    ensures minsert { (base : ℕ) → base < 2 ^ 63 → IsFreeBody base (minsert_body base) }
     ensures block { (base : ℕ) → base < 2 ^ 63 → IsFreeBody base (block_body base) }
     ensures endblk { (base : ℕ) → base < 2 ^ 63 → IsFreeBody base (endblk_body base) }
     ensures seqend { (base : ℕ) → base < 2 ^ 63 → IsFreeBody base (seqend_body base) }

@@ -1,5 +1,5 @@
 //! Texts, attributes, inserts and the marks of blocks: what each has beside the common part of entities (Open Design
-//! Specification, "TEXT", "ATTRIB", "ATTDEF", "INSERT", "BLOCK", "ENDBLK" and "SEQEND").
+//! Specification, "TEXT", "ATTRIB", "ATTDEF", "INSERT", "MINSERT", "BLOCK", "ENDBLK" and "SEQEND").
 #![tactic(auto)]
 
 mod attdef;
@@ -10,6 +10,7 @@ mod closing;
 mod flags;
 mod insert;
 mod laws;
+mod minsert;
 mod scale;
 mod text;
 
@@ -19,4 +20,5 @@ pub use block::Block;
 pub use closing::{EndBlk, SeqEnd};
 pub use insert::{Attributes, Insert};
 pub use laws::entity_laws;
+pub use minsert::MInsert;
 pub use text::Text;

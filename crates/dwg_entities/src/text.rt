@@ -1,11 +1,13 @@
 //! A line of text.
 
-ghost use Rattle.std.specs.Prelude.{◌≡◌, ◌≤◌, ◌↔◌, length, IfOk, IsTrue};
+ghost use Rattle.std.specs.Prelude.{◌≡◌, ◌≤◌, ◌↔◌, length, option_map, IfOk, IsTrue};
 ghost use Rattle.dwg_bits.specs.Sink.{Extends};
+ghost use Rattle.dwg_common.specs.Parsing.{Keeps, Parses};
 ghost use Rattle.dwg_grammar.specs.Points.{dd2};
 ghost use Rattle.dwg_entities.specs.BodiesLaws.{text_is_body};
 ghost use Rattle.dwg_entities.specs.Flags.{unless};
-ghost use Rattle.dwg_entities.specs.TextBody.{flags_of, lettering_of, placing_of, text_body, text_lettering, text_placing};
+ghost use Rattle.dwg_entities.specs.TextBody.{flags_of, lettering_of, placing_of, text_body, text_lettering, text_placing, text_wording};
+ghost use Rattle.dwg_entities.specs.TextReading.{lettering_read, placing_read, wording_read};
 
 use crate::flags::{has, number_fits, word_fits, worth_unless};
 use dwg_base::{ByteRun, Handle, NoMemory};
@@ -53,6 +55,47 @@ pub struct Text {
     pub style: Ref,
 }
 
+/// Where a text stands, as it is read.
+#[derive(Drop)]
+struct Placing {
+    /// Its elevation.
+    elevation: Option<u64>,
+    /// Where it begins.
+    insertion: Point2,
+    /// Where it is aligned to.
+    alignment: Option<Point2>,
+    /// Which way is up.
+    extrusion: Point3,
+    /// How thick it is.
+    thickness: u64,
+}
+
+/// The form of its letters, as it is read.
+#[derive(Drop)]
+struct Lettering {
+    /// How oblique they are.
+    oblique: Option<u64>,
+    /// How they are turned.
+    rotation: Option<u64>,
+    /// How high they are.
+    height: u64,
+    /// How wide they are.
+    width: Option<u64>,
+}
+
+/// Its words, as they are read.
+#[derive(Drop)]
+struct Wording {
+    /// The bytes.
+    text: ByteRun,
+    /// How they are mirrored.
+    generation: Option<u16>,
+    /// How they are aligned along the line.
+    horizontal: Option<u16>,
+    /// How they are aligned across it.
+    vertical: Option<u16>,
+}
+
 /// What the flag of a text without an elevation is worth.
 const NO_ELEVATION: u8 = 0x01;
 
@@ -90,6 +133,71 @@ fn flags_of(text: &Text) -> u8
         + worth_unless(&text.generation, NO_GENERATION)
         + worth_unless(&text.horizontal, NO_HORIZONTAL)
         + worth_unless(&text.vertical, NO_VERTICAL)
+}
+
+/// Reads where a text stands behind its flags, as it is parsed.
+fn read_placing(flags: u8, cursor: &mut BitCursor<'_>) -> Option<Placing>
+    ensures parsed { Parses (text_placing flags) (option_map placing_read result) cursor.old cursor.new }
+    ensures kept { Keeps cursor.old cursor.new }
+{
+    let elevation = parse_when::<CodeRD>(&(), !has(flags, NO_ELEVATION), cursor)?;
+    let insertion = parse_code::<Code2RD>(&(), cursor)?;
+    let alignment = parse_when::<Code2DD>(&insertion, !has(flags, NO_ALIGNMENT), cursor)?;
+    let extrusion = parse_code::<CodeBE>(&(), cursor)?;
+    let thickness = parse_code::<CodeBT>(&(), cursor)?;
+    Some(Placing {
+        elevation,
+        insertion,
+        alignment,
+        extrusion,
+        thickness,
+    })
+}
+
+/// Reads the form of its letters, as it is parsed.
+fn read_lettering(flags: u8, cursor: &mut BitCursor<'_>) -> Option<Lettering>
+    ensures parsed { Parses (text_lettering flags) (option_map lettering_read result) cursor.old cursor.new }
+    ensures kept { Keeps cursor.old cursor.new }
+{
+    let oblique = parse_when::<CodeRD>(&(), !has(flags, NO_OBLIQUE), cursor)?;
+    let rotation = parse_when::<CodeRD>(&(), !has(flags, NO_ROTATION), cursor)?;
+    let height = parse_code::<CodeRD>(&(), cursor)?;
+    let width = parse_when::<CodeRD>(&(), !has(flags, NO_WIDTH), cursor)?;
+    Some(Lettering {
+        oblique,
+        rotation,
+        height,
+        width,
+    })
+}
+
+/// Reads its words, as they are parsed. The only refusal is want of memory, which is taken only for what is there.
+fn read_wording(
+    alloc: Global,
+    flags: u8,
+    cursor: &mut BitCursor<'_>,
+) -> Result<Option<Wording>, NoMemory>
+    ensures parsed { IfOk result (λ found. Parses (text_wording flags) (option_map wording_read found) cursor.old cursor.new) }
+    ensures kept { Keeps cursor.old cursor.new }
+{
+    let Some(text) = parse_tv(alloc, cursor)? else {
+        return Ok(None);
+    };
+    let Some(generation) = parse_when::<CodeBS>(&(), !has(flags, NO_GENERATION), cursor) else {
+        return Ok(None);
+    };
+    let Some(horizontal) = parse_when::<CodeBS>(&(), !has(flags, NO_HORIZONTAL), cursor) else {
+        return Ok(None);
+    };
+    let Some(vertical) = parse_when::<CodeBS>(&(), !has(flags, NO_VERTICAL), cursor) else {
+        return Ok(None);
+    };
+    Ok(Some(Wording {
+        text,
+        generation,
+        horizontal,
+        vertical,
+    }))
 }
 
 /// Whether an alignment is there exactly where its flag isn't set.
@@ -146,63 +254,32 @@ impl BodyCode for Text {
         let Some(flags) = parse_code::<CodeRC>(&(), main) else {
             return Ok(None);
         };
-        let Some(elevation) = parse_when::<CodeRD>(&(), !has(flags, NO_ELEVATION), main) else {
+        let Some(placing) = read_placing(flags, main) else {
             return Ok(None);
         };
-        let Some(insertion) = parse_code::<Code2RD>(&(), main) else {
+        let Some(lettering) = read_lettering(flags, main) else {
             return Ok(None);
         };
-        let Some(alignment) = parse_when::<Code2DD>(&insertion, !has(flags, NO_ALIGNMENT), main)
-        else {
-            return Ok(None);
-        };
-        let Some(extrusion) = parse_code::<CodeBE>(&(), main) else {
-            return Ok(None);
-        };
-        let Some(thickness) = parse_code::<CodeBT>(&(), main) else {
-            return Ok(None);
-        };
-        let Some(oblique) = parse_when::<CodeRD>(&(), !has(flags, NO_OBLIQUE), main) else {
-            return Ok(None);
-        };
-        let Some(rotation) = parse_when::<CodeRD>(&(), !has(flags, NO_ROTATION), main) else {
-            return Ok(None);
-        };
-        let Some(height) = parse_code::<CodeRD>(&(), main) else {
-            return Ok(None);
-        };
-        let Some(width) = parse_when::<CodeRD>(&(), !has(flags, NO_WIDTH), main) else {
-            return Ok(None);
-        };
-        let Some(text) = parse_tv(alloc, main)? else {
-            return Ok(None);
-        };
-        let Some(generation) = parse_when::<CodeBS>(&(), !has(flags, NO_GENERATION), main) else {
-            return Ok(None);
-        };
-        let Some(horizontal) = parse_when::<CodeBS>(&(), !has(flags, NO_HORIZONTAL), main) else {
-            return Ok(None);
-        };
-        let Some(vertical) = parse_when::<CodeBS>(&(), !has(flags, NO_VERTICAL), main) else {
+        let Some(wording) = read_wording(alloc, flags, main)? else {
             return Ok(None);
         };
         let Some(style) = parse_ref(refs, base) else {
             return Ok(None);
         };
         Ok(Some(Text {
-            elevation,
-            insertion,
-            alignment,
-            extrusion,
-            thickness,
-            oblique,
-            rotation,
-            height,
-            width,
-            text,
-            generation,
-            horizontal,
-            vertical,
+            elevation: placing.elevation,
+            insertion: placing.insertion,
+            alignment: placing.alignment,
+            extrusion: placing.extrusion,
+            thickness: placing.thickness,
+            oblique: lettering.oblique,
+            rotation: lettering.rotation,
+            height: lettering.height,
+            width: lettering.width,
+            text: wording.text,
+            generation: wording.generation,
+            horizontal: wording.horizontal,
+            vertical: wording.vertical,
             style,
         }))
     }

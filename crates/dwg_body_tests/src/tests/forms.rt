@@ -10,7 +10,7 @@ use dwg_dicts::{
     AppIdControl, BlockControl, DictItem, Dictionary, LayerControl, LtypeControl, StyleControl,
     XRecord,
 };
-use dwg_entities::{Attdef, Attrib, Attributes, Block, EndBlk, Insert, SeqEnd, Text};
+use dwg_entities::{Attdef, Attrib, Attributes, Block, EndBlk, Insert, MInsert, SeqEnd, Text};
 use dwg_more::{Ellipse, Face3d, Group, Polyline3d, Ray, Solid, Trace, Vertex3d, XLine};
 use dwg_shapes::{Arc, Circle, Line, LwPolyline, Point, Width};
 use dwg_tables::{AppId, BlockHeader, Dash, Ends, Entry, InsertMark, Layer, Ltype, Style};
@@ -180,6 +180,21 @@ impl Fields for Insert {
         )?;
         put_ref(text, &self.block)?;
         put_attributes(text, self.attributes)
+    }
+}
+
+impl Fields for MInsert {
+    fn put(&self, text: &mut String) -> Option<()> {
+        self.insert.put(text)?;
+        put(
+            text,
+            &[
+                u64::from(self.columns),
+                u64::from(self.rows),
+                self.column_spacing,
+                self.row_spacing,
+            ],
+        )
     }
 }
 
