@@ -25,6 +25,7 @@ fn tell_finding<W: Sink>(finding: &AppFinding, page: &mut Page, sink: &mut W)
 }
 
 /// Tells findings, one behind the other.
+#[tactic(auto, using(dwg_page::proofs::Telling::tells_nothing))]
 fn tell_all<W: Sink>(findings: &[AppFinding], page: &mut Page, sink: &mut W)
     ensures { Tells page.old page.new (W.taken sink.old) (W.taken sink.new) (W.faults sink.old) (W.faults sink.new) (flat_map texts.app_finding_line findings.now) }
 {

@@ -71,6 +71,7 @@ fn tell_item<W: Sink>(item: &AppItem, page: &mut Page, sink: &mut W)
 }
 
 /// Tells items, one behind the other.
+#[tactic(auto, using(dwg_page::proofs::Telling::tells_nothing))]
 pub(crate) fn tell_items<W: Sink>(items: &[AppItem], page: &mut Page, sink: &mut W)
     ensures { Tells page.old page.new (W.taken sink.old) (W.taken sink.new) (W.faults sink.old) (W.faults sink.new) (flat_map texts.item_line items.now) }
 {

@@ -64,6 +64,7 @@ fn tell_app<W: Sink>(handle: Handle, index: u64, app: &AppData, page: &mut Page,
 }
 
 /// Tells application data, one behind the other.
+#[tactic(auto, using(dwg_page::proofs::Telling::tells_nothing))]
 fn tell_apps<W: Sink>(handle: Handle, apps: &[AppData], page: &mut Page, sink: &mut W)
     ensures { Tells page.old page.new (W.taken sink.old) (W.taken sink.new) (W.faults sink.old) (W.faults sink.new) (numbered (texts.app_text handle) 0 apps.now) }
 {
@@ -80,6 +81,7 @@ fn tell_object<W: Sink>(object: &Object<'_>, page: &mut Page, sink: &mut W)
 }
 
 /// Tells the application data of objects, one behind the other.
+#[tactic(auto, using(dwg_page::proofs::Telling::tells_nothing))]
 fn tell_objects<W: Sink>(objects: &[Object<'_>], page: &mut Page, sink: &mut W)
     ensures { Tells page.old page.new (W.taken sink.old) (W.taken sink.new) (W.faults sink.old) (W.faults sink.new) (flat_map texts.apps_text (map value_of objects.now)) }
 {
@@ -92,6 +94,7 @@ fn tell_objects<W: Sink>(objects: &[Object<'_>], page: &mut Page, sink: &mut W)
 /// these are no items; then these findings in their order, and the verdict. The items of one application data at a time are read for
 /// that. A write fault comes only where the sink's count of faults rose; the only other refusal is want of memory. After either the
 /// sink took a front of the text.
+#[tactic(auto, unfolding(dwg_page::specs::Telling::TellsBy))]
 pub fn appdata<W: Sink>(
     alloc: Global,
     objects: &[Object<'_>],

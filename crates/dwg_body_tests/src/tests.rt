@@ -3,7 +3,6 @@
 mod dicts;
 mod entities;
 mod fields;
-mod forms;
 mod laws;
 mod more;
 mod shapes;

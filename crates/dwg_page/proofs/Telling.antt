@@ -19,6 +19,7 @@ front_alone taken taken' taken'' text (front, whole, took) none =
 told_then : (fault fault' fault'' : Option ShowFault) (piece piece' piece'' : List ℕ) (taken taken' taken'' : Option (List ℕ)) (faults faults' faults'' : ℕ) (text more : List ℕ)
     → TellsBy fault fault' piece piece' taken taken' faults faults' text → TellsBy fault' fault'' piece' piece'' taken' taken'' faults' faults'' more
     → TellsBy fault fault'' piece piece'' taken taken'' faults faults'' (text ++ more)
+unfolding TellsBy
 told_then None None None piece piece' piece'' taken taken' taken'' faults faults' faults'' text more first then = record {
   sent = first.sent ++ then.sent;
   sends = Appends-trans taken taken' taken'' first.sent then.sent first.sends then.sends;
@@ -64,6 +65,7 @@ tells_more then first = first ▷ then
 -- what was pushed onto a page goes on as the page does
 pushed_by : (fault' : Option ShowFault) (piece pushed piece' : List ℕ) (taken taken' : Option (List ℕ)) (faults faults' : ℕ) (text : List ℕ)
     → pushed ≡ piece ++ text → TellsBy None fault' pushed piece' taken taken' faults faults' [] → TellsBy None fault' piece piece' taken taken' faults faults' text
+unfolding TellsBy
 pushed_by None piece pushed piece' taken taken' faults faults' text push goes = record {
   sent = goes.sent;
   sends = goes.sends;
@@ -85,6 +87,7 @@ tells_pushed page pushed page' taken taken' faults faults' text none still push 
 -- behind a fault any text is told by doing nothing
 idle_by : (fault : Option ShowFault) (stopped : ShowFault) (piece : List ℕ) (taken : Option (List ℕ)) (faults : ℕ) (text : List ℕ)
     → fault ≡ Some stopped → TellsBy fault fault piece piece taken taken faults faults text
+unfolding TellsBy
 idle_by None stopped piece taken faults text is = absurd cc
 idle_by (Some fault) stopped piece taken faults text is = (refl, Appends-nil taken, refl)
 
@@ -95,6 +98,7 @@ tells_idle page stopped taken faults text is = record { told = idle_by page.faul
 -- what wants memory sends nothing
 wanting_by : (piece piece' : List ℕ) (taken : Option (List ℕ)) (faults : ℕ) (text : List ℕ)
     → TellsBy None (Some causes.NoMemory) piece piece' taken taken faults faults text
+unfolding TellsBy
 wanting_by piece piece' taken faults text = (([], (piece ++ text, refl), Appends-nil taken), refl)
 
 pub tells_wanting : (page page' : Page) (taken : Option (List ℕ)) (faults : ℕ) (text : List ℕ) → page.fault ≡ None → page'.fault ≡ Some causes.NoMemory
@@ -108,6 +112,7 @@ tells_wanting page page' taken faults text none wants = record {
 -- a page is sent whole
 pub tells_sent : (page page' : Page) (taken taken' : Option (List ℕ)) (faults faults' : ℕ) → page.fault ≡ None → page'.fault ≡ None → string_bytes page'.piece ≡ []
     → Appends taken taken' (string_bytes page.piece) → faults' ≡ faults → Tells page page' taken taken' faults faults' []
+unfolding TellsBy
 tells_sent page page' taken taken' faults faults' none still empty sends quiet = record {
   told = subst (λ fault. TellsBy fault page'.fault (string_bytes page.piece) (string_bytes page'.piece) taken taken' faults faults' []) (sym none)
       (subst (λ fault. TellsBy None fault (string_bytes page.piece) (string_bytes page'.piece) taken taken' faults faults' []) (sym still)
@@ -117,6 +122,7 @@ tells_sent page page' taken taken' faults faults' none still empty sends quiet =
 -- or in part
 pub tells_in_part : (page page' : Page) (taken taken' : Option (List ℕ)) (faults faults' : ℕ) → page.fault ≡ None → page'.fault ≡ Some causes.WriteFault
     → AppendsFront taken taken' (string_bytes page.piece) → Rises faults faults' → Tells page page' taken taken' faults faults' []
+unfolding TellsBy
 tells_in_part page page' taken taken' faults faults' none failed part rises = record {
   told = subst (λ fault. TellsBy fault page'.fault (string_bytes page.piece) (string_bytes page'.piece) taken taken' faults faults' []) (sym none)
       (subst (λ fault. TellsBy None fault (string_bytes page.piece) (string_bytes page'.piece) taken taken' faults faults' []) (sym failed)
@@ -125,6 +131,7 @@ tells_in_part page page' taken taken' faults faults' none failed part rises = re
 
 -- a page that tells nothing
 nothing_by : (fault : Option ShowFault) (piece : List ℕ) (taken : Option (List ℕ)) (faults : ℕ) → TellsBy fault fault piece piece taken taken faults faults []
+unfolding TellsBy
 nothing_by None piece taken faults = record { sent = []; sends = Appends-nil taken; whole = append-nil piece; quiet = refl }
 nothing_by (Some fault) piece taken faults = (refl, Appends-nil taken, refl)
 
@@ -135,6 +142,7 @@ tells_nothing page taken faults = record { told = nothing_by page.fault (string_
 sent_by : {E : Type 0} (fault' : Option ShowFault) (piece' : List ℕ) (taken taken' : Option (List ℕ)) (faults faults' : ℕ) (text : List ℕ) (result : Result ⊤ E)
     → TellsBy None fault' [] piece' taken taken' faults faults' text → OnOk result ((fault' ≡ None) × (piece' ≡ [])) → IfErr result (λ fault. (stop : ShowFault) × (fault' ≡ Some stop))
     → Sends taken taken' text result
+unfolding TellsBy
 sent_by {E} None piece' taken taken' faults faults' text (Ok done) goes whole cut =
     subst (Appends taken taken') (sym (goes.whole ∙ ap (λ rest. goes.sent ++ rest) whole.1 ∙ append-nil goes.sent)) goes.sends
 sent_by {E} (Some fault) piece' taken taken' faults faults' text (Ok done) goes whole cut = absurd cc

@@ -25,7 +25,7 @@ pub record Goes (piece piece' : List ℕ) (taken taken' : Option (List ℕ)) (fa
   pub quiet : faults' ≡ faults
 
 -- by the fault of the page before and behind: without one the text goes on, with a new one the sink took a front of it, and behind one nothing is sent
-abbrev pub TellsBy : Option ShowFault → Option ShowFault → List ℕ → List ℕ → Option (List ℕ) → Option (List ℕ) → ℕ → ℕ → List ℕ → Type 0
+unfoldable pub TellsBy : Option ShowFault → Option ShowFault → List ℕ → List ℕ → Option (List ℕ) → Option (List ℕ) → ℕ → ℕ → List ℕ → Type 0
 TellsBy None None piece piece' taken taken' faults faults' text = Goes piece piece' taken taken' faults faults' text
 TellsBy None (Some fault) piece piece' taken taken' faults faults' text = AppendsFront taken taken' (piece ++ text) × IsCause fault faults faults'
 TellsBy (Some fault) None piece piece' taken taken' faults faults' text = ⊥

@@ -43,6 +43,7 @@ fn run_at(bytes: &[u8], at: usize, count: usize) -> &[u8]
 }
 
 /// Tells the digits of bytes, a run at a time.
+#[tactic(auto, using(crate::proofs::Telling::tells_nothing))]
 fn tell_digits<W: Sink>(bytes: &[u8], page: &mut Page, sink: &mut W)
     ensures { Tells page.old page.new (W.taken sink.old) (W.taken sink.new) (W.faults sink.old) (W.faults sink.new) (flat_map byte_digits bytes.now) }
 {

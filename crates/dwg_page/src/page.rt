@@ -48,7 +48,7 @@ impl Page {
     }
 
     /// Stops for want of memory, unless it has stopped before.
-    #[tactic(auto, using(crate::proofs::Telling::tells_idle, crate::proofs::Telling::tells_wanting))]
+    #[tactic(auto, using(crate::proofs::Telling::tells_idle, crate::proofs::Telling::tells_wanting), unfolding(crate::specs::Telling::TellsBy))]
     pub fn want(&mut self)
         ensures { (taken : Option (List ℕ)) (faults : ℕ) (text : List ℕ) → Tells self.old self.new taken taken faults faults text }
     {
@@ -58,7 +58,7 @@ impl Page {
     }
 
     /// Sends what stands on the page.
-    #[tactic(auto, using(crate::proofs::Telling::tells_sent, crate::proofs::Telling::tells_in_part))]
+    #[tactic(auto, using(crate::proofs::Telling::tells_sent, crate::proofs::Telling::tells_in_part), unfolding(crate::specs::Telling::TellsBy))]
     fn send<W: Sink>(&mut self, sink: &mut W)
         requires { self.old.fault ≡ None }
         ensures told { Tells self.old self.new (W.taken sink.old) (W.taken sink.new) (W.faults sink.old) (W.faults sink.new) [] }
@@ -82,7 +82,7 @@ impl Page {
     }
 
     /// Tells a text.
-    #[tactic(auto, using(crate::proofs::Telling::tells_idle, crate::proofs::Telling::tells_pushed, crate::proofs::Telling::tells_wanting))]
+    #[tactic(auto, using(crate::proofs::Telling::tells_idle, crate::proofs::Telling::tells_pushed, crate::proofs::Telling::tells_wanting), unfolding(crate::specs::Telling::TellsBy))]
     pub fn tell<W: Sink>(&mut self, text: &str, sink: &mut W)
         ensures { Tells self.old self.new (W.taken sink.old) (W.taken sink.new) (W.faults sink.old) (W.faults sink.new) text.now }
     {
@@ -96,7 +96,7 @@ impl Page {
     }
 
     /// Tells a value.
-    #[tactic(auto, using(crate::proofs::Telling::tells_idle, crate::proofs::Telling::tells_pushed, crate::proofs::Telling::tells_wanting))]
+    #[tactic(auto, using(crate::proofs::Telling::tells_idle, crate::proofs::Telling::tells_pushed, crate::proofs::Telling::tells_wanting), unfolding(crate::specs::Telling::TellsBy))]
     pub fn tell_value<T: Value, W: Sink>(&mut self, value: &T, sink: &mut W)
         ensures { Tells self.old self.new (W.taken sink.old) (W.taken sink.new) (W.faults sink.old) (W.faults sink.new) (T.printed value.now) }
     {

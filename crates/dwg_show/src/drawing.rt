@@ -145,6 +145,7 @@ fn tell_drawing<W: Sink>(parts: &Parts<'_>, page: &mut Page, sink: &mut W)
 /// Writes the text of a drawing, a piece at a time: what its header says, the header variables, the classes, the unknown
 /// sections, and the objects in order of handle, each with all its fields. A write fault comes only where the sink's count of
 /// faults rose; the only other refusal is want of memory. After either the sink took a front of the text.
+#[tactic(auto, unfolding(dwg_page::specs::Telling::TellsBy))]
 pub fn show<W: Sink>(alloc: Global, drawing: &Drawing<'_>, sink: &mut W) -> Result<(), ShowFault>
     ensures bytes { Sends (W.taken sink.old) (W.taken sink.new) (texts.show_text (contents_of drawing.now)) result }
     ensures never_falls { W.faults sink.old ≤ W.faults sink.new }

@@ -34,7 +34,7 @@ fn push_line<T: Value>(text: &mut String, path: &str, value: &T) -> Result<(), A
 }
 
 /// Prints the line of a value.
-#[tactic(auto, using(dwg_page::proofs::Telling::tells_idle, dwg_page::proofs::Telling::tells_pushed, dwg_page::proofs::Telling::tells_wanting))]
+#[tactic(auto, using(dwg_page::proofs::Telling::tells_idle, dwg_page::proofs::Telling::tells_pushed, dwg_page::proofs::Telling::tells_wanting), unfolding(dwg_page::specs::Telling::TellsBy))]
 fn print_line<T: Value, W: Sink>(value: &T, path: &str, page: &mut Page, sink: &mut W)
     ensures { Tells page.old page.new (W.taken sink.old) (W.taken sink.new) (W.faults sink.old) (W.faults sink.new) (printers.field_line path.now (T.printed value.now)) }
 {
@@ -160,6 +160,7 @@ fn print_element<T: Print, W: Sink>(
 }
 
 /// Prints the elements of the list at a path.
+#[tactic(auto, using(dwg_page::proofs::Telling::tells_nothing))]
 fn print_elements<T: Print, W: Sink>(elements: &[T], path: &str, page: &mut Page, sink: &mut W)
     ensures { Tells page.old page.new (W.taken sink.old) (W.taken sink.new) (W.faults sink.old) (W.faults sink.new) (printers.listed T.lines path.now elements.now) }
 {

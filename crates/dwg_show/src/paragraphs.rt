@@ -22,6 +22,7 @@ pub(crate) trait Tell {
 }
 
 /// Tells some of them, one behind the other.
+#[tactic(auto, using(dwg_page::proofs::Telling::tells_nothing))]
 pub(crate) fn tell_all<T: Tell, W: Sink>(paragraphs: &[T], page: &mut Page, sink: &mut W)
     requires { AllByRecursion T.can_tell paragraphs.now }
     ensures { Tells page.old page.new (W.taken sink.old) (W.taken sink.new) (W.faults sink.old) (W.faults sink.new) (flat_map T.told paragraphs.now) }

@@ -1,5 +1,6 @@
 //! Controls of tables, dictionaries and records.
 
+use crate::tests::fields::{Fields, close, open, put, put_bytes, put_ref, put_refs, put_text};
 use crate::tests::table::{Body, OWN, holds};
 use dwg_base::{ByteRun, Handle, Items};
 use dwg_common::BodyCode;
@@ -11,6 +12,24 @@ use dwg_handles::Ref;
 use dwg_samples::{Case, first_failing};
 use std::alloc::Global;
 use std::test::Fail;
+
+impl Fields for LayerControl {
+    fn put(&self, text: &mut String) -> Option<()> {
+        put_refs(text, self.entries.as_slice())
+    }
+}
+
+impl Fields for StyleControl {
+    fn put(&self, text: &mut String) -> Option<()> {
+        put_refs(text, self.entries.as_slice())
+    }
+}
+
+impl Fields for AppIdControl {
+    fn put(&self, text: &mut String) -> Option<()> {
+        put_refs(text, self.entries.as_slice())
+    }
+}
 
 /// The entries: none, two, and of the layers the same by more bytes; each is cut short once.
 #[test]
@@ -51,6 +70,22 @@ fn controls_of_entries_are_told_and_written(rt: HostRuntime) -> Result<(), Fail>
     Ok(())
 }
 
+impl Fields for BlockControl {
+    fn put(&self, text: &mut String) -> Option<()> {
+        put_refs(text, self.entries.as_slice())?;
+        put_ref(text, &self.model)?;
+        put_ref(text, &self.paper)
+    }
+}
+
+impl Fields for LtypeControl {
+    fn put(&self, text: &mut String) -> Option<()> {
+        put_refs(text, self.entries.as_slice())?;
+        put_ref(text, &self.first)?;
+        put_ref(text, &self.second)
+    }
+}
+
 /// The entries and the two beside them: none, one; cut short; each reference another one.
 #[test]
 fn controls_with_two_entries_more_are_told_and_written(rt: HostRuntime) -> Result<(), Fail> {
@@ -78,6 +113,31 @@ fn controls_with_two_entries_more_are_told_and_written(rt: HostRuntime) -> Resul
         None
     );
     Ok(())
+}
+
+/// Adds a list of items.
+fn put_items(text: &mut String, items: &[DictItem]) -> Option<()> {
+    open(text)?;
+    for item in items {
+        put_text(text, &item.name)?;
+        put_ref(text, &item.target)?;
+    }
+    close(text)
+}
+
+impl Fields for Dictionary {
+    fn put(&self, text: &mut String) -> Option<()> {
+        put(text, &[u64::from(self.cloning), u64::from(self.hard_owner)])?;
+        put_items(text, self.items.as_slice())
+    }
+}
+
+impl Fields for XRecord {
+    fn put(&self, text: &mut String) -> Option<()> {
+        put_bytes(text, &self.bytes)?;
+        put(text, &[u64::from(self.cloning)])?;
+        put_refs(text, self.targets.as_slice())
+    }
 }
 
 /// Dictionaries: cloning, hard owner, items: none, and the same by the longest codes; `NOTES` and one without a name; the same of cloning 0

@@ -1,9 +1,48 @@
 //! Texts, attributes and their definitions, inserts, and the begin and end of blocks.
 
+use crate::tests::fields::{
+    Fields, put, put_none, put_plane, put_ref, put_some, put_space, put_text, wide,
+};
 use crate::tests::table::Body;
-use dwg_entities::{Attdef, Attrib, Block, EndBlk, Insert, MInsert, SeqEnd, Text};
+use dwg_entities::{Attdef, Attrib, Attributes, Block, EndBlk, Insert, MInsert, SeqEnd, Text};
 use dwg_samples::first_failing;
 use std::test::Fail;
+
+/// Adds where a text stands.
+fn put_placing(text: &mut String, of: &Text) -> Option<()> {
+    put_some(text, &[of.elevation])?;
+    put_plane(text, &of.insertion)?;
+    match of.alignment {
+        Some(point) => put_plane(text, &point)?,
+        None => put_none(text)?,
+    }
+    put_space(text, &of.extrusion)
+}
+
+/// Adds of what form a text is.
+fn put_lettering(text: &mut String, of: &Text) -> Option<()> {
+    put(text, &[of.thickness])?;
+    put_some(text, &[of.oblique, of.rotation])?;
+    put(text, &[of.height])?;
+    put_some(text, &[of.width])
+}
+
+impl Fields for Text {
+    fn put(&self, text: &mut String) -> Option<()> {
+        put_placing(text, self)?;
+        put_lettering(text, self)?;
+        put_text(text, &self.text)?;
+        put_some(
+            text,
+            &[
+                wide(self.generation),
+                wide(self.horizontal),
+                wide(self.vertical),
+            ],
+        )?;
+        put_ref(text, &self.style)
+    }
+}
 
 /// Elevation, insertion, alignment, extrusion, thickness, oblique, rotation, height, width, text, generation, horizontal, vertical, style:
 /// of a text with nothing else, with every part, with some; cut short in both places; every number another one. Its style is one before
@@ -42,6 +81,21 @@ fn texts_are_told_and_written(rt: HostRuntime) -> Result<(), Fail> {
     Ok(())
 }
 
+impl Fields for Attrib {
+    fn put(&self, text: &mut String) -> Option<()> {
+        self.text.put(text)?;
+        put_text(text, &self.tag)?;
+        put(text, &[u64::from(self.length), u64::from(self.flags)])
+    }
+}
+
+impl Fields for Attdef {
+    fn put(&self, text: &mut String) -> Option<()> {
+        self.attrib.put(text)?;
+        put_text(text, &self.prompt)
+    }
+}
+
 /// What a text has, and then tag, length and flags, and of a definition the prompt. Of each the second is cut short, and in the third every
 /// number is another one.
 #[test]
@@ -75,6 +129,38 @@ fn attributes_are_told_and_written(rt: HostRuntime) -> Result<(), Fail> {
         None
     );
     Ok(())
+}
+
+/// Adds the attributes of an insert.
+fn put_attributes(text: &mut String, attributes: Option<Attributes>) -> Option<()> {
+    let Some(attributes) = attributes else {
+        return put_none(text);
+    };
+    put_ref(text, &attributes.first)?;
+    put_ref(text, &attributes.last)?;
+    put_ref(text, &attributes.seqend)
+}
+
+impl Fields for Insert {
+    fn put(&self, text: &mut String) -> Option<()> {
+        put(
+            text,
+            &[
+                self.place.x,
+                self.place.y,
+                self.place.z,
+                self.scale.x,
+                self.scale.y,
+                self.scale.z,
+                self.rotation,
+                self.extrusion.x,
+                self.extrusion.y,
+                self.extrusion.z,
+            ],
+        )?;
+        put_ref(text, &self.block)?;
+        put_attributes(text, self.attributes)
+    }
 }
 
 /// Place, scale, rotation, extrusion, block, attributes: of scale 1.0, of (1.0, 2.0, 1.0) with attributes, of 2.0, of (2.0, 2.0, 3.0), and
@@ -117,6 +203,21 @@ fn inserts_are_told_and_written(rt: HostRuntime) -> Result<(), Fail> {
     Ok(())
 }
 
+impl Fields for MInsert {
+    fn put(&self, text: &mut String) -> Option<()> {
+        self.insert.put(text)?;
+        put(
+            text,
+            &[
+                u64::from(self.columns),
+                u64::from(self.rows),
+                self.column_spacing,
+                self.row_spacing,
+            ],
+        )
+    }
+}
+
 /// What an insert has, and then columns, rows and the spacing of each: behind inserts of several lengths, with spacings and counts of all
 /// forms; counts and spacings by longer codes; cut short in the last spacing, and in the references; every number another one.
 #[test]
@@ -154,6 +255,24 @@ fn inserts_in_columns_and_rows_are_told_and_written(rt: HostRuntime) -> Result<(
         None
     );
     Ok(())
+}
+
+impl Fields for Block {
+    fn put(&self, text: &mut String) -> Option<()> {
+        put_text(text, &self.name)
+    }
+}
+
+impl Fields for EndBlk {
+    fn put(&self, text: &mut String) -> Option<()> {
+        put_none(text)
+    }
+}
+
+impl Fields for SeqEnd {
+    fn put(&self, text: &mut String) -> Option<()> {
+        put_none(text)
+    }
 }
 
 /// The begin of a block has a name, the ends have no field. The second block is cut short.

@@ -1,5 +1,8 @@
 //! Ellipses, rays and lines without ends, solids and traces, faces, polylines and vertices in space, and groups.
 
+use crate::tests::fields::{
+    Fields, put, put_plane, put_ref, put_refs, put_some, put_space, put_text, wide,
+};
 use crate::tests::table::{Body, OWN, main_bits_of};
 use dwg_base::{ByteRun, Handle, Items};
 use dwg_common::BodyCode;
@@ -8,6 +11,15 @@ use dwg_more::{Ellipse, Face3d, Group, Polyline3d, Ray, Solid, Trace, Vertex3d, 
 use dwg_samples::first_failing;
 use std::alloc::Global;
 use std::test::Fail;
+
+impl Fields for Ellipse {
+    fn put(&self, text: &mut String) -> Option<()> {
+        put_space(text, &self.centre)?;
+        put_space(text, &self.axis)?;
+        put_space(text, &self.extrusion)?;
+        put(text, &[self.ratio, self.start_angle, self.end_angle])
+    }
+}
 
 /// Centre, axis, extrusion, ratio, start and end angles: in 24 bits, and the same by longer codes; cut short; every number another one.
 #[test]
@@ -29,6 +41,20 @@ fn ellipses_are_told_and_written(rt: HostRuntime) -> Result<(), Fail> {
         None
     );
     Ok(())
+}
+
+impl Fields for Ray {
+    fn put(&self, text: &mut String) -> Option<()> {
+        put_space(text, &self.point)?;
+        put_space(text, &self.vector)
+    }
+}
+
+impl Fields for XLine {
+    fn put(&self, text: &mut String) -> Option<()> {
+        put_space(text, &self.point)?;
+        put_space(text, &self.vector)
+    }
 }
 
 /// Point, vector: of each of the two the second is cut short, and in the third every number is another one.
@@ -60,6 +86,28 @@ fn rays_and_lines_without_ends_are_told_and_written(rt: HostRuntime) -> Result<(
         None
     );
     Ok(())
+}
+
+impl Fields for Solid {
+    fn put(&self, text: &mut String) -> Option<()> {
+        put(text, &[self.thickness, self.elevation])?;
+        put_plane(text, &self.first)?;
+        put_plane(text, &self.second)?;
+        put_plane(text, &self.third)?;
+        put_plane(text, &self.fourth)?;
+        put_space(text, &self.extrusion)
+    }
+}
+
+impl Fields for Trace {
+    fn put(&self, text: &mut String) -> Option<()> {
+        put(text, &[self.thickness, self.elevation])?;
+        put_plane(text, &self.first)?;
+        put_plane(text, &self.second)?;
+        put_plane(text, &self.third)?;
+        put_plane(text, &self.fourth)?;
+        put_space(text, &self.extrusion)
+    }
 }
 
 /// Thickness, elevation, the four corners, extrusion: by the shortest codes, and of the solid the same by longer ones; cut short; every
@@ -110,6 +158,16 @@ fn solids_and_traces_are_told_and_written(rt: HostRuntime) -> Result<(), Fail> {
     Ok(())
 }
 
+impl Fields for Face3d {
+    fn put(&self, text: &mut String) -> Option<()> {
+        put_space(text, &self.first)?;
+        put_space(text, &self.second)?;
+        put_space(text, &self.third)?;
+        put_space(text, &self.fourth)?;
+        put_some(text, &[wide(self.invisible)])
+    }
+}
+
 /// The four corners, and which edges aren't seen: without flags; with flags, also with those that are 0; each corner against the one before
 /// it; the first z the word of negative zero, which isn't 0; the first z by its word 0, and the same without it; flags cut short; every
 /// number another one.
@@ -157,6 +215,22 @@ fn a_face_in_the_plane_has_148_bits(rt: HostRuntime) -> Result<(), Fail> {
     Ok(())
 }
 
+impl Fields for Polyline3d {
+    fn put(&self, text: &mut String) -> Option<()> {
+        put(text, &[u64::from(self.flags_a), u64::from(self.flags_b)])?;
+        put_ref(text, &self.first)?;
+        put_ref(text, &self.last)?;
+        put_ref(text, &self.seqend)
+    }
+}
+
+impl Fields for Vertex3d {
+    fn put(&self, text: &mut String) -> Option<()> {
+        put(text, &[u64::from(self.flags)])?;
+        put_space(text, &self.place)
+    }
+}
+
 /// Polylines: flags, first, last, seqend; the same by more bytes; cut short in both places. Vertices: flags, place; the second is cut short.
 /// In the last of each every number is another one.
 #[test]
@@ -185,6 +259,14 @@ fn polylines_and_vertices_in_space_are_told_and_written(rt: HostRuntime) -> Resu
         None
     );
     Ok(())
+}
+
+impl Fields for Group {
+    fn put(&self, text: &mut String) -> Option<()> {
+        put_text(text, &self.name)?;
+        put(text, &[u64::from(self.unnamed), u64::from(self.selectable)])?;
+        put_refs(text, self.entries.as_slice())
+    }
 }
 
 /// Name, unnamed, selectable, entries: none; a name and two entries; one by longer codes; cut short in the name, before the count, and among

@@ -1,9 +1,30 @@
 //! Lines, points, circles, arcs and lightweight polylines.
 
+use crate::tests::fields::{Fields, close, open, put, put_none, put_plane, put_some, put_space};
 use crate::tests::table::Body;
+use dwg_base::Items;
+use dwg_codes::{Point2, Point3};
 use dwg_samples::first_failing;
-use dwg_shapes::{Arc, Circle, Line, LwPolyline, Point};
+use dwg_shapes::{Arc, Circle, Line, LwPolyline, Point, Width};
 use std::test::Fail;
+
+impl Fields for Line {
+    fn put(&self, text: &mut String) -> Option<()> {
+        put_space(text, &self.start)?;
+        put_space(text, &self.end)?;
+        put(text, &[self.thickness])?;
+        put_space(text, &self.extrusion)
+    }
+}
+
+impl Fields for Point {
+    fn put(&self, text: &mut String) -> Option<()> {
+        put_space(text, &self.place)?;
+        put(text, &[self.thickness])?;
+        put_space(text, &self.extrusion)?;
+        put(text, &[self.angle])
+    }
+}
 
 /// Lines: start, end, thickness, extrusion. From (1.0, 2.0, 0) to (1.0, 3.0, 0), and the same by the longest codes; from (1.0, 0, 3.0)
 /// to (2.0, 0, 1.0) of thickness 2.0; cut short; every number another one. Points: place, thickness, extrusion, angle; the second is cut
@@ -51,6 +72,23 @@ fn lines_and_points_are_told_and_written(rt: HostRuntime) -> Result<(), Fail> {
     Ok(())
 }
 
+impl Fields for Circle {
+    fn put(&self, text: &mut String) -> Option<()> {
+        put_space(text, &self.centre)?;
+        put(text, &[self.radius, self.thickness])?;
+        put_space(text, &self.extrusion)
+    }
+}
+
+impl Fields for Arc {
+    fn put(&self, text: &mut String) -> Option<()> {
+        put_space(text, &self.centre)?;
+        put(text, &[self.radius, self.thickness])?;
+        put_space(text, &self.extrusion)?;
+        put(text, &[self.start_angle, self.end_angle])
+    }
+}
+
 /// Circles: centre, radius, thickness, extrusion. Arcs: the same, and the start and end angles. Of each the second is cut short, and in the
 /// third every number is another one.
 #[test]
@@ -84,6 +122,56 @@ fn circles_and_arcs_are_told_and_written(rt: HostRuntime) -> Result<(), Fail> {
         None
     );
     Ok(())
+}
+
+/// Adds a point of space that may not be there.
+fn put_normal(text: &mut String, normal: Option<Point3>) -> Option<()> {
+    match normal {
+        Some(point) => put_space(text, &point),
+        None => put_none(text),
+    }
+}
+
+/// Adds a list of points.
+fn put_points(text: &mut String, points: &[Point2]) -> Option<()> {
+    open(text)?;
+    for point in points {
+        put_plane(text, point)?;
+    }
+    close(text)
+}
+
+/// Adds a list of numbers that may not be there.
+fn put_bulges(text: &mut String, bulges: &Option<Items<u64>>) -> Option<()> {
+    let Some(bulges) = bulges else {
+        return put_none(text);
+    };
+    open(text)?;
+    put(text, bulges.as_slice())?;
+    close(text)
+}
+
+/// Adds a list of widths that may not be there.
+fn put_widths(text: &mut String, widths: &Option<Items<Width>>) -> Option<()> {
+    let Some(widths) = widths else {
+        return put_none(text);
+    };
+    open(text)?;
+    for width in widths.as_slice() {
+        put(text, &[width.start, width.end])?;
+    }
+    close(text)
+}
+
+impl Fields for LwPolyline {
+    fn put(&self, text: &mut String) -> Option<()> {
+        put(text, &[u64::from(self.flag)])?;
+        put_some(text, &[self.width, self.elevation, self.thickness])?;
+        put_normal(text, self.normal)?;
+        put_points(text, self.points.as_slice())?;
+        put_bulges(text, &self.bulges)?;
+        put_widths(text, &self.widths)
+    }
 }
 
 /// Flag, width, elevation, thickness, normal, points, bulges, widths: with every part, with none, with a bulge alone; cut short, and with a

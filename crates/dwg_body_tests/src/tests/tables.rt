@@ -1,9 +1,42 @@
 //! Applications, layers, text styles, linetypes and headers of blocks.
 
+use crate::tests::fields::{
+    Fields, close, open, put, put_bytes, put_flags, put_none, put_ref, put_space, put_text,
+};
 use crate::tests::table::Body;
 use dwg_samples::first_failing;
-use dwg_tables::{AppId, BlockHeader, Layer, Ltype, Style};
+use dwg_tables::{AppId, BlockHeader, Dash, Ends, Entry, InsertMark, Layer, Ltype, Style};
 use std::test::Fail;
+
+/// Adds what all entries of tables have.
+fn put_entry(text: &mut String, entry: &Entry) -> Option<()> {
+    put_text(text, &entry.name)?;
+    put(
+        text,
+        &[
+            u64::from(entry.flag64),
+            u64::from(entry.xref_index),
+            u64::from(entry.xref_dependent),
+        ],
+    )?;
+    put_ref(text, &entry.xref)
+}
+
+impl Fields for Layer {
+    fn put(&self, text: &mut String) -> Option<()> {
+        put_entry(text, &self.entry)?;
+        put(text, &[u64::from(self.values), u64::from(self.colour)])?;
+        put_ref(text, &self.plotstyle)?;
+        put_ref(text, &self.linetype)
+    }
+}
+
+impl Fields for AppId {
+    fn put(&self, text: &mut String) -> Option<()> {
+        put_entry(text, &self.entry)?;
+        put(text, &[u64::from(self.extra)])
+    }
+}
 
 /// All entries of tables begin with name, flag64, xref_index, xref_dependent and xref. Applications: extra. Layers: values, colour,
 /// plotstyle, linetype. Of each one is spelled by long codes as well, two are cut short, and in the last every number is another one; an
@@ -41,6 +74,26 @@ fn applications_and_layers_are_told_and_written(rt: HostRuntime) -> Result<(), F
     Ok(())
 }
 
+impl Fields for Style {
+    fn put(&self, text: &mut String) -> Option<()> {
+        put_entry(text, &self.entry)?;
+        put(
+            text,
+            &[
+                u64::from(self.flag_a),
+                u64::from(self.flag_b),
+                self.height,
+                self.width,
+                self.oblique,
+                u64::from(self.generation),
+                self.last_height,
+            ],
+        )?;
+        put_text(text, &self.font)?;
+        put_text(text, &self.big_font)
+    }
+}
+
 /// What an entry has, and then both flags, height, width, oblique, generation, last height, font and big font: `STANDARD`, and the same by
 /// long codes; with every part; cut short in both places; every number another one.
 #[test]
@@ -70,6 +123,58 @@ fn text_styles_are_told_and_written(rt: HostRuntime) -> Result<(), Fail> {
         None
     );
     Ok(())
+}
+
+/// Adds a dash.
+fn put_dash(text: &mut String, dash: &Dash) -> Option<()> {
+    put(
+        text,
+        &[
+            dash.length,
+            u64::from(dash.code),
+            dash.x,
+            dash.y,
+            dash.scale,
+            dash.rotation,
+            u64::from(dash.flag),
+        ],
+    )?;
+    put_ref(text, &dash.style)
+}
+
+/// Adds a list of dashes.
+fn put_dashes(text: &mut String, dashes: &[Dash]) -> Option<()> {
+    open(text)?;
+    for dash in dashes {
+        put_dash(text, dash)?;
+    }
+    close(text)
+}
+
+/// Adds how many bytes there are, the first two, and the last.
+fn put_around(text: &mut String, bytes: &[u8]) -> Option<()> {
+    let [first, second, .., last] = bytes else {
+        return put_none(text);
+    };
+    put(
+        text,
+        &[
+            bytes.len() as u64,
+            u64::from(*first),
+            u64::from(*second),
+            u64::from(*last),
+        ],
+    )
+}
+
+impl Fields for Ltype {
+    fn put(&self, text: &mut String) -> Option<()> {
+        put_entry(text, &self.entry)?;
+        put_text(text, &self.description)?;
+        put(text, &[self.length, u64::from(self.alignment)])?;
+        put_dashes(text, self.dashes.as_slice())?;
+        put_around(text, self.texts.as_slice())
+    }
 }
 
 /// What an entry has, and then description, length, alignment, dashes (length, code, x, y, scale, rotation, flag, style) and of the texts how
@@ -123,6 +228,55 @@ fn linetypes_are_told_and_written(rt: HostRuntime) -> Result<(), Fail> {
         None
     );
     Ok(())
+}
+
+/// Adds a list of marks of inserts.
+fn put_marks(text: &mut String, marks: &[InsertMark]) -> Option<()> {
+    open(text)?;
+    for mark in marks {
+        put(text, &[u64::from(mark.count)])?;
+        put_ref(text, &mark.target)?;
+    }
+    close(text)
+}
+
+/// Adds the entities of a block.
+fn put_ends(text: &mut String, ends: Option<Ends>) -> Option<()> {
+    let Some(ends) = ends else {
+        return put_none(text);
+    };
+    put_ref(text, &ends.first)?;
+    put_ref(text, &ends.last)
+}
+
+/// Adds what the header of a block tells by its main bits.
+fn put_content(text: &mut String, of: &BlockHeader) -> Option<()> {
+    put_flags(
+        text,
+        &[
+            of.anonymous,
+            of.has_attributes,
+            of.is_xref,
+            of.overlaid,
+            of.loaded,
+        ],
+    )?;
+    put_space(text, &of.base)?;
+    put_text(text, &of.path)?;
+    put_marks(text, of.inserts.as_slice())?;
+    put_text(text, &of.description)?;
+    put_bytes(text, &of.preview)
+}
+
+impl Fields for BlockHeader {
+    fn put(&self, text: &mut String) -> Option<()> {
+        put_entry(text, &self.entry)?;
+        put_content(text, self)?;
+        put_ref(text, &self.block)?;
+        put_ends(text, self.ends)?;
+        put_ref(text, &self.endblk)?;
+        put_ref(text, &self.layout)
+    }
 }
 
 /// What an entry has, and then anonymous, has_attributes, is_xref, overlaid, loaded, base, path, marks of inserts, description, preview,

@@ -1,8 +1,0 @@
-use Rattle.dwg_show.specs.BodyFields.{style_fields}
-use Rattle.dwg_page.proofs.Telling.{◌▷◌}
-use Rattle.dwg_show.proofs.tables.StylePrint.print.Goals as goal
-
-pub returns : goal.returns
-unfolding style_fields
-returns g c =
-    c.print_member.ensures ▷ c.print_member-2.ensures ▷ c.print_member-3.ensures ▷ c.print_member-4.ensures ▷ c.print_member-5.ensures ▷ c.print_member-6.ensures ▷ c.print_member-7.ensures ▷ c.print_member-8.ensures ▷ c.print_member-9.ensures ▷ c.print_member-10.ensures
