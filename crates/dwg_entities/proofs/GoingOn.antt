@@ -38,6 +38,14 @@ either_first into join told main None (Some name) = refl
 either_first into join told main (Some one) None = refl
 either_first into join told main (Some one) (Some name) = refl
 
+-- the main bits that are behind the body in front are those behind what it tells
+behind_told : {A B R V W : Type 0} (more : Grammar Bool B) (into : A → R → V) (join : V → B → W) (told : A) (main : List Bool) (name : Option (R × List Bool))
+    → option_and_then {U = W × (List Bool × List Bool)} (λ (one : V × (List Bool × List Bool)). option_map (λ (behind : B × List Bool). (join one.0 behind.0, (behind.1, one.1.1))) (more.parse main))
+    (option_map (λ (name : R × List Bool). (into told name.0, (main, name.1))) name)
+    ≡ parse_behind more join (option_map (λ (name : R × List Bool). (into told name.0, (main, name.1))) name)
+behind_told more into join told main None = refl
+behind_told more into join told main (Some name) = refl
+
 goes_on : {A B R V W : Type 0} (more : Grammar Bool B) (into : A → R → V) (join : V → B → W) (read : Option (A × List Bool)) (named : A → Option (R × List Bool))
     → option_and_then (λ (two : (A × B) × List Bool). option_map (λ (name : R × List Bool). (join (into two.0.0 name.0) two.0.1, (two.1, name.1))) (named two.0.0))
     (option_and_then (λ (one : A × List Bool). option_map (λ (behind : B × List Bool). ((one.0, behind.0), behind.1)) (more.parse one.1)) read)
@@ -45,6 +53,7 @@ goes_on : {A B R V W : Type 0} (more : Grammar Bool B) (into : A → R → V) (j
 goes_on more into join None named = refl
 goes_on more into join (Some one) named =
     told_first into join one.0 (more.parse one.1) named ∙ either_first into join one.0 one.1 (more.parse one.1) (named one.0)
+    ∙ behind_told more into join one.0 one.1 (named one.0)
 
 -- an attribute is parsed as its text and what is behind
 pub attrib_parsed : (base : ℕ) (main refs : List Bool)
