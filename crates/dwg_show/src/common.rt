@@ -11,7 +11,7 @@ use dwg_page::Page;
 impl Print for AppData {
     ghost lines = { fields.app_data_fields };
 
-    #[tactic(auto, unfolding(crate::specs::CommonFields::app_data_fields))]
+    #[tactic(auto, using(dwg_page::proofs::Telling::tells_more), unfolding(crate::specs::CommonFields::app_data_fields))]
     fn print<W: Sink>(&self, path: &str, page: &mut Page, sink: &mut W) {
         print_member(&self.application, path, "application", page, sink);
         print_bytes(&self.bytes, path, "bytes", page, sink);
@@ -21,7 +21,7 @@ impl Print for AppData {
 impl Print for Links {
     ghost lines = { fields.links_fields };
 
-    #[tactic(auto, unfolding(crate::specs::CommonFields::links_fields))]
+    #[tactic(auto, using(dwg_page::proofs::Telling::tells_more), unfolding(crate::specs::CommonFields::links_fields))]
     fn print<W: Sink>(&self, path: &str, page: &mut Page, sink: &mut W) {
         print_member(&self.previous, path, "previous", page, sink);
         print_member(&self.next, path, "next", page, sink);
@@ -55,7 +55,7 @@ impl Print for EntityCommon {
 impl Print for ObjectCommon {
     ghost lines = { fields.object_common_fields };
 
-    #[tactic(auto, unfolding(crate::specs::CommonFields::object_common_fields))]
+    #[tactic(auto, using(dwg_page::proofs::Telling::tells_more), unfolding(crate::specs::CommonFields::object_common_fields))]
     fn print<W: Sink>(&self, path: &str, page: &mut Page, sink: &mut W) {
         print_member(&self.app, path, "app", page, sink);
         print_member(&self.reactors, path, "reactors", page, sink);
