@@ -1,1 +1,2 @@
 pub mod CornerWords
+pub mod CornerReading

@@ -1,5 +1,5 @@
 -- 3DFACE (Open Design Specification, "3DFACE"). That z-zero is written where the z word of the first corner is 0, and only there, is a rule of this project.
-use Rattle.std.specs.Prelude.{◌==◌, ℕ, Bool, true, false, not, is_none}
+use Rattle.std.specs.Prelude.{◌==◌, ℕ, Bool, true, false, not, Option, is_none}
 use Rattle.dwg_grammar.specs.Codes.{b, bs, rd, dd, IsPoint3}
 use Rattle.dwg_grammar.specs.Combinators.{always, seq, tagged, when, shaped}
 use Rattle.dwg_grammar.specs.Grammar.{Grammar}
@@ -30,6 +30,11 @@ dd3 default =
     (seq (dd default.x) (λ x. seq (dd default.y) (λ y. dd default.z)))
 
 -- B no-flags; the first corner; 3DD for each other, whose default is the corner before; BS where no-flags is 0
+abbrev pub face_parts : Grammar Bool (Bool × (Point3 × (Point3 × (Point3 × (Point3 × Option ℕ)))))
+face_parts =
+    seq b (λ no_flags. seq first_corner (λ first. seq (dd3 first) (λ second. seq (dd3 second) (λ third. seq (dd3 third) (λ fourth. when (not no_flags) bs)))))
+
+-- the main bits of a face
 unfoldable pub face_main : Grammar Bool Face3d
 face_main =
     shaped (λ parts. record {
@@ -39,8 +44,7 @@ face_main =
       fourth = parts.1.1.1.1.0;
       invisible = parts.1.1.1.1.1;
     })
-    (λ face. (is_none face.invisible, (face.first, (face.second, (face.third, (face.fourth, face.invisible))))))
-    (seq b (λ no_flags. seq first_corner (λ first. seq (dd3 first) (λ second. seq (dd3 second) (λ third. seq (dd3 third) (λ fourth. when (not no_flags) bs))))))
+    (λ face. (is_none face.invisible, (face.first, (face.second, (face.third, (face.fourth, face.invisible)))))) face_parts
 
 -- a face: no references
 abbrev pub face_body : ℕ → BodyGrammar Face3d

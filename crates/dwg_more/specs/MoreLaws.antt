@@ -13,7 +13,7 @@ use Rattle.dwg_grammar.specs.References.{some_refs}
 use Rattle.dwg_grammar.proofs.ReferenceParts.{some_is_part}
 use Rattle.dwg_more.specs.CornerLaws.{first_corner_is_code, dd3_is_code, dd3_of_read}
 use Rattle.dwg_more.specs.Ellipses.{ellipse_main, ellipse_body}
-use Rattle.dwg_more.specs.Faces.{face_main, face_body}
+use Rattle.dwg_more.specs.Faces.{face_parts, face_main, face_body}
 use Rattle.dwg_more.specs.Groups.{group_main, group_body}
 use Rattle.dwg_more.specs.Polylines.{polyline_body, vertex_main, vertex_body}
 use Rattle.dwg_more.specs.Rays.{ray_main, ray_body, xline_main, xline_body}
@@ -76,7 +76,7 @@ none_told false invisible (inner, same, fits) = ap (λ (one : Option ℕ). is_no
 face_is_code : IsCode AnyLetters face_main
 unfolding face_main
 face_is_code =
-    shaped_is_code _ _ _ (search (codes, first_corner_is_code, dd3_is_code, dd3_of_read) depth 20)
+    shaped_is_code _ _ face_parts (search (codes, first_corner_is_code, dd3_is_code, dd3_of_read) depth 20)
     (λ parts fits. ap (λ (no_flags : Bool). (no_flags, parts.1)) (none_told parts.0 parts.1.1.1.1.1 fits.1.1.1.1.1)) (λ face. refl)
 
 -- a face

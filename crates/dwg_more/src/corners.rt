@@ -140,7 +140,7 @@ impl BitCode for Code3DD {
 
     ghost IsContext = { IsPoint3 };
 
-    #[tactic(auto, using(dwg_common::proofs::PartReading::part_read, dwg_common::proofs::PartReading::part_unread, dwg_grammar::proofs::BodyReading::parsed_value, crate::specs::CornerLaws::dd3_is_code))]
+    #[tactic(auto, using(crate::proofs::CornerReading::dd3_read, crate::proofs::CornerReading::dd3_unread, crate::proofs::CornerReading::dd3_value))]
     fn read(context: &Point3, cursor: &mut BitCursor<'_>) -> Option<Point3> {
         // The laws of a DD ask that its default is a word.
         known_point(context);
