@@ -581,6 +581,11 @@ class Object:
                 return read_field(line)[1]
         return None
 
+    @property
+    def is_entity(self) -> bool:
+        """Whether it is an entity whose common part is read: these alone have a mode."""
+        return self.value("mode") is not None
+
     def reference(self, path: str) -> Optional[Reference]:
         """The reference at a path, or None where there is none."""
         found = self.value(path)
