@@ -3,14 +3,15 @@ use Rattle.std.proofs.Common.{◌≡◌, refl, sym, ◌∙◌, ap, ap₂, subst,
 use Rattle.std.specs.Prelude.{◌⊎◌, nat_lt}
 use Rattle.std.proofs.lemmas.Bool.Decides.{nat_tests}
 use Rattle.std.proofs.lemmas.List.{append_assoc, append_cancel_left, length-append, take_at}
+use Rattle.std.proofs.lemmas.Option.{none-some}
 use Rattle.dwg_bits.specs.Bits.{bits}
 use Rattle.dwg_bits.specs.Cursor.{bits_between}
 use Rattle.dwg_bits.proofs.BitLaws.{bits_between_all, bits_between_joined, length_of_bits, length_of_bits_between}
 use Rattle.dwg_classes.specs.declared.class.Class.{Class}
 use Rattle.dwg_grammar.proofs.CodeLemmas.{unique_of_code}
 use Rattle.dwg_grammar.specs.Grammar.{AnyLetters}
-use Rattle.dwg_grammar.specs.Bodies.{BeginsWithBody, IsBody}
-use Rattle.dwg_grammar.proofs.BodyLemmas.{unique_body, body_unread}
+use Rattle.dwg_grammar.specs.Bodies.{BodyGrammar, BeginsWithBody, IsBody}
+use Rattle.dwg_grammar.proofs.BodyLemmas.{begins_parsed, unique_body}
 use Rattle.dwg_common.specs.CommonLaws.{entity_is_body, object_is_body}
 use Rattle.dwg_common.specs.Entities.{entity_common}
 use Rattle.dwg_grammar.proofs.MadeBodies.{variant_is_body}
@@ -21,6 +22,13 @@ use Rattle.dwg_object.specs.Objects.{HeadParts, is_of_entity}
 use Rattle.dwg_object.specs.Forms.{CommonForm, HasCommonForm, kind_under, common_part}
 use Rattle.dwg_object.specs.Heads.{head, HasHead, IsHead, IsHeadAt}
 use Rattle.dwg_object.proofs.HeadLemmas.{head_is_code}
+
+-- nothing begins with a body where none is parsed
+pub none_begins : {V : Type 0} (base : ℕ) (body : BodyGrammar V) (main references : List Bool) → IsBody base body → body.parse main references ≡ None
+    → (value : V) (main_behind references_behind : List Bool) → BeginsWithBody body value main main_behind references references_behind → ⊥
+none_begins {V} base body main references is none value main_behind references_behind begins =
+    none-some {A = V × (List Bool × List Bool)} (value, (main_behind, references_behind))
+    (sym none ∙ begins_parsed base body value main main_behind references references_behind is begins)
 
 -- the common part of an object is a body
 pub common_is_body : (entity : Bool) (base : ℕ) → base < 2 ^ 63 → IsBody base (common_part entity base)
@@ -213,7 +221,7 @@ size_or_not letters front size = by_tests (nat_lt size (length front)) (nat_lt (
 pub common_unread : {classes : List Class} {body : List ℕ} {parts : HeadParts} {main references : List Bool} (entity : Bool) → AreParted (bits body) parts main references
     → entity ≡ is_entity_kind (kind_under classes parts.number) → (common_part entity parts.own).parse main references ≡ None → HasCommonForm classes body → ⊥
 common_unread {parts = parts} {main = main} {references = references} entity cut same none has =
-    (body_unread parts.own (common_part entity parts.own) main references (common_is_body entity parts.own (own_small cut)) none).0 has.common has.own has.behind
+    none_begins parts.own (common_part entity parts.own) main references (common_is_body entity parts.own (own_small cut)) none has.common has.own has.behind
     (subst (λ (e : Bool). BeginsWithBody (common_part e parts.own) has.common main has.own references has.behind) (sym same) (common_in_cut cut has).2)
 
 -- and has the one that is

@@ -5,14 +5,14 @@ use Rattle.std.proofs.lemmas.Bool.Decides.{nat_tests}
 use Rattle.std.proofs.lemmas.List.{append-nil}
 use Rattle.dwg_bits.specs.Bits.{bits}
 use Rattle.dwg_classes.specs.declared.class.Class.{Class}
-use Rattle.dwg_grammar.proofs.BodyLemmas.{unique_body, body_unread}
+use Rattle.dwg_grammar.proofs.BodyLemmas.{unique_body}
 use Rattle.dwg_kinds.specs.declared.kind.Kind.{Kind}
 use Rattle.dwg_object.specs.declared.body.Body.{Body}
 use Rattle.dwg_object.specs.declared.common.Common.{Common}
 use Rattle.dwg_object.specs.Objects.{HeadParts, TypedValue}
 use Rattle.dwg_object.specs.Forms.{CommonForm, HasCommonForm, TypedForm, HasTypedForm, kind_under}
 use Rattle.dwg_object.specs.Heads.{HasHead}
-use Rattle.dwg_object.proofs.CommonForms.{Parts, has_common, common_forms_same, fits_of_common, decided_behind}
+use Rattle.dwg_object.proofs.CommonForms.{none_begins, Parts, has_common, common_forms_same, fits_of_common, decided_behind}
 use Rattle.dwg_object.specs.OwnBodies.{own_body}
 use Rattle.dwg_object.proofs.OwnLaws.{own_is_body}
 use Rattle.dwg_object.specs.OwnBits.{AreOwn, HasOwn}
@@ -20,7 +20,7 @@ use Rattle.dwg_object.specs.OwnBits.{AreOwn, HasOwn}
 -- own bits and own references of which nothing of the kind is parsed aren't those of the kind
 pub own_unread : (kind : Kind) (handle : ℕ) (own behind : List Bool) → handle < 2 ^ 63 → (own_body kind handle).parse own behind ≡ None → HasOwn kind handle own behind → ⊥
 own_unread kind handle own behind small none has =
-    (body_unread handle (own_body kind handle) own behind (own_is_body kind handle small) none).0 has.value [] has.left has.are.begins
+    none_begins handle (own_body kind handle) own behind (own_is_body kind handle small) none has.value [] has.left has.are.begins
 
 -- nor are those behind which own bits are left, or eight bits of the references
 pub own_left_unread : (kind : Kind) (handle : ℕ) (own behind own_left left : List Bool) (value : Body) → handle < 2 ^ 63 → (own_body kind handle).parse own behind ≡ Some (value, (own_left, left))

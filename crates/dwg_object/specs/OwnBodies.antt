@@ -6,12 +6,14 @@ use Rattle.dwg_dicts.specs.Dictionaries.{dictionary_body}
 use Rattle.dwg_dicts.specs.Entries.{layer_control_body, style_control_body, appid_control_body}
 use Rattle.dwg_dicts.specs.EntriesAndTwo.{block_control_body, ltype_control_body}
 use Rattle.dwg_dicts.specs.XRecords.{xrecord_body}
+use Rattle.dwg_dicts.specs.DictLaws.{dictionary_is_body, block_control_is_body, layer_control_is_body, style_control_is_body, ltype_control_is_body, appid_control_is_body, xrecord_is_body}
 use Rattle.dwg_entities.specs.AttdefBody.{attdef_body}
 use Rattle.dwg_entities.specs.AttribBody.{attrib_body}
 use Rattle.dwg_entities.specs.BlockBody.{block_body}
 use Rattle.dwg_entities.specs.Closing.{endblk_body, seqend_body}
 use Rattle.dwg_entities.specs.InsertBody.{insert_body}
 use Rattle.dwg_entities.specs.TextBody.{text_body}
+use Rattle.dwg_entities.specs.BodiesLaws.{text_is_body, attrib_is_body, attdef_is_body, block_is_body, endblk_is_body, seqend_is_body, insert_is_body}
 use Rattle.dwg_kinds.specs.declared.kind.Kind.TheVariants as kinds
 use Rattle.dwg_kinds.specs.declared.kind.Kind.{Kind}
 use Rattle.dwg_object.specs.declared.body.Body.TheVariants as bodies
@@ -21,11 +23,14 @@ use Rattle.dwg_shapes.specs.Circles.{circle_body}
 use Rattle.dwg_shapes.specs.Lines.{line_body}
 use Rattle.dwg_shapes.specs.LwPolylines.{lwpolyline_body}
 use Rattle.dwg_shapes.specs.Points.{point_body}
+use Rattle.dwg_shapes.specs.ShapeLaws.{arc_is_body, circle_is_body, line_is_body, point_is_body, lwpolyline_is_body}
 use Rattle.dwg_tables.specs.AppIdBody.{app_id_body}
 use Rattle.dwg_tables.specs.BlockHeaderBody.{block_header_body}
 use Rattle.dwg_tables.specs.LayerBody.{layer_body}
 use Rattle.dwg_tables.specs.LtypeBody.{ltype_body}
 use Rattle.dwg_tables.specs.StyleBody.{style_body}
+use Rattle.dwg_tables.specs.BlockHeaderLaws.{block_header_is_body}
+use Rattle.dwg_tables.specs.TableLaws.{layer_is_body, style_is_body, ltype_is_body, app_id_is_body}
 
 -- the kind of a body
 abbrev pub body_kind : Body → Kind
@@ -93,3 +98,31 @@ own_body kinds.AppIdControl base = variant bodies.AppIdControl (elim [ bodies.Ap
 own_body kinds.AppId base = variant bodies.AppId (elim [ bodies.AppId body ↦ Some body | other ↦ None ]) (app_id_body base)
 own_body kinds.XRecord base = variant bodies.XRecord (elim [ bodies.XRecord body ↦ Some body | other ↦ None ]) (xrecord_body base)
 own_body kind base = no_body
+
+-- that each of these bodies is one, by its law
+pub ruleset own_laws = (
+  text_is_body,
+  attrib_is_body,
+  attdef_is_body,
+  block_is_body,
+  endblk_is_body,
+  seqend_is_body,
+  insert_is_body,
+  arc_is_body,
+  circle_is_body,
+  line_is_body,
+  point_is_body,
+  lwpolyline_is_body,
+  dictionary_is_body,
+  block_control_is_body,
+  block_header_is_body,
+  layer_control_is_body,
+  layer_is_body,
+  style_control_is_body,
+  style_is_body,
+  ltype_control_is_body,
+  ltype_is_body,
+  appid_control_is_body,
+  app_id_is_body,
+  xrecord_is_body,
+)
