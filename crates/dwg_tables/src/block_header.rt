@@ -138,11 +138,7 @@ impl BodyCode for BlockHeader {
         let Some(names) = read_block_names(alloc, flags, &content, refs, base)? else {
             return Ok(None);
         };
-        let inserts = join_all::<u8, InsertMark>(
-            alloc,
-            content.counts.as_slice(),
-            names.targets.as_slice(),
-        )?;
+        let inserts = join_all(alloc, content.counts.as_slice(), names.targets.as_slice())?;
         Ok(Some(BlockHeader {
             entry: entry_of(title, names.xref),
             anonymous: flags.anonymous,
