@@ -1,6 +1,6 @@
 -- Numbers in the tables of kinds: what a run gives, what no row gives, and which kinds are those of entities.
 use Rattle.std.proofs.Common.{◌≡◌, refl, sym, ap, ◌∙◌, ℕ, ◌<◌, ◌≤◌, true, false, List, [], ◌∷◌, arith}
-use Rattle.std.specs.Prelude.{◌≢◌, ◌==◌, ◌↔◌, ◌&&◌, Bool, nat_lt, not, None, Contains, IsTrue}
+use Rattle.std.specs.Prelude.{◌≢◌, ◌==◌, ◌↔◌, ◌&&◌, ◌||◌, Bool, nat_lt, not, None, Contains, IsTrue}
 use Rattle.std.specs.List.{AllByRecursion, list_all, list_any}
 use Rattle.std.specs.Cmp.{on_equiv, nat_eq_equiv}
 use Rattle.std.specs.Map.{lookup}
@@ -8,7 +8,7 @@ use Rattle.std.proofs.lemmas.Bool.Decides.{nat_tests}
 use Rattle.std.proofs.lemmas.Bool.{true≢false}
 use Rattle.std.proofs.lemmas.Map.Views.{Contains-from_any, list_any-from_Contains}
 use Rattle.dwg_kinds.specs.declared.kind.Kind.{Kind}
-use Rattle.dwg_kinds.specs.declared.kind.Kind.TheVariants.{Text, PlainEntity, Unknown}
+use Rattle.dwg_kinds.specs.declared.kind.Kind.TheVariants.{Text, PlainEntity, PlainObject, Unknown}
 use Rattle.dwg_kinds.specs.declared.number.ClassHint.{ClassHint}
 use Rattle.dwg_kinds.specs.Kinds.{Run, TYPED_KINDS, PLAIN_ENTITIES, PLAIN_OBJECTS, ENTITY_KINDS, LiesOutside, lies_in, fixed_kind_of, kind_at, place_of_kind, is_entity_kind, same_kind}
 use Rattle.dwg_kinds.proofs.SameKinds.{same_kinds}
@@ -79,6 +79,45 @@ unfolding kind_at fixed_kind_of
 in_plain_entities number hint =
     at_each_run (kind_at number hint ≡ PlainEntity) number PLAIN_ENTITIES
     (λ lies. rw (below_all number 500 PLAIN_ENTITIES below_classes lies, not_found number TYPED_KINDS (no_row number PLAIN_ENTITIES TYPED_KINDS entities_untyped lies), lies) refl)
+
+objects_untyped : list_all (λ row. not (lies_in PLAIN_OBJECTS row.0)) TYPED_KINDS ≡ true
+unfolding PLAIN_OBJECTS TYPED_KINDS
+objects_untyped = refl
+
+-- whether two runs have no number in common
+abbrev are_apart : Run → Run → Bool
+are_apart run other = nat_lt run.1 other.0 || nat_lt other.1 run.0
+
+-- a number in a run lies in no run that is apart from it
+in_no_other : (number : ℕ) (run : Run) (others : List Run) → list_all (are_apart run) others ≡ true → run.0 ≤ number → number ≤ run.1 → lies_in others number ≡ false
+in_no_other number run [] apart first last = refl
+in_no_other number run (other ∷ others) apart first last = grind (arith, nat_tests, in_no_other number run others)
+
+-- a number that lies in runs lies in none of others that are apart from all of them
+in_no_others : (number : ℕ) (runs others : List Run) → list_all (λ run. list_all (are_apart run) others) runs ≡ true → lies_in runs number ≡ true → lies_in others number ≡ false
+in_no_others number [] others apart lies = absurd (cc)
+in_no_others number (run ∷ runs) others apart lies = grind (arith, nat_tests, in_no_other number run others, in_no_others number runs others)
+
+-- the runs of other objects are below 500, and apart from those of entities
+objects_below : list_all (λ run. nat_lt run.1 500) PLAIN_OBJECTS ≡ true
+unfolding PLAIN_OBJECTS
+objects_below = refl
+
+objects_apart : list_all (λ run. list_all (are_apart run) PLAIN_ENTITIES) PLAIN_OBJECTS ≡ true
+unfolding PLAIN_OBJECTS PLAIN_ENTITIES
+objects_apart = refl
+
+-- a number in a run of other plain objects has their kind
+pub in_plain_objects : (number : ℕ) (hint : ClassHint) → AllByRecursion (λ (run : Run). run.0 ≤ number → number ≤ run.1 → kind_at number hint ≡ PlainObject) PLAIN_OBJECTS
+unfolding kind_at fixed_kind_of
+in_plain_objects number hint =
+    at_each_run (kind_at number hint ≡ PlainObject) number PLAIN_OBJECTS
+    (λ lies. rw (
+      below_all number 500 PLAIN_OBJECTS objects_below lies,
+      not_found number TYPED_KINDS (no_row number PLAIN_OBJECTS TYPED_KINDS objects_untyped lies),
+      in_no_others number PLAIN_OBJECTS PLAIN_ENTITIES objects_apart lies,
+      lies,
+    ) refl)
 
 -- a kind is one of entities where the list of their kinds has it
 is_listed : (kind : Kind) → list_any (same_kind kind) ENTITY_KINDS ≡ is_entity_kind kind

@@ -7,7 +7,7 @@ use Rattle.dwg_kinds.specs.contracts.kind.Kind.{the_type}
 use Rattle.dwg_kinds.specs.declared.field.Need.{Need}
 use Rattle.dwg_kinds.specs.declared.field.Need.TheVariants.{Null, Any, NullOrAny, Is, Attributed}
 use Rattle.dwg_kinds.specs.declared.kind.Kind.{Kind}
-use Rattle.dwg_kinds.specs.declared.kind.Kind.TheVariants.{Text, Attrib, Attdef, Block, EndBlk, SeqEnd, Insert, Arc, Circle, Line, Point, Dictionary, BlockControl, BlockHeader, LayerControl, Layer, StyleControl, Style, LtypeControl, Ltype, AppIdControl, AppId, LwPolyline, XRecord, PlainEntity, PlainObject, Unknown}
+use Rattle.dwg_kinds.specs.declared.kind.Kind.TheVariants.{Text, Attrib, Attdef, Block, EndBlk, SeqEnd, Insert, MInsert, Vertex3d, Polyline3d, Arc, Circle, Line, Point, Face3d, Solid, Trace, Ellipse, Ray, XLine, Dictionary, BlockControl, BlockHeader, LayerControl, Layer, StyleControl, Style, LtypeControl, Ltype, AppIdControl, AppId, Group, LwPolyline, XRecord, PlainEntity, PlainObject, Unknown}
 use Rattle.dwg_kinds.specs.declared.number.ClassHint.{ClassHint}
 use Rattle.dwg_kinds.specs.declared.number.ClassHint.TheVariants as hint
 
@@ -37,10 +37,19 @@ KIND_ROWS =
     ∷ row (Some 5) EndBlk (codes "ENDBLK") true (Some (Is BlockHeader))
     ∷ row (Some 6) SeqEnd (codes "SEQEND") true (Some Attributed)
     ∷ row (Some 7) Insert (codes "INSERT") true (Some (Is BlockHeader))
+    ∷ row (Some 8) MInsert (codes "MINSERT") true (Some (Is BlockHeader))
+    ∷ row (Some 11) Vertex3d (codes "VERTEX 3D") true (Some (Is Polyline3d))
+    ∷ row (Some 16) Polyline3d (codes "POLYLINE 3D") true (Some (Is BlockHeader))
     ∷ row (Some 17) Arc (codes "ARC") true (Some (Is BlockHeader))
     ∷ row (Some 18) Circle (codes "CIRCLE") true (Some (Is BlockHeader))
     ∷ row (Some 19) Line (codes "LINE") true (Some (Is BlockHeader))
     ∷ row (Some 27) Point (codes "POINT") true (Some (Is BlockHeader))
+    ∷ row (Some 28) Face3d (codes "3DFACE") true (Some (Is BlockHeader))
+    ∷ row (Some 31) Solid (codes "SOLID") true (Some (Is BlockHeader))
+    ∷ row (Some 32) Trace (codes "TRACE") true (Some (Is BlockHeader))
+    ∷ row (Some 35) Ellipse (codes "ELLIPSE") true (Some (Is BlockHeader))
+    ∷ row (Some 40) Ray (codes "RAY") true (Some (Is BlockHeader))
+    ∷ row (Some 41) XLine (codes "XLINE") true (Some (Is BlockHeader))
     ∷ row (Some 42) Dictionary (codes "DICTIONARY") false (Some NullOrAny)
     ∷ row (Some 48) BlockControl (codes "BLOCK CONTROL") false (Some Null)
     ∷ row (Some 49) BlockHeader (codes "BLOCK HEADER") false (Some (Is BlockControl))
@@ -52,6 +61,7 @@ KIND_ROWS =
     ∷ row (Some 57) Ltype (codes "LTYPE") false (Some (Is LtypeControl))
     ∷ row (Some 66) AppIdControl (codes "APPID CONTROL") false (Some Null)
     ∷ row (Some 67) AppId (codes "APPID") false (Some (Is AppIdControl))
+    ∷ row (Some 72) Group (codes "GROUP") false (Some Any)
     ∷ row (Some 77) LwPolyline (codes "LWPOLYLINE") true (Some (Is BlockHeader))
     ∷ row (Some 79) XRecord (codes "XRECORD") false (Some Any)
     ∷ row None PlainEntity (codes "ENTITY") true None
@@ -92,11 +102,11 @@ Run = ℕ × ℕ
 
 -- the numbers of entities of which nothing more is told
 unfoldable pub PLAIN_ENTITIES : List Run
-PLAIN_ENTITIES = (8, 8) ∷ (10, 16) ∷ (20, 26) ∷ (28, 41) ∷ (43, 47) ∷ (74, 74) ∷ (78, 78) ∷ (498, 498) ∷ []
+PLAIN_ENTITIES = (10, 10) ∷ (12, 15) ∷ (20, 26) ∷ (29, 30) ∷ (33, 34) ∷ (36, 39) ∷ (43, 47) ∷ (74, 74) ∷ (78, 78) ∷ (498, 498) ∷ []
 
 -- the numbers of other objects of which nothing more is told
 unfoldable pub PLAIN_OBJECTS : List Run
-PLAIN_OBJECTS = (60, 65) ∷ (68, 72) ∷ []
+PLAIN_OBJECTS = (60, 65) ∷ (68, 71) ∷ []
 
 -- whether a number lies in one of the runs
 abbrev pub lies_in : List Run → ℕ → Bool

@@ -6,7 +6,7 @@ use Rattle.dwg_kinds.specs.contracts.field.Field.{the_type}
 use Rattle.dwg_kinds.specs.declared.kind.Kind.{Kind}
 use Rattle.dwg_kinds.specs.declared.kind.Kind.TheVariants as kind
 use Rattle.dwg_kinds.specs.declared.field.Field.{Field}
-use Rattle.dwg_kinds.specs.declared.field.Field.TheVariants.{Application, Owner, Reactor, Xdict, Previous, Next, Layer, Linetype, Plotstyle, Style, Block, First, Last, Seqend, Xref, Endblk, Insert, Layout, Entry, Model, Paper, Extra, Item, Target}
+use Rattle.dwg_kinds.specs.declared.field.Field.TheVariants.{Application, Owner, Reactor, Xdict, Previous, Next, Layer, Linetype, Plotstyle, Style, Block, First, Last, Seqend, Xref, Endblk, Insert, Layout, Entry, Model, Paper, Extra, Item, Target, Grouped}
 use Rattle.dwg_kinds.specs.declared.field.Need.{Need}
 use Rattle.dwg_kinds.specs.declared.field.Need.TheVariants.{Any, NullOrAny, Entity, NullOrEntity, Is, NullOrIs}
 use Rattle.dwg_kinds.specs.Kinds.{row_of, is_entity_kind, same_kind}
@@ -47,7 +47,8 @@ FIELD_ROWS =
     ∷ row 21 Paper (codes "paper")
     ∷ row 22 Extra (codes "extra")
     ∷ row 23 Item (codes "item")
-    ∷ row 24 Target (codes "target") ∷ []
+    ∷ row 24 Target (codes "target")
+    ∷ row 25 Grouped (codes "grouped") ∷ []
 
 -- the row of a field, which stands at its place among those that are declared
 abbrev pub row_of_field : Field → FieldRow
@@ -90,14 +91,24 @@ style_need holder = None
 -- what the block of a holder is: the block that is inserted, or the begin of the block
 unfoldable pub block_need : Kind → Option Need
 block_need kind.Insert = Some (Is kind.BlockHeader)
+block_need kind.MInsert = Some (Is kind.BlockHeader)
 block_need kind.BlockHeader = Some (Is kind.Block)
 block_need holder = None
 
 -- what is first or last in a holder
 unfoldable pub end_need : Kind → Option Need
 end_need kind.Insert = Some (Is kind.Attrib)
+end_need kind.MInsert = Some (Is kind.Attrib)
+end_need kind.Polyline3d = Some (NullOrIs kind.Vertex3d)
 end_need kind.BlockHeader = Some NullOrEntity
 end_need holder = None
+
+-- what ends the attributes or vertices of a holder
+unfoldable pub seqend_need : Kind → Option Need
+seqend_need kind.Insert = Some (Is kind.SeqEnd)
+seqend_need kind.MInsert = Some (Is kind.SeqEnd)
+seqend_need kind.Polyline3d = Some (Is kind.SeqEnd)
+seqend_need holder = None
 
 -- what the external reference of an entry is
 unfoldable pub xref_need : Kind → Option Need
@@ -136,7 +147,7 @@ need_of Style holder = style_need holder
 need_of Block holder = block_need holder
 need_of First holder = end_need holder
 need_of Last holder = end_need holder
-need_of Seqend holder = of_one kind.Insert (Is kind.SeqEnd) holder
+need_of Seqend holder = seqend_need holder
 need_of Xref holder = xref_need holder
 need_of Endblk holder = of_one kind.BlockHeader (Is kind.EndBlk) holder
 need_of Insert holder = of_one kind.BlockHeader Entity holder
@@ -147,6 +158,7 @@ need_of Paper holder = of_one kind.BlockControl (Is kind.BlockHeader) holder
 need_of Extra holder = of_one kind.LtypeControl (Is kind.Ltype) holder
 need_of Item holder = of_one kind.Dictionary NullOrAny holder
 need_of Target holder = of_one kind.XRecord NullOrAny holder
+need_of Grouped holder = of_one kind.Group NullOrAny holder
 
 -- a holder of that kind has the field
 unfoldable pub has_field : Field → Kind → Bool

@@ -1,7 +1,7 @@
 //! Fields that refer to other objects: which kinds hold each, and what it must lead to.
 
 ghost use Rattle.std.specs.Prelude.{◌≡◌, Some, IsTrue};
-ghost use Rattle.dwg_kinds.specs.Needs.{field_name, field_number, has_field, of_entities, linetype_need, plotstyle_need, style_need, block_need, end_need, xref_need, entry_need, of_one, need_of};
+ghost use Rattle.dwg_kinds.specs.Needs.{field_name, field_number, has_field, of_entities, linetype_need, plotstyle_need, style_need, block_need, end_need, seqend_need, xref_need, entry_need, of_one, need_of};
 
 use crate::kind::{Kind, is_entity, is_same, needed_owner};
 
@@ -31,11 +31,11 @@ pub enum Field {
     Style,
     /// The block that is inserted, or the begin of a block.
     Block,
-    /// The first attribute of an insert, or the first entity of a block.
+    /// The first attribute of an insert, the first vertex of a polyline, or the first entity of a block.
     First,
-    /// The last attribute of an insert, or the last entity of a block.
+    /// The last attribute of an insert, the last vertex of a polyline, or the last entity of a block.
     Last,
-    /// The end of an insert's attributes.
+    /// The end of an insert's attributes or of a polyline's vertices.
     Seqend,
     /// The external reference that an entry of a table comes from.
     Xref,
@@ -57,6 +57,8 @@ pub enum Field {
     Item,
     /// What a record of free data refers to.
     Target,
+    /// A member of a group.
+    Grouped,
 }
 
 /// What a field must lead to. Null is handle 0; any is an object of the drawing; the others are objects of these kinds.
@@ -76,11 +78,11 @@ pub enum Need {
     Is(Kind),
     /// Null or an object of that kind.
     NullOrIs(Kind),
-    /// An object that can have attributes: an INSERT, or an entity of which nothing more is told.
+    /// An object that can have attributes or vertices: an INSERT, a MINSERT, a POLYLINE 3D, or an entity of which nothing more is told.
     Attributed,
 }
 
-/// The number of a field in the order of fields, 1 to 24. They are declared in that order.
+/// The number of a field in the order of fields, 1 to 25. They are declared in that order.
 #[tactic(auto, using(crate::proofs::SameKinds::numbered_in_order))]
 pub fn number_of(field: Field) -> u8
     ensures { result ≡ field_number field }
@@ -118,6 +120,7 @@ pub fn field_word(field: Field) -> &'static str
         Field::Extra => "extra",
         Field::Item => "item",
         Field::Target => "target",
+        Field::Grouped => "grouped",
     }
 }
 
@@ -169,7 +172,7 @@ fn needed_block(holder: Kind) -> Option<Need>
     ensures { result ≡ block_need holder }
 {
     match holder {
-        Kind::Insert => Some(Need::Is(Kind::BlockHeader)),
+        Kind::Insert | Kind::MInsert => Some(Need::Is(Kind::BlockHeader)),
         Kind::BlockHeader => Some(Need::Is(Kind::Block)),
         _ => None,
     }
@@ -181,8 +184,20 @@ fn needed_end(holder: Kind) -> Option<Need>
     ensures { result ≡ end_need holder }
 {
     match holder {
-        Kind::Insert => Some(Need::Is(Kind::Attrib)),
+        Kind::Insert | Kind::MInsert => Some(Need::Is(Kind::Attrib)),
+        Kind::Polyline3d => Some(Need::NullOrIs(Kind::Vertex3d)),
         Kind::BlockHeader => Some(Need::NullOrEntity),
+        _ => None,
+    }
+}
+
+/// What ends the attributes or vertices of a holder.
+#[tactic(auto, unfolding(crate::specs::Needs::seqend_need))]
+fn needed_seqend(holder: Kind) -> Option<Need>
+    ensures { result ≡ seqend_need holder }
+{
+    match holder {
+        Kind::Insert | Kind::MInsert | Kind::Polyline3d => Some(Need::Is(Kind::SeqEnd)),
         _ => None,
     }
 }
@@ -245,7 +260,7 @@ fn needed(field: Field, holder: Kind) -> Option<Need>
         Field::Style => needed_style(holder),
         Field::Block => needed_block(holder),
         Field::First | Field::Last => needed_end(holder),
-        Field::Seqend => needed_of_one(Kind::Insert, Need::Is(Kind::SeqEnd), holder),
+        Field::Seqend => needed_seqend(holder),
         Field::Xref => needed_xref(holder),
         Field::Endblk => needed_of_one(Kind::BlockHeader, Need::Is(Kind::EndBlk), holder),
         Field::Insert => needed_of_one(Kind::BlockHeader, Need::Entity, holder),
@@ -259,6 +274,7 @@ fn needed(field: Field, holder: Kind) -> Option<Need>
         Field::Extra => needed_of_one(Kind::LtypeControl, Need::Is(Kind::Ltype), holder),
         Field::Item => needed_of_one(Kind::Dictionary, Need::NullOrAny, holder),
         Field::Target => needed_of_one(Kind::XRecord, Need::NullOrAny, holder),
+        Field::Grouped => needed_of_one(Kind::Group, Need::NullOrAny, holder),
     }
 }
 

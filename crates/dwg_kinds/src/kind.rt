@@ -24,6 +24,12 @@ pub enum Kind {
     SeqEnd,
     /// A block that is inserted.
     Insert,
+    /// Rows and columns of a block that is inserted.
+    MInsert,
+    /// A vertex of a polyline in space.
+    Vertex3d,
+    /// A polyline in space.
+    Polyline3d,
     /// An arc of a circle.
     Arc,
     /// A circle.
@@ -32,6 +38,18 @@ pub enum Kind {
     Line,
     /// A point.
     Point,
+    /// A face with three or four corners in space.
+    Face3d,
+    /// A filled area with three or four corners.
+    Solid,
+    /// A line with a width, by the corners of the area that it fills.
+    Trace,
+    /// An ellipse or an arc of one.
+    Ellipse,
+    /// A line that begins at a point and doesn't end.
+    Ray,
+    /// A line without begin and end.
+    XLine,
     /// A dictionary: names with objects.
     Dictionary,
     /// The table of the blocks.
@@ -54,6 +72,8 @@ pub enum Kind {
     AppIdControl,
     /// An application.
     AppId,
+    /// Objects under one name.
+    Group,
     /// A polyline in a plane.
     LwPolyline,
     /// A record of free data.
@@ -87,10 +107,19 @@ macro_rules! by_row {
             5 EndBlk "ENDBLK" true Some(Need::Is(Kind::BlockHeader));
             6 SeqEnd "SEQEND" true Some(Need::Attributed);
             7 Insert "INSERT" true Some(Need::Is(Kind::BlockHeader));
+            8 MInsert "MINSERT" true Some(Need::Is(Kind::BlockHeader));
+            11 Vertex3d "VERTEX 3D" true Some(Need::Is(Kind::Polyline3d));
+            16 Polyline3d "POLYLINE 3D" true Some(Need::Is(Kind::BlockHeader));
             17 Arc "ARC" true Some(Need::Is(Kind::BlockHeader));
             18 Circle "CIRCLE" true Some(Need::Is(Kind::BlockHeader));
             19 Line "LINE" true Some(Need::Is(Kind::BlockHeader));
             27 Point "POINT" true Some(Need::Is(Kind::BlockHeader));
+            28 Face3d "3DFACE" true Some(Need::Is(Kind::BlockHeader));
+            31 Solid "SOLID" true Some(Need::Is(Kind::BlockHeader));
+            32 Trace "TRACE" true Some(Need::Is(Kind::BlockHeader));
+            35 Ellipse "ELLIPSE" true Some(Need::Is(Kind::BlockHeader));
+            40 Ray "RAY" true Some(Need::Is(Kind::BlockHeader));
+            41 XLine "XLINE" true Some(Need::Is(Kind::BlockHeader));
             42 Dictionary "DICTIONARY" false Some(Need::NullOrAny);
             48 BlockControl "BLOCK CONTROL" false Some(Need::Null);
             49 BlockHeader "BLOCK HEADER" false Some(Need::Is(Kind::BlockControl));
@@ -102,6 +131,7 @@ macro_rules! by_row {
             57 Ltype "LTYPE" false Some(Need::Is(Kind::LtypeControl));
             66 AppIdControl "APPID CONTROL" false Some(Need::Null);
             67 AppId "APPID" false Some(Need::Is(Kind::AppIdControl));
+            72 Group "GROUP" false Some(Need::Any);
             77 LwPolyline "LWPOLYLINE" true Some(Need::Is(Kind::BlockHeader));
             79 XRecord "XRECORD" false Some(Need::Any);
             PlainEntity "ENTITY" true None;
@@ -159,8 +189,8 @@ pub(crate) fn fixed_kind(number: u16) -> Kind
     ensures { result ≡ fixed_kind_of number }
 {
     by_row!(kind number;
-        8 | 10..=16 | 20..=26 | 28..=41 | 43..=47 | 74 | 78 | 498 => Kind::PlainEntity,
-        60..=65 | 68..=72 => Kind::PlainObject,
+        10 | 12..=15 | 20..=26 | 29..=30 | 33..=34 | 36..=39 | 43..=47 | 74 | 78 | 498 => Kind::PlainEntity,
+        60..=65 | 68..=71 => Kind::PlainObject,
         _ => Kind::Unknown,
     )
 }

@@ -1,9 +1,12 @@
-use Rattle.dwg_kinds.proofs.KindTables.{no_other, in_plain_entities, entities_listed}
+use Rattle.dwg_kinds.proofs.KindTables.{no_other, in_plain_entities, in_plain_objects, entities_listed}
 use Rattle.dwg_kinds.proofs.SameKinds.{same_kinds, names_differ}
 use Rattle.dwg_kinds.proofs.laws.kind_laws.Goals as goal
 
 pub returns-clause-plain_entities : goal.returns-clause-plain_entities
 returns-clause-plain_entities c = in_plain_entities
+
+pub returns-clause-plain_objects : goal.returns-clause-plain_objects
+returns-clause-plain_objects c = in_plain_objects
 
 pub returns-clause-no_other : goal.returns-clause-no_other
 returns-clause-no_other c = no_other
