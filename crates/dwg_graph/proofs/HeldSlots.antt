@@ -14,7 +14,7 @@ use Rattle.dwg_kinds.specs.declared.field.Field.TheVariants as fields
 use Rattle.dwg_kinds.specs.declared.kind.Kind.{Kind}
 use Rattle.dwg_kinds.specs.declared.kind.Kind.TheVariants as kinds
 use Rattle.dwg_kinds.specs.Kinds.{is_entity_kind, same_kind}
-use Rattle.dwg_kinds.specs.Needs.{field_number, has_field, need_of, owner_need, of_entities, of_one, linetype_need, plotstyle_need, style_need, block_need, end_need, xref_need, entry_need}
+use Rattle.dwg_kinds.specs.Needs.{field_number, has_field, need_of, owner_need, of_entities, of_one, linetype_need, plotstyle_need, style_need, block_need, end_need, seqend_need, xref_need, entry_need}
 use Rattle.dwg_object.specs.declared.body.Body.TheVariants as bodies
 use Rattle.dwg_object.specs.declared.body.Body.{Body}
 use Rattle.dwg_object.specs.declared.common.Common.TheVariants as commons
@@ -30,7 +30,7 @@ held_of kind field = has_field field kind
 
 -- each kind has the fields that it holds of its own
 own_held : (body : Body) → IsTrue (each_field (held_of (body_kind body)) (held_by_body body))
-unfolding held_by_body has_field need_of linetype_need plotstyle_need style_need block_need end_need xref_need entry_need of_one same_kind
+unfolding held_by_body has_field need_of linetype_need plotstyle_need style_need block_need end_need seqend_need xref_need entry_need of_one same_kind
 own_held (bodies.Text body) = refl
 own_held body = refl
 

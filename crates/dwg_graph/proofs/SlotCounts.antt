@@ -22,6 +22,7 @@ use Rattle.dwg_entities.specs.AttribBody.{attrib_body}
 use Rattle.dwg_entities.specs.BlockBody.{block_body}
 use Rattle.dwg_entities.specs.Closing.{endblk_body, seqend_body}
 use Rattle.dwg_entities.specs.InsertBody.{insert_body}
+use Rattle.dwg_entities.specs.MInsertBody.{minsert_body}
 use Rattle.dwg_entities.specs.TextBody.{text_body}
 use Rattle.dwg_entities.specs.declared.insert.Attributes.{Attributes}
 use Rattle.dwg_graph.proofs.FieldLists.{count_of, slots_counted}
@@ -30,6 +31,8 @@ use Rattle.dwg_graph.specs.SlotLaws.{NoneIsLeftOut, SlotsAreFew, count_of_common
 use Rattle.dwg_grammar.specs.Reference.{Reference}
 use Rattle.dwg_grammar.specs.ReferenceCodes.{reference}
 use Rattle.dwg_grammar.proofs.ReferenceLemmas.{reference_least}
+use Rattle.dwg_more.specs.Groups.{group_body}
+use Rattle.dwg_more.specs.Polylines.{polyline_body}
 use Rattle.dwg_object.proofs.CommonForms.{common_is_body, common_may_follow}
 use Rattle.dwg_object.specs.declared.body.Body.TheVariants as bodies
 use Rattle.dwg_object.specs.declared.body.Body.{Body}
@@ -132,9 +135,11 @@ common_counted handle (commons.Object common) more = simp (length-append, length
 
 -- and a kind as many of its own as its body names
 own_counted : (base : ℕ) (body : Body) → count_of (held_by_body body) ≡ length ((own_body (body_kind body) base).references body)
-unfolding held_by_body own_body text_body attrib_body attdef_body block_body endblk_body seqend_body insert_body dictionary_body block_control_body block_header_body layer_control_body layer_body style_control_body style_body ltype_control_body ltype_body appid_control_body app_id_body xrecord_body
+unfolding held_by_body own_body text_body attrib_body attdef_body block_body endblk_body seqend_body insert_body minsert_body polyline_body dictionary_body block_control_body block_header_body layer_control_body layer_body style_control_body style_body ltype_control_body ltype_body appid_control_body app_id_body xrecord_body group_body
 own_counted base (bodies.Insert body) =
     omega (arith, length-append {A = Reference}, three_counted (λ (all : Attributes). all.first) (λ all. all.last) (λ all. all.seqend) body.attributes)
+own_counted base (bodies.MInsert body) =
+    omega (arith, length-append {A = Reference}, three_counted (λ (all : Attributes). all.first) (λ all. all.last) (λ all. all.seqend) body.insert.attributes)
 own_counted base (bodies.BlockHeader body) = omega (arith, length-append {A = Reference}, two_counted (λ (ends : Ends). ends.first) (λ ends. ends.last) body.ends)
 own_counted base body = omega (arith, length-append {A = Reference})
 

@@ -81,6 +81,13 @@ kind_decided needed kind = (λ is. sym ((same_kinds needed kind).0 is), λ is. (
 is_decided : (objects : List ObjectValue) (needed : Kind) (target : ℕ) → Ascend (handles_of objects) → IsTrue (option_map_or (same_kind needed) (kind_at objects target) false) ↔ IsOfKind objects target (λ kind. kind ≡ needed)
 is_decided objects needed target ascend = of_kind_decided objects target (same_kind needed) (λ kind. kind ≡ needed) ascend (kind_decided needed)
 
+-- the test says which kinds can have attributes or vertices
+attributed_decided : (kind : Kind) → IsTrue (is_attributed kind) ↔ ((kind ≡ kinds.Insert) ⊎ (kind ≡ kinds.MInsert) ⊎ (kind ≡ kinds.Polyline3d) ⊎ (kind ≡ kinds.PlainEntity))
+attributed_decided kind =
+    Decides-or (same_kind kinds.Insert kind) (same_kind kinds.MInsert kind || (same_kind kinds.Polyline3d kind || same_kind kinds.PlainEntity kind)) (kind_decided kinds.Insert kind)
+    (Decides-or (same_kind kinds.MInsert kind) (same_kind kinds.Polyline3d kind || same_kind kinds.PlainEntity kind) (kind_decided kinds.MInsert kind)
+    (Decides-or (same_kind kinds.Polyline3d kind) (same_kind kinds.PlainEntity kind) (kind_decided kinds.Polyline3d kind) (kind_decided kinds.PlainEntity kind)))
+
 -- the test of a need says whether a target meets it
 pub meets_decided : (objects : List ObjectValue) (need : Need) (target : ℕ) → Ascend (handles_of objects) → IsTrue (meets need target (kind_at objects target)) ↔ Meets objects need target
 unfolding meets Meets
@@ -94,8 +101,7 @@ meets_decided objects (Is needed) target ascend = is_decided objects needed targ
 meets_decided objects (NullOrIs needed) target ascend =
     Decides-or (target == 0) (option_map_or (same_kind needed) (kind_at objects target) false) (Decides-eqb target 0) (is_decided objects needed target ascend)
 meets_decided objects Attributed target ascend =
-    of_kind_decided objects target is_attributed (λ kind. (kind ≡ kinds.Insert) ⊎ (kind ≡ kinds.PlainEntity)) ascend
-    (λ kind. Decides-or (same_kind kinds.Insert kind) (same_kind kinds.PlainEntity kind) (kind_decided kinds.Insert kind) (kind_decided kinds.PlainEntity kind))
+    of_kind_decided objects target is_attributed (λ kind. (kind ≡ kinds.Insert) ⊎ (kind ≡ kinds.MInsert) ⊎ (kind ≡ kinds.Polyline3d) ⊎ (kind ≡ kinds.PlainEntity)) ascend attributed_decided
 
 -- the test of a need that there may not be
 some_need_decided : (objects : List ObjectValue) (need : Option Need) (target : ℕ) → Ascend (handles_of objects)
@@ -132,8 +138,9 @@ pub exempt_decided : (objects : List ObjectValue) (x : ObjectValue) → Ascend (
 unfolding is_exempt
 exempt_decided objects x ascend =
     let owned : Bool = option_map_or (λ owner. is_member (spaces objects) owner x) (object_at objects (owner_of (spaces objects) x)) false in
-    Decides-or (is_root (spaces objects) x) (same_kind kinds.Attrib (kind_of x) || owned) (λ is. is, λ is. is)
-    (Decides-or (same_kind kinds.Attrib (kind_of x)) owned (kind_decided kinds.Attrib (kind_of x)) (owned_member_decided objects (spaces objects) x ascend))
+    Decides-or (is_root (spaces objects) x) (same_kind kinds.Attrib (kind_of x) || (same_kind kinds.Vertex3d (kind_of x) || owned)) (λ is. is, λ is. is)
+    (Decides-or (same_kind kinds.Attrib (kind_of x)) (same_kind kinds.Vertex3d (kind_of x) || owned) (kind_decided kinds.Attrib (kind_of x))
+    (Decides-or (same_kind kinds.Vertex3d (kind_of x)) owned (kind_decided kinds.Vertex3d (kind_of x)) (owned_member_decided objects (spaces objects) x ascend)))
 
 -- the test for that says whether a claim is the only one, and by that holder
 pub sole_decided : (holder : ℕ) (all : List Claim) → IsTrue (is_sole_claim holder all) ↔ IsSoleClaim holder all

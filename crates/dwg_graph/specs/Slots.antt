@@ -7,7 +7,7 @@ use Rattle.dwg_entities.specs.declared.insert.Insert as declared
 use Rattle.dwg_graph.specs.declared.slot.Slot.{Slot}
 use Rattle.dwg_grammar.specs.Reference.{Reference}
 use Rattle.dwg_kinds.specs.declared.field.Field.{Field}
-use Rattle.dwg_kinds.specs.declared.field.Field.TheVariants.{Application, Reactor, Xdict, Previous, Next, Layer, Linetype, Plotstyle, Style, Block, First, Last, Seqend, Xref, Endblk, Insert, Layout, Entry, Model, Paper, Extra, Item, Target}
+use Rattle.dwg_kinds.specs.declared.field.Field.TheVariants.{Application, Reactor, Xdict, Previous, Next, Layer, Linetype, Plotstyle, Style, Block, First, Last, Seqend, Xref, Endblk, Insert, Layout, Entry, Model, Paper, Extra, Item, Target, Grouped}
 use Rattle.dwg_object.specs.declared.body.Body.TheVariants as bodies
 use Rattle.dwg_object.specs.declared.body.Body.{Body}
 use Rattle.dwg_object.specs.declared.common.Common.TheVariants as commons
@@ -53,7 +53,7 @@ unfoldable pub held_by_common : Common → List FieldReferences
 held_by_common (commons.Entity common) = held_by_entity common
 held_by_common (commons.Object common) = held_by_object common
 
--- what an insert holds of its own
+-- what an insert holds of its own, alone or in columns and rows
 abbrev pub held_by_insert : declared.Insert → List FieldReferences
 held_by_insert insert =
     one Block insert.block
@@ -78,6 +78,8 @@ held_by_body (bodies.Text body) = one Style body.style ∷ []
 held_by_body (bodies.Attrib body) = one Style body.text.style ∷ []
 held_by_body (bodies.Attdef body) = one Style body.attrib.text.style ∷ []
 held_by_body (bodies.Insert body) = held_by_insert body
+held_by_body (bodies.MInsert body) = held_by_insert body.insert
+held_by_body (bodies.Polyline3d body) = one First body.first ∷ one Last body.last ∷ one Seqend body.seqend ∷ []
 held_by_body (bodies.Dictionary body) = listed Item (map (λ item. item.target) body.items) ∷ []
 held_by_body (bodies.BlockControl body) = listed Entry body.entries ∷ one Model body.model ∷ one Paper body.paper ∷ []
 held_by_body (bodies.BlockHeader body) = held_by_block body
@@ -90,6 +92,7 @@ held_by_body (bodies.Ltype body) = listed Style (map (λ dash. dash.style) body.
 held_by_body (bodies.AppIdControl body) = listed Entry body.entries ∷ []
 held_by_body (bodies.AppId body) = one Xref body.entry.xref ∷ []
 held_by_body (bodies.XRecord body) = listed Target body.targets ∷ []
+held_by_body (bodies.Group body) = listed Grouped body.entries ∷ []
 held_by_body other = []
 
 -- the slots of one field, from a position on

@@ -29,7 +29,7 @@ Meets objects Entity target = IsOfKind objects target (λ kind. IsTrue (is_entit
 Meets objects NullOrEntity target = (target ≡ 0) ⊎ IsOfKind objects target (λ kind. IsTrue (is_entity_kind kind))
 Meets objects (Is needed) target = IsOfKind objects target (λ kind. kind ≡ needed)
 Meets objects (NullOrIs needed) target = (target ≡ 0) ⊎ IsOfKind objects target (λ kind. kind ≡ needed)
-Meets objects Attributed target = IsOfKind objects target (λ kind. (kind ≡ kinds.Insert) ⊎ (kind ≡ kinds.PlainEntity))
+Meets objects Attributed target = IsOfKind objects target (λ kind. (kind ≡ kinds.Insert) ⊎ (kind ≡ kinds.MInsert) ⊎ (kind ≡ kinds.Polyline3d) ⊎ (kind ≡ kinds.PlainEntity))
 
 -- a target is what a field needs that the holder has
 abbrev pub MeetsSome : List ObjectValue → Option Need → ℕ → Type 0
@@ -41,11 +41,12 @@ pub record Resolves (objects : List ObjectValue) (x : ObjectValue) : Type 0 wher
   pub owner : MeetsSome objects (need_of fields.Owner (kind_of x)) (owner_of (spaces objects) x)
   pub slots : (slot : Slot) → Contains (slots x) slot → MeetsSome objects (need_of slot.field (kind_of x)) slot.target
 
--- no claim is asked for of roots, attributes, and members of the block of a Typed BLOCK HEADER
+-- no claim is asked for of roots, attributes, vertices in space, and members of the block of a Typed BLOCK HEADER
 abbrev pub IsExempt : List ObjectValue → ObjectValue → Type 0
 IsExempt objects x =
     IsTrue (is_root (spaces objects) x)
     ⊎ (kind_of x ≡ kinds.Attrib)
+    ⊎ (kind_of x ≡ kinds.Vertex3d)
     ⊎ ((header : ObjectValue) × Contains objects header × IsTrue (is_member (spaces objects) header x))
 
 -- there is exactly one claim, by that holder

@@ -13,9 +13,9 @@ use Rattle.dwg_kinds.specs.Kinds.{is_entity_kind, same_kind}
 use Rattle.dwg_kinds.specs.Needs.{need_of}
 use Rattle.dwg_object.specs.Objects.{ObjectValue, handle_of, kind_of}
 
--- a kind is one of those that can have attributes
+-- a kind is one of those that can have attributes or vertices
 abbrev pub is_attributed : Kind → Bool
-is_attributed kind = same_kind kinds.Insert kind || same_kind kinds.PlainEntity kind
+is_attributed kind = same_kind kinds.Insert kind || (same_kind kinds.MInsert kind || (same_kind kinds.Polyline3d kind || same_kind kinds.PlainEntity kind))
 
 -- a target meets a need, where that is the kind of the object that has the handle
 unfoldable pub meets : Need → ℕ → Option Kind → Bool
@@ -39,7 +39,9 @@ is_met objects x slot = option_map_or (λ need. meets need slot.target (kind_at 
 -- no claim is asked for
 unfoldable pub is_exempt : List ObjectValue → Option SpaceHandles → ObjectValue → Bool
 is_exempt objects known x =
-    is_root known x || (same_kind kinds.Attrib (kind_of x) || option_map_or (λ owner. is_member known owner x) (object_at objects (owner_of known x)) false)
+    is_root known x
+    || (same_kind kinds.Attrib (kind_of x)
+    || (same_kind kinds.Vertex3d (kind_of x) || option_map_or (λ owner. is_member known owner x) (object_at objects (owner_of known x)) false))
 
 -- the only claim is by that holder
 abbrev pub is_sole_claim : ℕ → List Claim → Bool

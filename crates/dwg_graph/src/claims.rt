@@ -126,7 +126,7 @@ pub struct ClaimCounts {
     pub own: u64,
 }
 
-/// Whether no claim is asked of an object: of a root, an attribute, or a member of a block, which stands at a home.
+/// Whether no claim is asked of an object: of a root, an attribute, a vertex in space, or a member of a block, which stands at a home.
 #[tactic(auto, unfolding(crate::specs::Tests::is_exempt), using(crate::proofs::Sufficing::member_by_home))]
 pub fn is_exempt(
     objects: &[Object<'_>],
@@ -140,7 +140,7 @@ pub fn is_exempt(
     if home.is_some() {
         return true;
     }
-    if is_same(Kind::Attrib, object.kind()) {
+    if is_same(Kind::Attrib, object.kind()) || is_same(Kind::Vertex3d, object.kind()) {
         return true;
     }
     is_root(object, known)

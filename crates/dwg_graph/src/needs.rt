@@ -35,12 +35,17 @@ fn is_there(kind: Kind, found: Option<Kind>) -> bool
     }
 }
 
-/// Whether an object was found that can have attributes.
+/// Whether an object was found that can have attributes or vertices.
 fn is_attributed_there(found: Option<Kind>) -> bool
     ensures { result ≡ option_map_or is_attributed found false }
 {
     match found {
-        Some(kind) => is_same(Kind::Insert, kind) || is_same(Kind::PlainEntity, kind),
+        Some(kind) => {
+            is_same(Kind::Insert, kind)
+                || is_same(Kind::MInsert, kind)
+                || is_same(Kind::Polyline3d, kind)
+                || is_same(Kind::PlainEntity, kind)
+        }
         None => false,
     }
 }

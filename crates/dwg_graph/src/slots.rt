@@ -19,7 +19,7 @@ use dwg_tables::BlockHeader;
 /// More slots than any object has: a search that is to pass so many counts them.
 const MANY: u64 = 1 << 62;
 
-/// What an insert holds of its own.
+/// What an insert holds of its own, alone or in columns and rows.
 #[tactic(auto, using(crate::proofs::Passing::passes_end))]
 fn insert_slots(walk: Walk, insert: &Insert) -> Walk
     ensures { PassesFields walk (tables.held_by_insert insert.now) result }
@@ -54,6 +54,11 @@ fn body_slots(walk: Walk, body: &Body) -> Walk
         Body::Attrib(body) => walk.one(Field::Style, body.text.style),
         Body::Attdef(body) => walk.one(Field::Style, body.attrib.text.style),
         Body::Insert(body) => insert_slots(walk, body),
+        Body::MInsert(body) => insert_slots(walk, &body.insert),
+        Body::Polyline3d(body) => walk
+            .one(Field::First, body.first)
+            .one(Field::Last, body.last)
+            .one(Field::Seqend, body.seqend),
         Body::Dictionary(body) => walk.listed(Field::Item, &body.items),
         Body::BlockControl(body) => walk
             .references(Field::Entry, &body.entries)
@@ -76,6 +81,7 @@ fn body_slots(walk: Walk, body: &Body) -> Walk
         Body::AppIdControl(body) => walk.references(Field::Entry, &body.entries),
         Body::AppId(body) => walk.one(Field::Xref, body.entry.xref),
         Body::XRecord(body) => walk.references(Field::Target, &body.targets),
+        Body::Group(body) => walk.references(Field::Grouped, &body.entries),
         _ => walk,
     }
 }

@@ -12,10 +12,18 @@ use Rattle.dwg_entities.specs.AttribBody.{attrib_body}
 use Rattle.dwg_entities.specs.BlockBody.{block_body}
 use Rattle.dwg_entities.specs.Closing.{endblk_body, seqend_body}
 use Rattle.dwg_entities.specs.InsertBody.{insert_body}
+use Rattle.dwg_entities.specs.MInsertBody.{minsert_body}
 use Rattle.dwg_entities.specs.TextBody.{text_body}
-use Rattle.dwg_entities.specs.BodiesLaws.{text_is_body, attrib_is_body, attdef_is_body, block_is_body, endblk_is_body, seqend_is_body, insert_is_body}
+use Rattle.dwg_entities.specs.BodiesLaws.{text_is_body, attrib_is_body, attdef_is_body, block_is_body, endblk_is_body, seqend_is_body, insert_is_body, minsert_is_body}
 use Rattle.dwg_kinds.specs.declared.kind.Kind.TheVariants as kinds
 use Rattle.dwg_kinds.specs.declared.kind.Kind.{Kind}
+use Rattle.dwg_more.specs.Ellipses.{ellipse_body}
+use Rattle.dwg_more.specs.Faces.{face_body}
+use Rattle.dwg_more.specs.Groups.{group_body}
+use Rattle.dwg_more.specs.Polylines.{polyline_body, vertex_body}
+use Rattle.dwg_more.specs.Rays.{ray_body, xline_body}
+use Rattle.dwg_more.specs.Solids.{solid_body, trace_body}
+use Rattle.dwg_more.specs.MoreLaws.{ellipse_is_body, ray_is_body, xline_is_body, solid_is_body, trace_is_body, face_is_body, polyline_is_body, vertex_is_body, group_is_body}
 use Rattle.dwg_object.specs.declared.body.Body.TheVariants as bodies
 use Rattle.dwg_object.specs.declared.body.Body.{Body}
 use Rattle.dwg_shapes.specs.Arcs.{arc_body}
@@ -41,11 +49,20 @@ body_kind (bodies.Block body) = kinds.Block
 body_kind (bodies.EndBlk body) = kinds.EndBlk
 body_kind (bodies.SeqEnd body) = kinds.SeqEnd
 body_kind (bodies.Insert body) = kinds.Insert
+body_kind (bodies.MInsert body) = kinds.MInsert
 body_kind (bodies.Arc body) = kinds.Arc
 body_kind (bodies.Circle body) = kinds.Circle
 body_kind (bodies.Line body) = kinds.Line
 body_kind (bodies.Point body) = kinds.Point
 body_kind (bodies.LwPolyline body) = kinds.LwPolyline
+body_kind (bodies.Vertex3d body) = kinds.Vertex3d
+body_kind (bodies.Polyline3d body) = kinds.Polyline3d
+body_kind (bodies.Face3d body) = kinds.Face3d
+body_kind (bodies.Solid body) = kinds.Solid
+body_kind (bodies.Trace body) = kinds.Trace
+body_kind (bodies.Ellipse body) = kinds.Ellipse
+body_kind (bodies.Ray body) = kinds.Ray
+body_kind (bodies.XLine body) = kinds.XLine
 body_kind (bodies.Dictionary body) = kinds.Dictionary
 body_kind (bodies.BlockControl body) = kinds.BlockControl
 body_kind (bodies.BlockHeader body) = kinds.BlockHeader
@@ -58,6 +75,7 @@ body_kind (bodies.Ltype body) = kinds.Ltype
 body_kind (bodies.AppIdControl body) = kinds.AppIdControl
 body_kind (bodies.AppId body) = kinds.AppId
 body_kind (bodies.XRecord body) = kinds.XRecord
+body_kind (bodies.Group body) = kinds.Group
 
 -- no bits spell anything
 abbrev pub no_body : {V : Type 0} → BodyGrammar V
@@ -80,11 +98,20 @@ own_body kinds.Block base = variant bodies.Block (elim [ bodies.Block body ↦ S
 own_body kinds.EndBlk base = variant bodies.EndBlk (elim [ bodies.EndBlk body ↦ Some body | other ↦ None ]) (endblk_body base)
 own_body kinds.SeqEnd base = variant bodies.SeqEnd (elim [ bodies.SeqEnd body ↦ Some body | other ↦ None ]) (seqend_body base)
 own_body kinds.Insert base = variant bodies.Insert (elim [ bodies.Insert body ↦ Some body | other ↦ None ]) (insert_body base)
+own_body kinds.MInsert base = variant bodies.MInsert (elim [ bodies.MInsert body ↦ Some body | other ↦ None ]) (minsert_body base)
 own_body kinds.Arc base = variant bodies.Arc (elim [ bodies.Arc body ↦ Some body | other ↦ None ]) (arc_body base)
 own_body kinds.Circle base = variant bodies.Circle (elim [ bodies.Circle body ↦ Some body | other ↦ None ]) (circle_body base)
 own_body kinds.Line base = variant bodies.Line (elim [ bodies.Line body ↦ Some body | other ↦ None ]) (line_body base)
 own_body kinds.Point base = variant bodies.Point (elim [ bodies.Point body ↦ Some body | other ↦ None ]) (point_body base)
 own_body kinds.LwPolyline base = variant bodies.LwPolyline (elim [ bodies.LwPolyline body ↦ Some body | other ↦ None ]) (lwpolyline_body base)
+own_body kinds.Vertex3d base = variant bodies.Vertex3d (elim [ bodies.Vertex3d body ↦ Some body | other ↦ None ]) (vertex_body base)
+own_body kinds.Polyline3d base = variant bodies.Polyline3d (elim [ bodies.Polyline3d body ↦ Some body | other ↦ None ]) (polyline_body base)
+own_body kinds.Face3d base = variant bodies.Face3d (elim [ bodies.Face3d body ↦ Some body | other ↦ None ]) (face_body base)
+own_body kinds.Solid base = variant bodies.Solid (elim [ bodies.Solid body ↦ Some body | other ↦ None ]) (solid_body base)
+own_body kinds.Trace base = variant bodies.Trace (elim [ bodies.Trace body ↦ Some body | other ↦ None ]) (trace_body base)
+own_body kinds.Ellipse base = variant bodies.Ellipse (elim [ bodies.Ellipse body ↦ Some body | other ↦ None ]) (ellipse_body base)
+own_body kinds.Ray base = variant bodies.Ray (elim [ bodies.Ray body ↦ Some body | other ↦ None ]) (ray_body base)
+own_body kinds.XLine base = variant bodies.XLine (elim [ bodies.XLine body ↦ Some body | other ↦ None ]) (xline_body base)
 own_body kinds.Dictionary base = variant bodies.Dictionary (elim [ bodies.Dictionary body ↦ Some body | other ↦ None ]) (dictionary_body base)
 own_body kinds.BlockControl base = variant bodies.BlockControl (elim [ bodies.BlockControl body ↦ Some body | other ↦ None ]) (block_control_body base)
 own_body kinds.BlockHeader base = variant bodies.BlockHeader (elim [ bodies.BlockHeader body ↦ Some body | other ↦ None ]) (block_header_body base)
@@ -97,6 +124,7 @@ own_body kinds.Ltype base = variant bodies.Ltype (elim [ bodies.Ltype body ↦ S
 own_body kinds.AppIdControl base = variant bodies.AppIdControl (elim [ bodies.AppIdControl body ↦ Some body | other ↦ None ]) (appid_control_body base)
 own_body kinds.AppId base = variant bodies.AppId (elim [ bodies.AppId body ↦ Some body | other ↦ None ]) (app_id_body base)
 own_body kinds.XRecord base = variant bodies.XRecord (elim [ bodies.XRecord body ↦ Some body | other ↦ None ]) (xrecord_body base)
+own_body kinds.Group base = variant bodies.Group (elim [ bodies.Group body ↦ Some body | other ↦ None ]) (group_body base)
 own_body kind base = no_body
 
 -- that each of these bodies is one, by its law
@@ -108,11 +136,20 @@ pub ruleset own_laws = (
   endblk_is_body,
   seqend_is_body,
   insert_is_body,
+  minsert_is_body,
   arc_is_body,
   circle_is_body,
   line_is_body,
   point_is_body,
   lwpolyline_is_body,
+  vertex_is_body,
+  polyline_is_body,
+  face_is_body,
+  solid_is_body,
+  trace_is_body,
+  ellipse_is_body,
+  ray_is_body,
+  xline_is_body,
   dictionary_is_body,
   block_control_is_body,
   block_header_is_body,
@@ -125,4 +162,5 @@ pub ruleset own_laws = (
   appid_control_is_body,
   app_id_is_body,
   xrecord_is_body,
+  group_is_body,
 )

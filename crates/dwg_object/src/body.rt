@@ -10,8 +10,11 @@ use dwg_common::BodyCode;
 use dwg_dicts::{
     AppIdControl, BlockControl, Dictionary, LayerControl, LtypeControl, StyleControl, XRecord,
 };
-use dwg_entities::{Attdef, Attrib, Block, EndBlk, Insert, SeqEnd, Text};
+use dwg_entities::{Attdef, Attrib, Block, EndBlk, Insert, MInsert, SeqEnd, Text};
 use dwg_kinds::Kind;
+use dwg_more::{
+    Ellipse, Face3d, Group, Polyline3d, Ray, Solid, Trace, Vertex3d, XLine,
+};
 use dwg_shapes::{Arc, Circle, Line, LwPolyline, Point};
 use dwg_tables::{AppId, BlockHeader, Layer, Ltype, Style};
 use std::alloc::Global;
@@ -33,6 +36,8 @@ pub enum Body {
     SeqEnd(SeqEnd),
     /// A block that is inserted.
     Insert(Insert),
+    /// Rows and columns of a block that is inserted.
+    MInsert(MInsert),
     /// An arc of a circle.
     Arc(Arc),
     /// A circle.
@@ -43,6 +48,22 @@ pub enum Body {
     Point(Point),
     /// A polyline in a plane.
     LwPolyline(LwPolyline),
+    /// A vertex of a polyline in space.
+    Vertex3d(Vertex3d),
+    /// A polyline in space.
+    Polyline3d(Polyline3d),
+    /// A face with three or four corners in space.
+    Face3d(Face3d),
+    /// A filled area with three or four corners.
+    Solid(Solid),
+    /// A line with a width, by the corners of the area that it fills.
+    Trace(Trace),
+    /// An ellipse or an arc of one.
+    Ellipse(Ellipse),
+    /// A line that begins at a point and doesn't end.
+    Ray(Ray),
+    /// A line without begin and end.
+    XLine(XLine),
     /// A dictionary: names with objects.
     Dictionary(Dictionary),
     /// The table of the blocks.
@@ -67,6 +88,8 @@ pub enum Body {
     AppId(AppId),
     /// A record of free data.
     XRecord(XRecord),
+    /// Objects under one name.
+    Group(Group),
 }
 
 /// What is done by kind, for all kinds that have a body: here alone do they stand in a list.
@@ -87,8 +110,9 @@ macro_rules! by_kind {
     };
     (names $then:ident $($given:tt)*) => {
         $crate::by_kind!($then [
-            Text Attrib Attdef Block EndBlk SeqEnd Insert Arc Circle Line Point LwPolyline Dictionary BlockControl BlockHeader
-            LayerControl Layer StyleControl Style LtypeControl Ltype AppIdControl AppId XRecord
+            Text Attrib Attdef Block EndBlk SeqEnd Insert MInsert Arc Circle Line Point LwPolyline Vertex3d Polyline3d Face3d Solid
+            Trace Ellipse Ray XLine Dictionary BlockControl BlockHeader LayerControl Layer StyleControl Style LtypeControl Ltype
+            AppIdControl AppId XRecord Group
         ] $($given)*)
     };
     (done_with [$($name:ident)*] $of:expr, $held:ident => $done:expr) => {

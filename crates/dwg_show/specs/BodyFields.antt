@@ -15,7 +15,17 @@ use Rattle.dwg_entities.specs.declared.closing.EndBlk.{EndBlk}
 use Rattle.dwg_entities.specs.declared.closing.SeqEnd.{SeqEnd}
 use Rattle.dwg_entities.specs.declared.insert.Attributes.{Attributes}
 use Rattle.dwg_entities.specs.declared.insert.Insert.{Insert}
+use Rattle.dwg_entities.specs.declared.minsert.MInsert.{MInsert}
 use Rattle.dwg_entities.specs.declared.text.Text.{Text}
+use Rattle.dwg_more.specs.declared.ellipse.Ellipse.{Ellipse}
+use Rattle.dwg_more.specs.declared.face.Face3d.{Face3d}
+use Rattle.dwg_more.specs.declared.group.Group.{Group}
+use Rattle.dwg_more.specs.declared.polyline.Polyline3d.{Polyline3d}
+use Rattle.dwg_more.specs.declared.ray.Ray.{Ray}
+use Rattle.dwg_more.specs.declared.solid.Solid.{Solid}
+use Rattle.dwg_more.specs.declared.trace.Trace.{Trace}
+use Rattle.dwg_more.specs.declared.vertex.Vertex3d.{Vertex3d}
+use Rattle.dwg_more.specs.declared.xline.XLine.{XLine}
 use Rattle.dwg_object.specs.declared.body.Body.TheVariants as bodies
 use Rattle.dwg_object.specs.declared.body.Body.{Body}
 use Rattle.dwg_shapes.specs.declared.arc.Arc.{Arc}
@@ -82,6 +92,15 @@ insert_fields path insert =
     ++ member path (codes "block") reference insert.block
     ++ member path (codes "attributes") (optional attributes_fields) insert.attributes
 
+-- rows and columns of a block
+unfoldable pub minsert_fields : Printer MInsert
+minsert_fields path minsert =
+    member path (codes "insert") insert_fields minsert.insert
+    ++ member path (codes "columns") number minsert.columns
+    ++ member path (codes "rows") number minsert.rows
+    ++ member path (codes "column_spacing") word minsert.column_spacing
+    ++ member path (codes "row_spacing") word minsert.row_spacing
+
 -- the begin of a block
 unfoldable pub block_fields : Printer Block
 block_fields path block = member path (codes "name") text block.name
@@ -143,6 +162,68 @@ lwpolyline_fields path lwpolyline =
     ++ member path (codes "points") (listed point2) lwpolyline.points
     ++ member path (codes "bulges") (optional (listed word)) lwpolyline.bulges
     ++ member path (codes "widths") (optional (listed width_fields)) lwpolyline.widths
+
+-- a vertex of a polyline in space
+unfoldable pub vertex_fields : Printer Vertex3d
+vertex_fields path vertex = member path (codes "flags") number vertex.flags ++ member path (codes "place") point3 vertex.place
+
+-- a polyline in space
+unfoldable pub polyline_fields : Printer Polyline3d
+polyline_fields path polyline =
+    member path (codes "flags_a") number polyline.flags_a
+    ++ member path (codes "flags_b") number polyline.flags_b
+    ++ member path (codes "first") reference polyline.first
+    ++ member path (codes "last") reference polyline.last
+    ++ member path (codes "seqend") reference polyline.seqend
+
+-- a face in space
+unfoldable pub face_fields : Printer Face3d
+face_fields path face =
+    member path (codes "first") point3 face.first
+    ++ member path (codes "second") point3 face.second
+    ++ member path (codes "third") point3 face.third
+    ++ member path (codes "fourth") point3 face.fourth
+    ++ member path (codes "invisible") (optional number) face.invisible
+
+-- a solid
+unfoldable pub solid_fields : Printer Solid
+solid_fields path solid =
+    member path (codes "thickness") word solid.thickness
+    ++ member path (codes "elevation") word solid.elevation
+    ++ member path (codes "first") point2 solid.first
+    ++ member path (codes "second") point2 solid.second
+    ++ member path (codes "third") point2 solid.third
+    ++ member path (codes "fourth") point2 solid.fourth
+    ++ member path (codes "extrusion") point3 solid.extrusion
+
+-- a trace
+unfoldable pub trace_fields : Printer Trace
+trace_fields path trace =
+    member path (codes "thickness") word trace.thickness
+    ++ member path (codes "elevation") word trace.elevation
+    ++ member path (codes "first") point2 trace.first
+    ++ member path (codes "second") point2 trace.second
+    ++ member path (codes "third") point2 trace.third
+    ++ member path (codes "fourth") point2 trace.fourth
+    ++ member path (codes "extrusion") point3 trace.extrusion
+
+-- an ellipse
+unfoldable pub ellipse_fields : Printer Ellipse
+ellipse_fields path ellipse =
+    member path (codes "centre") point3 ellipse.centre
+    ++ member path (codes "axis") point3 ellipse.axis
+    ++ member path (codes "extrusion") point3 ellipse.extrusion
+    ++ member path (codes "ratio") word ellipse.ratio
+    ++ member path (codes "start_angle") word ellipse.start_angle
+    ++ member path (codes "end_angle") word ellipse.end_angle
+
+-- a ray
+unfoldable pub ray_fields : Printer Ray
+ray_fields path ray = member path (codes "point") point3 ray.point ++ member path (codes "vector") point3 ray.vector
+
+-- a line without ends
+unfoldable pub xline_fields : Printer XLine
+xline_fields path xline = member path (codes "point") point3 xline.point ++ member path (codes "vector") point3 xline.vector
 
 -- what every entry of a table begins with
 unfoldable pub entry_fields : Printer Entry
@@ -275,6 +356,14 @@ xrecord_fields path xrecord =
     ++ member path (codes "cloning") number xrecord.cloning
     ++ member path (codes "targets") (listed reference) xrecord.targets
 
+-- a group
+unfoldable pub group_fields : Printer Group
+group_fields path group =
+    member path (codes "name") text group.name
+    ++ member path (codes "unnamed") number group.unnamed
+    ++ member path (codes "selectable") number group.selectable
+    ++ member path (codes "entries") (listed reference) group.entries
+
 -- the fields of a body, by its kind
 unfoldable pub body_fields : Printer Body
 body_fields path (bodies.Text body) = text_fields path body
@@ -284,11 +373,20 @@ body_fields path (bodies.Block body) = block_fields path body
 body_fields path (bodies.EndBlk body) = endblk_fields path body
 body_fields path (bodies.SeqEnd body) = seqend_fields path body
 body_fields path (bodies.Insert body) = insert_fields path body
+body_fields path (bodies.MInsert body) = minsert_fields path body
 body_fields path (bodies.Arc body) = arc_fields path body
 body_fields path (bodies.Circle body) = circle_fields path body
 body_fields path (bodies.Line body) = line_fields path body
 body_fields path (bodies.Point body) = point_fields path body
 body_fields path (bodies.LwPolyline body) = lwpolyline_fields path body
+body_fields path (bodies.Vertex3d body) = vertex_fields path body
+body_fields path (bodies.Polyline3d body) = polyline_fields path body
+body_fields path (bodies.Face3d body) = face_fields path body
+body_fields path (bodies.Solid body) = solid_fields path body
+body_fields path (bodies.Trace body) = trace_fields path body
+body_fields path (bodies.Ellipse body) = ellipse_fields path body
+body_fields path (bodies.Ray body) = ray_fields path body
+body_fields path (bodies.XLine body) = xline_fields path body
 body_fields path (bodies.Dictionary body) = dictionary_fields path body
 body_fields path (bodies.BlockControl body) = block_control_fields path body
 body_fields path (bodies.BlockHeader body) = block_header_fields path body
@@ -301,3 +399,4 @@ body_fields path (bodies.Ltype body) = ltype_fields path body
 body_fields path (bodies.AppIdControl body) = appid_control_fields path body
 body_fields path (bodies.AppId body) = app_id_fields path body
 body_fields path (bodies.XRecord body) = xrecord_fields path body
+body_fields path (bodies.Group body) = group_fields path body

@@ -4,7 +4,7 @@ ghost use Rattle.dwg_show.specs.BodyFields as fields;
 
 use crate::fields::{Print, print_member};
 use dwg_base::Sink;
-use dwg_entities::{Attdef, Attrib, Attributes, Block, EndBlk, Insert, SeqEnd, Text};
+use dwg_entities::{Attdef, Attrib, Attributes, Block, EndBlk, Insert, MInsert, SeqEnd, Text};
 use dwg_page::Page;
 
 impl Print for Text {
@@ -73,6 +73,19 @@ impl Print for Insert {
         print_member(&self.extrusion, path, "extrusion", page, sink);
         print_member(&self.block, path, "block", page, sink);
         print_member(&self.attributes, path, "attributes", page, sink);
+    }
+}
+
+impl Print for MInsert {
+    ghost lines = { fields.minsert_fields };
+
+    #[tactic(auto, using(dwg_page::proofs::Telling::tells_more), unfolding(crate::specs::BodyFields::minsert_fields))]
+    fn print<W: Sink>(&self, path: &str, page: &mut Page, sink: &mut W) {
+        print_member(&self.insert, path, "insert", page, sink);
+        print_member(&self.columns, path, "columns", page, sink);
+        print_member(&self.rows, path, "rows", page, sink);
+        print_member(&self.column_spacing, path, "column_spacing", page, sink);
+        print_member(&self.row_spacing, path, "row_spacing", page, sink);
     }
 }
 

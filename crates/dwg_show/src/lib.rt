@@ -7,6 +7,7 @@ mod dicts;
 mod drawing;
 mod entities;
 mod fields;
+mod more;
 mod object;
 mod paragraphs;
 mod shapes;

@@ -1,0 +1,120 @@
+//! The fields of ellipses, rays, solids, faces, polylines and vertices in space, and groups, in the order of their structs.
+
+ghost use Rattle.dwg_show.specs.BodyFields as fields;
+
+use crate::fields::{Print, print_member};
+use dwg_base::Sink;
+use dwg_more::{Ellipse, Face3d, Group, Polyline3d, Ray, Solid, Trace, Vertex3d, XLine};
+use dwg_page::Page;
+
+impl Print for Vertex3d {
+    ghost lines = { fields.vertex_fields };
+
+    #[tactic(auto, using(dwg_page::proofs::Telling::tells_more), unfolding(crate::specs::BodyFields::vertex_fields))]
+    fn print<W: Sink>(&self, path: &str, page: &mut Page, sink: &mut W) {
+        print_member(&self.flags, path, "flags", page, sink);
+        print_member(&self.place, path, "place", page, sink);
+    }
+}
+
+impl Print for Polyline3d {
+    ghost lines = { fields.polyline_fields };
+
+    #[tactic(auto, using(dwg_page::proofs::Telling::tells_more), unfolding(crate::specs::BodyFields::polyline_fields))]
+    fn print<W: Sink>(&self, path: &str, page: &mut Page, sink: &mut W) {
+        print_member(&self.flags_a, path, "flags_a", page, sink);
+        print_member(&self.flags_b, path, "flags_b", page, sink);
+        print_member(&self.first, path, "first", page, sink);
+        print_member(&self.last, path, "last", page, sink);
+        print_member(&self.seqend, path, "seqend", page, sink);
+    }
+}
+
+impl Print for Face3d {
+    ghost lines = { fields.face_fields };
+
+    #[tactic(auto, using(dwg_page::proofs::Telling::tells_more), unfolding(crate::specs::BodyFields::face_fields))]
+    fn print<W: Sink>(&self, path: &str, page: &mut Page, sink: &mut W) {
+        print_member(&self.first, path, "first", page, sink);
+        print_member(&self.second, path, "second", page, sink);
+        print_member(&self.third, path, "third", page, sink);
+        print_member(&self.fourth, path, "fourth", page, sink);
+        print_member(&self.invisible, path, "invisible", page, sink);
+    }
+}
+
+impl Print for Solid {
+    ghost lines = { fields.solid_fields };
+
+    #[tactic(auto, using(dwg_page::proofs::Telling::tells_more), unfolding(crate::specs::BodyFields::solid_fields))]
+    fn print<W: Sink>(&self, path: &str, page: &mut Page, sink: &mut W) {
+        print_member(&self.thickness, path, "thickness", page, sink);
+        print_member(&self.elevation, path, "elevation", page, sink);
+        print_member(&self.first, path, "first", page, sink);
+        print_member(&self.second, path, "second", page, sink);
+        print_member(&self.third, path, "third", page, sink);
+        print_member(&self.fourth, path, "fourth", page, sink);
+        print_member(&self.extrusion, path, "extrusion", page, sink);
+    }
+}
+
+impl Print for Trace {
+    ghost lines = { fields.trace_fields };
+
+    #[tactic(auto, using(dwg_page::proofs::Telling::tells_more), unfolding(crate::specs::BodyFields::trace_fields))]
+    fn print<W: Sink>(&self, path: &str, page: &mut Page, sink: &mut W) {
+        print_member(&self.thickness, path, "thickness", page, sink);
+        print_member(&self.elevation, path, "elevation", page, sink);
+        print_member(&self.first, path, "first", page, sink);
+        print_member(&self.second, path, "second", page, sink);
+        print_member(&self.third, path, "third", page, sink);
+        print_member(&self.fourth, path, "fourth", page, sink);
+        print_member(&self.extrusion, path, "extrusion", page, sink);
+    }
+}
+
+impl Print for Ellipse {
+    ghost lines = { fields.ellipse_fields };
+
+    #[tactic(auto, using(dwg_page::proofs::Telling::tells_more), unfolding(crate::specs::BodyFields::ellipse_fields))]
+    fn print<W: Sink>(&self, path: &str, page: &mut Page, sink: &mut W) {
+        print_member(&self.centre, path, "centre", page, sink);
+        print_member(&self.axis, path, "axis", page, sink);
+        print_member(&self.extrusion, path, "extrusion", page, sink);
+        print_member(&self.ratio, path, "ratio", page, sink);
+        print_member(&self.start_angle, path, "start_angle", page, sink);
+        print_member(&self.end_angle, path, "end_angle", page, sink);
+    }
+}
+
+impl Print for Ray {
+    ghost lines = { fields.ray_fields };
+
+    #[tactic(auto, using(dwg_page::proofs::Telling::tells_more), unfolding(crate::specs::BodyFields::ray_fields))]
+    fn print<W: Sink>(&self, path: &str, page: &mut Page, sink: &mut W) {
+        print_member(&self.point, path, "point", page, sink);
+        print_member(&self.vector, path, "vector", page, sink);
+    }
+}
+
+impl Print for XLine {
+    ghost lines = { fields.xline_fields };
+
+    #[tactic(auto, using(dwg_page::proofs::Telling::tells_more), unfolding(crate::specs::BodyFields::xline_fields))]
+    fn print<W: Sink>(&self, path: &str, page: &mut Page, sink: &mut W) {
+        print_member(&self.point, path, "point", page, sink);
+        print_member(&self.vector, path, "vector", page, sink);
+    }
+}
+
+impl Print for Group {
+    ghost lines = { fields.group_fields };
+
+    #[tactic(auto, using(dwg_page::proofs::Telling::tells_more), unfolding(crate::specs::BodyFields::group_fields))]
+    fn print<W: Sink>(&self, path: &str, page: &mut Page, sink: &mut W) {
+        print_member(&self.name, path, "name", page, sink);
+        print_member(&self.unnamed, path, "unnamed", page, sink);
+        print_member(&self.selectable, path, "selectable", page, sink);
+        print_member(&self.entries, path, "entries", page, sink);
+    }
+}
