@@ -24,7 +24,7 @@ pub enum Kind {
     SeqEnd,
     /// A block that is inserted.
     Insert,
-    /// Rows and columns of a block that is inserted.
+    /// A block that is inserted in columns and rows.
     MInsert,
     /// A vertex of a polyline in space.
     Vertex3d,

@@ -36,7 +36,7 @@ pub enum Body {
     SeqEnd(SeqEnd),
     /// A block that is inserted.
     Insert(Insert),
-    /// Rows and columns of a block that is inserted.
+    /// A block that is inserted in columns and rows.
     MInsert(MInsert),
     /// An arc of a circle.
     Arc(Arc),

@@ -92,7 +92,7 @@ insert_fields path insert =
     ++ member path (codes "block") reference insert.block
     ++ member path (codes "attributes") (optional attributes_fields) insert.attributes
 
--- rows and columns of a block
+-- an insert of a block in columns and rows
 unfoldable pub minsert_fields : Printer MInsert
 minsert_fields path minsert =
     member path (codes "insert") insert_fields minsert.insert
