@@ -12,9 +12,7 @@ use dwg_dicts::{
 };
 use dwg_entities::{Attdef, Attrib, Block, EndBlk, Insert, MInsert, SeqEnd, Text};
 use dwg_kinds::Kind;
-use dwg_more::{
-    Ellipse, Face3d, Group, Polyline3d, Ray, Solid, Trace, Vertex3d, XLine,
-};
+use dwg_more::{Ellipse, Face3d, Group, Polyline3d, Ray, Solid, Trace, Vertex3d, XLine};
 use dwg_shapes::{Arc, Circle, Line, LwPolyline, Point};
 use dwg_tables::{AppId, BlockHeader, Layer, Ltype, Style};
 use std::alloc::Global;
