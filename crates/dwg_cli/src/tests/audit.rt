@@ -351,8 +351,66 @@ finding 1D resolve owner 0 C
 finding 1D claim - 1 C
 audit no 6";
 
-/// What is found in the drawing that is made of 6 and 47 where the model space is a layer. Entities 31 to 36 are a circle, a
-/// point, a line, a lightweight polyline, a text and an arc.
+/// A polyline in space, its vertices, and what ends them.
+const POLYLINES: &str = "\
+no end of the vertices
+polyline 1874=1000 1877=84
+finding 32 resolve seqend 0 0
+finding 35 claim - 0 32
+audit no 2
+
+the end of the attributes of an insert as that of the vertices too
+polyline 1874=12F043A0
+finding 2F claim - 2 30
+finding 35 claim - 0 32
+audit no 2
+
+an end of the vertices that a line owns
+polyline 1936=13 1940=12
+finding 35 resolve owner 0 31
+finding 35 claim - 1 31
+audit no 2
+
+a vertex that a line owns
+polyline 1894=4C 1898=B2
+finding 33 resolve owner 0 31
+audit no 1
+
+a vertex that the block owns, which its chain leaves out
+polyline 1893=460C 1898=3FA6
+finding 18 chain - 0 32
+finding 33 resolve owner 0 18
+audit no 2
+
+the same at the end of the chain
+polyline 1345=99 1349=A677 1893=460C 1898=3FA6
+finding 33 resolve owner 0 18
+audit no 1
+
+a vertex that no object owns, and one that owns itself
+polyline 1893=5FCC 1898=1E64 1915=4D0C 1920=64
+finding 33 resolve owner 0 7F
+finding 33 path - 0 7F
+finding 34 resolve owner 0 34
+finding 34 path - 0 34
+audit no 4
+
+one claim on a vertex, which may have any
+polyline 325=13304E3C
+finding E claim - 0 D
+audit no 1
+
+a plain polyline, by a reference more
+polyline 1874=03004FB4
+audit yes
+
+a raw polyline, by a reference of code 7
+polyline 1873=47 1876=0389
+finding 18 chain - 0 32
+audit no 1";
+
+/// What is found where the model space is a layer: in the drawing that is made of 6 and 47, whose entities 31 to 36 are a
+/// circle, a point, a line, a lightweight polyline, a text and an arc; and in the one with entities of further kinds.
 const ALL_KINDS: &str = "\
 a model space that is a layer
 made/6/47 199=10311BDEB3
@@ -378,18 +436,53 @@ finding 35 resolve owner 0 10
 finding 35 claim - 0 10
 finding 36 resolve owner 0 10
 finding 36 claim - 0 10
-audit no 22";
+audit no 22
+
+the same with further kinds
+more_kinds 199=10 202=DEB3
+finding 1 resolve model 0 10
+finding 10 claim - 2 2
+finding 18 claim - 0 1
+finding 18 chain - 0 3B
+finding 19 resolve owner 0 10
+finding 19 claim - 1 10
+finding 1A resolve owner 0 10
+finding 1A claim - 1 10
+finding 30 resolve owner 0 10
+finding 30 claim - 0 10
+finding 31 resolve owner 0 10
+finding 31 claim - 0 10
+finding 32 resolve owner 0 10
+finding 32 claim - 0 10
+finding 35 resolve owner 0 10
+finding 35 claim - 0 10
+finding 36 resolve owner 0 10
+finding 36 claim - 0 10
+finding 37 resolve owner 0 10
+finding 37 claim - 0 10
+finding 38 resolve owner 0 10
+finding 38 claim - 0 10
+finding 39 resolve owner 0 10
+finding 39 claim - 0 10
+finding 3A resolve owner 0 10
+finding 3A claim - 0 10
+finding 3B resolve owner 0 10
+finding 3B claim - 0 10
+audit no 28";
 
 #[test]
 fn finds_nothing_in_made_drawings(rt: HostRuntime) -> Result<(), Fail> {
-    // The second has all kinds of further entities, and those of the third go on from handle to handle.
+    // The second has all kinds of further entities, and those of the third go on from handle to handle. The others have objects
+    // behind those that are made.
     every_line::<Answers>(
         rt.alloc(),
         "\
 dwg audit | made/1/7 | Done | audit yes | -
 dwg audit | made/6/47 | Done | audit yes | -
 dwg audit | made/40/0 | Done | audit yes | -
-dwg audit | more | Done | audit yes | -",
+dwg audit | more | Done | audit yes | -
+dwg audit | polyline | Done | audit yes | -
+dwg audit | more_kinds | Done | audit yes | -",
     )
 }
 
@@ -427,6 +520,11 @@ fn counts_claims(rt: HostRuntime) -> Result<(), Fail> {
 #[test]
 fn follows_chains(rt: HostRuntime) -> Result<(), Fail> {
     every_paragraph::<Audited>(rt.alloc(), CHAINS)
+}
+
+#[test]
+fn follows_vertices(rt: HostRuntime) -> Result<(), Fail> {
+    every_paragraph::<Audited>(rt.alloc(), POLYLINES)
 }
 
 #[test]

@@ -210,6 +210,8 @@ fn accepts_a_certificate_of_its_drawing_alone(rt: HostRuntime) -> Result<(), Fai
         "\
 certificate/made/1/7 | made/1/7 | Done | accept yes | -
 certificate/more | more | Done | accept yes | -
+certificate/polyline | polyline | Done | accept yes | -
+certificate/more_kinds | more_kinds | Done | accept yes | -
 certificate/made/1/7 720=04 | made/1/7 | Found | accept no | -
 certificate/made/1/7 | made/2/7 | Found | accept no | -
 certificate/made/2/7 | made/1/7 | Found | accept no | -
@@ -237,6 +239,9 @@ certificate/more | more 1523=1A 1531=2318 | Found | accept no | -
 certificate/more | more 323=D30210E04B90 | Found | accept no | -
 certificate/more | more 1516=0911 1531=FBA6 | Found | accept no | -
 certificate/more | more 322=14030210E08290 2459=0D 2467=D332 | Found | accept no | -
+certificate/polyline | polyline 1874=1000 1877=84 | Found | accept no | -
+certificate/polyline | polyline 1894=4C 1898=B2 | Found | accept no | -
+certificate/polyline | polyline 1893=460C 1898=3FA6 | Found | accept no | -
 certificate/made/1/7 8=20 +500000000000000002000000000000000000000000000000510000000000000003000000000000000000000000000000 | dictionaries | Found | accept no | -",
     )
 }

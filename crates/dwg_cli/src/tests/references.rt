@@ -90,7 +90,24 @@ audit no 19
 references to any object, and to the right kind in any form
 more 347=4380E8D7 1528=0A1280BE 1618=D47A36 1662=27680A2200A645 1844=28480A28A050D0 1878=44510151164A0F \
 2335=8909 2342=E28A08C038 2422=4FCC 2430=519444400A84 2461=32 2467=50E2 2484=4E809E
-audit yes";
+audit yes
+
+vertices and members of groups of no object
+more_kinds 2239=17F417F3 2245=83FB 2331=45FD 2334=67
+finding 3B resolve first 0 7F
+finding 3B resolve last 0 7F
+finding 3F resolve grouped 1 7F
+audit no 3
+
+vertices and members of groups of null
+more_kinds 2239=10041003 2246=1E 2332=01 2334=77EE
+audit yes
+
+vertices of another kind, and members of groups of any
+more_kinds 2240=D4 2242=33 2245=02B4 2332=FD 2334=36EE
+finding 3B resolve first 0 3D
+finding 3B resolve last 0 33
+audit no 2";
 
 /// Owners, by each kind of object.
 const OWNERS: &str = "\
@@ -232,7 +249,58 @@ finding 12 claim - 0 9
 finding 16 claim - 0 5
 finding 17 claim - 0 2
 finding 20 claim - 0 1
-audit no 15";
+audit no 15
+
+owners of vertices, attributes and ends: an insert in columns and rows, a vertex, a vertex
+more_kinds 1934=C3 1940=A6EE 2262=4C8C 2267=76 2283=C3 2287=8B57
+finding 33 resolve owner 0 3C
+finding 3C resolve owner 0 32
+finding 3D resolve owner 0 3C
+finding 3D claim - 1 3C
+audit no 4
+
+owners of vertices, attributes and ends: null, an ellipse, an ellipse
+more_kinds 1934=83 1940=A82E 1956=83 1960=0E 2262=400C 2267=4FA1
+finding 33 resolve owner 0 38
+finding 34 resolve owner 0 38
+finding 34 claim - 1 38
+finding 3C resolve owner 0 0
+finding 3C path - 0 0
+audit no 5
+
+an attribute of a polyline
+more_kinds 1934=B3 1940=ADDE
+audit yes
+
+ends of a polyline and of an insert in columns and rows, each of the other
+more_kinds 1956=B3 1960=01 2283=23 2287=BC
+finding 34 claim - 1 3B
+finding 3D claim - 1 32
+audit no 2
+
+null as the owner of a group
+more_kinds 2327=00 2334=42E1
+finding 3F resolve owner 0 0
+finding 3F claim - 1 0
+finding 3F path - 0 0
+audit no 3
+
+no object as the owner of a group
+more_kinds 2326=05FC 2334=BF22
+finding 3F resolve owner 0 7F
+finding 3F claim - 1 7F
+finding 3F path - 0 7F
+audit no 3
+
+an entity as the owner of a group, which another claims
+more_kinds 2327=E0 2334=A32F
+finding 3F claim - 1 38
+audit no 1
+
+a group that its owner claims no more
+more_kinds 2306=1000 2309=B0
+finding 3F claim - 0 3E
+audit no 1";
 
 /// References that claim, and the ends of chains.
 const BLOCKS: &str = "\
@@ -336,7 +404,40 @@ finding 20 claim - 0 1
 finding 3F resolve xdict 0 41
 finding 40 claim - 0 3F
 finding 41 claim - 2 40
-audit no 19";
+audit no 19
+
+what an insert in columns and rows and a polyline name: no object
+more_kinds 1877=8BFA0BFA0BF98BF83DC3 2243=17F0C05C
+finding 32 resolve block 0 7F
+finding 32 resolve first 0 7F
+finding 32 resolve last 0 7F
+finding 32 resolve seqend 0 7F
+finding 34 claim - 0 32
+finding 3B resolve seqend 0 7F
+finding 3D claim - 0 3B
+audit no 7
+
+what an insert in columns and rows and a polyline name: null
+more_kinds 1877=88 1879=0802080188002539 2243=1000C228
+finding 32 resolve block 0 0
+finding 32 resolve first 0 0
+finding 32 resolve last 0 0
+finding 32 resolve seqend 0 0
+finding 34 claim - 0 32
+finding 3B resolve seqend 0 0
+finding 3D claim - 0 3B
+audit no 7
+
+what an insert in columns and rows and a polyline name: another kind
+more_kinds 1878=0A 1880=E2 1882=A1 1884=98ECD6 2244=C0C288
+finding 32 resolve block 0 21
+finding 32 resolve first 0 3C
+finding 32 resolve last 0 34
+finding 32 resolve seqend 0 33
+finding 34 claim - 0 32
+finding 3B resolve seqend 0 3C
+finding 3D claim - 0 3B
+audit no 7";
 
 #[test]
 fn resolves_references(rt: HostRuntime) -> Result<(), Fail> {

@@ -27,6 +27,41 @@ fn an_entity_of_a_kind_with_fields_is_read_by_them(rt: HostRuntime) -> Result<()
 }
 
 #[test]
+fn ellipses_faces_polylines_in_space_and_groups_are_read_by_their_fields(
+    rt: HostRuntime,
+) -> Result<(), Fail> {
+    // A block inserted twice in three rows, without attributes and with them; a vertex at (1.0, 0, 0), and a polyline; a face
+    // whose corners are one; a solid and a trace whose corners are the origin; an ellipse around the origin, and the same by its
+    // bytes, which tell that 108 bits stand before its references; a ray and a line without ends, both through the origin; a
+    // group "G" of an object and null.
+    let cases = "\
+        8 80 : ENTITY '10 '10 '10 '11 '10 '10 '10 '01 '0 '01 02 '01 03 '01 '10 / 3.0 5.10 5.12 => 8 80 MINSERT typed 25\n\
+        8 80 : ENTITY '10 '10 '10 '11 '10 '10 '10 '01 '1 '01 02 '01 03 '01 '10 / 3.0 5.10 5.12 4.81 4.82 3.83 => 8 80 MINSERT typed 31\n\
+        11 80 : ENTITY 20 '01 '10 '10 / 3.0 5.10 => 11 80 VERTEX 3D typed 20\n\
+        16 80 : ENTITY 00 01 / 3.0 5.10 4.81 4.82 3.83 => 16 80 POLYLINE 3D typed 26\n\
+        28 80 : ENTITY '1 '1 000000000000F03F 0000000000000000 '000000 '000000 '000000 / 3.0 5.10 => 28 80 3DFACE typed 36\n\
+        31 80 : ENTITY '1 '10 0000000000000000 0000000000000000 0000000000000000 0000000000000000 0000000000000000 0000000000000000 \
+            0000000000000000 0000000000000000 '1 / 3.0 5.10 => 31 80 SOLID typed 82\n\
+        32 80 : ENTITY '1 '10 0000000000000000 0000000000000000 0000000000000000 0000000000000000 0000000000000000 0000000000000000 \
+            0000000000000000 0000000000000000 '1 / 3.0 5.10 => 32 80 TRACE typed 82\n\
+        35 80 : ENTITY A9 AA 59 / 3.0 5.10 => 35 80 ELLIPSE typed 21\n\
+        1100 48DB0000000060257421DA9AA593051100 08C5 => 35 80 ELLIPSE typed 21\n\
+        40 80 : ENTITY '10 '10 '10 '01 '10 '10 / 3.0 5.10 => 40 80 RAY typed 19\n\
+        41 80 : ENTITY '10 '10 '10 '01 '10 '10 / 3.0 5.10 => 41 80 XLINE typed 19\n\
+        72 90 : '10 '10 '01 01 47 '01 01 '10 '01 02 / 4.0 3.0 5.80 5.0 => 72 90 GROUP typed 22\n";
+    hold::<Frames>(&rt, rt.alloc(), cases);
+    // The ellipse with one bit more of its own, with four fewer, and with one reference more; the polyline with one reference
+    // fewer.
+    let cases = "\
+        35 80 : ENTITY A9 AA 59 '1 / 3.0 5.10 => 35 80 ELLIPSE plain 25 0 21\n\
+        35 80 : ENTITY A9 AA '0101 / 3.0 5.10 => 35 80 ELLIPSE plain 20 0 20\n\
+        35 80 : ENTITY A9 AA 59 / 3.0 5.10 3.0 => 35 80 ELLIPSE plain 24 1 22\n\
+        16 80 : ENTITY 00 01 / 3.0 5.10 4.81 4.82 => 16 80 POLYLINE 3D plain 16 2 24\n";
+    hold::<Frames>(&rt, rt.alloc(), cases);
+    Ok(())
+}
+
+#[test]
 fn an_object_is_read_in_the_strongest_form_that_it_has(rt: HostRuntime) -> Result<(), Fail> {
     // The line: its type number in 18 bits and the words of its end in full; with ones behind its references; with one further bit
     // before them; with one further reference. Entities of type 45 and 200 with three bits of their own; and one of type 500, of which

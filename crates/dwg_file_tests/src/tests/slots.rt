@@ -126,10 +126,16 @@ impl Telling for Behind {
 #[test]
 fn slots_are_counted_and_have_places(rt: HostRuntime) -> Result<(), Fail> {
     slot_laws();
-    // A record of two targets; a text; and an entity of which only the common part is read.
+    // A record of two targets; a text; an insert in columns and rows, without attributes and with them; a polyline in space; a
+    // group with a reactor, of an object and null; and an entity of which only the common part is read.
     let cases = "\
         79 90 : '10 '10 '10 '10 / 4.0 3.0 4.10 5.0 => 3 xdict 0 0 target 0 10 target 1 0\n\
         1 80 : ENTITY FF 0000000000000000 0000000000000000 '1 '1 0000000000000000 '01 01 41 / 3.0 5.10 5.11 => 3 xdict 0 0 layer 0 10 style 0 11\n\
+        8 80 : ENTITY '10 '10 '10 '11 '10 '10 '10 '01 '0 '01 02 '01 03 '01 '10 / 3.0 5.10 5.12 => 3 xdict 0 0 layer 0 10 block 0 12\n\
+        8 80 : ENTITY '10 '10 '10 '11 '10 '10 '10 '01 '1 '01 02 '01 03 '01 '10 / 3.0 5.10 5.12 4.81 4.82 3.83 \
+            => 6 xdict 0 0 layer 0 10 block 0 12 first 0 81 last 0 82 seqend 0 83\n\
+        16 80 : ENTITY 00 01 / 3.0 5.10 4.81 4.82 3.83 => 5 xdict 0 0 layer 0 10 first 0 81 last 0 82 seqend 0 83\n\
+        72 90 : '10 '01 01 '01 01 47 '01 01 '10 '01 02 / 4.C 4.D 3.0 5.80 5.0 => 4 reactor 0 D xdict 0 0 grouped 0 80 grouped 1 0\n\
         45 80 : ENTITY '101 / 3.0 5.10 => 0\n";
     hold::<Held>(&rt, rt.alloc(), cases);
     Ok(())
