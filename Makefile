@@ -7,6 +7,7 @@ DESTDIR =
 DWG = ./dwg
 PROGRAM = crates/dwg_cli/out/dwg_cli
 TOOLS = $(notdir $(wildcard tools/dwg-*))
+MODULES = $(wildcard tools/*.py)
 
 bin = $(DESTDIR)$(PREFIX)/bin
 lib = $(DESTDIR)$(PREFIX)/lib/dwg
@@ -31,7 +32,7 @@ install: build
 	install -d $(bin) $(lib)/tools $(man)/man1 $(man)/man7 $(completions)
 	install -m 755 $(PROGRAM) $(bin)/dwg
 	ln -sfn ../../bin/dwg $(lib)/dwg
-	install -m 644 tools/drawing.py $(lib)/tools
+	install -m 644 $(MODULES) $(lib)/tools
 	install -m 755 $(addprefix tools/,$(TOOLS)) $(lib)/tools
 	for tool in $(TOOLS); do ln -sfn ../lib/dwg/tools/$$tool $(bin)/$$tool; done
 	install -m 644 docs/dwg.1 $(man)/man1

@@ -680,6 +680,15 @@ def _head(line: bytes) -> Object:
     return Object(int(parts[1], 16), " ".join(parts[2:-2]), parts[-2], int(parts[-1]))
 
 
+def _told_apart(one: Object) -> Object:
+    """The object itself. In a face `show` has `invisible` twice, for the face and then for its edges; the second is `invisible_edges` here."""
+    if one.kind == "3DFACE":
+        _, *edges = [index for index, line in enumerate(one.lines) if line.startswith(b"invisible ")] or [0]
+        for index in edges:
+            one.lines[index] = one.lines[index].replace(b"invisible", b"invisible_edges", 1)
+    return one
+
+
 def read_objects(lines: Iterator[bytes], count: Optional[int] = None) -> Iterator[Object]:
     """The objects behind the front, one at a time; BadText where there are fewer or more than are said."""
     found, current = 0, None
@@ -690,11 +699,11 @@ def read_objects(lines: Iterator[bytes], count: Optional[int] = None) -> Iterato
             current.lines.append(line[2:-1])
             continue
         if current is not None:
-            yield current
+            yield _told_apart(current)
         current = _head(line)
         found += 1
     if current is not None:
-        yield current
+        yield _told_apart(current)
     if count is not None and found != count:
         raise BadText("%d objects where %d are said" % (found, count))
 
@@ -748,14 +757,12 @@ def names_of(found: Iterable[Object]) -> Dict[int, Text]:
 
 # What a type number below 500 is called where its kind is only ENTITY or OBJECT. The names are those of the Open Design Specification.
 TYPE_NAMES: Dict[int, str] = {
-    8: "MINSERT", 10: "VERTEX (2D)", 11: "VERTEX (3D)", 12: "VERTEX (MESH)", 13: "VERTEX (PFACE)", 14: "VERTEX (PFACE FACE)",
-    15: "POLYLINE (2D)", 16: "POLYLINE (3D)", 20: "DIMENSION (ORDINATE)", 21: "DIMENSION (LINEAR)", 22: "DIMENSION (ALIGNED)",
-    23: "DIMENSION (ANG 3-Pt)", 24: "DIMENSION (ANG 2-Ln)", 25: "DIMENSION (RADIUS)", 26: "DIMENSION (DIAMETER)", 28: "3DFACE",
-    29: "POLYLINE (PFACE)", 30: "POLYLINE (MESH)", 31: "SOLID", 32: "TRACE", 33: "SHAPE", 34: "VIEWPORT", 35: "ELLIPSE",
-    36: "SPLINE", 37: "REGION", 38: "3DSOLID", 39: "BODY", 40: "RAY", 41: "XLINE", 43: "OLEFRAME", 44: "MTEXT", 45: "LEADER",
-    46: "TOLERANCE", 47: "MLINE", 60: "VIEW CONTROL", 61: "VIEW", 62: "UCS CONTROL", 63: "UCS", 64: "VPORT CONTROL", 65: "VPORT",
-    68: "DIMSTYLE CONTROL", 69: "DIMSTYLE", 70: "VP ENT HDR CONTROL", 71: "VP ENT HDR", 72: "GROUP", 73: "MLINESTYLE",
-    74: "OLE2FRAME", 78: "HATCH", 80: "PLACEHOLDER", 82: "LAYOUT",
+    10: "VERTEX (2D)", 12: "VERTEX (MESH)", 13: "VERTEX (PFACE)", 14: "VERTEX (PFACE FACE)", 15: "POLYLINE (2D)", 20: "DIMENSION (ORDINATE)",
+    21: "DIMENSION (LINEAR)", 22: "DIMENSION (ALIGNED)", 23: "DIMENSION (ANG 3-Pt)", 24: "DIMENSION (ANG 2-Ln)", 25: "DIMENSION (RADIUS)",
+    26: "DIMENSION (DIAMETER)", 29: "POLYLINE (PFACE)", 30: "POLYLINE (MESH)", 33: "SHAPE", 34: "VIEWPORT", 36: "SPLINE", 37: "REGION",
+    38: "3DSOLID", 39: "BODY", 43: "OLEFRAME", 44: "MTEXT", 45: "LEADER", 46: "TOLERANCE", 47: "MLINE", 60: "VIEW CONTROL", 61: "VIEW",
+    62: "UCS CONTROL", 63: "UCS", 64: "VPORT CONTROL", 65: "VPORT", 68: "DIMSTYLE CONTROL", 69: "DIMSTYLE", 70: "VP ENT HDR CONTROL",
+    71: "VP ENT HDR", 73: "MLINESTYLE", 74: "OLE2FRAME", 78: "HATCH", 80: "PLACEHOLDER", 82: "LAYOUT",
 }  # fmt: skip
 
 

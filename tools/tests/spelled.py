@@ -63,6 +63,11 @@ def text(value: bytes) -> str:
     return short(len(value)) + "".join(map(byte, value))
 
 
+def inserted(place: Up, scale: Up, rotation: float, normal: Up, ends: Sequence[int] = ()) -> str:
+    """The main bits of an INSERT."""
+    return reals(place) + "00" + word(scale[0]) + anew(scale[1]) + anew(scale[2]) + real(rotation) + reals(normal) + ("1" if ends else "0")
+
+
 @dataclass
 class Drawing:
     """A drawing that objects are put into, with the tables and spaces that they need. Handles are given in ascending order."""
@@ -116,12 +121,13 @@ class Drawing:
 
     def entity(
         self, number: int, main: str, references: Sequence[Tuple[int, int]] = (), *, handle: int = 0, owner: int = 0, mode: int = 2, layer: int = 0,
-        colour: int = 256, weight: int = 29, invisible: int = 0,
+        colour: int = 256, weight: int = 29, invisible: int = 0, links: Sequence[int] = (),
     ) -> int:  # fmt: skip
-        """An entity: of the model space, unless an owner or a mode is given."""
+        """An entity: of the model space, unless an owner or a mode is given. The links are those before and behind it."""
         mode = 0 if owner else mode
-        common = short(0) + "0" + f"{mode:02b}" + long(0) + "1" + short(colour) + "01" + "00" + "00" + short(invisible) + byte(weight)
-        names = (reference(4, owner) if owner else "") + reference(3, 0) + reference(5, layer or self.LAYER0)
+        common = short(0) + "0" + f"{mode:02b}" + long(0) + ("0" if links else "1") + short(colour) + "01" + "00" + "00" + short(invisible) + byte(weight)
+        names = (reference(4, owner) if owner else "") + reference(3, 0) + "".join(reference(4, link) for link in links)
+        names += reference(5, layer or self.LAYER0)
         return self.frame(number, handle or self.free(), common + main, names + "".join(reference(*one) for one in references))
 
     def line(self, start: Up, end: Up, normal: Up = UP, **common: Any) -> int:
@@ -140,6 +146,38 @@ class Drawing:
     def arc(self, centre: Up, radius: float, begin: float, end: float, normal: Up = UP, **common: Any) -> int:
         """An ARC."""
         return self.entity(17, reals(centre) + real(radius) + thickness() + extrusion(normal) + reals([begin, end]), **common)
+
+    def ellipse(self, centre: Up, axis: Up, ratio: float, begin: float, end: float, normal: Up = UP, **common: Any) -> int:
+        """An ELLIPSE."""
+        return self.entity(35, reals(centre) + reals(axis) + reals(normal) + reals([ratio, begin, end]), **common)
+
+    def ray(self, place: Up, vector: Up, **common: Any) -> int:
+        """A RAY."""
+        return self.entity(40, reals(place) + reals(vector), **common)
+
+    def xline(self, place: Up, vector: Up, **common: Any) -> int:
+        """An XLINE."""
+        return self.entity(41, reals(place) + reals(vector), **common)
+
+    def solid(self, corners: Sequence[Tuple[float, float]], elevation: float = 0.0, normal: Up = UP, number: int = 31, **common: Any) -> int:
+        """A SOLID, or by its number, 32, a TRACE."""
+        main = thickness() + real(elevation) + "".join(word(part) for corner in corners for part in corner)
+        return self.entity(number, main + extrusion(normal), **common)
+
+    def face(self, corners: Sequence[Up], edges: Any = None, **common: Any) -> int:
+        """A 3DFACE; the edges are the bits of those that are invisible, None where it has no flags."""
+        (x, y, z), *others = corners
+        main = ("1" if edges is None else "0") + ("0" if z else "1") + word(x) + word(y) + (word(z) if z else "")
+        main += "".join(anew(part) for corner in others for part in corner)
+        return self.entity(28, main + ("" if edges is None else short(edges)), **common)
+
+    def polyline_in_space(self, first: int, last: int, closed: bool = False, curved: bool = False, **common: Any) -> int:
+        """A POLYLINE 3D."""
+        return self.entity(16, byte(1 if curved else 0) + byte(1 if closed else 0), [(4, first), (4, last), (3, 0)], **common)
+
+    def vertex(self, place: Up, owner: int, flags: int = 32, **common: Any) -> int:
+        """A VERTEX 3D."""
+        return self.entity(11, byte(flags) + reals(place), owner=owner, **common)
 
     def polyline(
         self, points: Sequence[Tuple[float, float]], bulges: Sequence[float] = (), widths: Sequence[Tuple[float, float]] = (), *, width: float = 0.0,
@@ -182,8 +220,15 @@ class Drawing:
 
     def insert(self, block: int, place: Up, scale: Up = (1.0, 1.0, 1.0), rotation: float = 0.0, normal: Up = UP, ends: Sequence[int] = (), **common: Any) -> int:
         """An INSERT; the ends are its first attribute, its last and its SEQEND."""
-        main = reals(place) + "00" + word(scale[0]) + anew(scale[1]) + anew(scale[2]) + real(rotation) + reals(normal) + ("1" if ends else "0")
-        return self.entity(7, main, [(5, block), *((4, end) for end in ends)], **common)
+        return self.entity(7, inserted(place, scale, rotation, normal, ends), [(5, block), *((4, end) for end in ends)], **common)
+
+    def minsert(
+        self, block: int, place: Up, counts: Tuple[int, int], spacings: Tuple[float, float], scale: Up = (1.0, 1.0, 1.0), rotation: float = 0.0,
+        normal: Up = UP, **common: Any,
+    ) -> int:  # fmt: skip
+        """A MINSERT: how many columns and rows there are, and how far apart."""
+        main = inserted(place, scale, rotation, normal) + short(counts[0]) + short(counts[1]) + reals(spacings)
+        return self.entity(8, main, [(5, block)], **common)
 
     def of_class(self, number: int, dxf: bytes) -> None:
         """A class of entities."""

@@ -92,6 +92,8 @@ class House(unittest.TestCase):
         self.assertEqual(sorted(path.name for path in installed.iterdir()), ["dwg", *NAMES])
         for page in ("man1/dwg.1", "man7/dwg-tools.7"):
             self.assertTrue((destination / "usr/share/man" / page).is_file())
+        for name in NAMES:
+            subprocess.run([str(installed / name), "--help"], stdout=subprocess.DEVNULL, check=True)
         (self.folder / "a.dwg").write_bytes(made.made(3))
         environment = {key: value for key, value in os.environ.items() if key != "DWG"}
         if os.access(installed / "dwg", os.X_OK) and program != TOP / "dwg":

@@ -227,6 +227,160 @@ class Pictures(common.InFolder):
         sine, cosine = math.sin(1), math.cos(1)
         self.near([tilted.points[0], tilted.points[2]], [(-5, 10 * sine), (0, 10 * sine - 5 * cosine)])
 
+    def test_ellipses(self) -> None:
+        one = spelled.Drawing()
+        one.point((0, 0, 0))
+        one.ellipse((0, 0, 0), (2, 0, 0), 0.5, 0, 2 * math.pi)
+        one.ellipse((0, 0, 3), (0, 3, 0), 1 / 3, 0, math.pi / 2)
+        one.ellipse((5, 1, 0), (2, 0, 0), 0.5, 1.5 * math.pi, 0.5 * math.pi)
+        one.ellipse((0, 0, 0), (2, 0, 0), 0.5, 0, math.pi / 2, normal=(0.0, 0.0, -2.0))
+        one.ellipse((0, 0, 9), (2, 0, 0), 0.5, 0, math.pi, normal=(0.0, math.sin(1), math.cos(1)))
+        _, whole, quarter, right, mirrored, tilted = self.picture(one).seen
+        self.near(whole.points[::4], [(2, 0), (0, 1), (-2, 0), (0, -1), (2, 0)])
+        # The other axis is a quarter to the left, (-1, 0). The angle of an eighth is at a third and not at the half of what a circle would have.
+        root = math.sqrt(0.5)
+        self.near(quarter.points[::8], [(0, 3), (-root, 3 * root), (-1, 0)])
+        self.near(right.points[::8], [(5, 0), (7, 1), (5, 2)])
+        self.near(mirrored.points[::8], [(2, 0), (2 * root, -root), (0, -1)])
+        # The normal (0, s, c) cross (2, 0, 0) is (0, 2 c, -2 s).
+        self.near(tilted.points[::8], [(2, 0), (0, math.cos(1)), (-2, 0)])
+
+    def test_extent_of_an_ellipse(self) -> None:
+        one = spelled.Drawing()
+        # A circle, whose axes lie aslant. Its angles differ by a whole turn and a little more, as numbers are rounded.
+        one.ellipse((4, 4, 0), (2, 2, 0), 1.0, 1.8, 1.8 + 2 * math.pi)
+        x, y, wide, tall = self.picture(one).box
+        radius = 2 * math.sqrt(2)
+        for found, value in zip((x, y, wide, tall), (-1.04 * radius, -1.04 * radius, 2.08 * radius, 2.08 * radius)):
+            self.assertAlmostEqual(found, value, delta=0.03)
+
+    def test_endless(self) -> None:
+        one = spelled.Drawing()
+        for corner in ((0, 0, 0), (10, 0, 0), (0, 10, 0), (10, 10, 0)):
+            one.point(corner)
+        one.ray((5, 5, 1), (1, 0, 7))
+        one.ray((5, 5, 0), (-2e9, 1e9, 0), colour=1)
+        one.ray((5, 5, 0), (0, 0, 1))
+        one.xline((5, 5, 0), (0, -1e-9, 0))
+        one.xline((5, 5, 0), (1, 1, 0))
+        picture = self.picture(one)
+        # Ten units, of which the middle is (5, 5), and two parts of a hundred around: only their places count for what the picture shows.
+        for found, value in zip(picture.box, (-5.2, -5.2, 10.4, 10.4)):
+            self.assertAlmostEqual(found, value)
+        right, left, dot, down, aslant, *points = picture.seen
+        self.near(right.points, [(0, 0), (5.2, 0)])
+        self.near(left.points, [(0, 0), (-5.2, 2.6)])
+        self.assertEqual((left.colour, down.colour), ("#ff0000", "#000000"))
+        self.near(dot.points, [(0, 0), (0, 0)])
+        self.near(down.points, [(0, 5.2), (0, -5.2)])
+        self.near(aslant.points, [(-5.2, -5.2), (5.2, 5.2)])
+        self.assertEqual([found.element.get("class") for found in points], ["dot"] * 4)
+
+    def test_endless_in_a_block(self) -> None:
+        one = spelled.Drawing()
+        one.block(0x30, b"B")
+        one.xline((0, 0, 0), (1, 0, 0), owner=0x30)
+        one.ray((0, 0, 0), (1, 0, 0), owner=0x30)
+        one.point((0, 0, 0), owner=0x30)
+        one.insert(0x30, (0, 0, 0))
+        answer = tool("dwg-picture", given=one.file())
+        told = [f"dwg-picture: not drawn: 1 {kind} (in a block that is inserted)" for kind in ("RAY", "XLINE")]
+        self.assertEqual((answer.returncode, answer.stderr.decode().splitlines()), (0, told))
+        self.assertEqual(len(self.picture(one, "--block", "B").seen), 3)
+
+    def test_solids(self) -> None:
+        one = spelled.Drawing()
+        corners = [(0, 0), (2, 0), (0, 1), (2, 1)]
+        one.solid(corners)
+        one.solid(corners, number=32, normal=spelled.DOWN, elevation=7)
+        one.solid(corners, normal=(1.0, 0.0, 0.0), elevation=4, colour=3)
+        one.point((0, 0, 0))
+        one.point((0, 0, 0))
+        solid, trace, standing, *_ = self.picture(one).seen
+        self.assertTrue(solid.filled and trace.filled and standing.filled)
+        self.assertEqual((solid.colour, standing.colour), ("#000000", "#00ff00"))
+        self.near(solid.points, [(0, 0), (2, 0), (2, 1), (0, 1), (0, 0)])
+        self.near(trace.points, [(0, 0), (-2, 0), (-2, 1), (0, 1), (0, 0)])
+        # The axes are Y and Z, of which Z isn't seen, and the elevation goes along X.
+        self.near(standing.points, [(4, 0), (4, 2), (4, 2), (4, 0), (4, 0)])
+
+    def test_faces(self) -> None:
+        one = spelled.Drawing()
+        corners = [(0, 0, 1), (4, 0, 2), (4, 3, 3), (0, 3, 4)]
+        one.face(corners)
+        one.face(corners, edges=5)
+        one.face([*corners[:3], corners[2]], edges=0)
+        one.face([(0, 0, 0), (4, 0, 0), (4, 3, 0), (0, 3, 0)], edges=8)
+        one.face(corners, edges=15)
+        one.face(corners, edges=0, invisible=1)
+        whole, half, triangle, opened = self.picture(one).seen
+        first, second, third, fourth = ((x, y) for x, y, _ in corners)
+        self.near(whole.points, [first, second, second, third, third, fourth, fourth, first])
+        # The bits 1 and 4 are the first edge and the third, 8 is the fourth.
+        self.near(half.points, [second, third, fourth, first])
+        self.near(triangle.points, [first, second, second, third, third, first])
+        self.near(opened.points, [first, second, second, third, third, fourth])
+
+    def test_polylines_in_space(self) -> None:
+        one = spelled.Drawing()
+        one.point((0, 0, 0))
+        # The chain goes 202, 203, 201: the first has no links and is followed by the handle behind its own.
+        one.polyline_in_space(0x202, 0x201, handle=0x200)
+        one.vertex((1, 1, 0), 0x200, handle=0x201, links=(0x203, 0))
+        one.vertex((0, 0, 5), 0x200, handle=0x202)
+        one.vertex((1, 0, 5), 0x200, handle=0x203, links=(0x202, 0x201))
+        # One that holds by the handles alone, and is closed.
+        one.polyline_in_space(0x211, 0x213, handle=0x210, closed=True)
+        for at in range(3):
+            one.vertex((at, at * at, 1), 0x210, handle=0x211 + at)
+        # A chain that goes round and doesn't come to the last.
+        one.polyline_in_space(0x221, 0x999, handle=0x220)
+        one.vertex((3, 0, 0), 0x220, handle=0x221, links=(0x222, 0x222))
+        one.vertex((4, 0, 0), 0x220, handle=0x222, links=(0x221, 0x221))
+        # A curve, whose frame isn't seen; without a curve the flag has no meaning.
+        for handle, curved in ((0x230, True), (0x240, False)):
+            one.polyline_in_space(handle + 1, handle + 3, handle=handle, curved=curved)
+            for at, flags in enumerate((16, 8, 8)):
+                one.vertex((at, 2, 0), handle, handle=handle + 1 + at, flags=flags)
+        _, chained, closed, ring, curve, straight = self.picture(one).seen
+        self.near(chained.points, [(0, 0), (1, 0), (1, 1)])
+        self.near(closed.points, [(0, 0), (1, 1), (2, 4), (0, 0)])
+        self.near(ring.points, [(3, 0), (4, 0)])
+        self.near(curve.points, [(1, 2), (2, 2)])
+        self.near(straight.points, [(0, 2), (1, 2), (2, 2)])
+
+    def test_polylines_in_space_far_away(self) -> None:
+        one = spelled.Drawing()
+        far = (4500000.125, 5300000.25, 0.0)
+        one.block(0x30, b"B", far)
+        one.polyline_in_space(0x201, 0x202, handle=0x200)
+        one.polyline_in_space(0x211, 0x212, handle=0x210, owner=0x30)
+        one.polyline_in_space(0x231, 0x232, handle=0x230, mode=1)
+        for handle in (0x200, 0x210, 0x230):
+            one.vertex(far, handle, handle=handle + 1)
+            one.vertex((4500001.25, 5300002.5, 0), handle, handle=handle + 2)
+        one.insert(0x30, far, handle=0x220)
+        seen = [*self.picture(one).seen, *self.picture(one, "--space", "paper").seen]
+        self.assertEqual(len(seen), 3)
+        for found in seen:
+            # The block's own coordinates, too, count from a place nearby.
+            self.assertEqual(found.element.get("d"), "M0 0L1.125 2.25")
+            self.near(found.points, [(0, 0), (1.125, 2.25)], 1e-9)
+
+    def test_undrawn_polylines_in_space(self) -> None:
+        one = spelled.Drawing()
+        one.polyline_in_space(0, 0, handle=0x200)
+        one.polyline_in_space(0x211, 0x212, handle=0x210)
+        one.vertex((0, 0, 0), 0x210, handle=0x211)
+        one.entity(11, "11", owner=0x210, handle=0x212)
+        one.polyline_in_space(0x221, 0x222, handle=0x220)
+        one.vertex((0, 0, 0), 0x220, handle=0x221)
+        one.vertex((math.inf, 0, 0), 0x220, handle=0x222)
+        answer = tool("dwg-picture", given=one.file())
+        whys = ["a number that is none or too large", "a vertex isn't read by all its fields", "fewer than two points"]
+        told = ["dwg-picture: nothing is drawn", *(f"dwg-picture: not drawn: 1 POLYLINE 3D ({why})" for why in whys)]
+        self.assertEqual((answer.returncode, answer.stderr.decode().splitlines()), (0, told))
+
     def test_polylines(self) -> None:
         one = spelled.Drawing()
         one.polyline([(0, 0), (2, 0), (2, 2)])
@@ -328,6 +482,38 @@ class Pictures(common.InFolder):
         self.assertEqual(len(picture.named), 2)
         seen = self.picture(one, "--block", "tag").seen
         self.assertEqual([found.text for found in seen if found.text], ["NO", "NO"])
+
+    def test_inserts_in_columns_and_rows(self) -> None:
+        one = spelled.Drawing()
+        one.block(0x30, b"B")
+        one.line((0, 0, 0), (1, 0, 0), owner=0x30)
+        for _ in range(4):
+            one.point((0, 0, 0))
+        first = one.minsert(0x30, (10, 0, 0), (3, 2), (4.0, 5.0), (2, 1, 1), math.pi / 2)
+        one.attribute(b"A", b"NO", (7, 7), 1.0, owner=first)
+        one.minsert(0x30, (10, 0, 0), (2, 2), (4.0, 5.0), normal=spelled.DOWN)
+        one.minsert(0x30, (1, 2, 0), (3, 0), (0.0, 5.0))
+        seen = self.picture(one).seen[4:]
+        # A turn to the left: columns go upward and rows to the left, and the line is twice as long; the scale doesn't change the spacings.
+        places = [(10 - 5 * row, 4 * column) for row in range(2) for column in range(3)]
+        self.near([found.points[0] for found in seen if found.text], [(x - 3, y + 7) for x, y in places])
+        lines = [found.points for found in seen if not found.text]
+        self.assertEqual(len(lines), 6 + 4 + 1)
+        for found, (x, y) in zip(lines, places):
+            self.near(found, [(x, y), (x, y + 2)])
+        for found, (x, y) in zip(lines[6:], [(-10, 0), (-14, 0), (-10, 5), (-14, 5)]):
+            self.near(found, [(x, y), (x - 1, y)])
+        self.near(lines[10], [(1, 2), (2, 2)])
+
+    def test_too_many_copies(self) -> None:
+        one = spelled.Drawing()
+        one.block(0x30, b"B")
+        one.point((0, 0, 0), owner=0x30)
+        one.minsert(0x30, (0, 0, 0), (65535, 65535), (1.0, 1.0))
+        one.minsert(0x30, (0, 0, 0), (2, 1), (1.0, 1.0))
+        answer = tool("dwg-picture", given=one.file())
+        self.assertEqual((answer.returncode, answer.stderr), (0, b"dwg-picture: not drawn: 1 MINSERT (more than 100000 copies in all)\n"))
+        self.near([found.points[0] for found in Picture(answer.stdout).seen], [(0, 0), (1, 0)])
 
     def test_loop_and_missing(self) -> None:
         one = spelled.Drawing()
@@ -447,18 +633,23 @@ class Pictures(common.InFolder):
         one = spelled.Drawing()
         one.of_class(500, b"WIPEOUT")
         one.block(0x30, b"B")
-        one.entity(35, "1" * 30, owner=0x30)
+        one.entity(36, "1" * 30, owner=0x30)
         one.insert(0x30, (0, 0, 0), colour=1)
         one.insert(0x30, (0, 0, 0), colour=2)
-        for number in (35, 35, 31, 78, 44, 500, 501):
+        for number in (36, 36, 35, 38, 78, 44, 500, 501):
             one.entity(number, "1" * 30)
         one.circle((math.nan, 0, 0), 1)
         one.circle((0, 0, 0), math.inf)
         one.line((0, 1e300, 0), (0, 0, 0))
-        one.entity(35, "1" * 30, mode=1)
+        one.ellipse((0, 0, 0), (1e10, 0, 0), 1e10, 0, 1)
+        one.entity(36, "1" * 30, mode=1)
         answer = tool("dwg-picture", given=one.file())
         self.assertEqual(answer.returncode, 0)
-        counts = ["2 CIRCLE (a number that is none or too large)", "3 ELLIPSE", "1 HATCH", "1 LINE (a number that is none or too large)", "1 MTEXT", "1 SOLID", "1 WIPEOUT"]
+        large = "(a number that is none or too large)"
+        counts = [
+            "1 3DSOLID", f"2 CIRCLE {large}", f"1 ELLIPSE {large}", "1 ELLIPSE (not read by all its fields)", "1 HATCH", f"1 LINE {large}", "1 MTEXT",
+            "3 SPLINE", "1 WIPEOUT",
+        ]  # fmt: skip
         lines = answer.stderr.decode().splitlines()
         self.assertEqual(lines[0], "dwg-picture: nothing is drawn")
         self.assertEqual(lines[1:], [f"dwg-picture: not drawn: {count}" for count in counts])

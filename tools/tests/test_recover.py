@@ -369,7 +369,7 @@ object 32 LINE typed 19
   mode 0
   owner 4.20
   layer 5.10
-object 33 ENTITY plain 35
+object 33 ENTITY plain 36
   mode 0
   owner 4.20
   links.previous 4.32
@@ -386,7 +386,7 @@ object 34 LINE raw 19
         self.assertEqual(list(chains.broken()), [])
         counts = RECOVER.counted(survey, survey.kinds)
         self.assertEqual(counts.layers, {"W\u00e4nde": 5, "(layer 11, which isn't there)": 1})
-        self.assertEqual((counts.kinds["ELLIPSE"], counts.kinds["LINE"]), (1, 4))
+        self.assertEqual((counts.kinds["SPLINE"], counts.kinds["LINE"]), (1, 4))
 
     def test_as_the_audit(self) -> None:
         """A chain is broken exactly where the audit has a finding of the rule, over changed drawings."""

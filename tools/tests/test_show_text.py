@@ -64,6 +64,16 @@ class ShowText(unittest.TestCase):
         self.assertIsNone(second.value("entry"))
         self.assertEqual(second.target("layer"), 0)
 
+    def test_face(self) -> None:
+        """In a face `show` has the name `invisible` twice, for the face itself and for its edges."""
+        common, edges = b"  mode 2\n  invisible 0\n", b"  fourth 0000000000000000 0000000000000000 0000000000000000\n  invisible 5\n"
+        heads = [b"object 31 3DFACE typed 28\n", b"object 32 3DFACE plain 28\n", b"object 33 3DFACE raw 28\n"]
+        text = heads[0] + common + edges + heads[1] + common + heads[2] + b"  bytes -\n"
+        typed, plain, raw = drawing.read_objects(iter(text.splitlines(keepends=True)))
+        self.assertEqual((typed.value("invisible"), typed.value("invisible_edges")), (0, 5))
+        self.assertEqual([path for path, _ in typed.fields], ["mode", "invisible", "fourth", "invisible_edges"])
+        self.assertEqual((plain.value("invisible"), plain.value("invisible_edges"), raw.lines), (0, None, [b"bytes -"]))
+
     def test_steps(self) -> None:
         self.assertEqual(drawing.steps("items[12].name"), ("items", 12, "name"))
         self.assertEqual(drawing.steps("points[0]"), ("points", 0))
