@@ -11,7 +11,7 @@ use dwg_page::Page;
 impl Print for AppData {
     ghost lines = { fields.app_data_fields };
 
-    #[tactic(auto, using(dwg_page::proofs::Telling::tells_more), unfolding(crate::specs::CommonFields::app_data_fields))]
+    #[tactic(auto, unfolding(crate::specs::CommonFields::app_data_fields))]
     fn print<W: Sink>(&self, path: &str, page: &mut Page, sink: &mut W) {
         print_member(&self.application, path, "application", page, sink);
         print_bytes(&self.bytes, path, "bytes", page, sink);
