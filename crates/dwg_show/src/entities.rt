@@ -79,7 +79,7 @@ impl Print for Insert {
 impl Print for MInsert {
     ghost lines = { fields.minsert_fields };
 
-    #[tactic(auto, using(dwg_page::proofs::Telling::tells_more), unfolding(crate::specs::BodyFields::minsert_fields))]
+    #[tactic(auto, unfolding(crate::specs::BodyFields::minsert_fields))]
     fn print<W: Sink>(&self, path: &str, page: &mut Page, sink: &mut W) {
         print_member(&self.insert, path, "insert", page, sink);
         print_member(&self.columns, path, "columns", page, sink);
