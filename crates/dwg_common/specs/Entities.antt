@@ -20,17 +20,19 @@ graphic = shaped (λ parts. parts.1) (λ bytes. (is_some bytes, bytes)) (seq b (
 abbrev pub entity_mode : Grammar Bool ℕ
 entity_mode = restrict (λ mode. nat_lt mode 3) bb
 
--- application data; B graphic; BB mode; BL count of reactors; B nolinks
+-- what the start of an entity tells, in the order of its bits
 abbrev pub StartParts : Type 0
 StartParts = List AppData × (Option (List ℕ) × (ℕ × (ℕ × Bool)))
 
+-- application data; B graphic; BB mode; BL count of reactors; B nolinks
 abbrev pub entity_start : ℕ → Grammar Bool StartParts
 entity_start base = seq (app_list base) (λ app. seq graphic (λ graphic. seq entity_mode (λ mode. seq bl (λ reactors. b))))
 
--- BS colour; BD linetype scale; BB linetype flag; BB plotstyle flag; BS invisible; RC lineweight
+-- how an entity looks, in the order of its bits
 abbrev pub LookParts : Type 0
 LookParts = ℕ × (ℕ × (ℕ × (ℕ × (ℕ × ℕ))))
 
+-- BS colour; BD linetype scale; BB linetype flag; BB plotstyle flag; BS invisible; RC lineweight
 abbrev pub entity_look : Grammar Bool LookParts
 entity_look = seq bs (λ colour. seq bd (λ linetype_scale. seq bb (λ linetype_flag. seq bb (λ plotstyle_flag. seq bs (λ invisible. rc)))))
 
@@ -38,10 +40,11 @@ entity_look = seq bs (λ colour. seq bd (λ linetype_scale. seq bb (λ linetype_
 abbrev pub links : ℕ → ReferencePart Links
 links base = seen_refs (λ parts. record { previous = parts.0; next = parts.1 }) (λ links. (links.previous, links.next)) (two_refs base)
 
--- owner where the mode is 0; reactors; xdict; previous and next where nolinks is 0; layer; linetype where its flag is 3; plotstyle where its flag is 3
+-- what an entity names, in the order of its references
 abbrev pub NamedParts : Type 0
 NamedParts = Option Reference × (List Reference × (Reference × (Option Links × (Reference × (Option Reference × Option Reference)))))
 
+-- owner where the mode is 0; reactors; xdict; previous and next where nolinks is 0; layer; linetype where its flag is 3; plotstyle where its flag is 3
 abbrev pub entity_refs : ℕ → StartParts × LookParts → ReferencePart NamedParts
 entity_refs base ((_, (_, (mode, (reactors, nolinks)))), (_, (_, (linetype_flag, (plotstyle_flag, _))))) =
     then_refs (maybe_refs (mode == 0) (one_ref base))

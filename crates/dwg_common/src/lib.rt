@@ -27,7 +27,7 @@ pub use entity::{EntityCommon, Links};
 pub use laws::common_laws;
 pub use object::ObjectCommon;
 pub use parts::{parse_bytes, parse_code, parse_ref, parse_refs, parse_when};
-pub use points::{Code2DD, Code2RD, known_point};
+pub use points::{Code2DD, Code2RD, known_place, known_point};
 pub use sized::{parse_sized, sized_bits, sized_fits, write_sized};
 pub use tv::{parse_tv, tv_bits, tv_fits, write_tv};
 pub use two_refs::{CodeTwoRefs, two_refs_fit};

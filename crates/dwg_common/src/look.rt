@@ -64,7 +64,7 @@ pub(crate) fn look_bits(common: &EntityCommon) -> u64
         + CodeRC::length(&(), &common.lineweight)
 }
 
-/// Writes a common.
+/// Writes how an entity looks.
 pub(crate) fn write_look(common: &EntityCommon, sink: &mut BitSink)
     requires value { entity_look.IsValue (look_of common.now) }
     requires room { length (entity_look.short (look_of common.now)) ≤ sink.old.spare }

@@ -19,6 +19,14 @@ pub fn known_point(point: &Point3)
     let _z = point.z;
 }
 
+/// The words of a point of the plane lie in the range of their type: as [`known_point`].
+pub fn known_place(place: &Point2)
+    ensures { IsPoint2 place.now }
+{
+    let _x = place.x;
+    let _y = place.y;
+}
+
 /// Reads two RDs, as they are parsed.
 fn read_two(cursor: &mut BitCursor<'_>) -> Option<Point2>
     ensures parsed { Parses rd2 result cursor.old cursor.new }

@@ -2,7 +2,6 @@
 
 ghost use Rattle.std.specs.Prelude.{◌≡◌, ◌^◌, ◌<◌, ◌≤◌, length};
 ghost use Rattle.dwg_bits.specs.Sink.{Extends};
-ghost use Rattle.dwg_grammar.specs.Points.{rd2};
 ghost use Rattle.dwg_common.specs.Parsing.{Keeps, Parses};
 ghost use Rattle.dwg_more.specs.MoreLaws.{solid_is_body};
 ghost use Rattle.dwg_more.specs.Solids.{solid_body, solid_main};
@@ -10,7 +9,7 @@ ghost use Rattle.dwg_more.specs.Solids.{solid_body, solid_main};
 use dwg_base::{Handle, NoMemory};
 use dwg_bits::{BitCursor, BitSink};
 use dwg_codes::{BitCode, CodeBD, CodeBE, CodeBT, Point2, Point3};
-use dwg_common::{BodyCode, Code2RD, Lengths, known_point, parse_code};
+use dwg_common::{BodyCode, Code2RD, Lengths, known_place, known_point, parse_code};
 use std::alloc::Global;
 
 /// A filled area with four corners (Open Design Specification, "SOLID").
@@ -32,14 +31,6 @@ pub struct Solid {
     pub extrusion: Point3,
 }
 
-/// The words of a corner lie in the range of their type.
-fn known_corner(corner: &Point2)
-    ensures { rd2.IsValue corner.now }
-{
-    let _x = corner.x;
-    let _y = corner.y;
-}
-
 /// The words of a solid lie in the range of their type.
 #[tactic(auto, unfolding(crate::specs::Solids::solid_main))]
 pub(crate) fn known_solid(solid: &Solid)
@@ -47,10 +38,10 @@ pub(crate) fn known_solid(solid: &Solid)
 {
     let _thickness = solid.thickness;
     let _elevation = solid.elevation;
-    known_corner(&solid.first);
-    known_corner(&solid.second);
-    known_corner(&solid.third);
-    known_corner(&solid.fourth);
+    known_place(&solid.first);
+    known_place(&solid.second);
+    known_place(&solid.third);
+    known_place(&solid.fourth);
     known_point(&solid.extrusion);
 }
 

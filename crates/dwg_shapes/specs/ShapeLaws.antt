@@ -14,7 +14,7 @@ use Rattle.dwg_shapes.specs.EndLaws.{line_ends_is_code}
 use Rattle.dwg_shapes.specs.Lines.{line_main, line_body}
 use Rattle.dwg_shapes.specs.LwPolylines.{StartParts, Counts, Lists, polyline_lists, polyline_parts, width_pair, counts_of, lwpolyline_main, lwpolyline_body}
 use Rattle.dwg_shapes.specs.Points.{point_main, point_body}
-use Rattle.dwg_shapes.specs.VertexLaws.{vertices_is_code, width_pair_is_code, items_where_is_code, count_told}
+use Rattle.dwg_shapes.specs.VertexLaws.{vertices_is_code, width_pair_is_code, count_told}
 
 -- a line
 pub line_is_body : (base : ℕ) → IsBody base (line_body base)
@@ -59,7 +59,7 @@ counts_told (points, (bulges, widths)) lists fits =
 lwpolyline_is_code : IsCode AnyLetters lwpolyline_main
 unfolding lwpolyline_main
 lwpolyline_is_code =
-    shaped_is_code _ _ polyline_parts (search (codes, vertices_is_code, items_where_is_code, width_pair_is_code) depth 20)
+    shaped_is_code _ _ polyline_parts (search (codes, vertices_is_code, width_pair_is_code) depth 20)
     (λ parts fits. ap (λ (counts : Counts). let told : StartParts × (Counts × Lists) = (parts.0, (counts, parts.1.1)) in told) (counts_told parts.1.0 parts.1.1 fits.1.1)) (λ polyline. refl)
 
 pub lwpolyline_is_body : (base : ℕ) → IsBody base (lwpolyline_body base)

@@ -1,4 +1,4 @@
--- The points of a lightweight polyline are a code, and so are lists that are there by their counts.
+-- The points of a lightweight polyline are a code, and lists that are there by their counts tell these.
 use Rattle.std.proofs.Common.{◌≡◌, ◌∙◌, ap, ℕ, Bool, List, Option, Some, None}
 use Rattle.std.specs.Prelude.{⊤}
 use Rattle.dwg_grammar.specs.Combinators.{chain}
@@ -36,12 +36,7 @@ vertices_is_code count =
 pub width_pair_is_code : IsCode AnyLetters width_pair
 width_pair_is_code = search codes
 
--- so many values are a code, where there is a count
-pub items_where_is_code : {V : Type 0} (code : Grammar Bool V) (count : Option ℕ) → IsCode AnyLetters code → IsCode AnyLetters (items_where code count)
-items_where_is_code code (Some count) is = search codes
-items_where_is_code code None is = search codes
-
--- and tell their count
+-- values that are there where there is a count tell it
 pub count_told : {V : Type 0} (code : Grammar Bool V) (count : Option ℕ) (values : Option (List V)) → (items_where code count).IsValue values
     → count_of values ≡ count
 unfolding chain

@@ -3,22 +3,13 @@
 ghost use Rattle.std.specs.Prelude.{◌≡◌, ◌^◌, ◌<◌, ◌≤◌, length, IfOk};
 ghost use Rattle.dwg_bits.specs.Sink.{Extends};
 ghost use Rattle.dwg_shapes.specs.LwPolylines.{vertex, vertices};
-ghost use Rattle.dwg_grammar.specs.Points.{IsPoint2};
 ghost use Rattle.dwg_common.specs.Parsing.{Keeps, Parses};
 
 use dwg_base::{Items, NoMemory};
 use dwg_bits::{BitCursor, BitSink};
 use dwg_codes::{BitCode, Point2};
-use dwg_common::{Code2DD, Code2RD, parse_code};
+use dwg_common::{Code2DD, Code2RD, known_place, parse_code};
 use std::alloc::Global;
-
-/// The words of a point lie in the range of their type.
-fn known_vertex(point: &Point2)
-    ensures { IsPoint2 point.now }
-{
-    let _x = point.x;
-    let _y = point.y;
-}
 
 /// Reads a point behind the one before it, as it is parsed.
 fn read_vertex(before: Option<Point2>, cursor: &mut BitCursor<'_>) -> Option<Point2>
@@ -28,7 +19,7 @@ fn read_vertex(before: Option<Point2>, cursor: &mut BitCursor<'_>) -> Option<Poi
     match before {
         None => parse_code::<Code2RD>(&(), cursor),
         Some(point) => {
-            known_vertex(&point);
+            known_place(&point);
             parse_code::<Code2DD>(&point, cursor)
         }
     }
@@ -66,7 +57,7 @@ pub(crate) fn known_vertices(points: &[Point2])
 {
     // It finds nothing out: a turn tells the proof of one point what holds of every value of its type.
     'along: for point in points {
-        known_vertex(point);
+        known_place(point);
     }
 }
 
@@ -79,7 +70,7 @@ fn vertex_bits(before: Option<Point2>, point: &Point2) -> u64
     match before {
         None => Code2RD::length(&(), point),
         Some(last) => {
-            known_vertex(&last);
+            known_place(&last);
             Code2DD::length(&last, point)
         }
     }
@@ -110,7 +101,7 @@ fn write_vertex(before: Option<Point2>, point: &Point2, sink: &mut BitSink)
     match before {
         None => Code2RD::write(&(), point, sink),
         Some(last) => {
-            known_vertex(&last);
+            known_place(&last);
             Code2DD::write(&last, point, sink);
         }
     }

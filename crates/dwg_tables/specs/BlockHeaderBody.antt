@@ -15,17 +15,19 @@ use Rattle.dwg_tables.specs.Entries.{TitleParts, entry_main, title_of, entry_of}
 use Rattle.dwg_tables.specs.InsertMarks.{mark_counts}
 use Rattle.dwg_common.specs.Members.{joined}
 
--- B anonymous; B has_attributes; B is_xref; B overlaid; B loaded
+-- the flags, in the order of their bits
 abbrev pub FlagParts : Type 0
 FlagParts = Bool × (Bool × (Bool × (Bool × Bool)))
 
+-- B anonymous; B has_attributes; B is_xref; B overlaid; B loaded
 unfoldable pub block_flags : Grammar Bool FlagParts
 block_flags = seq b (λ anonymous. seq b (λ has_attributes. seq b (λ is_xref. seq b (λ overlaid. b))))
 
--- 3BD base; TV path; the counts of its marks; TV description; BL size of the preview and so many bytes
+-- the content, in the order of its bits
 abbrev pub ContentParts : Type 0
 ContentParts = Point3 × (List ℕ × (List ℕ × (List ℕ × List ℕ)))
 
+-- 3BD base; TV path; the counts of its marks; TV description; BL size of the preview and so many bytes
 unfoldable pub block_content : Grammar Bool ContentParts
 block_content = seq bd3 (λ base. seq tv (λ path. seq mark_counts (λ counts. seq tv (λ description. counted bl rc))))
 
@@ -41,10 +43,11 @@ has_ends is_xref overlaid = not is_xref && not overlaid
 abbrev pub block_ends : ℕ → ReferencePart Ends
 block_ends base = seen_refs (λ parts. record { first = parts.0; last = parts.1 }) (λ ends. (ends.first, ends.last)) (two_refs base)
 
--- xref; block; where it is neither is_xref nor overlaid first and last; endblk; the target of each mark; layout
+-- what a block names, in the order of its references
 abbrev pub NameParts : Type 0
 NameParts = Reference × (Reference × (Option Ends × (Reference × (List Reference × Reference))))
 
+-- xref; block; where it is neither is_xref nor overlaid first and last; endblk; the target of each mark; layout
 abbrev pub block_refs : ℕ → FlagParts × ContentParts → ReferencePart NameParts
 block_refs base ((anonymous, (has_attributes, (is_xref, (overlaid, loaded)))), (origin, (path, (counts, (description, preview))))) =
     then_refs (one_ref base)

@@ -6,10 +6,11 @@ use Rattle.dwg_grammar.specs.Grammar.{Grammar}
 use Rattle.dwg_grammar.specs.Reference.{Reference}
 use Rattle.dwg_tables.specs.declared.entry.Entry.{Entry}
 
--- TV name; B flag64; BS xref_index; B xref_dependent
+-- what the main bits of an entry tell, in their order
 abbrev pub TitleParts : Type 0
 TitleParts = List ℕ × (Bool × (ℕ × Bool))
 
+-- TV name; B flag64; BS xref_index; B xref_dependent
 unfoldable pub entry_main : Grammar Bool TitleParts
 entry_main = seq tv (λ name. seq b (λ flag64. seq bs (λ xref_index. b)))
 

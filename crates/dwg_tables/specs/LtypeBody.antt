@@ -12,10 +12,11 @@ use Rattle.dwg_tables.specs.declared.ltype.Ltype.{Ltype}
 use Rattle.dwg_tables.specs.Entries.{TitleParts, entry_main, title_of, entry_of}
 use Rattle.dwg_common.specs.Members.{joined}
 
--- BD length; BS code; RD x; RD y; BD scale; BD rotation; BS flag
+-- what the main bits of a dash tell, in their order
 abbrev pub StrokeParts : Type 0
 StrokeParts = ℕ × (ℕ × (ℕ × (ℕ × (ℕ × (ℕ × ℕ)))))
 
+-- BD length; BS code; RD x; RD y; BD scale; BD rotation; BS flag
 unfoldable pub stroke : Grammar Bool StrokeParts
 stroke = seq bd (λ length. seq bs (λ code. seq rd (λ x. seq rd (λ y. seq bd (λ scale. seq bd (λ rotation. bs))))))
 
@@ -39,10 +40,11 @@ dash_of (length, (code, (x, (y, (scale, (rotation, flag)))))) style = record {
 abbrev pub style_of : Dash → Reference
 style_of dash = dash.style
 
--- the entry's; TV description; BD length; RC alignment; RC count of dashes; what the main bits of each tell; 256 bytes
+-- what the main bits of a linetype tell, in their order
 abbrev pub PatternParts : Type 0
 PatternParts = TitleParts × (List ℕ × (ℕ × (ℕ × (List StrokeParts × List ℕ))))
 
+-- the entry's; TV description; BD length; RC alignment; RC count of dashes; what the main bits of each tell; 256 bytes
 unfoldable pub ltype_main : Grammar Bool PatternParts
 ltype_main = seq entry_main (λ title. seq tv (λ description. seq bd (λ length. seq rc (λ alignment. seq (counted rc stroke) (λ strokes. items rc 256)))))
 

@@ -10,10 +10,11 @@ use Rattle.dwg_grammar.specs.References.{one_ref}
 use Rattle.dwg_tables.specs.declared.style.Style.{Style}
 use Rattle.dwg_tables.specs.Entries.{TitleParts, entry_main, title_of, entry_of}
 
--- B flag_a; B flag_b; BD height; BD width; BD oblique; RC generation; BD last_height
+-- how the letters of a text style are formed, in the order of the bits
 abbrev pub FormParts : Type 0
 FormParts = Bool × (Bool × (ℕ × (ℕ × (ℕ × (ℕ × ℕ)))))
 
+-- B flag_a; B flag_b; BD height; BD width; BD oblique; RC generation; BD last_height
 unfoldable pub style_form : Grammar Bool FormParts
 style_form = seq b (λ flag_a. seq b (λ flag_b. seq bd (λ height. seq bd (λ width. seq bd (λ oblique. seq rc (λ generation. bd))))))
 
