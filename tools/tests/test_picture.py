@@ -633,22 +633,22 @@ class Pictures(common.InFolder):
         one = spelled.Drawing()
         one.of_class(500, b"WIPEOUT")
         one.block(0x30, b"B")
-        one.entity(36, "1" * 30, owner=0x30)
+        one.entity(39, "1" * 30, owner=0x30)
         one.insert(0x30, (0, 0, 0), colour=1)
         one.insert(0x30, (0, 0, 0), colour=2)
-        for number in (36, 36, 35, 38, 78, 44, 500, 501):
+        for number in (39, 39, 35, 38, 78, 44, 500, 501):
             one.entity(number, "1" * 30)
         one.circle((math.nan, 0, 0), 1)
         one.circle((0, 0, 0), math.inf)
         one.line((0, 1e300, 0), (0, 0, 0))
         one.ellipse((0, 0, 0), (1e10, 0, 0), 1e10, 0, 1)
-        one.entity(36, "1" * 30, mode=1)
+        one.entity(39, "1" * 30, mode=1)
         answer = tool("dwg-picture", given=one.file())
         self.assertEqual(answer.returncode, 0)
         large = "(a number that is none or too large)"
         counts = [
-            "1 3DSOLID", f"2 CIRCLE {large}", f"1 ELLIPSE {large}", "1 ELLIPSE (not read by all its fields)", "1 HATCH", f"1 LINE {large}", "1 MTEXT",
-            "3 SPLINE", "1 WIPEOUT",
+            "1 3DSOLID", "3 BODY", f"2 CIRCLE {large}", f"1 ELLIPSE {large}", "1 ELLIPSE (not read by all its fields)", "1 HATCH",
+            f"1 LINE {large}", "1 MTEXT", "1 WIPEOUT",
         ]  # fmt: skip
         lines = answer.stderr.decode().splitlines()
         self.assertEqual(lines[0], "dwg-picture: nothing is drawn")

@@ -114,11 +114,11 @@ class Recover(unittest.TestCase):
         lost_kinds, lost_layers = counts_of(lost)
         for before in ("more before.txt", "more before.dwg"):
             told = self.report(without(lost), "--before", self.folder / before)
-            self.assertEqual(told["before"], {"objects": len(ALL), "lost": ["40", "41", "60"], "kinds": lost_kinds, "layers": lost_layers})
+            self.assertEqual(told["before"], {"objects": len(ALL), "shared": len(ALL) - 3, "other": 0, "lost": ["40", "41", "60"], "kinds": lost_kinds, "layers": lost_layers})
         text = self.words("--before", self.folder / "more before.txt")
-        self.assertIn(f"  3 of {len(ALL)} entries of the map\n", text)
-        self.assertIn("Found without an entry of the map: 0 objects.\n", text)
-        self.assertIn(f"Of {len(ALL)} objects of the older drawing 3 are not in the recovered one.\n", text)
+        self.assertIn(f"  3 of {len(ALL)} entries of the map: 40, 41, 60\n", text)
+        self.assertIn("Of those kept, found without an entry of the map: 0 objects.\n", text)
+        self.assertIn(f"Of {len(ALL)} objects of the older drawing 3 are not in the recovered one: 40, 41, 60.\n", text)
         self.assertIn('  the chain of block 18 "*MODEL_SPACE" breaks; 16 of 198 entities reached from its first:\n', text)
         self.assertIn("    behind 3F: what follows is 40, which isn't there\n    behind 5F: what follows is 60, which isn't there\n", text)
 
@@ -177,10 +177,25 @@ class Recover(unittest.TestCase):
         self.assertEqual((told["lost"]["map_end"], told["lost"]["objects"], told["kept"]["objects"]), (PARTS.map, [], 150))
         lost = sorted(ALL)[150:]
         kinds, layers = counts_of(lost)
-        self.assertEqual(told["before"], {"objects": len(ALL), "lost": [f"{handle:X}" for handle in lost], "kinds": kinds, "layers": layers})
+        said = {"objects": len(ALL), "shared": 150, "other": 0, "lost": [f"{handle:X}" for handle in lost], "kinds": kinds, "layers": layers}
+        self.assertEqual(told["before"], said)
         text = self.words("--before", before)
         self.assertIn(f"  the map from {PARTS.map} on\n", text)
-        self.assertIn(f"Of {len(ALL)} objects of the older drawing {len(lost)} are not in the recovered one.\n", text)
+        first = ", ".join(f"{handle:X}" for handle in lost[:10])
+        self.assertIn(f"Of {len(ALL)} objects of the older drawing {len(lost)} are not in the recovered one: {first} and {len(lost) - 10} more.\n", text)
+
+    def test_another_drawing_before(self) -> None:
+        before = self.folder / "more another.dwg"
+        before.write_bytes(made.made(40, 3))
+        older = {handle: kind for handle, kind, _ in shown(before.read_bytes())}
+        kept = {handle: kind for handle, kind, _ in OBJECTS if handle != 0x40}
+        shared = older.keys() & kept.keys()
+        other = sum(older[handle] != kept[handle] for handle in shared)
+        self.assertGreater(other, 0)
+        told = self.report(without([0x40]), "--before", before)["before"]
+        self.assertEqual((told["shared"], told["other"]), (len(shared), other))
+        text = self.words("--before", before)
+        self.assertIn(f"Of the {len(shared)} handles in both, {other} stand for another kind of object: the older one may be another drawing.\n", text)
 
     def test_a_lost_header(self) -> None:
         told = self.report(flipped(DATA, 60))
@@ -369,7 +384,7 @@ object 32 LINE typed 19
   mode 0
   owner 4.20
   layer 5.10
-object 33 ENTITY plain 36
+object 33 ENTITY plain 39
   mode 0
   owner 4.20
   links.previous 4.32
@@ -386,7 +401,7 @@ object 34 LINE raw 19
         self.assertEqual(list(chains.broken()), [])
         counts = RECOVER.counted(survey, survey.kinds)
         self.assertEqual(counts.layers, {"W\u00e4nde": 5, "(layer 11, which isn't there)": 1})
-        self.assertEqual((counts.kinds["SPLINE"], counts.kinds["LINE"]), (1, 4))
+        self.assertEqual((counts.kinds["BODY"], counts.kinds["LINE"]), (1, 4))
 
     def test_as_the_audit(self) -> None:
         """A chain is broken exactly where the audit has a finding of the rule, over changed drawings."""
