@@ -1,6 +1,6 @@
 //! What an object has of its own, by its kind.
 
-ghost use Rattle.std.specs.Prelude.{◌≡◌, IfOk};
+ghost use Rattle.std.specs.Prelude.{◌≡◌, Bool, List, Some, None, IfOk};
 ghost use Rattle.dwg_common.specs.Parsing.{ParsesBody};
 ghost use Rattle.dwg_object.specs.OwnBodies.{body_kind, own_body};
 
@@ -125,13 +125,32 @@ macro_rules! by_kind {
     };
     (parse_as [$($name:ident)*] $kind:expr, $alloc:expr, $main:expr, $refs:expr, $base:expr) => {
         match $kind {
-            $(Kind::$name => match $name::parse($alloc, $main, $refs, $base)? {
-                Some(body) => Ok(Some($crate::Body::$name(body))),
-                None => Ok(None),
-            },)*
+            $(Kind::$name => parse_held::<$name, _>($alloc, Kind::$name, $main, $refs, $base, $crate::Body::$name),)*
             _ => Ok(None),
         }
     };
+}
+
+/// Reads what is parsed of a body, and answers it as `held` holds it among the bodies of all kinds: what is parsed of the body is, so held,
+/// what is parsed of the kind. One call for each kind, since a kind more costs the prover little so. The only refusal is want of memory.
+fn parse_held<B: BodyCode, H: FnOnce(B) -> Body>(
+    alloc: Global,
+    kind: Kind,
+    main: &mut BitCursor<'_>,
+    refs: &mut BitCursor<'_>,
+    base: Handle,
+    held: H,
+) -> Result<Option<Body>, NoMemory>
+    requires callable { H.IsAlwaysCallable held }
+    requires some { (body : B) (one : Body) → H.post held body one → (bits references : List Bool) (left : List Bool × List Bool) →
+        (B.grammar base).parse bits references ≡ Some (body, left) → (own_body kind base).parse bits references ≡ Some (one, left) }
+    requires none { (bits references : List Bool) → (B.grammar base).parse bits references ≡ None → (own_body kind base).parse bits references ≡ None }
+    ensures parsed { IfOk result (λ found. ParsesBody (own_body kind base) found main.old main.new refs.old refs.new) }
+{
+    match B::parse(alloc, main, refs, base)? {
+        Some(body) => Ok(Some(held(body))),
+        None => Ok(None),
+    }
 }
 
 impl Body {
