@@ -343,17 +343,23 @@ fn certificate_of(alloc: Global, name: &str) -> Option<Vec<u8>> {
     Vec::from_slice(alloc, certificate.as_slice()).ok()
 }
 
+/// A canonical file by its name, or `nothing`.
+fn listed(alloc: Global, name: &str) -> Option<Vec<u8>> {
+    match paragraph(FILES, name) {
+        Some(text) => canonical(alloc, text),
+        None if name == "nothing" => Some(Vec::new(alloc)),
+        None => None,
+    }
+}
+
 /// A canonical file by its name, the drawing that is made of two numbers, a byte so many times (`7F*1000`), or `nothing`.
 fn base_of(alloc: Global, name: &str) -> Option<Vec<u8>> {
-    if name == "nothing" {
-        return Some(Vec::new(alloc));
-    }
     if let Some((byte, count)) = name.split_once("*") {
         return repeated(alloc, byte, count);
     }
     match name.strip_prefix("made/") {
         Some(numbers) => made(alloc, numbers),
-        None => canonical(alloc, paragraph(FILES, name)?),
+        None => listed(alloc, name),
     }
 }
 

@@ -90,18 +90,33 @@ fn ended(
     run(alloc, words, input, output, notes)
 }
 
-/// Runs the program as a command line says, which begins with its name. None for want of memory.
-pub(crate) fn ran(alloc: Global, line: &str, bytes: &[u8], devices: Devices) -> Option<Left> {
-    let words = words_of(alloc, line)?;
-    let mut input = source(alloc, bytes, devices.read, devices.failing_read)?;
-    let mut output = sink(alloc, devices.room, devices.write, devices.failing_write)?;
-    let mut notes = sink(alloc, PLENTY, devices.write, devices.failing_note)?;
-    let status = ended(alloc, &words, &mut input, &mut output, &mut notes);
-    Some(Left {
+/// Runs the program over an input, an output and notes, and says what it left there.
+fn left_by(
+    alloc: Global,
+    words: &[String],
+    mut input: MemSource,
+    mut output: MemSink,
+    mut notes: MemSink,
+) -> Left {
+    let status = ended(alloc, words, &mut input, &mut output, &mut notes);
+    Left {
         status,
         output: output.into_bytes(),
         notes: notes.into_bytes(),
-    })
+    }
+}
+
+/// Runs the program over devices that give the bytes.
+fn left_over(alloc: Global, words: &[String], bytes: &[u8], devices: Devices) -> Option<Left> {
+    let input = source(alloc, bytes, devices.read, devices.failing_read)?;
+    let output = sink(alloc, devices.room, devices.write, devices.failing_write)?;
+    let notes = sink(alloc, PLENTY, devices.write, devices.failing_note)?;
+    Some(left_by(alloc, words, input, output, notes))
+}
+
+/// Runs the program as a command line says, which begins with its name. None for want of memory.
+pub(crate) fn ran(alloc: Global, line: &str, bytes: &[u8], devices: Devices) -> Option<Left> {
+    left_over(alloc, &words_of(alloc, line)?, bytes, devices)
 }
 
 /// What the program wrote where it had to end well, with so much room for it. None where it did not, or wrote notes.

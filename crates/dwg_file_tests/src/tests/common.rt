@@ -2,7 +2,7 @@
 
 use crate::tests::table::{Telling, hold};
 use crate::tests::told;
-use dwg_base::{ByteRun, Handle};
+use dwg_base::{ByteRun, Handle, NoMemory};
 use dwg_bits::BitCursor;
 use dwg_common::{AppData, BodyCode, EntityCommon, Links, ObjectCommon, body_laws, common_laws};
 use dwg_handles::Ref;
@@ -97,11 +97,8 @@ fn tell_fit(told: &mut String, fits: bool) -> Option<()> {
     told::word(told, if fits { "fits" } else { "unfit" })
 }
 
-/// Adds the common part of an entity, and whether it fits in the object of the handle 80, and of 81; or `none`.
-fn tell_entity(told: &mut String, part: Option<&EntityCommon>) -> Option<()> {
-    let Some(part) = part else {
-        return told::word(told, "none");
-    };
+/// Adds the common part of an entity, and whether it fits in the object of the handle 80, and of 81.
+fn tell_entity(told: &mut String, part: &EntityCommon) -> Option<()> {
     tell_front(told, part)?;
     tell_back(told, part)?;
     tell_numbers(told, part)?;
@@ -109,12 +106,8 @@ fn tell_entity(told: &mut String, part: Option<&EntityCommon>) -> Option<()> {
     tell_fit(told, part.fits(Handle::new(0x81)?))
 }
 
-/// Adds the common part of another object: items, owner, reactors, dictionary, and whether it fits in the object of the handle 80; or
-/// `none`.
-fn tell_object(told: &mut String, part: Option<&ObjectCommon>) -> Option<()> {
-    let Some(part) = part else {
-        return told::word(told, "none");
-    };
+/// Adds the common part of another object: items, owner, reactors, dictionary, and whether it fits in the object of the handle 80.
+fn tell_object(told: &mut String, part: &ObjectCommon) -> Option<()> {
     tell_items(told, part.app.as_slice())?;
     tell_ref(told, part.owner)?;
     tell_refs(told, part.reactors.as_slice())?;
@@ -134,30 +127,75 @@ fn tell_places(told: &mut String, main: &BitCursor<'_>, refs: &BitCursor<'_>) ->
     told::number(told, refs.at())
 }
 
-/// Adds what is read as the common part of the entity 80.
-fn tell_entity_read(alloc: Global, told: &mut String, main: &[u8], refs: &[u8]) -> Option<()> {
-    let mut main = cursor(main);
-    let mut refs = cursor(refs);
-    match EntityCommon::read(alloc, &mut main, &mut refs, own()?) {
+/// A common part that is told.
+trait Told {
+    /// Adds it.
+    fn tell_part(&self, told: &mut String) -> Option<()>;
+}
+
+impl Told for EntityCommon {
+    fn tell_part(&self, told: &mut String) -> Option<()> {
+        tell_entity(told, self)
+    }
+}
+
+impl Told for ObjectCommon {
+    fn tell_part(&self, told: &mut String) -> Option<()> {
+        tell_object(told, self)
+    }
+}
+
+/// Adds a common part, or `none`.
+fn tell_found<T: Told>(told: &mut String, part: Option<&T>) -> Option<()> {
+    match part {
+        Some(part) => part.tell_part(told),
+        None => told::word(told, "none"),
+    }
+}
+
+/// Adds the places behind what was read as a common part, and the part. Of any type, since a function that drops the part of an entity is
+/// dear to prove.
+fn tell_read<T: Told + Drop>(
+    told: &mut String,
+    main: &BitCursor<'_>,
+    refs: &BitCursor<'_>,
+    part: Result<Option<T>, NoMemory>,
+) -> Option<()> {
+    match part {
         Ok(part) => {
-            tell_places(told, &main, &refs)?;
-            tell_entity(told, part.as_ref())
+            tell_places(told, main, refs)?;
+            tell_found(told, part.as_ref())
         }
-        Err(_) => None,
+        Err(NoMemory) => None,
     }
 }
 
 /// Adds what is read as the common part of the object 80.
-fn tell_object_read(alloc: Global, told: &mut String, main: &[u8], refs: &[u8]) -> Option<()> {
+fn tell_bits<T: BodyCode + Told + Drop>(
+    alloc: Global,
+    told: &mut String,
+    main: &[u8],
+    refs: &[u8],
+) -> Option<()> {
     let mut main = cursor(main);
     let mut refs = cursor(refs);
-    match ObjectCommon::read(alloc, &mut main, &mut refs, own()?) {
-        Ok(part) => {
-            tell_places(told, &main, &refs)?;
-            tell_object(told, part.as_ref())
-        }
-        Err(_) => None,
-    }
+    let part = T::read(alloc, &mut main, &mut refs, own()?);
+    tell_read(told, &main, &refs, part)
+}
+
+/// Adds what is read of a text `MAIN / REFERENCES` as the common part of the object 80.
+fn tell_text<T: BodyCode + Told + Drop>(
+    alloc: Global,
+    told: &mut String,
+    input: &str,
+) -> Option<()> {
+    let (main, refs) = input.split_once(" / ")?;
+    tell_bits::<T>(
+        alloc,
+        told,
+        &bytes_of(alloc, main)?,
+        &bytes_of(alloc, refs)?,
+    )
 }
 
 /// `MAIN / REFERENCES => MAIN REFERENCES PART`: how many of these main bits and of those of the references are read as the common part of
@@ -167,13 +205,7 @@ struct Entities;
 
 impl Telling for Entities {
     fn tell(alloc: Global, told: &mut String, input: &str) -> Option<()> {
-        let (main, refs) = input.split_once(" / ")?;
-        tell_entity_read(
-            alloc,
-            told,
-            &bytes_of(alloc, main)?,
-            &bytes_of(alloc, refs)?,
-        )
+        tell_text::<EntityCommon>(alloc, told, input)
     }
 }
 
@@ -201,13 +233,7 @@ struct Objects;
 
 impl Telling for Objects {
     fn tell(alloc: Global, told: &mut String, input: &str) -> Option<()> {
-        let (main, refs) = input.split_once(" / ")?;
-        tell_object_read(
-            alloc,
-            told,
-            &bytes_of(alloc, main)?,
-            &bytes_of(alloc, refs)?,
-        )
+        tell_text::<ObjectCommon>(alloc, told, input)
     }
 }
 

@@ -104,15 +104,20 @@ fn file_by(alloc: Global, text: &str) -> Option<Vec<u8>> {
     }
 }
 
-/// The bytes of a file of the list.
-fn listed(alloc: Global, name: &str) -> Option<Vec<u8>> {
-    for line in FILES.lines() {
-        let (this, file) = line.split_once(" | ")?;
+/// What stands behind a name in a list.
+fn behind_name<'a>(list: &'a str, name: &str) -> Option<&'a str> {
+    for line in list.lines() {
+        let (this, text) = line.split_once(" | ")?;
         if this == name {
-            return file_by(alloc, file);
+            return Some(text);
         }
     }
     None
+}
+
+/// The bytes of a file of the list.
+fn listed(alloc: Global, name: &str) -> Option<Vec<u8>> {
+    file_by(alloc, behind_name(FILES, name)?)
 }
 
 /// The file of one object with three bytes behind it.
@@ -145,11 +150,21 @@ fn push_dictionaries(alloc: Global, file: &mut Vec<u8>) -> Option<()> {
     Some(())
 }
 
+/// Adds the bytes of the smallest file from place 70 up to another.
+fn push_of_smallest(alloc: Global, file: &mut Vec<u8>, end: usize) -> Option<()> {
+    file.extend_from_slice(listed(alloc, "smallest")?.get(70..end)?)
+        .ok()
+}
+
+/// Adds the map of the handles from 1 to 1,100.
+fn push_map(alloc: Global, file: &mut Vec<u8>) -> Option<()> {
+    file.extend_from_slice(&long_map(alloc)?).ok()
+}
+
 /// The file of dictionaries of the handles from 1 to 1,100, whose map has two pages, before its map.
 fn front_of_long_file(alloc: Global) -> Option<Vec<u8>> {
     let mut file = listed(alloc, "header of a long map")?;
-    let smallest = listed(alloc, "smallest")?;
-    file.extend_from_slice(smallest.get(70..183)?).ok()?;
+    push_of_smallest(alloc, &mut file, 183)?;
     push_dictionaries(alloc, &mut file)?;
     Some(file)
 }
@@ -157,18 +172,17 @@ fn front_of_long_file(alloc: Global) -> Option<Vec<u8>> {
 /// That file.
 fn long_file(alloc: Global) -> Option<Vec<u8>> {
     let mut file = front_of_long_file(alloc)?;
-    file.extend_from_slice(&long_map(alloc)?).ok()?;
+    push_map(alloc, &mut file)?;
     Some(file)
 }
 
 /// The file of these dictionaries and of an unknown section, in which zeros stand behind the classes.
 fn long_file_with_section(alloc: Global) -> Option<Vec<u8>> {
     let mut file = listed(alloc, "header of a long map and a section")?;
-    let smallest = listed(alloc, "smallest")?;
-    file.extend_from_slice(smallest.get(70..146)?).ok()?;
+    push_of_smallest(alloc, &mut file, 146)?;
     file.extend_from_slice(&[0; 28]).ok()?;
     push_dictionaries(alloc, &mut file)?;
-    file.extend_from_slice(&long_map(alloc)?).ok()?;
+    push_map(alloc, &mut file)?;
     Some(file)
 }
 
@@ -243,14 +257,9 @@ fn sent(alloc: Global, plan: &mut Plan<'_, '_>) -> Option<Vec<u8>> {
     Vec::from_slice(alloc, sink.bytes()).ok()
 }
 
-/// Adds whether two runs of bytes are the same.
-fn tell_same(told: &mut String, one: &[u8], other: &[u8]) -> Option<()> {
-    told::word(told, if one == other { "same" } else { "other" })
-}
-
 /// Adds whether a plan sends the file of that name.
 fn tell_sent(alloc: Global, told: &mut String, plan: &mut Plan<'_, '_>, name: &str) -> Option<()> {
-    tell_same(told, &sent(alloc, plan)?, &named(alloc, name)?)
+    told::same(told, &sent(alloc, plan)?, &named(alloc, name)?)
 }
 
 /// A sink with room for 210 bytes, which takes ten bytes a call and fails in the third.
@@ -323,7 +332,7 @@ fn tell_again(alloc: Global, told: &mut String, parts: &Parts<'_>, file: &[u8]) 
     tell_parts(&mut before, parts)?;
     let mut after = String::new(alloc);
     tell_read(alloc, &mut after, file)?;
-    tell_same(told, before.as_bytes(), after.as_bytes())
+    told::same(told, before.as_bytes(), after.as_bytes())
 }
 
 /// Adds what is asked of the plan of a drawing, or the size of a drawing that is too large.

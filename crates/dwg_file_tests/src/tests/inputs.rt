@@ -73,22 +73,33 @@ pub(crate) fn canonical_file(alloc: Global, classes: &str, frames: &str) -> Opti
     file_of(alloc, &[], &bytes_of(alloc, classes)?, frames.as_str())
 }
 
-/// Adds a class of a number, with its name in DXF and its item, of version 0, without other names.
-fn push_class(content: &mut Bits, number: u16, name: &str, item: u16) -> Option<()> {
+/// Adds a number below 2^16 by decimal digits, behind its code.
+fn push_short(content: &mut Bits, digits: &str) -> Option<()> {
     content.push_text("'00")?;
-    content.push_bytes(&number.to_le_bytes())?;
-    content.push_text("'10 '10 '10 '01")?;
+    content.push_bytes(&small(digits)?.to_le_bytes())
+}
+
+/// Adds a name of fewer than 256 letters, behind the code of its length.
+fn push_name(content: &mut Bits, name: &str) -> Option<()> {
+    content.push_text("'01")?;
     content.push(name.len() as u64, 8)?;
-    content.push_bytes(name.as_bytes())?;
-    content.push_text("'0 '00")?;
-    content.push_bytes(&item.to_le_bytes())
+    content.push_bytes(name.as_bytes())
+}
+
+/// Adds a class of a number, with its name in DXF and its item, of version 0, without other names.
+fn push_class(content: &mut Bits, number: &str, name: &str, item: &str) -> Option<()> {
+    push_short(content, number)?;
+    content.push_text("'10 '10 '10")?;
+    push_name(content, name)?;
+    content.push_text("'0")?;
+    push_short(content, item)
 }
 
 /// Adds a class by a text `NUMBER NAME ITEM`, in decimal digits.
 fn push_class_of(content: &mut Bits, text: &str) -> Option<()> {
     let (number, rest) = text.split_once(" ")?;
     let (name, item) = rest.split_once(" ")?;
-    push_class(content, small(number)?, name, small(item)?)
+    push_class(content, number, name, item)
 }
 
 /// The content of a section of classes, which stand apart by commas.

@@ -34,28 +34,20 @@ pub(crate) fn frame_at<'a>(
     read_frame(alloc, bytes, place, 7, classes)
 }
 
-/// What can be told in a few words.
-pub(crate) trait Words {
-    /// Adds them.
-    fn tell(&self, told: &mut String) -> Option<()>;
+/// What is told of what was read.
+pub(crate) trait Words<T> {
+    /// Adds it.
+    fn tell_of(alloc: Global, told: &mut String, read: &T) -> Option<()>;
 }
 
-impl Words for Found<'_> {
-    fn tell(&self, told: &mut String) -> Option<()> {
-        tell_found(told, self)
-    }
-}
-
-impl Words for Option<Object<'_>> {
-    fn tell(&self, told: &mut String) -> Option<()> {
-        tell_body(told, self.as_ref())
-    }
-}
-
-/// Adds what was read, or the fault. Of any type, since a function that drops an object of all its kinds is dear to prove.
-fn tell_answer<T: Words + Drop>(told: &mut String, answer: Result<T, Fault>) -> Option<()> {
+/// Adds what is told of what was read, or the fault. Of any type, since a function that drops an object of all its kinds is dear to prove.
+pub(crate) fn tell_answer<W: Words<T>, T: Drop>(
+    alloc: Global,
+    told: &mut String,
+    answer: Result<T, Fault>,
+) -> Option<()> {
     match answer {
-        Ok(found) => found.tell(told),
+        Ok(read) => W::tell_of(alloc, told, &read),
         Err(fault) => told::fault(told, fault),
     }
 }
@@ -71,7 +63,7 @@ fn tell_frame(
     place: u64,
     classes: &[Class],
 ) -> Option<()> {
-    tell_answer(told, frame_at(alloc, bytes, place, classes))
+    tell_answer::<Frames, Found<'_>>(alloc, told, frame_at(alloc, bytes, place, classes))
 }
 
 /// `PLACE | BYTES => NUMBER HANDLE KIND FORM END`: what is read of the frame at a place: type number, own handle, kind and form of the object
@@ -137,6 +129,12 @@ fn the_parts_of_a_frame_are_found(rt: HostRuntime) -> Result<(), Fail> {
 /// `FRAME => NUMBER HANDLE KIND FORM END`: the same of a frame at 0, in a drawing without classes.
 pub(crate) struct Frames;
 
+impl Words<Found<'_>> for Frames {
+    fn tell_of(_alloc: Global, told: &mut String, found: &Found<'_>) -> Option<()> {
+        tell_found(told, found)
+    }
+}
+
 impl Telling for Frames {
     fn tell(alloc: Global, told: &mut String, input: &str) -> Option<()> {
         tell_frame(alloc, told, &frame(alloc, input)?, 0, &[])
@@ -177,6 +175,12 @@ fn an_object_is_read_with_its_common_part_where_it_has_one(rt: HostRuntime) -> R
 /// `BODY => NUMBER HANDLE KIND FORM`: what is read of a body alone, or `none`.
 struct Bodies;
 
+impl Words<Option<Object<'_>>> for Bodies {
+    fn tell_of(_alloc: Global, told: &mut String, object: &Option<Object<'_>>) -> Option<()> {
+        tell_body(told, object.as_ref())
+    }
+}
+
 /// Adds an object with its type number, or `none`.
 fn tell_body(told: &mut String, object: Option<&Object<'_>>) -> Option<()> {
     match object {
@@ -198,7 +202,7 @@ fn body_of<'a>(alloc: Global, body: &'a [u8]) -> Result<Option<Object<'a>>, Faul
 
 /// Adds what is read of a body.
 fn tell_read(alloc: Global, told: &mut String, body: &[u8]) -> Option<()> {
-    tell_answer(told, body_of(alloc, body))
+    tell_answer::<Bodies, Option<Object<'_>>>(alloc, told, body_of(alloc, body))
 }
 
 impl Telling for Bodies {

@@ -159,25 +159,37 @@ pub(crate) fn sink(alloc: Global, room: usize) -> Option<MemSink> {
     MemSink::new(alloc, room, 1_000, Items::new(alloc)).ok()
 }
 
-/// The map of the handles from 1 to 1,100.
-pub(crate) fn long_map(alloc: Global) -> Option<Vec<u8>> {
+/// The map of the handles from 1 to 1,100 that a writer writes that was given no pair yet.
+fn map_by(alloc: Global, writer: &mut PageWriter) -> Option<Vec<u8>>
+    requires { writer.old ≡ FRESH }
+{
     let mut sink = sink(alloc, 4_000)?;
-    if !write_map(alloc, 1_100, &mut sink)? {
+    if !fill_map(writer, 1_100, &mut sink)? {
         return None;
     }
     Vec::from_slice(alloc, sink.bytes()).ok()
 }
 
+/// That map by a writer of its own.
+pub(crate) fn long_map(alloc: Global) -> Option<Vec<u8>> {
+    let mut writer = PageWriter::new(alloc).ok()?;
+    map_by(alloc, &mut writer)
+}
+
 /// `PLACE COUNT => LENGTH BYTES`: how many bytes that map has, and so many of them from a place on.
 struct Filled;
+
+/// Adds how many bytes a map has, and so many of them from a place on.
+fn tell_piece(told: &mut String, map: &[u8], place: u16, count: u16) -> Option<()> {
+    told::number(told, map.len() as u64)?;
+    let behind = map.get(usize::from(place)..)?;
+    told::bytes(told, behind.get(..usize::from(count))?)
+}
 
 impl Telling for Filled {
     fn tell(alloc: Global, told: &mut String, input: &str) -> Option<()> {
         let (place, count) = input.split_once(" ")?;
-        let map = long_map(alloc)?;
-        told::number(told, map.len() as u64)?;
-        let behind = map.get(usize::from(small(place)?)..)?;
-        told::bytes(told, behind.get(..usize::from(small(count)?))?)
+        tell_piece(told, &long_map(alloc)?, small(place)?, small(count)?)
     }
 }
 
@@ -287,11 +299,7 @@ struct Restarts;
 fn tell_same(alloc: Global, told: &mut String, writer: &mut PageWriter) -> Option<()>
     requires { writer.old ≡ FRESH }
 {
-    let mut sink = sink(alloc, 4_000)?;
-    let whole = fill_map(writer, 1_100, &mut sink)?;
-    let map = long_map(alloc)?;
-    let same = whole && sink.bytes() == map.as_slice();
-    told::word(told, if same { "same" } else { "other" })
+    told::same(told, &map_by(alloc, writer)?, &long_map(alloc)?)
 }
 
 /// Adds what a writer that was given no pair yet writes where it is ended at once.
@@ -303,16 +311,30 @@ fn tell_end(alloc: Global, told: &mut String, writer: &mut PageWriter) -> Option
     told::bytes(told, sink.bytes())
 }
 
+/// Adds how many bytes of that map a sink of so much room takes of a writer that was given no pair yet.
+fn tell_taken(alloc: Global, told: &mut String, writer: &mut PageWriter, room: u16) -> Option<()>
+    requires { writer.old ≡ FRESH }
+{
+    let mut short = sink(alloc, usize::from(room))?;
+    fill_map(writer, 1_100, &mut short)?;
+    told::number(told, short.bytes().len() as u64)
+}
+
+/// Adds all that of a writer that was given no pair yet.
+fn tell_restarts(alloc: Global, told: &mut String, writer: &mut PageWriter, room: u16) -> Option<()>
+    requires { writer.old ≡ FRESH }
+{
+    tell_taken(alloc, told, writer, room)?;
+    writer.restart();
+    tell_same(alloc, told, writer)?;
+    writer.restart();
+    tell_end(alloc, told, writer)
+}
+
 impl Telling for Restarts {
     fn tell(alloc: Global, told: &mut String, input: &str) -> Option<()> {
         let mut writer = PageWriter::new(alloc).ok()?;
-        let mut short = sink(alloc, usize::from(small(input)?))?;
-        fill_map(&mut writer, 1_100, &mut short)?;
-        told::number(told, short.bytes().len() as u64)?;
-        writer.restart();
-        tell_same(alloc, told, &mut writer)?;
-        writer.restart();
-        tell_end(alloc, told, &mut writer)
+        tell_restarts(alloc, told, &mut writer, small(input)?)
     }
 }
 

@@ -5,7 +5,7 @@ ghost use Rattle.dwg_graph.specs.Slots.{slots};
 ghost use Rattle.dwg_object.specs.Objects.{value_of};
 
 use crate::tests::inputs::frame;
-use crate::tests::objects::{Words, frame_at};
+use crate::tests::objects::{Words, frame_at, tell_answer};
 use crate::tests::table::{Telling, hold};
 use crate::tests::told;
 use dwg_base::{Handle, Items};
@@ -75,51 +75,42 @@ fn tell_behind(alloc: Global, told: &mut String, object: &Object<'_>) -> Option<
     }
 }
 
-/// A frame that was read, of which the slots are told: each by its place, or all behind another.
-#[derive(Drop)]
-struct Holder<'a> {
+/// Adds what is told of the frame at the begin of bytes.
+fn tell_frame<'a, W: Words<Found<'a>>>(
     alloc: Global,
-    found: Found<'a>,
-    behind: bool,
-}
-
-impl Words for Holder<'_> {
-    fn tell(&self, told: &mut String) -> Option<()> {
-        if self.behind {
-            return tell_behind(self.alloc, told, &self.found.object);
-        }
-        tell_slots(self.alloc, told, &self.found.object)
-    }
-}
-
-/// Adds the slots of the object of a frame.
-fn tell_holder(alloc: Global, told: &mut String, bytes: &[u8], behind: bool) -> Option<()> {
-    match frame_at(alloc, bytes, 0, &[]) {
-        Ok(found) => Holder {
-            alloc,
-            found,
-            behind,
-        }
-        .tell(told),
-        Err(fault) => told::fault(told, fault),
-    }
+    told: &mut String,
+    bytes: &'a [u8],
+) -> Option<()> {
+    tell_answer::<W, Found<'a>>(alloc, told, frame_at(alloc, bytes, 0, &[]))
 }
 
 /// `FRAME => COUNT FIELD POSITION TARGET ..`: how many slots the object of a frame has, and each by its place.
 struct Held;
 
+impl Words<Found<'_>> for Held {
+    fn tell_of(alloc: Global, told: &mut String, found: &Found<'_>) -> Option<()> {
+        tell_slots(alloc, told, &found.object)
+    }
+}
+
 impl Telling for Held {
     fn tell(alloc: Global, told: &mut String, input: &str) -> Option<()> {
-        tell_holder(alloc, told, &frame(alloc, input)?, false)
+        tell_frame::<Held>(alloc, told, &frame(alloc, input)?)
     }
 }
 
 /// `FRAME => FIELD POSITION TARGET ..`: all slots of the object of a frame behind that of the owner null.
 struct Behind;
 
+impl Words<Found<'_>> for Behind {
+    fn tell_of(alloc: Global, told: &mut String, found: &Found<'_>) -> Option<()> {
+        tell_behind(alloc, told, &found.object)
+    }
+}
+
 impl Telling for Behind {
     fn tell(alloc: Global, told: &mut String, input: &str) -> Option<()> {
-        tell_holder(alloc, told, &frame(alloc, input)?, true)
+        tell_frame::<Behind>(alloc, told, &frame(alloc, input)?)
     }
 }
 

@@ -29,6 +29,11 @@ pub(crate) fn bytes(told: &mut String, bytes: &[u8]) -> Option<()> {
     Some(())
 }
 
+/// Adds whether two runs of bytes are the same.
+pub(crate) fn same(told: &mut String, one: &[u8], other: &[u8]) -> Option<()> {
+    word(told, if one == other { "same" } else { "other" })
+}
+
 /// Adds a refusal: its line, its index and its place.
 pub(crate) fn refusal(told: &mut String, refusal: Refusal) -> Option<()> {
     word(told, "refused")?;
@@ -42,15 +47,6 @@ pub(crate) fn fault(told: &mut String, fault: Fault) -> Option<()> {
     match fault {
         Fault::Refused(found) => refusal(told, found),
         Fault::NoMemory => None,
-    }
-}
-
-/// The type number in the head of an object.
-pub(crate) fn number_of(object: &Object<'_>) -> u16 {
-    match object {
-        Object::Typed(typed) => typed.number,
-        Object::Plain(plain) => plain.number,
-        Object::Raw(raw) => raw.number,
     }
 }
 
@@ -101,6 +97,6 @@ pub(crate) fn object(told: &mut String, object: &Object<'_>) -> Option<()> {
 
 /// Adds an object behind the type number in its head.
 pub(crate) fn numbered_object(told: &mut String, object: &Object<'_>) -> Option<()> {
-    number(told, u64::from(number_of(object)))?;
+    number(told, u64::from(object.number()))?;
     self::object(told, object)
 }
