@@ -94,7 +94,7 @@ pub enum Body {
 ///
 /// - `by_kind!(body of, held => done)`: what is done with the body that is held, whichever it is;
 /// - `by_kind!(kind of)`: the kind of a body;
-/// - `by_kind!(parse kind, ..)`: the body of a kind as it is parsed, `Ok(None)` for each kind that has none.
+/// - `by_kind!(parse kind, ..)`, in this file alone: the body of a kind as it is parsed, `Ok(None)` for each kind that has none.
 #[macro_export]
 macro_rules! by_kind {
     (body $of:expr, $held:ident => $done:expr) => {
@@ -131,8 +131,8 @@ macro_rules! by_kind {
     };
 }
 
-/// Reads what is parsed of a body, and answers it as `held` holds it among the bodies of all kinds: what is parsed of the body is, so held,
-/// what is parsed of the kind. One call for each kind, since a kind more costs the prover little so. The only refusal is want of memory.
+/// Reads what is parsed of a body, and answers it as `held` holds it among the bodies of all kinds. What is parsed of the kind is what is parsed of
+/// the body, so held. The only refusal is want of memory.
 fn parse_held<B: BodyCode, H: FnOnce(B) -> Body>(
     alloc: Global,
     kind: Kind,
@@ -147,6 +147,7 @@ fn parse_held<B: BodyCode, H: FnOnce(B) -> Body>(
     requires none { (bits references : List Bool) → (B.grammar base).parse bits references ≡ None → (own_body kind base).parse bits references ≡ None }
     ensures parsed { IfOk result (λ found. ParsesBody (own_body kind base) found main.old main.new refs.old refs.new) }
 {
+    // In a function of its own, since the prover goes through a call for each kind much sooner than through a match for each.
     match B::parse(alloc, main, refs, base)? {
         Some(body) => Ok(Some(held(body))),
         None => Ok(None),
