@@ -8,7 +8,7 @@ use Rattle.dwg_bits.specs.Bits.{bits, low_bits}
 use Rattle.dwg_bits.specs.WholeBytes.{whole_bytes}
 use Rattle.dwg_bits.proofs.BitLaws.{low_bits_of_num}
 use Rattle.dwg_bits.proofs.WholeBytes.{whole_of_bits}
-use Rattle.dwg_grammar.specs.Codes.{rc, rs, rl, rd}
+use Rattle.dwg_grammar.specs.Codes.{rc, rs, rl, rd, word_bytes}
 use Rattle.dwg_grammar.specs.Combinators.{fixed, seq, image, restrict, chain, items, counted}
 use Rattle.dwg_grammar.specs.Grammar.{Grammar, IsCode, AnyLetters}
 use Rattle.dwg_grammar.specs.declared.points.Point3.{Point3}
@@ -69,7 +69,7 @@ rl_exact = image_exact (from_le_bytes w32) (to_le_bytes w32) (items rc 4) (items
     (λ bytes fits. (bytes_of_32 bytes fits.0 (bytes_of_items rc (λ value small. small) bytes fits.1)).1)
 
 rd_exact : IsExact rd
-unfolding chain
+unfolding chain word_bytes
 rd_exact = image_exact (from_le_bytes w64) (to_le_bytes w64) (items rc 8) (items_is_code AnyLetters rc 8 any_letters_closed rc_is_code) (bytes_exact 8)
     (λ bytes fits. (bytes_of_64 bytes fits.0 (bytes_of_items rc (λ value small. small) bytes fits.1)).1)
 

@@ -47,9 +47,13 @@ placing_of text = (text.elevation, (text.insertion, (text.alignment, (text.extru
 abbrev pub lettering_of : Text → Option ℕ × (Option ℕ × (ℕ × Option ℕ))
 lettering_of text = (text.oblique, (text.rotation, (text.height, text.width)))
 
+-- its words
+abbrev pub wording_of : Text → List ℕ × (Option ℕ × (Option ℕ × Option ℕ))
+wording_of text = (text.text, (text.generation, (text.horizontal, text.vertical)))
+
 -- what the main bits of a text tell of it
 abbrev pub inscription_of : Text → Inscription
-inscription_of text = (flags_of text, (placing_of text, (lettering_of text, (text.text, (text.generation, (text.horizontal, text.vertical))))))
+inscription_of text = (flags_of text, (placing_of text, (lettering_of text, wording_of text)))
 
 -- a text from these and from its style
 abbrev pub text_of : Inscription → Reference → Text

@@ -6,7 +6,7 @@ ghost use Rattle.dwg_common.specs.Parsing.{Keeps, Parses};
 ghost use Rattle.dwg_grammar.specs.Points.{dd2};
 ghost use Rattle.dwg_entities.specs.BodiesLaws.{text_is_body};
 ghost use Rattle.dwg_entities.specs.Flags.{unless};
-ghost use Rattle.dwg_entities.specs.TextBody.{flags_of, lettering_of, placing_of, text_body, text_lettering, text_placing, text_wording};
+ghost use Rattle.dwg_entities.specs.TextBody.{flags_of, lettering_of, placing_of, text_body, text_lettering, text_placing, text_wording, wording_of};
 ghost use Rattle.dwg_entities.specs.TextReading.{lettering_read, placing_read, wording_read};
 
 use crate::flags::{has, number_fits, word_fits, worth_unless};
@@ -241,6 +241,18 @@ fn write_lettering(flags: u8, text: &Text, sink: &mut BitSink)
     write_when::<CodeRD>(&(), !has(flags, NO_WIDTH), &text.width, sink);
 }
 
+/// Writes its words.
+fn write_wording(flags: u8, text: &Text, sink: &mut BitSink)
+    requires value { (text_wording flags).IsValue (wording_of text.now) }
+    requires room { length ((text_wording flags).short (wording_of text.now)) ≤ sink.old.spare }
+    ensures { Extends sink.old sink.new ((text_wording flags).short (wording_of text.now)) }
+{
+    write_tv(text.text.as_slice(), sink);
+    write_when::<CodeBS>(&(), !has(flags, NO_GENERATION), &text.generation, sink);
+    write_when::<CodeBS>(&(), !has(flags, NO_HORIZONTAL), &text.horizontal, sink);
+    write_when::<CodeBS>(&(), !has(flags, NO_VERTICAL), &text.vertical, sink);
+}
+
 impl BodyCode for Text {
     ghost grammar = { text_body };
 
@@ -355,10 +367,7 @@ impl BodyCode for Text {
         CodeRC::write(&(), &flags, sink);
         write_placing(flags, self, sink);
         write_lettering(flags, self, sink);
-        write_tv(self.text.as_slice(), sink);
-        write_when::<CodeBS>(&(), !has(flags, NO_GENERATION), &self.generation, sink);
-        write_when::<CodeBS>(&(), !has(flags, NO_HORIZONTAL), &self.horizontal, sink);
-        write_when::<CodeBS>(&(), !has(flags, NO_VERTICAL), &self.vertical, sink);
+        write_wording(flags, self, sink);
     }
 
     #[tactic(auto, unfolding(crate::specs::TextBody::text_body, dwg_grammar::specs::ReferenceCodes::reference))]

@@ -15,7 +15,6 @@ pub struct Other<'a> {
 }
 
 /// What a drawing says. Places, the preview, padding, slack and the choice of spellings aren't part of it.
-#[derive(Drop)]
 pub struct Parts<'a> {
     /// Seven bytes behind the version, kept without meaning.
     pub lead: [u8; 7],
@@ -31,4 +30,19 @@ pub struct Parts<'a> {
     pub others: Items<Other<'a>>,
     /// The objects, in ascending order of handle.
     pub objects: Items<Object<'a>>,
+}
+
+impl Drop for Parts<'_> {
+    // Written for the same reason as that of a body.
+    fn drop(self) {
+        let Parts {
+            lead: _,
+            mark: _,
+            code_page: _,
+            variables: _variables,
+            classes: _classes,
+            others: _others,
+            objects: _objects,
+        } = self;
+    }
 }

@@ -11,7 +11,7 @@ use Rattle.dwg_grammar.proofs.CodeLemmas.{IsClosed}
 use Rattle.dwg_grammar.specs.Combinators.{image, IsChain, short_chain, chain, items}
 use Rattle.dwg_grammar.proofs.CombinatorLemmas.{any_letters_closed, fixed_is_code, struct_is_code}
 use Rattle.dwg_grammar.proofs.ListLemmas.{items_is_code}
-use Rattle.dwg_grammar.specs.Codes.{bb, rc, rs, rl, rd}
+use Rattle.dwg_grammar.specs.Codes.{bb, rc, rs, rl, rd, word_bytes}
 
 -- each byte of a list is below 256
 pub byte_in : (bytes : List ℕ) → AreBytes bytes → (i : ℕ) → get_or bytes i 0 < 256
@@ -107,6 +107,7 @@ rl_is_code = number_is_code AnyLetters rc 4 (2 ^ 32) (from_le_bytes w32) (to_le_
 
 -- an RD is a code
 pub rd_is_code : IsCode AnyLetters rd
+unfolding word_bytes
 rd_is_code = number_is_code AnyLetters rc 8 (2 ^ 64) (from_le_bytes w64) (to_le_bytes w64) any_letters_closed rc_is_code (λ value h. h) (λ value h. h) bytes_of_64 number_of_64
 
 -- each byte is written by eight bits
@@ -131,5 +132,5 @@ length_of_rl value = length_of_items (to_le_bytes w32 value)
 
 -- an RD has 64 bits
 pub length_of_rd : (value : ℕ) → length (rd.short value) ≡ 64
-unfolding chain
+unfolding chain word_bytes
 length_of_rd value = length_of_items (to_le_bytes w64 value)

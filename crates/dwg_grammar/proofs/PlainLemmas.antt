@@ -10,7 +10,7 @@ use Rattle.dwg_base.specs.Bytes.{AreBytes}
 use Rattle.dwg_bits.specs.Bits.{low_bits, bits, num}
 use Rattle.dwg_bits.proofs.BitLaws.{length_of_low_bits, num_of_low_bits, low_bits_of_num, num_fits}
 use Rattle.dwg_grammar.specs.Grammar.{Grammar}
-use Rattle.dwg_grammar.specs.Codes.{rc, bs, tv}
+use Rattle.dwg_grammar.specs.Codes.{rc, bs, tv, word_bytes}
 use Rattle.dwg_grammar.specs.Combinators.{one_byte, always, tagged, choose, image, items, SpellsChain, chain}
 use Rattle.dwg_grammar.specs.ModularCodes.{behind_group, mc_within, mc, unit, ms_within, Signed, last_of, signed_mc_within, signed_mc, signed_number}
 use Rattle.dwg_grammar.proofs.ModularLemmas.{group_by}
@@ -408,6 +408,7 @@ rl_spells value letters = word_spells 4 (2 ^ 32) (from_le_bytes w32) (to_le_byte
 
 -- what an RD spells
 pub rd_spells : RdSpells
+unfolding word_bytes
 rd_spells value letters = word_spells 8 (2 ^ 64) (from_le_bytes w64) (to_le_bytes w64) bytes_of_64 number_of_64 value letters
 
 -- what a TV spells

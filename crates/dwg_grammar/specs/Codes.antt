@@ -12,6 +12,10 @@ bb = fixed 2
 abbrev pub rc : Grammar Bool ℕ
 rc = fixed 8
 
+-- the bytes of a word of 64 bits, the least significant first; unfoldable, since a goal over several words would hold eight terms for each
+unfoldable pub word_bytes : ℕ → List ℕ
+word_bytes = to_le_bytes w64
+
 -- RS, RL, RD: two, four, eight RCs, the least significant byte first
 abbrev pub rs : Grammar Bool ℕ
 rs = image (λ value. value < 2 ^ 16) (from_le_bytes w16) (to_le_bytes w16) (items rc 2)
@@ -20,7 +24,7 @@ abbrev pub rl : Grammar Bool ℕ
 rl = image (λ value. value < 2 ^ 32) (from_le_bytes w32) (to_le_bytes w32) (items rc 4)
 
 abbrev pub rd : Grammar Bool ℕ
-rd = image (λ value. value < 2 ^ 64) (from_le_bytes w64) (to_le_bytes w64) (items rc 8)
+rd = image (λ value. value < 2 ^ 64) (from_le_bytes w64) word_bytes (items rc 8)
 
 -- the words of 1.0
 abbrev pub ONE : ℕ

@@ -29,10 +29,19 @@ dd3 default =
     shaped (λ words. record { x = words.0; y = words.1.0; z = words.1.1 }) (λ point. (point.x, (point.y, point.z)))
     (seq (dd default.x) (λ x. seq (dd default.y) (λ y. dd default.z)))
 
+-- 3DD for each corner but the first, whose default is the corner before; BS where no-flags is 0
+abbrev pub behind_first : Bool → Point3 → Grammar Bool (Point3 × (Point3 × (Point3 × Option ℕ)))
+behind_first no_flags first =
+    seq (dd3 first) (λ second. seq (dd3 second) (λ third. seq (dd3 third) (λ fourth. when (not no_flags) bs)))
+
+-- what of a face they tell
+abbrev pub behind_first_of : Face3d → Point3 × (Point3 × (Point3 × Option ℕ))
+behind_first_of face = (face.second, (face.third, (face.fourth, face.invisible)))
+
 -- B no-flags; the first corner; 3DD for each other, whose default is the corner before; BS where no-flags is 0
 abbrev pub face_parts : Grammar Bool (Bool × (Point3 × (Point3 × (Point3 × (Point3 × Option ℕ)))))
 face_parts =
-    seq b (λ no_flags. seq first_corner (λ first. seq (dd3 first) (λ second. seq (dd3 second) (λ third. seq (dd3 third) (λ fourth. when (not no_flags) bs)))))
+    seq b (λ no_flags. seq first_corner (λ first. behind_first no_flags first))
 
 -- the main bits of a face
 unfoldable pub face_main : Grammar Bool Face3d
@@ -44,7 +53,7 @@ face_main =
       fourth = parts.1.1.1.1.0;
       invisible = parts.1.1.1.1.1;
     })
-    (λ face. (is_none face.invisible, (face.first, (face.second, (face.third, (face.fourth, face.invisible)))))) face_parts
+    (λ face. (is_none face.invisible, (face.first, behind_first_of face))) face_parts
 
 -- a face: no references
 abbrev pub face_body : ℕ → BodyGrammar Face3d

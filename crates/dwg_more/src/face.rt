@@ -1,10 +1,11 @@
 //! Faces.
 
-ghost use Rattle.std.specs.Prelude.{◌≡◌, ◌<◌, not, is_none, length};
-ghost use Rattle.dwg_grammar.specs.Codes.{bs};
+ghost use Rattle.std.specs.Prelude.{◌≡◌, ◌<◌, ◌≤◌, not, is_none, length};
+ghost use Rattle.dwg_bits.specs.Sink.{Extends};
+ghost use Rattle.dwg_grammar.specs.Codes.{bs, IsPoint3};
 ghost use Rattle.dwg_grammar.specs.Combinators.{when};
 ghost use Rattle.dwg_common.specs.Parsing.{Keeps, Parses};
-ghost use Rattle.dwg_more.specs.Faces.{face_body, face_main};
+ghost use Rattle.dwg_more.specs.Faces.{behind_first, behind_first_of, face_body, face_main};
 ghost use Rattle.dwg_more.specs.MoreLaws.{face_is_body};
 
 use crate::corners::{Code3DD, CodeFirstCorner};
@@ -73,6 +74,19 @@ fn known_flags(invisible: Option<u16>)
     }
 }
 
+/// Writes what stands behind the first corner of a face.
+fn write_behind_first(no_flags: bool, face: &Face3d, sink: &mut BitSink)
+    requires first { IsPoint3 face.now.first }
+    requires value { (behind_first no_flags face.now.first).IsValue (behind_first_of face.now) }
+    requires room { length ((behind_first no_flags face.now.first).short (behind_first_of face.now)) ≤ sink.old.spare }
+    ensures { Extends sink.old sink.new ((behind_first no_flags face.now.first).short (behind_first_of face.now)) }
+{
+    Code3DD::write(&face.first, &face.second, sink);
+    Code3DD::write(&face.second, &face.third, sink);
+    Code3DD::write(&face.third, &face.fourth, sink);
+    write_when::<CodeBS>(&(), !no_flags, &face.invisible, sink);
+}
+
 impl BodyCode for Face3d {
     ghost grammar = { face_body };
 
@@ -114,10 +128,7 @@ impl BodyCode for Face3d {
         let no_flags = has_no_flags(self.invisible);
         CodeB::write(&(), &no_flags, sink);
         CodeFirstCorner::write(&(), &self.first, sink);
-        Code3DD::write(&self.first, &self.second, sink);
-        Code3DD::write(&self.second, &self.third, sink);
-        Code3DD::write(&self.third, &self.fourth, sink);
-        write_when::<CodeBS>(&(), !no_flags, &self.invisible, sink);
+        write_behind_first(no_flags, self, sink);
     }
 
     fn write_refs(&self, _base: Handle, _sink: &mut BitSink) {}

@@ -18,7 +18,6 @@ use dwg_tables::{AppId, BlockHeader, Layer, Ltype, Style};
 use std::alloc::Global;
 
 /// What an object has of its own behind its common part, by its kind (Open Design Specification, the sections of the kinds).
-#[derive(Drop)]
 pub enum Body {
     /// A line of text.
     Text(Text),
@@ -151,6 +150,13 @@ fn parse_held<B: BodyCode, H: FnOnce(B) -> Body>(
     match B::parse(alloc, main, refs, base)? {
         Some(body) => Ok(Some(held(body))),
         None => Ok(None),
+    }
+}
+
+impl Drop for Body {
+    // Written, since who lets go of a body would go through a derived one kind by kind, in a proof of its own.
+    fn drop(self) {
+        by_kind!(body self, _held => ())
     }
 }
 

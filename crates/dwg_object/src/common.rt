@@ -11,12 +11,21 @@ use std::alloc::Global;
 
 /// What all entities have, or what all other objects have (Open Design Specification, "Common entity data" and "Common
 /// non-entity object format").
-#[derive(Drop)]
 pub enum Common {
     /// An entity's.
     Entity(EntityCommon),
     /// Another object's.
     Object(ObjectCommon),
+}
+
+impl Drop for Common {
+    // Written for the same reason as a body's.
+    fn drop(self) {
+        match self {
+            Common::Entity(_common) => (),
+            Common::Object(_common) => (),
+        }
+    }
 }
 
 impl Common {

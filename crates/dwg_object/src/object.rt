@@ -51,7 +51,6 @@ pub struct Raw<'a> {
 }
 
 /// An object of a drawing, in the strongest form in which it could be read.
-#[derive(Drop)]
 pub enum Object<'a> {
     /// Its common part and the body of its kind.
     Typed(Typed),
@@ -59,6 +58,17 @@ pub enum Object<'a> {
     Plain(Plain<'a>),
     /// Its bytes alone.
     Raw(Raw<'a>),
+}
+
+impl Drop for Object<'_> {
+    // Written for the same reason as a body's.
+    fn drop(self) {
+        match self {
+            Object::Typed(_typed) => (),
+            Object::Plain(_plain) => (),
+            Object::Raw(_raw) => (),
+        }
+    }
 }
 
 /// What a common part says of its object, as a class would.

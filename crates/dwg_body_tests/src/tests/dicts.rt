@@ -1,7 +1,7 @@
 //! Controls of tables, dictionaries and records.
 
 use crate::tests::fields::{Fields, close, open, put, put_bytes, put_ref, put_refs, put_text};
-use crate::tests::table::{Body, OWN, holds};
+use crate::tests::table::{Body, OWN, hold, holds};
 use dwg_base::{ByteRun, Handle, Items};
 use dwg_common::BodyCode;
 use dwg_dicts::{
@@ -9,9 +9,8 @@ use dwg_dicts::{
     XRecord,
 };
 use dwg_handles::Ref;
-use dwg_samples::{Case, first_failing};
+use dwg_samples::Case;
 use std::alloc::Global;
-use std::test::Fail;
 
 impl Fields for LayerControl {
     fn put(&self, text: &mut String) -> Option<()> {
@@ -33,41 +32,34 @@ impl Fields for AppIdControl {
 
 /// The entries: none, two, and of the layers the same by more bytes; each is cut short once.
 #[test]
-fn controls_of_entries_are_told_and_written(rt: HostRuntime) -> Result<(), Fail> {
+fn controls_of_entries_are_told_and_written(rt: HostRuntime) {
     let alloc = rt.alloc();
-    assert_eq!(rt;
-        first_failing::<Body<LayerControl>>(
-            alloc,
-            "\
+    hold::<Body<LayerControl>>(
+        &rt,
+        alloc,
+        "\
         '10 / - | = | [ ]\n\
         '01 02 / 2.10 2.17 | = | [ 2.10 2.17 ]\n\
         '00 02000000 / 220010 23000017 | '01 02 / 2.10 2.17 | [ 2.10 2.17 ]\n\
         '01 02 '000000 / 21 10 21 | none\n\
-        '01 02 / 2.61 3.62 | = | [ 2.61 3.62 ]\n"
-        ),
-        None
+        '01 02 / 2.61 3.62 | = | [ 2.61 3.62 ]\n",
     );
-    assert_eq!(rt;
-        first_failing::<Body<StyleControl>>(
-            alloc,
-            "\
+    hold::<Body<StyleControl>>(
+        &rt,
+        alloc,
+        "\
         '10 / - | = | [ ]\n\
         '01 02 / 2.10 2.17 | = | [ 2.10 2.17 ]\n\
-        '00 020000 '000000 / 2.10 2.17 | none\n"
-        ),
-        None
+        '00 020000 '000000 / 2.10 2.17 | none\n",
     );
-    assert_eq!(rt;
-        first_failing::<Body<AppIdControl>>(
-            alloc,
-            "\
+    hold::<Body<AppIdControl>>(
+        &rt,
+        alloc,
+        "\
         '10 / - | = | [ ]\n\
         '01 02 / 2.10 2.17 | = | [ 2.10 2.17 ]\n\
-        '01 01 '000000 / - | none\n"
-        ),
-        None
+        '01 01 '000000 / - | none\n",
     );
-    Ok(())
 }
 
 impl Fields for BlockControl {
@@ -88,31 +80,26 @@ impl Fields for LtypeControl {
 
 /// The entries and the two beside them: none, one; cut short; each reference another one.
 #[test]
-fn controls_with_two_entries_more_are_told_and_written(rt: HostRuntime) -> Result<(), Fail> {
+fn controls_with_two_entries_more_are_told_and_written(rt: HostRuntime) {
     let alloc = rt.alloc();
-    assert_eq!(rt;
-        first_failing::<Body<BlockControl>>(
-            alloc,
-            "\
+    hold::<Body<BlockControl>>(
+        &rt,
+        alloc,
+        "\
         '10 / 3.18 3.1B | = | [ ] 3.18 3.1B\n\
         '01 01 / 2.20 3.18 3.1B | = | [ 2.20 ] 3.18 3.1B\n\
         '01 01 '000000 / 3.18 3.1B | none\n\
-        '01 02 / 2.61 3.62 5.63 5.64 | = | [ 2.61 3.62 ] 5.63 5.64\n"
-        ),
-        None
+        '01 02 / 2.61 3.62 5.63 5.64 | = | [ 2.61 3.62 ] 5.63 5.64\n",
     );
-    assert_eq!(rt;
-        first_failing::<Body<LtypeControl>>(
-            alloc,
-            "\
+    hold::<Body<LtypeControl>>(
+        &rt,
+        alloc,
+        "\
         '10 / 3.14 3.15 | = | [ ] 3.14 3.15\n\
         '01 01 / 2.16 3.14 3.15 | = | [ 2.16 ] 3.14 3.15\n\
         '10 '000000 / 21 16 31 | none\n\
-        '01 02 / 2.61 3.62 5.63 5.64 | = | [ 2.61 3.62 ] 5.63 5.64\n"
-        ),
-        None
+        '01 02 / 2.61 3.62 5.63 5.64 | = | [ 2.61 3.62 ] 5.63 5.64\n",
     );
-    Ok(())
 }
 
 /// Adds a list of items.
@@ -145,12 +132,12 @@ impl Fields for XRecord {
 /// and the same by longer codes; eight bits that are no reference, by their code and by their count of bytes; cut short; every number another
 /// one.
 #[test]
-fn dictionaries_and_records_are_told_and_written(rt: HostRuntime) -> Result<(), Fail> {
+fn dictionaries_and_records_are_told_and_written(rt: HostRuntime) {
     let alloc = rt.alloc();
-    assert_eq!(rt;
-        first_failing::<Body<Dictionary>>(
-            alloc,
-            "\
+    hold::<Body<Dictionary>>(
+        &rt,
+        alloc,
+        "\
         '10 '10 00 / - | = | 0 0 [ ]\n\
         '00 00000000 '00 0000 00 / - | '10 '10 00 / - | 0 0 [ ]\n\
         '01 02 '11 01 '01 05 4E4F544553 '10 / 2.D 3.0 | = | 100 1 [ 'NOTES' 2.D '' 3.0 ]\n\
@@ -159,25 +146,20 @@ fn dictionaries_and_records_are_told_and_written(rt: HostRuntime) -> Result<(), 
             | 0 1 [ 'NOTES' 2.D '' 3.0 ]\n\
         '01 02 '11 01 '01 05 4E4F5445 '01 / 2.D 3.0 | none\n\
         '01 02 '11 01 '01 05 4E4F544553 '10 / 2.D | none\n\
-        '01 02 '01 01 02 '01 01 61 '01 02 6263 / 2.61 3.62 | = | 1 2 [ 'a' 2.61 'bc' 3.62 ]\n"
-        ),
-        None
+        '01 02 '01 01 02 '01 01 61 '01 02 6263 / 2.61 3.62 | = | 1 2 [ 'a' 2.61 'bc' 3.62 ]\n",
     );
-    assert_eq!(rt;
-        first_failing::<Body<XRecord>>(
-            alloc,
-            "\
+    hold::<Body<XRecord>>(
+        &rt,
+        alloc,
+        "\
         '10 '10 / - | = | : 0 [ ]\n\
         '01 03 010203 '01 01 / 4.10 5.0 | = | :010203 1 [ 4.10 5.0 ]\n\
         '00 03000000 010203 '00 0100 / 420010 520000 | '01 03 010203 '01 01 / 4.10 5.0 | :010203 1 [ 4.10 5.0 ]\n\
         '01 03 010203 '01 01 '0000 / 4.10 F0 | none\n\
         '01 03 010203 '01 01 '0000 / 41 10 41 | none\n\
         '01 03 010203 '01 '0000 / 4.10 5.0 | none\n\
-        '01 03 78797A '01 04 / 2.61 3.62 | = | :78797A 4 [ 2.61 3.62 ]\n"
-        ),
-        None
+        '01 03 78797A '01 04 / 2.61 3.62 | = | :78797A 4 [ 2.61 3.62 ]\n",
     );
-    Ok(())
 }
 
 /// Records behind two other bits of the references: lines as those of `Body`.
@@ -191,16 +173,13 @@ impl Case for Behind {
 
 /// Two bits stand before the one reference, and six behind it.
 #[test]
-fn references_of_a_record_end_before_the_last_bits(rt: HostRuntime) -> Result<(), Fail> {
-    assert_eq!(rt;
-        first_failing::<Behind>(
-            rt.alloc(),
-            "\
-        '01 03 010203 '01 01 / '11 4.10 | '01 03 010203 '01 01 / 4.10 | :010203 1 [ 4.10 ]\n"
-        ),
-        None
+fn references_of_a_record_end_before_the_last_bits(rt: HostRuntime) {
+    hold::<Behind>(
+        &rt,
+        rt.alloc(),
+        "\
+        '01 03 010203 '01 01 / '11 4.10 | '01 03 010203 '01 01 / 4.10 | :010203 1 [ 4.10 ]\n",
     );
-    Ok(())
 }
 
 /// A list of one.
@@ -257,10 +236,9 @@ fn fits_next(alloc: Global, target: u64) -> Option<String> {
 
 /// Code 6 tells the next handle and no other.
 #[test]
-fn what_no_bits_tell_does_not_fit(rt: HostRuntime) -> Result<(), Fail> {
+fn what_no_bits_tell_does_not_fit(rt: HostRuntime) {
     let next = fits_next(rt.alloc(), 0x81);
     assert_eq!(rt; next.as_deref(), Some("true true true"));
     let far = fits_next(rt.alloc(), 0x82);
     assert_eq!(rt; far.as_deref(), Some("false false false"));
-    Ok(())
 }

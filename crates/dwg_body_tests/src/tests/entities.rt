@@ -3,10 +3,8 @@
 use crate::tests::fields::{
     Fields, put, put_none, put_plane, put_ref, put_some, put_space, put_text, wide,
 };
-use crate::tests::table::Body;
+use crate::tests::table::{Body, hold};
 use dwg_entities::{Attdef, Attrib, Attributes, Block, EndBlk, Insert, MInsert, SeqEnd, Text};
-use dwg_samples::first_failing;
-use std::test::Fail;
 
 /// Adds where a text stands.
 fn put_placing(text: &mut String, of: &Text) -> Option<()> {
@@ -48,12 +46,12 @@ impl Fields for Text {
 /// of a text with nothing else, with every part, with some; cut short in both places; every number another one. Its style is one before
 /// the text (`C.1`).
 #[test]
-fn texts_are_told_and_written(rt: HostRuntime) -> Result<(), Fail> {
+fn texts_are_told_and_written(rt: HostRuntime) {
     let alloc = rt.alloc();
-    assert_eq!(rt;
-        first_failing::<Body<Text>>(
-            alloc,
-            "\
+    hold::<Body<Text>>(
+        &rt,
+        alloc,
+        "\
         FF 0000000000000000 0000000000000000 '1 '1 0000000000000000 '01 01 41 / 5.11 \
             | = | - 0 0 - 0 0 3FF0000000000000 0 - - 0 - 'A' - - - 5.11\n\
         00 000000000000F03F 000000000000F03F 0000000000000040 '00 '11 0000000000000840 '0 '01 '10 '10 '0 '00 \
@@ -74,11 +72,8 @@ fn texts_are_told_and_written(rt: HostRuntime) -> Result<(), Fail> {
             | 00 0100000000000000 0200000000000000 0300000000000000 '01 04000000 '01 05000000 '0 '00 \
               0600000000000000 '00 0700000000000000 '00 0800000000000000 '0 '00 0900000000000000 0A00000000000000 \
               0B00000000000000 0C00000000000000 0D00000000000000 '01 01 54 '01 0E '01 0F '01 10 / C.1 \
-            | 1 2 3 4 5 6 7 8 9 A B C D 'T' E F 10 C.7F\n"
-        ),
-        None
+            | 1 2 3 4 5 6 7 8 9 A B C D 'T' E F 10 C.7F\n",
     );
-    Ok(())
 }
 
 impl Fields for Attrib {
@@ -99,24 +94,22 @@ impl Fields for Attdef {
 /// What a text has, and then tag, length and flags, and of a definition the prompt. Of each the second is cut short, and in the third every
 /// number is another one.
 #[test]
-fn attributes_are_told_and_written(rt: HostRuntime) -> Result<(), Fail> {
+fn attributes_are_told_and_written(rt: HostRuntime) {
     let alloc = rt.alloc();
-    assert_eq!(rt;
-        first_failing::<Body<Attrib>>(
-            alloc,
-            "\
+    hold::<Body<Attrib>>(
+        &rt,
+        alloc,
+        "\
         FF 0000000000000000 0000000000000000 '1 '1 0000000000000000 '01 01 41 '01 02 4E4F '01 03 08 / 5.11 \
             | = | - 0 0 - 0 0 3FF0000000000000 0 - - 0 - 'A' - - - 5.11 'NO' 3 8\n\
         FF 0000000000000000 0000000000000000 '1 '1 0000000000000000 '01 01 41 '01 02 4E4F '01 03 / 5.11 | none\n\
         FF 0200000000000000 0300000000000000 '1 '1 0C00000000000000 '01 01 54 '01 01 47 '01 11 12 / C.1 \
-            | = | - 2 3 - 0 0 3FF0000000000000 0 - - C - 'T' - - - C.7F 'G' 11 12\n"
-        ),
-        None
+            | = | - 2 3 - 0 0 3FF0000000000000 0 - - C - 'T' - - - C.7F 'G' 11 12\n",
     );
-    assert_eq!(rt;
-        first_failing::<Body<Attdef>>(
-            alloc,
-            "\
+    hold::<Body<Attdef>>(
+        &rt,
+        alloc,
+        "\
         FF 0000000000000000 0000000000000000 '1 '1 0000000000000000 '01 01 41 '01 02 4E4F '01 03 08 '01 06 \
             4E756D626572 / 5.11 \
             | = | - 0 0 - 0 0 3FF0000000000000 0 - - 0 - 'A' - - - 5.11 'NO' 3 8 'Number'\n\
@@ -124,11 +117,8 @@ fn attributes_are_told_and_written(rt: HostRuntime) -> Result<(), Fail> {
             4E756D6265 '011100 / 5.11 \
             | none\n\
         FF 0200000000000000 0300000000000000 '1 '1 0C00000000000000 '01 01 54 '01 01 47 '01 11 12 '01 01 50 / C.1 \
-            | = | - 2 3 - 0 0 3FF0000000000000 0 - - C - 'T' - - - C.7F 'G' 11 12 'P'\n"
-        ),
-        None
+            | = | - 2 3 - 0 0 3FF0000000000000 0 - - C - 'T' - - - C.7F 'G' 11 12 'P'\n",
     );
-    Ok(())
 }
 
 /// Adds the attributes of an insert.
@@ -166,12 +156,12 @@ impl Fields for Insert {
 /// Place, scale, rotation, extrusion, block, attributes: of scale 1.0, of (1.0, 2.0, 1.0) with attributes, of 2.0, of (2.0, 2.0, 3.0), and
 /// of 1.0 by all its words; without the references to its attributes; every number another one.
 #[test]
-fn inserts_are_told_and_written(rt: HostRuntime) -> Result<(), Fail> {
+fn inserts_are_told_and_written(rt: HostRuntime) {
     let alloc = rt.alloc();
-    assert_eq!(rt;
-        first_failing::<Body<Insert>>(
-            alloc,
-            "\
+    hold::<Body<Insert>>(
+        &rt,
+        alloc,
+        "\
         '01 '10 '00 0000000000000040 '11 '10 '10 '10 '01 '0 / 5.20 \
             | = | 3FF0000000000000 0 4000000000000000 3FF0000000000000 3FF0000000000000 3FF0000000000000 0 0 0 \
               3FF0000000000000 5.20 -\n\
@@ -196,11 +186,8 @@ fn inserts_are_told_and_written(rt: HostRuntime) -> Result<(), Fail> {
             | '00 0100000000000000 '00 0200000000000000 '00 0300000000000000 '00 0400000000000000 '01 05000000 '01 \
               06000000 '00 0700000000000000 '00 0800000000000000 '00 0900000000000000 '00 0A00000000000000 '1 / \
               5.12 4.20 4.21 3.22 \
-            | 1 2 3 4 5 6 7 8 9 A 5.12 4.20 4.21 3.22\n"
-        ),
-        None
+            | 1 2 3 4 5 6 7 8 9 A 5.12 4.20 4.21 3.22\n",
     );
-    Ok(())
 }
 
 impl Fields for MInsert {
@@ -221,12 +208,12 @@ impl Fields for MInsert {
 /// What an insert has, and then columns, rows and the spacing of each: behind inserts of several lengths, with spacings and counts of all
 /// forms; counts and spacings by longer codes; cut short in the last spacing, and in the references; every number another one.
 #[test]
-fn inserts_in_columns_and_rows_are_told_and_written(rt: HostRuntime) -> Result<(), Fail> {
+fn inserts_in_columns_and_rows_are_told_and_written(rt: HostRuntime) {
     let alloc = rt.alloc();
-    assert_eq!(rt;
-        first_failing::<Body<MInsert>>(
-            alloc,
-            "\
+    hold::<Body<MInsert>>(
+        &rt,
+        alloc,
+        "\
         '01 '10 '00 0000000000000040 '11 '10 '10 '10 '01 '0 '01 03 '01 02 '00 0000000000002440 '00 \
             0000000000001440 / 5.20 \
             | = | 3FF0000000000000 0 4000000000000000 3FF0000000000000 3FF0000000000000 3FF0000000000000 0 0 0 \
@@ -250,11 +237,8 @@ fn inserts_in_columns_and_rows_are_told_and_written(rt: HostRuntime) -> Result<(
             | '00 0100000000000000 '00 0200000000000000 '00 0300000000000000 '00 0400000000000000 '01 05000000 '01 \
               06000000 '00 0700000000000000 '00 0800000000000000 '00 0900000000000000 '00 0A00000000000000 '1 '01 0B \
               '01 0C '00 0D00000000000000 '00 0E00000000000000 / 5.12 4.20 4.21 3.22 \
-            | 1 2 3 4 5 6 7 8 9 A 5.12 4.20 4.21 3.22 B C D E\n"
-        ),
-        None
+            | 1 2 3 4 5 6 7 8 9 A 5.12 4.20 4.21 3.22 B C D E\n",
     );
-    Ok(())
 }
 
 impl Fields for Block {
@@ -277,33 +261,26 @@ impl Fields for SeqEnd {
 
 /// The begin of a block has a name, the ends have no field. The second block is cut short.
 #[test]
-fn marks_of_blocks_are_told_and_written(rt: HostRuntime) -> Result<(), Fail> {
+fn marks_of_blocks_are_told_and_written(rt: HostRuntime) {
     let alloc = rt.alloc();
-    assert_eq!(rt;
-        first_failing::<Body<Block>>(
-            alloc,
-            "\
+    hold::<Body<Block>>(
+        &rt,
+        alloc,
+        "\
         '01 03 544147 / - | = | 'TAG'\n\
         '01 03 5441 '010001 / - | none\n\
-        '01 01 4E / - | = | 'N'\n"
-        ),
-        None
+        '01 01 4E / - | = | 'N'\n",
     );
-    assert_eq!(rt;
-        first_failing::<Body<EndBlk>>(
-            alloc,
-            "\
-        - / - | = | -\n"
-        ),
-        None
+    hold::<Body<EndBlk>>(
+        &rt,
+        alloc,
+        "\
+        - / - | = | -\n",
     );
-    assert_eq!(rt;
-        first_failing::<Body<SeqEnd>>(
-            alloc,
-            "\
-        - / - | = | -\n"
-        ),
-        None
+    hold::<Body<SeqEnd>>(
+        &rt,
+        alloc,
+        "\
+        - / - | = | -\n",
     );
-    Ok(())
 }

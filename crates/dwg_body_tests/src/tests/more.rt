@@ -3,14 +3,12 @@
 use crate::tests::fields::{
     Fields, put, put_plane, put_ref, put_refs, put_some, put_space, put_text, wide,
 };
-use crate::tests::table::{Body, OWN, main_bits_of};
+use crate::tests::table::{Body, OWN, hold, main_bits_of};
 use dwg_base::{ByteRun, Handle, Items};
 use dwg_common::BodyCode;
 use dwg_handles::Ref;
 use dwg_more::{Ellipse, Face3d, Group, Polyline3d, Ray, Solid, Trace, Vertex3d, XLine};
-use dwg_samples::first_failing;
 use std::alloc::Global;
-use std::test::Fail;
 
 impl Fields for Ellipse {
     fn put(&self, text: &mut String) -> Option<()> {
@@ -23,11 +21,11 @@ impl Fields for Ellipse {
 
 /// Centre, axis, extrusion, ratio, start and end angles: in 24 bits, and the same by longer codes; cut short; every number another one.
 #[test]
-fn ellipses_are_told_and_written(rt: HostRuntime) -> Result<(), Fail> {
-    assert_eq!(rt;
-        first_failing::<Body<Ellipse>>(
-            rt.alloc(),
-            "\
+fn ellipses_are_told_and_written(rt: HostRuntime) {
+    hold::<Body<Ellipse>>(
+        &rt,
+        rt.alloc(),
+        "\
         A9 AA 59 / - \
             | = | 0 0 0 3FF0000000000000 0 0 0 0 3FF0000000000000 3FF0000000000000 0 3FF0000000000000\n\
         '10 '10 '10 '00 000000000000F03F '10 '10 '00 0000000000000000 '10 '01 '01 '10 '00 000000000000F03F / - \
@@ -36,11 +34,8 @@ fn ellipses_are_told_and_written(rt: HostRuntime) -> Result<(), Fail> {
         '00 0100000000000000 '00 0200000000000000 '00 0300000000000000 '00 0400000000000000 '00 0500000000000000 \
             '00 0600000000000000 '00 0700000000000000 '00 0800000000000000 '00 0900000000000000 '00 \
             0A00000000000000 '00 0B00000000000000 '00 0C00000000000000 / - \
-            | = | 1 2 3 4 5 6 7 8 9 A B C\n"
-        ),
-        None
+            | = | 1 2 3 4 5 6 7 8 9 A B C\n",
     );
-    Ok(())
 }
 
 impl Fields for Ray {
@@ -59,33 +54,28 @@ impl Fields for XLine {
 
 /// Point, vector: of each of the two the second is cut short, and in the third every number is another one.
 #[test]
-fn rays_and_lines_without_ends_are_told_and_written(rt: HostRuntime) -> Result<(), Fail> {
+fn rays_and_lines_without_ends_are_told_and_written(rt: HostRuntime) {
     let alloc = rt.alloc();
-    assert_eq!(rt;
-        first_failing::<Body<Ray>>(
-            alloc,
-            "\
+    hold::<Body<Ray>>(
+        &rt,
+        alloc,
+        "\
         '01 '10 '10 '10 '10 '01 / - | = | 3FF0000000000000 0 0 0 0 3FF0000000000000\n\
         '01 '10 '10 '10 '10 '00 00000000000000 / - | none\n\
         '00 0100000000000000 '00 0200000000000000 '00 0300000000000000 '00 0400000000000000 '00 0500000000000000 \
             '00 0600000000000000 / - \
-            | = | 1 2 3 4 5 6\n"
-        ),
-        None
+            | = | 1 2 3 4 5 6\n",
     );
-    assert_eq!(rt;
-        first_failing::<Body<XLine>>(
-            alloc,
-            "\
+    hold::<Body<XLine>>(
+        &rt,
+        alloc,
+        "\
         '01 '10 '10 '10 '10 '01 / - | = | 3FF0000000000000 0 0 0 0 3FF0000000000000\n\
         '01 '10 '10 '10 '10 '00 00000000000000 / - | none\n\
         '00 0100000000000000 '00 0200000000000000 '00 0300000000000000 '00 0400000000000000 '00 0500000000000000 \
             '00 0600000000000000 / - \
-            | = | 1 2 3 4 5 6\n"
-        ),
-        None
+            | = | 1 2 3 4 5 6\n",
     );
-    Ok(())
 }
 
 impl Fields for Solid {
@@ -113,12 +103,12 @@ impl Fields for Trace {
 /// Thickness, elevation, the four corners, extrusion: by the shortest codes, and of the solid the same by longer ones; cut short; every
 /// number another one.
 #[test]
-fn solids_and_traces_are_told_and_written(rt: HostRuntime) -> Result<(), Fail> {
+fn solids_and_traces_are_told_and_written(rt: HostRuntime) {
     let alloc = rt.alloc();
-    assert_eq!(rt;
-        first_failing::<Body<Solid>>(
-            alloc,
-            "\
+    hold::<Body<Solid>>(
+        &rt,
+        alloc,
+        "\
         '1 '10 0000000000000000 0000000000000000 000000000000F03F 0000000000000000 0000000000000000 \
             000000000000F03F 000000000000F03F 000000000000F03F '1 / - \
             | = | 0 0 0 0 3FF0000000000000 0 0 3FF0000000000000 3FF0000000000000 3FF0000000000000 0 0 3FF0000000000000\n\
@@ -134,14 +124,12 @@ fn solids_and_traces_are_told_and_written(rt: HostRuntime) -> Result<(), Fail> {
         '0 '00 0100000000000000 '00 0200000000000000 0300000000000000 0400000000000000 0500000000000000 \
             0600000000000000 0700000000000000 0800000000000000 0900000000000000 0A00000000000000 '0 '00 \
             0B00000000000000 '00 0C00000000000000 '00 0D00000000000000 / - \
-            | = | 1 2 3 4 5 6 7 8 9 A B C D\n"
-        ),
-        None
+            | = | 1 2 3 4 5 6 7 8 9 A B C D\n",
     );
-    assert_eq!(rt;
-        first_failing::<Body<Trace>>(
-            alloc,
-            "\
+    hold::<Body<Trace>>(
+        &rt,
+        alloc,
+        "\
         '1 '10 0000000000000000 0000000000000000 000000000000F03F 0000000000000000 0000000000000000 \
             000000000000F03F 000000000000F03F 000000000000F03F '1 / - \
             | = | 0 0 0 0 3FF0000000000000 0 0 3FF0000000000000 3FF0000000000000 3FF0000000000000 0 0 3FF0000000000000\n\
@@ -151,11 +139,8 @@ fn solids_and_traces_are_told_and_written(rt: HostRuntime) -> Result<(), Fail> {
         '0 '00 0100000000000000 '00 0200000000000000 0300000000000000 0400000000000000 0500000000000000 \
             0600000000000000 0700000000000000 0800000000000000 0900000000000000 0A00000000000000 '0 '00 \
             0B00000000000000 '00 0C00000000000000 '00 0D00000000000000 / - \
-            | = | 1 2 3 4 5 6 7 8 9 A B C D\n"
-        ),
-        None
+            | = | 1 2 3 4 5 6 7 8 9 A B C D\n",
     );
-    Ok(())
 }
 
 impl Fields for Face3d {
@@ -172,11 +157,11 @@ impl Fields for Face3d {
 /// it; the first z the word of negative zero, which isn't 0; the first z by its word 0, and the same without it; flags cut short; every
 /// number another one.
 #[test]
-fn faces_are_told_and_written(rt: HostRuntime) -> Result<(), Fail> {
-    assert_eq!(rt;
-        first_failing::<Body<Face3d>>(
-            rt.alloc(),
-            "\
+fn faces_are_told_and_written(rt: HostRuntime) {
+    hold::<Body<Face3d>>(
+        &rt,
+        rt.alloc(),
+        "\
         '1 '1 000000000000F03F 0000000000000000 '000000 '000000 '000000 / - \
             | = | 3FF0000000000000 0 0 3FF0000000000000 0 0 3FF0000000000000 0 0 3FF0000000000000 0 0 -\n\
         '0 '1 000000000000F03F 0000000000000000 '000000 '000000 '000000 '01 05 / - \
@@ -197,22 +182,18 @@ fn faces_are_told_and_written(rt: HostRuntime) -> Result<(), Fail> {
         '0 '1 000000000000F03F 0000000000000000 '000000 '000000 '000000 / - | none\n\
         '0 '0 0100000000000000 0200000000000000 0300000000000000 '01 04000000 '01 05000000 '01 06000000 '01 \
             07000000 '01 08000000 '01 09000000 '01 0A000000 '01 0B000000 '01 0C000000 '01 0D / - \
-            | = | 1 2 3 4 5 6 7 8 9 A B C D\n"
-        ),
-        None
+            | = | 1 2 3 4 5 6 7 8 9 A B C D\n",
     );
-    Ok(())
 }
 
 /// A face whose corners are one, in the plane and without flags: two bits, two words, and three times three codes of two bits.
 #[test]
-fn a_face_in_the_plane_has_148_bits(rt: HostRuntime) -> Result<(), Fail> {
+fn a_face_in_the_plane_has_148_bits(rt: HostRuntime) {
     let bits = main_bits_of::<Face3d>(
         rt.alloc(),
         "'1 '1 000000000000F03F 0000000000000000 '000000 '000000 '000000",
     );
     assert_eq!(rt; bits, Some(148));
-    Ok(())
 }
 
 impl Fields for Polyline3d {
@@ -234,31 +215,26 @@ impl Fields for Vertex3d {
 /// Polylines: flags, first, last, seqend; the same by more bytes; cut short in both places. Vertices: flags, place; the second is cut short.
 /// In the last of each every number is another one.
 #[test]
-fn polylines_and_vertices_in_space_are_told_and_written(rt: HostRuntime) -> Result<(), Fail> {
+fn polylines_and_vertices_in_space_are_told_and_written(rt: HostRuntime) {
     let alloc = rt.alloc();
-    assert_eq!(rt;
-        first_failing::<Body<Polyline3d>>(
-            alloc,
-            "\
+    hold::<Body<Polyline3d>>(
+        &rt,
+        alloc,
+        "\
         00 01 / 4.81 4.85 3.86 | = | 0 1 4.81 4.85 3.86\n\
         00 01 / 420081 43000085 320086 | 00 01 / 4.81 4.85 3.86 | 0 1 4.81 4.85 3.86\n\
         00 / 4.81 4.85 3.86 | none\n\
         00 01 / 4.81 4.85 | none\n\
-        02 03 / 4.61 5.62 3.63 | = | 2 3 4.61 5.62 3.63\n"
-        ),
-        None
+        02 03 / 4.61 5.62 3.63 | = | 2 3 4.61 5.62 3.63\n",
     );
-    assert_eq!(rt;
-        first_failing::<Body<Vertex3d>>(
-            alloc,
-            "\
+    hold::<Body<Vertex3d>>(
+        &rt,
+        alloc,
+        "\
         20 '01 '10 '00 0000000000000040 / - | = | 20 3FF0000000000000 0 4000000000000000\n\
         20 '01 '10 '00 00000000000000 / - | none\n\
-        01 '00 0200000000000000 '00 0300000000000000 '00 0400000000000000 / - | = | 1 2 3 4\n"
-        ),
-        None
+        01 '00 0200000000000000 '00 0300000000000000 '00 0400000000000000 / - | = | 1 2 3 4\n",
     );
-    Ok(())
 }
 
 impl Fields for Group {
@@ -272,22 +248,19 @@ impl Fields for Group {
 /// Name, unnamed, selectable, entries: none; a name and two entries; one by longer codes; cut short in the name, before the count, and among
 /// the entries; every number another one.
 #[test]
-fn groups_are_told_and_written(rt: HostRuntime) -> Result<(), Fail> {
-    assert_eq!(rt;
-        first_failing::<Body<Group>>(
-            rt.alloc(),
-            "\
+fn groups_are_told_and_written(rt: HostRuntime) {
+    hold::<Body<Group>>(
+        &rt,
+        rt.alloc(),
+        "\
         '10 '10 '10 '10 / - | = | '' 0 0 [ ]\n\
         '01 05 4E4F544553 '01 01 '01 01 '01 02 / 5.81 5.82 | = | 'NOTES' 1 1 [ 5.81 5.82 ]\n\
         '00 0100 61 '00 0000 '00 0100 '00 01000000 / 520081 | '01 01 61 '10 '01 01 '01 01 / 5.81 | 'a' 0 1 [ 5.81 ]\n\
         '01 05 4E4F5445 / - | none\n\
         '01 01 61 '01 01 '01 01 '000000 / - | none\n\
         '01 01 61 '01 01 '01 01 '01 02 / 5.81 | none\n\
-        '01 02 6263 '01 02 '01 03 '01 02 / 2.61 3.62 | = | 'bc' 2 3 [ 2.61 3.62 ]\n"
-        ),
-        None
+        '01 02 6263 '01 02 '01 03 '01 02 / 2.61 3.62 | = | 'bc' 2 3 [ 2.61 3.62 ]\n",
     );
-    Ok(())
 }
 
 /// Whether a polyline of the object 80 fits whose last vertex is named by code 6 at a target.
@@ -319,11 +292,10 @@ fn group_fits(alloc: Global, target: u64) -> Option<bool> {
 
 /// Code 6 tells the next handle and no other.
 #[test]
-fn polylines_and_groups_that_no_bits_tell_do_not_fit(rt: HostRuntime) -> Result<(), Fail> {
+fn polylines_and_groups_that_no_bits_tell_do_not_fit(rt: HostRuntime) {
     let alloc = rt.alloc();
     assert_eq!(rt; polyline_fits(0x81), Some(true));
     assert_eq!(rt; polyline_fits(0x82), Some(false));
     assert_eq!(rt; group_fits(alloc, 0x81), Some(true));
     assert_eq!(rt; group_fits(alloc, 0x82), Some(false));
-    Ok(())
 }

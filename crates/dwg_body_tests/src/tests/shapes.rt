@@ -1,12 +1,10 @@
 //! Lines, points, circles, arcs and lightweight polylines.
 
 use crate::tests::fields::{Fields, close, open, put, put_none, put_plane, put_some, put_space};
-use crate::tests::table::Body;
+use crate::tests::table::{Body, hold};
 use dwg_base::Items;
 use dwg_codes::{Point2, Point3};
-use dwg_samples::first_failing;
 use dwg_shapes::{Arc, Circle, Line, LwPolyline, Point, Width};
-use std::test::Fail;
 
 impl Fields for Line {
     fn put(&self, text: &mut String) -> Option<()> {
@@ -30,12 +28,12 @@ impl Fields for Point {
 /// to (2.0, 0, 1.0) of thickness 2.0; cut short; every number another one. Points: place, thickness, extrusion, angle; the second is cut
 /// short.
 #[test]
-fn lines_and_points_are_told_and_written(rt: HostRuntime) -> Result<(), Fail> {
+fn lines_and_points_are_told_and_written(rt: HostRuntime) {
     let alloc = rt.alloc();
-    assert_eq!(rt;
-        first_failing::<Body<Line>>(
-            alloc,
-            "\
+    hold::<Body<Line>>(
+        &rt,
+        alloc,
+        "\
         '1 000000000000F03F '00 0000000000000040 '11 0000000000000840 '1 '1 / - \
             | = | 3FF0000000000000 4000000000000000 0 3FF0000000000000 4008000000000000 0 0 0 0 3FF0000000000000\n\
         '0 000000000000F03F '11 000000000000F03F 0000000000000040 '11 0000000000000840 0000000000000000 '00 '0 '00 \
@@ -52,24 +50,19 @@ fn lines_and_points_are_told_and_written(rt: HostRuntime) -> Result<(), Fail> {
             0A00000000000000 / - \
             | '0 0100000000000000 '01 02000000 0300000000000000 '01 04000000 0500000000000000 '01 06000000 '0 '00 \
               0700000000000000 '0 '00 0800000000000000 '00 0900000000000000 '00 0A00000000000000 / - \
-            | 1 3 5 2 4 6 7 8 9 A\n"
-        ),
-        None
+            | 1 3 5 2 4 6 7 8 9 A\n",
     );
-    assert_eq!(rt;
-        first_failing::<Body<Point>>(
-            alloc,
-            "\
+    hold::<Body<Point>>(
+        &rt,
+        alloc,
+        "\
         '01 '10 '00 0000000000000040 '1 '1 '00 0000000000000840 / - \
             | = | 3FF0000000000000 0 4000000000000000 0 0 0 3FF0000000000000 4008000000000000\n\
         '01 '10 '00 0000000000000040 '1 '1 '00 00000000000008 '010000 / - | none\n\
         '00 0100000000000000 '00 0200000000000000 '00 0300000000000000 '0 '00 0400000000000000 '0 '00 \
             0500000000000000 '00 0600000000000000 '00 0700000000000000 '00 0800000000000000 / - \
-            | = | 1 2 3 4 5 6 7 8\n"
-        ),
-        None
+            | = | 1 2 3 4 5 6 7 8\n",
     );
-    Ok(())
 }
 
 impl Fields for Circle {
@@ -92,36 +85,31 @@ impl Fields for Arc {
 /// Circles: centre, radius, thickness, extrusion. Arcs: the same, and the start and end angles. Of each the second is cut short, and in the
 /// third every number is another one.
 #[test]
-fn circles_and_arcs_are_told_and_written(rt: HostRuntime) -> Result<(), Fail> {
+fn circles_and_arcs_are_told_and_written(rt: HostRuntime) {
     let alloc = rt.alloc();
-    assert_eq!(rt;
-        first_failing::<Body<Circle>>(
-            alloc,
-            "\
+    hold::<Body<Circle>>(
+        &rt,
+        alloc,
+        "\
         '01 '00 0000000000000040 '10 '00 0000000000000840 '0 '01 '0 '10 '01 '10 / - \
             | = | 3FF0000000000000 4000000000000000 0 4008000000000000 3FF0000000000000 0 3FF0000000000000 0\n\
         '01 '00 0000000000000040 '10 '00 0000000000000840 '0 '01 '0 '10 '01 / - | none\n\
         '00 0100000000000000 '00 0200000000000000 '00 0300000000000000 '00 0400000000000000 '0 '00 0500000000000000 \
             '0 '00 0600000000000000 '00 0700000000000000 '00 0800000000000000 / - \
-            | = | 1 2 3 4 5 6 7 8\n"
-        ),
-        None
+            | = | 1 2 3 4 5 6 7 8\n",
     );
-    assert_eq!(rt;
-        first_failing::<Body<Arc>>(
-            alloc,
-            "\
+    hold::<Body<Arc>>(
+        &rt,
+        alloc,
+        "\
         '01 '00 0000000000000040 '10 '00 0000000000000840 '1 '1 '10 '01 / - \
             | = | 3FF0000000000000 4000000000000000 0 4008000000000000 0 0 0 3FF0000000000000 0 3FF0000000000000\n\
         '01 '00 0000000000000040 '10 '00 0000000000000840 / - | none\n\
         '00 0100000000000000 '00 0200000000000000 '00 0300000000000000 '00 0400000000000000 '0 '00 0500000000000000 \
             '0 '00 0600000000000000 '00 0700000000000000 '00 0800000000000000 '00 0900000000000000 '00 \
             0A00000000000000 / - \
-            | = | 1 2 3 4 5 6 7 8 9 A\n"
-        ),
-        None
+            | = | 1 2 3 4 5 6 7 8 9 A\n",
     );
-    Ok(())
 }
 
 /// Adds a point of space that may not be there.
@@ -177,12 +165,12 @@ impl Fields for LwPolyline {
 /// Flag, width, elevation, thickness, normal, points, bulges, widths: with every part, with none, with a bulge alone; cut short, and with a
 /// count of 2^32 - 1 points of which none is there; every number another one.
 #[test]
-fn lightweight_polylines_are_told_and_written(rt: HostRuntime) -> Result<(), Fail> {
+fn lightweight_polylines_are_told_and_written(rt: HostRuntime) {
     let alloc = rt.alloc();
-    assert_eq!(rt;
-        first_failing::<Body<LwPolyline>>(
-            alloc,
-            "\
+    hold::<Body<LwPolyline>>(
+        &rt,
+        alloc,
+        "\
         '00 FF01 '01 '00 0000000000000040 '10 '10 '10 '01 '01 03 '01 01 '01 02 000000000000F03F 0000000000000040 \
             '00 '11 0000000000000840 '11 0000000000000840 '00 '00 0000000000000040 '10 '01 '01 '00 0000000000000040 \
             / - \
@@ -203,9 +191,6 @@ fn lightweight_polylines_are_told_and_written(rt: HostRuntime) -> Result<(), Fai
             | '00 3F02 '00 0100000000000000 '00 0200000000000000 '00 0300000000000000 '00 0400000000000000 '00 \
               0500000000000000 '00 0600000000000000 '01 02 '01 01 '01 01 0700000000000000 0800000000000000 '01 \
               09000000 '01 0A000000 '00 0B00000000000000 '00 0C00000000000000 '00 0D00000000000000 / - \
-            | 23F 1 2 3 4 5 6 [ 7 8 9 A ] [ B ] [ C D ]\n"
-        ),
-        None
+            | 23F 1 2 3 4 5 6 [ 7 8 9 A ] [ B ] [ C D ]\n",
     );
-    Ok(())
 }

@@ -7,9 +7,10 @@ use crate::tests::fields::Fields;
 use dwg_base::Handle;
 use dwg_bits::{BitCursor, BitSink};
 use dwg_common::BodyCode;
-use dwg_samples::{Bits, Case};
+use dwg_samples::{Bits, Case, first_failing};
 use std::alloc::Global;
 use std::marker::PhantomData;
+use std::process::Abort;
 
 /// The most bits that a body of a test has before the references and among them.
 const MOST: u64 = 8_000;
@@ -23,6 +24,11 @@ pub(crate) const OWN: u64 = 0x80;
 pub(crate) struct Body<B> {
     /// The type.
     of: PhantomData<B>,
+}
+
+/// Ends the test if a line of a table doesn't tell the truth.
+pub(crate) fn hold<C: Case>(rt: &impl Abort, alloc: Global, table: &str) {
+    assert_eq!(rt; first_failing::<C>(alloc, table), None);
 }
 
 impl<B: BodyCode + Fields + Drop> Case for Body<B> {

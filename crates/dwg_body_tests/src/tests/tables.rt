@@ -3,10 +3,8 @@
 use crate::tests::fields::{
     Fields, close, open, put, put_bytes, put_flags, put_none, put_ref, put_space, put_text,
 };
-use crate::tests::table::Body;
-use dwg_samples::first_failing;
+use crate::tests::table::{Body, hold};
 use dwg_tables::{AppId, BlockHeader, Dash, Ends, Entry, InsertMark, Layer, Ltype, Style};
-use std::test::Fail;
 
 /// Adds what all entries of tables have.
 fn put_entry(text: &mut String, entry: &Entry) -> Option<()> {
@@ -42,36 +40,31 @@ impl Fields for AppId {
 /// plotstyle, linetype. Of each one is spelled by long codes as well, two are cut short, and in the last every number is another one; an
 /// application has no name and is of another drawing.
 #[test]
-fn applications_and_layers_are_told_and_written(rt: HostRuntime) -> Result<(), Fail> {
+fn applications_and_layers_are_told_and_written(rt: HostRuntime) {
     let alloc = rt.alloc();
-    assert_eq!(rt;
-        first_failing::<Body<AppId>>(
-            alloc,
-            "\
+    hold::<Body<AppId>>(
+        &rt,
+        alloc,
+        "\
         '01 04 41434144 '0 '10 '0 00 / 5.0 | = | 'ACAD' 0 0 0 5.0 0\n\
         '00 0400 41434144 '0 '00 0000 '0 00 / 5100 | '01 04 41434144 '0 '10 '0 00 / 5.0 | 'ACAD' 0 0 0 5.0 0\n\
         '10 '1 '11 '1 C8 / 5.1F | = | '' 1 100 1 5.1F C8\n\
         '01 04 41434144 '0 '10 '0 '00 / 5.0 | none\n\
         '01 04 41434144 '0 '10 '0 00 '00 / - | none\n\
-        '01 01 41 '0 '10 '0 07 / 5.51 | = | 'A' 0 0 0 5.51 7\n"
-        ),
-        None
+        '01 01 41 '0 '10 '0 07 / 5.51 | = | 'A' 0 0 0 5.51 7\n",
     );
-    assert_eq!(rt;
-        first_failing::<Body<Layer>>(
-            alloc,
-            "\
+    hold::<Body<Layer>>(
+        &rt,
+        alloc,
+        "\
         '01 01 30 '1 '10 '0 '00 F003 '01 07 / 5.0 5.F 5.116 | = | '0' 1 0 0 5.0 3F0 7 5.F 5.116\n\
         '00 0100 30 '1 '00 0000 '0 '00 F003 '00 0700 / 5100 52000F 53000116 \
             | '01 01 30 '1 '10 '0 '00 F003 '01 07 / 5.0 5.F 5.116 \
             | '0' 1 0 0 5.0 3F0 7 5.F 5.116\n\
         '01 01 30 '1 '10 '0 '00 F003 '01 '000001 / 5.0 5.F 5.116 | none\n\
         '01 01 30 '1 '10 '0 '00 F003 '01 07 '000000 / 50 51 0F 52 01 | none\n\
-        '01 01 4C '1 '01 02 '0 '01 03 '01 04 / 5.51 5.52 5.53 | = | 'L' 1 2 0 5.51 3 4 5.52 5.53\n"
-        ),
-        None
+        '01 01 4C '1 '01 02 '0 '01 03 '01 04 / 5.51 5.52 5.53 | = | 'L' 1 2 0 5.51 3 4 5.52 5.53\n",
     );
-    Ok(())
 }
 
 impl Fields for Style {
@@ -97,12 +90,12 @@ impl Fields for Style {
 /// What an entry has, and then both flags, height, width, oblique, generation, last height, font and big font: `STANDARD`, and the same by
 /// long codes; with every part; cut short in both places; every number another one.
 #[test]
-fn text_styles_are_told_and_written(rt: HostRuntime) -> Result<(), Fail> {
+fn text_styles_are_told_and_written(rt: HostRuntime) {
     let alloc = rt.alloc();
-    assert_eq!(rt;
-        first_failing::<Body<Style>>(
-            alloc,
-            "\
+    hold::<Body<Style>>(
+        &rt,
+        alloc,
+        "\
         '01 08 5354414E44415244 '1 '10 '0 '0 '0 '10 '01 '10 00 '00 0000000000000440 '01 03 747874 '10 / 5.0 \
             | = | 'STANDARD' 1 0 0 5.0 0 0 0 3FF0000000000000 0 0 4004000000000000 'txt' ''\n\
         '00 0800 5354414E44415244 '1 '00 0000 '0 '0 '0 '00 0000000000000000 '00 000000000000F03F '00 \
@@ -118,11 +111,8 @@ fn text_styles_are_told_and_written(rt: HostRuntime) -> Result<(), Fail> {
             | none\n\
         '01 01 53 '0 '01 05 '1 '1 '0 '00 0600000000000000 '00 0700000000000000 '00 0800000000000000 09 '00 \
             0A00000000000000 '01 01 66 '01 01 67 / 5.51 \
-            | = | 'S' 0 5 1 5.51 1 0 6 7 8 9 A 'f' 'g'\n"
-        ),
-        None
+            | = | 'S' 0 5 1 5.51 1 0 6 7 8 9 A 'f' 'g'\n",
     );
-    Ok(())
 }
 
 /// Adds a dash.
@@ -181,12 +171,12 @@ impl Fields for Ltype {
 /// many bytes they are, the first two and the last: without dashes; of two, and the same by long codes; cut short in both places; every
 /// number another one.
 #[test]
-fn linetypes_are_told_and_written(rt: HostRuntime) -> Result<(), Fail> {
+fn linetypes_are_told_and_written(rt: HostRuntime) {
     let alloc = rt.alloc();
-    assert_eq!(rt;
-        first_failing::<Body<Ltype>>(
-            alloc,
-            "\
+    hold::<Body<Ltype>>(
+        &rt,
+        alloc,
+        "\
         '01 0A 434F4E54494E554F5553 '1 '10 '0 '01 0A 536F6C6964206C696E65 '10 41 00 00..FF / 5.0 \
             | = | 'CONTINUOUS' 1 0 0 5.0 'Solid line' 0 41 [ ] 100 0 1 FF\n\
         '01 03 444F54 '0 '10 '0 '01 03 5F202E '00 000000000000E83F 41 02 '00 000000000000E03F '10 0000000000000000 \
@@ -223,11 +213,8 @@ fn linetypes_are_told_and_written(rt: HostRuntime) -> Result<(), Fail> {
             0600000000000000 '00 0700000000000000 '00 0800000000000000 '01 09 '00 0D00000000000000 '01 0E \
             0F00000000000000 1000000000000000 '00 1100000000000000 '00 1200000000000000 '01 13 00..FF / 5.51 5.54 \
             5.55 \
-            | = | 'T' 0 0 0 5.51 'd' 1 2 [ 3 4 5 6 7 8 9 5.54 D E F 10 11 12 13 5.55 ] 100 0 1 FF\n"
-        ),
-        None
+            | = | 'T' 0 0 0 5.51 'd' 1 2 [ 3 4 5 6 7 8 9 5.54 D E F 10 11 12 13 5.55 ] 100 0 1 FF\n",
     );
-    Ok(())
 }
 
 /// Adds a list of marks of inserts.
@@ -284,12 +271,12 @@ impl Fields for BlockHeader {
 /// reference; of an overlaid drawing; cut short in both places, and without first and last; every number another one, and one of another
 /// drawing.
 #[test]
-fn headers_of_blocks_are_told_and_written(rt: HostRuntime) -> Result<(), Fail> {
+fn headers_of_blocks_are_told_and_written(rt: HostRuntime) {
     let alloc = rt.alloc();
-    assert_eq!(rt;
-        first_failing::<Body<BlockHeader>>(
-            alloc,
-            "\
+    hold::<Body<BlockHeader>>(
+        &rt,
+        alloc,
+        "\
         '01 03 2A4431 '1 '10 '0 '1 '0 '0 '0 '0 '10 '10 '10 '10 00 '10 '10 / 5.0 3.20 4.21 4.2F 3.22 5.0 \
             | = | '*D1' 1 0 0 5.0 1 0 0 0 0 0 0 0 '' [ ] '' : 3.20 4.21 4.2F 3.22 5.0\n\
         '01 03 544147 '0 '10 '0 '0 '1 '0 '0 '1 '01 '00 0000000000000040 '10 '01 01 70 01 FF 00 '01 04 77686174 '01 \
@@ -319,9 +306,6 @@ fn headers_of_blocks_are_told_and_written(rt: HostRuntime) -> Result<(), Fail> {
             | = | 'B' 0 0 0 5.51 0 1 0 0 1 1 2 3 'p' [ 4 4.5A 5 4.5B ] 'q' :78797A 3.56 4.57 4.58 3.59 5.5C\n\
         '01 01 43 '0 '10 '1 '1 '0 '1 '0 '0 '00 0100000000000000 '00 0200000000000000 '00 0300000000000000 '10 00 \
             '10 '10 / 5.51 3.56 3.59 5.5C \
-            | = | 'C' 0 0 1 5.51 1 0 1 0 0 1 2 3 '' [ ] '' : 3.56 - 3.59 5.5C\n"
-        ),
-        None
+            | = | 'C' 0 0 1 5.51 1 0 1 0 0 1 2 3 '' [ ] '' : 3.56 - 3.59 5.5C\n",
     );
-    Ok(())
 }
