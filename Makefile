@@ -1,4 +1,4 @@
-# What there is to do with this folder; each is a line of what stands already.
+# What there is to do with this folder; each is a line of what stands already. make alone proves and builds the program.
 #
 # make install takes PREFIX (/usr/local) and DESTDIR. The tools stand together in PREFIX/lib/dwg, links to them in PREFIX/bin.
 
@@ -17,7 +17,7 @@ completions = $(DESTDIR)$(PREFIX)/share/bash-completion/completions
 .PHONY: build test check-tools bench install uninstall
 
 build:
-	$(DWG) drill 1 >/dev/null
+	DWG_BUILD=1 $(DWG) drill 1 >/dev/null
 
 test:
 	rt ci

@@ -250,23 +250,29 @@ class ProgramFailed(ToolError):
         return self.why == f"killed by signal {int(signal.SIGINT)}"
 
 
+class NotBuilt(ToolError):
+    """The launcher has no program that is built, or one that is older than its sources; it says itself what to do."""
+
+    def __init__(self, notes: bytes) -> None:
+        super().__init__(read_note(notes.decode("utf-8", "replace").splitlines()[-1]).text, Exit.NO_PROGRAM)
+
+
 class Program:
     """Runs the program. Several threads may run it at once; `stop` ends all that runs."""
 
     def __init__(self, path: str) -> None:
         self.path = path
+        # The launcher's answers without a proof take a minute each.
+        os.environ["DWG_PROVED_ONLY"] = "1"
         self._running: Set["subprocess.Popen[bytes]"] = set()
         self._lock = threading.Lock()
         self._stopped = False
 
     def prepare(self) -> None:
-        """Runs the program once for nothing, so that the launcher builds it here, and what it says of that is seen."""
-        try:
-            ran = subprocess.run([self.path, "drill", "1"], stdin=subprocess.DEVNULL, stdout=subprocess.DEVNULL, check=False)
-        except OSError as fault:
-            raise ProgramFailed(str(fault.strerror)) from None
-        if _status_of(ran.returncode) != Status.DONE:
-            raise ProgramFailed(f"status {ran.returncode} for `drill 1`")
+        """Runs the program once for nothing, so that the launcher looks once whether it is built, and not at each run."""
+        status = self.run(["drill", "1"]).status
+        if status != Status.DONE:
+            raise ProgramFailed(f"status {int(status)} for `drill 1`")
         os.environ["DWG_BUILT"] = "1"
 
     def run(self, words: Sequence[str], source: Union[int, IO[bytes], bytes, None] = None, output: Optional[IO[bytes]] = None) -> Answer:
@@ -275,7 +281,7 @@ class Program:
         stdin = subprocess.PIPE if given is not None else subprocess.DEVNULL if source is None else source
         with self._started(words, stdin, output if output is not None else subprocess.PIPE) as ran:
             out, notes = ran.communicate(given)
-        return Answer(_status_of(ran.returncode), out or b"", notes)
+        return Answer(_status_of(ran.returncode, notes), out or b"", notes)
 
     @contextlib.contextmanager
     def lines(self, words: Sequence[str], source: Union[int, IO[bytes]]) -> Iterator[Iterator[bytes]]:
@@ -284,10 +290,12 @@ class Program:
             assert ran.stdout is not None
             yield iter(ran.stdout)
             ran.stdout.close()
-            status = _status_of(ran.wait())
+            code = ran.wait()
+            notes.seek(0)
+            said = notes.read()
+            status = _status_of(code, said)
             if status > Status.FOUND:
-                notes.seek(0)
-                raise ToolError(notes.read().decode("utf-8", "replace").strip() or f"the program ended with status {int(status)}", status)
+                raise ToolError(said.decode("utf-8", "replace").strip() or f"the program ended with status {int(status)}", status)
 
     @contextlib.contextmanager
     def _started(self, words: Sequence[str], stdin: Any, stdout: Any, stderr: Any = subprocess.PIPE) -> Iterator["subprocess.Popen[bytes]"]:
@@ -318,10 +326,12 @@ class Program:
                 ran.kill()
 
 
-def _status_of(code: int) -> Status:
-    """The status of the program, or ProgramFailed where it has no such status or was killed."""
+def _status_of(code: int, notes: bytes) -> Status:
+    """The status of the program. NotBuilt where the launcher has none; ProgramFailed where it has no such status or was killed."""
     if code < 0:
         raise ProgramFailed(f"killed by signal {-code}")
+    if code == Exit.NO_PROGRAM and notes:
+        raise NotBuilt(notes)
     try:
         return Status(code)
     except ValueError:

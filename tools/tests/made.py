@@ -12,6 +12,7 @@ import pathlib
 import subprocess
 import sys
 import types
+import unittest
 from dataclasses import dataclass
 from functools import lru_cache
 from typing import Dict, List, Optional, Sequence, Tuple
@@ -24,6 +25,8 @@ sys.path.insert(0, str(TOOLS))
 import drawing  # noqa: E402  pylint: disable=wrong-import-position
 
 PROGRAM = drawing.find_program()
+# No test waits for answers without a proof.
+os.environ["DWG_PROVED_ONLY"] = "1"
 
 
 def module(path: pathlib.Path, name: str) -> types.ModuleType:
@@ -39,6 +42,18 @@ def module(path: pathlib.Path, name: str) -> types.ModuleType:
 
 # The writer of the inputs of bench/run, which has check words, codes and layout a second time.
 WRITER = module(TOP / "bench" / "make_inputs.py", "make_inputs")
+
+
+@lru_cache(maxsize=None)
+def is_built() -> bool:
+    """Whether the program is there and gives an answer; a launcher that has no program built gives none then."""
+    return dwg("drill", "1").returncode == 0
+
+
+def needs_program() -> None:
+    """Skips a test, or where a file of tests is read the whole file, if the program isn't built."""
+    if not is_built():
+        raise unittest.SkipTest("what needs the program, which isn't built (`make` proves and builds it)")
 
 
 @lru_cache(maxsize=None)

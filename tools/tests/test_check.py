@@ -20,6 +20,8 @@ from typing import Dict, List, Optional, Tuple
 import made
 from made import TOOLS, WRITER, flipped, hole, layout, program_that, tool, unescaped
 
+made.needs_program()
+
 LIMIT = 33_554_432
 COLUMNS = ["path", "verdict", "detail", "findings", "bytes", "trailing", "version"]
 

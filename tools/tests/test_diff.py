@@ -10,7 +10,9 @@ from typing import Any, Dict, List
 
 import common
 import spelled
-from made import PROGRAM, TOOLS, made, tool
+from made import PROGRAM, TOOLS, made, needs_program, tool
+
+needs_program()
 
 
 class Diff(common.InFolder):

@@ -14,13 +14,13 @@ import made
 from made import TOOLS, TOP
 
 CHECK = made.module(TOOLS / "check-docs", "check_docs")
-LAST = re.compile(r"^(\d+) examples? are as shown, (\d+) aren't, (\d+) not run \(rt ci\)$")
+LAST = re.compile(r"^(\d+) examples? are as shown, (\d+) aren't, (\d+) not run \(make, rt ci\)$")
 
 
-def check(*documents: pathlib.Path) -> "subprocess.CompletedProcess[str]":
+def check(*documents: pathlib.Path, program: str = made.PROGRAM) -> "subprocess.CompletedProcess[str]":
     """What the script says of documents."""
     words = [str(TOOLS / "check-docs"), *map(str, documents)]
-    return subprocess.run(words, capture_output=True, text=True, check=False, env={**os.environ, "DWG": made.PROGRAM})
+    return subprocess.run(words, capture_output=True, text=True, check=False, env={**os.environ, "DWG": program})
 
 
 class Docs(unittest.TestCase):
@@ -31,10 +31,11 @@ class Docs(unittest.TestCase):
         self.addCleanup(shutil.rmtree, self.folder)
 
     def test_shown(self) -> None:
+        made.needs_program()
         ran = check()
         last = LAST.match(ran.stdout.splitlines()[-1])
         assert last is not None, ran.stdout
-        self.assertEqual((ran.returncode, last[2], last[3], ran.stderr), (0, "0", "1", ""), ran.stdout)
+        self.assertEqual((ran.returncode, last[2], last[3], ran.stderr), (0, "0", "2", ""), ran.stdout)
         self.assertGreaterEqual(int(last[1]), 30)
 
     def test_all_documents_have_examples(self) -> None:
@@ -50,9 +51,17 @@ class Docs(unittest.TestCase):
     def test_right(self) -> None:
         text = "A page.\n\n```sh\necho one > made; cat made; echo two >&2; exit 3\n```\n\n```text\none\ntwo\n```\n\n```sh\ncat made >/dev/null\n```\n\n```sh\nrt ci\n```\n"
         ran = self.judged(text)
-        self.assertEqual((ran.returncode, ran.stdout), (0, "2 examples are as shown, 0 aren't, 1 not run (rt ci)\n"))
+        self.assertEqual((ran.returncode, ran.stdout), (0, "2 examples are as shown, 0 aren't, 1 not run (make, rt ci)\n"))
+
+    def test_where_no_program_is_built(self) -> None:
+        path = self.folder / "page.md"
+        path.write_text("```sh\n./dwg sections < x\n```\n\n```text\nwrong\n```\n\n```sh\ntools/dwg-check x\n```\n\n```sh\necho one\n```\n\n```text\none\n```\n")
+        launcher = made.program_that(self.folder, "unbuilt", ["echo 'dwg: not built' >&2", "exit 69"])
+        ran = check(path, program=str(launcher))
+        self.assertEqual((ran.returncode, ran.stdout), (0, "1 examples are as shown, 0 aren't, 0 not run (make, rt ci), 2 left out, as the program isn't built\n"), ran.stderr)
 
     def test_program_and_tools(self) -> None:
+        made.needs_program()
         text = "```sh\n./dwg drill 1 | head -n 1; dwg drill 2 | head -n 1; tools/dwg-check --quiet samples/cut.dwg | wc -l; dwg-diff --help | head -c 15\n```\n\n```text\ndrill 1\ndrill 2\n2\nusage: dwg-diff\n```\n"
         self.assertEqual(self.judged(text).returncode, 0)
 
@@ -64,11 +73,19 @@ class Docs(unittest.TestCase):
             ("```sh\necho one\n```\n\nWords between.\n\n```text\none\n```\n", "page.md:2: echo one: prints something else"),
             ("```text\none\n```\n", "page.md:2: a text: no command prints this"),
             ("```sh\nfalse\n```\n", "page.md:2: false: ends with status 1"),
-            ("```sh\n./dwg audit < crates/dwg_cli/data/items.dwg\n```\n\n```text\naudit no\n```\n", "page.md:2: ./dwg audit < crates/dwg_cli/data/items.dwg: prints something else"),
         ):
-            ran = self.judged(text)
-            self.assertEqual(ran.returncode, 1, text)
-            self.assertIn(place, ran.stdout)
+            self.expect_wrong(text, place)
+
+    def expect_wrong(self, text: str, place: str) -> None:
+        """The script says at which place a text is wrong."""
+        ran = self.judged(text)
+        self.assertEqual(ran.returncode, 1, text)
+        self.assertIn(place, ran.stdout)
+
+    def test_wrong_answer_of_the_program(self) -> None:
+        made.needs_program()
+        text = "```sh\n./dwg audit < crates/dwg_cli/data/items.dwg\n```\n\n```text\naudit no\n```\n"
+        self.expect_wrong(text, "page.md:2: ./dwg audit < crates/dwg_cli/data/items.dwg: prints something else")
 
     def test_left_out(self) -> None:
         for shown, printed, expected in (

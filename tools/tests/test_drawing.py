@@ -5,6 +5,7 @@ from __future__ import annotations
 import os
 import pathlib
 import shutil
+import subprocess
 import tempfile
 import unittest
 
@@ -70,6 +71,7 @@ class Running(unittest.TestCase):
         self.addCleanup(shutil.rmtree, self.folder)
 
     def test_answers(self) -> None:
+        made.needs_program()
         program = Program(made.PROGRAM)
         program.prepare()
         data = made.made(3)
@@ -79,6 +81,7 @@ class Running(unittest.TestCase):
         self.assertEqual(program.run(["rewrite"], program.run(["make", "3", "7"]).output).output, data)
 
     def test_lines(self) -> None:
+        made.needs_program()
         path = self.folder / "a.dwg"
         path.write_bytes(made.made(3))
         program = Program(made.PROGRAM)
@@ -97,6 +100,15 @@ class Running(unittest.TestCase):
             self.assertEqual((told.exception.why, told.exception.status), (why, Exit.NO_PROGRAM))
             with self.assertRaises(ProgramFailed):
                 program.prepare()
+
+    def test_not_built(self) -> None:
+        program = Program(str(made.program_that(self.folder, "dwg", ['[ "${DWG_PROVED_ONLY:-}" = 1 ] || exit 0', 'echo "dwg: not built; make builds" >&2', "exit 69"])))
+        with self.assertRaises(ToolError) as told, program.lines(["show"], subprocess.DEVNULL) as lines:
+            self.assertEqual(list(lines), [])
+        self.assertEqual((str(told.exception), told.exception.status), ("not built; make builds", Exit.NO_PROGRAM))
+        with self.assertRaises(ToolError) as told:
+            program.prepare()
+        self.assertEqual((str(told.exception), told.exception.status), ("not built; make builds", Exit.NO_PROGRAM))
 
     def test_found(self) -> None:
         here = made.program_that(self.folder, "dwg", ["exit 0"])

@@ -80,6 +80,7 @@ class House(unittest.TestCase):
     def test_install(self) -> None:
         if not shutil.which("make"):
             self.skipTest("make install, as make isn't installed")
+        made.needs_program()
         program = pathlib.Path(made.PROGRAM).resolve()
         destination = self.folder / "root"
         words = ["make", "-s", f"DESTDIR={str(destination)}", "PREFIX=/usr", "DWG=true", f"PROGRAM={program}"]

@@ -9,7 +9,9 @@ from typing import Any, Dict, List
 
 import common
 import spelled
-from made import made, tool
+from made import made, needs_program, tool
+
+needs_program()
 
 
 def lines_of(answer: Any) -> List[Dict[str, Any]]:

@@ -9,32 +9,74 @@ import subprocess
 import tempfile
 import time
 import unittest
-from typing import Dict, List, Optional
+from typing import Dict, List, Optional, Tuple
 
-TOP = pathlib.Path(__file__).resolve().parents[2]
+import made
+from made import TOP
 
-# A tree of four crates below dwg_cli, and one that it doesn't need.
-CRATES = "dwg_base: thiserror\ndwg_bits: dwg_base\ndwg_text: dwg_base hex\ndwg_cli: dwg_bits dwg_text dwg_samples\ndwg_samples:\ndwg_tests: dwg_cli\n"
+# A tree of six crates below dwg_cli, and one that it doesn't need.
+CRATES = """dwg_base: thiserror
+dwg_bits: dwg_base
+dwg_object: dwg_base dwg_bits
+dwg_text: dwg_base hex
+dwg_answers: dwg_object dwg_text
+dwg_cli: dwg_answers dwg_samples
+dwg_samples:
+dwg_tests: dwg_cli
+"""
 
-# It says what the toolchain says, counts its runs, and makes a program that prints its words and its input.
+# It says what the toolchain says, counts its builds, makes a program that prints its words and its input, and runs one
+# that isn't proved as the toolchain does: over a file alone, with all that it writes at the end.
 FAKE_RT = """#!/bin/sh
-echo run >>"$RUNS"
-[ "$*" = "run -- sections" ] || exit 9
-[ "$(head -c 6)" = AC1015 ] || exit 9
-mkdir -p out
-echo "rt: chose --jobs 4 for dwg_base"
-echo "so far: 3 of 7 functions checked; the verdict comes last"
-sleep "${SLEEP:-0}" & echo $! >"$RUNS.child"; wait
-echo "crate dwg_base: modules loaded=0 checked=83"
-echo "logic=proved functions=7"
-sleep "${SLEEP:-0}"
-echo "rt: dwg_bits proved"
-sleep "${SLEEP:-0}"
-[ -z "${BROKEN:-}" ] || { echo "error: not proved"; exit 1; }
-printf '#!/bin/sh\\n' >out/dwg_cli
-chmod +x out/dwg_cli
-sleep "${LATE:-0}"
-printf 'echo "$*"; cat; exit 3\\n' >>out/dwg_cli
+case $*,${PWD##*/} in
+lib,dwg_object)
+    echo run >>"$RUNS"
+    echo "rt: chose --jobs 4 for dwg_base"
+    echo "so far: 3 of 7 functions checked; the verdict comes last"
+    sleep "${SLEEP:-0}" & echo $! >"$RUNS.child"; wait
+    echo "crate dwg_base: modules loaded=0 checked=83"
+    echo "logic=proved functions=7"
+    echo "rt: chose --jobs 4 for dwg_bits"
+    sleep "${SLEEP:-0}"
+    echo "rt: dwg_bits proved"
+    ;;
+all\ check\ --jobs\ [1-9]*,dwg_answers)
+    printf '== dwg_base\n== dwg_bits\n== dwg_text\ncrate dwg_text: modules\nlogic=proved functions=2\n'
+    sleep "${SLEEP:-0}"
+    [ -z "${BROKEN:-}" ] || { echo "error: not proved"; exit 1; }
+    ;;
+run\ --\ sections,dwg_cli)
+    [ "$(head -c 6)" = AC1015 ] || exit 9
+    mkdir -p out
+    printf '#!/bin/sh\n' >out/dwg_cli
+    chmod +x out/dwg_cli
+    sleep "${LATE:-0}"
+    printf 'echo "$*"; cat; exit 3\n' >>out/dwg_cli
+    ;;
+try\ --seconds\ [1-9]*\ --*,dwg_cli)
+    shift 4
+    echo try >>"$RUNS.tries"
+    [ -f /dev/stdin ] || { echo "run=none proved=no" >&2; exit 2; }
+    sleep "${SLEEP:-0}" & echo $! >"$RUNS.child"; wait
+    [ -z "${BROKEN:-}" ] || { printf 'error: no\n%s\n' "$BROKEN" >&2; exit 6; }
+    kept=$(mktemp -d)
+    "$UNPROVED" "$@" >"$kept/out" 2>"$kept/notes"
+    status=$?
+    cat "$kept/out"
+    { cat "$kept/notes"; echo "checked: ended status=$status"; echo "run=ended status=$status runners=1 proved=no"; } >&2
+    rm -r "$kept"
+    exit "$status"
+    ;;
+*) exit 9 ;;
+esac
+"""
+
+# Says its words, its input, and as many bytes as a word asks for.
+UNPROVED = """#!/bin/sh
+echo "unproved $*"
+cat
+echo "dwg: a note" >&2
+exit 3
 """
 
 
@@ -46,16 +88,19 @@ def is_running(pid: int) -> bool:
         return False
 
 
-class Launcher(unittest.TestCase):
-    """Each test has a tree and a path of its own."""
+class InTree(unittest.TestCase):
+    """Each test has a tree, a path and a folder for temporary files of its own."""
+
+    # What the launcher is asked to do where nothing is built.
+    HOW: Dict[str, str] = {}
 
     def setUp(self) -> None:
         self.folder = pathlib.Path(tempfile.mkdtemp(prefix="dwg launcher "))
         self.addCleanup(shutil.rmtree, self.folder)
         self.tree = self.folder / "tree"
         crate = self.tree / "crates" / "dwg_cli"
-        (crate / "src").mkdir(parents=True)
-        (crate / "data").mkdir()
+        for name in ("dwg_object", "dwg_answers", "dwg_cli/src", "dwg_cli/data"):
+            (crate.parent / name).mkdir(parents=True)
         (crate / "src" / "main.rt").write_text("fn main() {}\n")
         shutil.copy(TOP / "crates/dwg_cli/data/smallest.dwg", crate / "data")
         (self.tree / "crates.txt").write_text(CRATES)
@@ -64,13 +109,17 @@ class Launcher(unittest.TestCase):
         self.runs = self.folder / "runs"
         self.bin = self.folder / "bin"
         self.bin.mkdir()
-        (self.bin / "rt").write_text(FAKE_RT)
-        (self.bin / "rt").chmod(0o755)
+        for name, text in (("rt", FAKE_RT), ("unproved", UNPROVED)):
+            (self.bin / name).write_text(text)
+            (self.bin / name).chmod(0o755)
+        self.temporary = self.folder / "temporary"
+        self.temporary.mkdir()
 
     def environment(self, more: Dict[str, str]) -> Dict[str, str]:
         """What the launcher sees."""
         path = more.pop("PATH", f"{self.bin}:/usr/bin:/bin")
-        return {"PATH": path, "RUNS": str(self.runs), "LC_ALL": "C", "DWG_PAUSE": "0.1", **more}
+        own = {"RUNS": str(self.runs), "UNPROVED": str(self.bin / "unproved"), "TMPDIR": str(self.temporary), "LC_ALL": "C", "DWG_PAUSE": "0.1"}
+        return {"PATH": path, **own, **self.HOW, **more}
 
     def start(self, *words: str, **more: str) -> "subprocess.Popen[bytes]":
         """Starts the launcher in a process group of its own."""
@@ -88,7 +137,7 @@ class Launcher(unittest.TestCase):
         return subprocess.CompletedProcess(words, started.returncode, out, said)
 
     def count_of_runs(self) -> int:
-        """How often rt was run."""
+        """How often the program was built."""
         return len(self.runs.read_text().split()) if self.runs.exists() else 0
 
     def wait_for(self, path: pathlib.Path) -> None:
@@ -107,6 +156,12 @@ class Launcher(unittest.TestCase):
     def expect_answer(self, ran: "subprocess.CompletedProcess[bytes]", words: str) -> None:
         """The program was run on its words and its input, and its status came through."""
         self.assertEqual((ran.returncode, ran.stdout), (3, f"{words}\ninput".encode()), ran.stderr)
+
+
+class Building(InTree):
+    """The program is proved and built where it must be."""
+
+    HOW = {"DWG_BUILD": "1"}
 
     def test_builds_once_and_passes_all_on(self) -> None:
         first = self.run_it("show", "two words")
@@ -166,9 +221,9 @@ class Launcher(unittest.TestCase):
     def test_progress_in_lines(self) -> None:
         ran = self.run_it(SLEEP="1.6", DWG_TELL_EVERY="1")
         lines = [line.rsplit(", ", 1)[0] for line in ran.stderr.decode().splitlines()[1:]]
-        self.assertIn("dwg: building: crate 1 of 5, dwg_base, 3 of 7 functions", lines)
-        self.assertIn("dwg: building: crate 2 of 5, dwg_bits", lines)
-        self.assertIn("dwg: building: crate 3 of 5, dwg_text", lines)
+        self.assertIn("dwg: building: 0 of 7 crates proved, at dwg_base, 3 of 7 functions", lines)
+        self.assertIn("dwg: building: 1 of 7 crates proved, at dwg_bits", lines)
+        self.assertIn("dwg: building: 3 of 7 crates proved", lines)
 
     def test_progress_on_a_terminal(self) -> None:
         ours, theirs = pty.openpty()
@@ -187,7 +242,7 @@ class Launcher(unittest.TestCase):
             said += more
         os.close(ours)
         self.assertEqual(started.wait(), 3)
-        self.assertIn(b"\r\x1b[Kdwg: building: crate 1 of 5, dwg_base", said)
+        self.assertIn(b"\r\x1b[Kdwg: building: 0 of 7 crates proved, at dwg_base", said)
         self.assertTrue(said.endswith(b"\r\x1b[K"), said[-80:])
         self.assertEqual(said.count(b"\n"), 1)
 
@@ -260,7 +315,7 @@ class Launcher(unittest.TestCase):
 
     def path_without_flock(self) -> str:
         """A path with what the launcher needs, and no flock."""
-        for name in "sh dirname readlink find head sleep awk date mkdir rmdir rm touch tail ln ps grep setsid cat chmod".split():
+        for name in "sh dirname readlink find head sleep awk date mkdir rmdir rm touch tail ln ps grep setsid cat chmod getconf".split():
             found = shutil.which(name, path="/usr/bin:/bin")
             if found:
                 (self.bin / name).symlink_to(found)
@@ -276,9 +331,224 @@ class Launcher(unittest.TestCase):
         self.expect_answer(self.run_it("then", PATH=path), "then")
         self.assertEqual(self.leftovers(), [])
 
+
+class Unproved(InTree):
+    """Where no program is built that is newer than its sources, the answer is that of the program without its proof."""
+
+    def expect_unproved(self, ran: "subprocess.CompletedProcess[bytes]", words: str, given: str = "", state: str = "isn't built") -> None:
+        """The answer came through behind a line that says what it is, and nothing is left of it."""
+        self.assertEqual((ran.returncode, ran.stdout), (3, f"unproved {words}\n{given}".encode()), ran.stderr)
+        first, note = ran.stderr.decode().splitlines()
+        self.assertRegex(first, f"^dwg: the program {state}, so this answer is from the program compiled without its proof, .*; `make -C .*` proves and builds it, .*$")
+        self.assertEqual(note, "dwg: a note")
+        self.assertEqual(list(self.temporary.iterdir()), [])
+
+    def test_answers_at_once(self) -> None:
+        self.expect_unproved(self.run_it("show"), "show", "input")
+        self.assertEqual((self.count_of_runs(), self.program.parent.exists()), (0, False))
+
+    def test_what_reads_nothing_is_not_kept_waiting(self) -> None:
+        for words in (["make", "1", "7"], ["show", "more"], [], ["--help"], ["drill", "1"]):
+            started = self.start(*words)
+            assert started.stdin is not None and started.stdout is not None and started.stderr is not None
+            out, said = started.stdout.read(), started.stderr.read()
+            started.stdin.close()
+            self.expect_unproved(subprocess.CompletedProcess(words, started.wait(timeout=20), out, said), " ".join(words))
+            started.stdout.close()
+            started.stderr.close()
+
+    def test_words_in_other_characters(self) -> None:
+        for word in (b"caf\xc3\xa9", b"\xff", b"show\n"):
+            ran = subprocess.run([str(self.tree / "dwg"), word], input=b"", capture_output=True, env=self.environment({}), check=False)
+            self.expect_unproved(ran, "no command")
+
+    def test_a_program_older_than_its_sources(self) -> None:
+        self.run_it(DWG_BUILD="1")
+        later = time.time() + 5
+        os.utime(self.tree / "crates/dwg_cli/src/main.rt", (later, later))
+        self.expect_unproved(self.run_it("audit"), "audit", "input", "is older than its sources")
+        self.assertEqual(self.run_it("audit", DWG_BUILT="1").stdout, b"audit\ninput")
+
+    def refused_as_unproved(self, state: str) -> None:
+        """Who wants proved answers alone gets none."""
+        ran = self.run_it("show", DWG_PROVED_ONLY="1")
+        self.assertEqual((ran.returncode, ran.stdout), (69, b""))
+        self.assertRegex(ran.stderr.decode(), f"^dwg: the program {state}; `make -C .*` proves and builds it, .*\n$")
+
+    def test_proved_only(self) -> None:
+        self.refused_as_unproved("isn't built")
+        self.run_it(DWG_BUILD="1")
+        self.assertEqual(self.run_it("show", DWG_PROVED_ONLY="1").stdout, b"show\ninput")
+        later = time.time() + 5
+        os.utime(self.tree / "crates/dwg_cli/src/main.rt", (later, later))
+        self.refused_as_unproved("is older than its sources")
+
+    def test_the_line_names_make_as_it_is_run_here(self) -> None:
+        ran = subprocess.run(["./dwg", "show"], cwd=self.tree, input=b"", capture_output=True, env=self.environment({}), check=False)
+        self.assertIn(b"; `make` proves and builds it", ran.stderr)
+
+    def test_no_answer(self) -> None:
+        for said, why in (
+            ("checked: no-answer: the program wrote more than 1048576 bytes to standard output or to standard error, the limit on each\nrun=no-answer proved=no", "its output or its notes have more than 1 MiB"),
+            ("checked: no-answer: the program did not end within the time limit\nrun=no-answer proved=no", "it takes more than 120 seconds"),
+            ("run=none proved=no", "the toolchain ends with run=none proved=no"),
+            ("run=ended status=3", "the toolchain ends with run=ended status=3"),
+        ):
+            ran = self.run_it("show", BROKEN=said)
+            self.assertEqual((ran.returncode, ran.stdout), (70, b""))
+            last = ran.stderr.decode().splitlines()[-1]
+            self.assertTrue(last.startswith(f"dwg: no answer without a proof: {why}; `make"), last)
+            self.assertEqual(list(self.temporary.iterdir()), [])
+
+    def test_without_rt(self) -> None:
+        ran = self.run_it("show", PATH="/usr/bin:/bin")
+        self.assertEqual((ran.returncode, ran.stdout), (70, b""))
+        self.assertIn(b"isn't built, and the toolchain's command rt isn't on the path", ran.stderr)
+
+    def test_no_place_for_the_input(self) -> None:
+        ran = self.run_it("show", TMPDIR=str(self.folder / "nowhere"))
+        self.assertEqual((ran.returncode, ran.stdout), (70, b""), ran.stderr)
+        words = ["sh", "-c", 'ulimit -f 8; head -c 100000 /dev/zero | "$0" show', str(self.tree / "dwg")]
+        full = subprocess.run(words, capture_output=True, env=self.environment({}), check=False)
+        self.assertEqual((full.returncode, full.stdout), (70, b""))
+        self.assertIn(b"can't keep the input", full.stderr)
+        self.assertEqual(list(self.temporary.iterdir()), [])
+
+    def interrupted(self, number: signal.Signals, to_group: bool, **more: str) -> int:
+        """Sends a signal to the launcher while it takes its input, or while the program runs; nothing is left, and all children end."""
+        started = self.start("show", **more)
+        child = pathlib.Path(f"{self.runs}.child")
+        assert started.stdin is not None
+        if "SLEEP" in more:
+            started.stdin.close()
+            started.stdin = None
+            self.wait_for(child)
+        else:
+            started.stdin.write(b"some")
+            started.stdin.flush()
+            time.sleep(0.5)
+        (os.killpg if to_group else os.kill)(started.pid, number)
+        out, said = started.communicate(timeout=20)
+        self.assertEqual((out, said.count(b"\n")), (b"", 1), said)
+        self.assertEqual(list(self.temporary.iterdir()), [])
+        if "SLEEP" in more:
+            self.assertFalse(is_running(int(child.read_text())))
+            child.unlink()
+        return started.returncode
+
+    def test_interrupted(self) -> None:
+        for number, to_group, status in ((signal.SIGINT, True, 130), (signal.SIGTERM, False, 143), (signal.SIGHUP, True, 129)):
+            with self.subTest(number):
+                self.assertEqual(self.interrupted(number, to_group, SLEEP="30"), status)
+                self.assertEqual(self.interrupted(number, to_group), status)
+
+    def test_a_build_elsewhere_is_not_waited_for(self) -> None:
+        first = self.start("first", DWG_BUILD="1", SLEEP="1")
+        self.wait_for(self.runs)
+        self.expect_unproved(self.run_it("show"), "show", "input")
+        first.communicate(b"", timeout=60)
+        self.assertEqual(first.returncode, 3)
+
+    def test_version(self) -> None:
+        outside = self.run_it("--version", GIT_CEILING_DIRECTORIES=str(self.folder))
+        self.assertEqual((outside.returncode, outside.stdout), (70, b""))
+        git = lambda *words: subprocess.run(["git", "-c", "user.name=t", "-c", "user.email=t@example.org", *words], cwd=self.tree, check=True, capture_output=True)
+        git("init", "-q")
+        git("add", ".")
+        git("commit", "-q", "-m", "all")
+        self.assertRegex(self.run_it("--version").stdout.decode(), r"^dwg [0-9a-f]{7,}, not proved here: the program isn't built\n$")
+        self.run_it(DWG_BUILD="1")
+        self.assertRegex(self.run_it("--version").stdout.decode(), r"^dwg [0-9a-f]{7,}(-dirty)?, proved and built\n$")
+
+
+class SameAsBuilt(InTree):
+    """Without a build the launcher answers as the program that is built, by status, output and notes, however the streams are."""
+
+    def setUp(self) -> None:
+        made.needs_program()
+        super().setUp()
+
+    def launcher(self) -> str:
+        """A launcher without a program, whose toolchain runs the real program as one without its proof."""
+        return str(self.tree / "dwg")
+
+    def both(self, script: str, *words: str) -> Tuple[int, bytes, bytes]:
+        """What a script answers, whose "$0" is the program and whose words follow; the launcher's line aside, it is the same by both."""
+        variables = self.environment({"UNPROVED": made.PROGRAM, "DWG_BUILT": "1", "PATH": f"{self.bin}:{os.environ['PATH']}"})
+        built, unproved = (
+            subprocess.run(["bash", "-c", script, program, *words], stdin=subprocess.DEVNULL, capture_output=True, env=variables, check=False, timeout=600)
+            for program in (made.PROGRAM, self.launcher())
+        )
+        first, _, notes = unproved.stderr.partition(b"\n")
+        if not unproved.stderr.startswith(b"dwg: the program isn't built, so"):
+            self.assertIn("2>", script)
+            notes = unproved.stderr
+        else:
+            self.assertIn(b"without its proof", first)
+        self.assertEqual((unproved.returncode, unproved.stdout, notes), (built.returncode, built.stdout, built.stderr), script)
+        self.assertEqual(list(self.temporary.iterdir()), [])
+        return built.returncode, built.stdout, built.stderr
+
+    def test_inputs(self) -> None:
+        smallest = TOP / "crates/dwg_cli/data/smallest.dwg"
+        pausing = '(head -c 60 "$1"; sleep 5; tail -c +61 "$1") | "$0" sections'
+        self.assertEqual(self.both(pausing, str(smallest))[0], 0)
+        self.assertEqual(self.both('"$0" sections < /'), (4, b"", b"dwg: read fault\n"))
+        self.assertEqual(self.both('"$0" sections <&-'), (4, b"", b"dwg: read fault\n"))
+        self.assertEqual(self.both('head -c 60 "$1" | "$0" sections', str(smallest)), (3, b"", b"dwg: refused: header 0 at 60: short\n"))
+        self.assertEqual(self.both('head -c 33554433 /dev/zero | "$0" show'), (7, b"", b"dwg: input too long\n"))
+        self.assertEqual(self.both('"$0" show </dev/zero')[0], 7)
+        self.assertEqual(self.both('"$0" recover < "$1"', str(TOP / "samples/flip.dwg"))[0], 1)
+
+    def test_words(self) -> None:
+        for words in (["--help"], [], ["show", "more"], ["x\ny"], [""]):
+            status, out, notes = self.both('"$0" "$@"', *words)
+            self.assertEqual((status, out, notes[:11]), (2, b"", b"dwg: usage:"))
+        self.assertEqual(self.both("\"$0\" $'\\xff'")[0], 2)
+        self.assertEqual(self.both('"$0" make 0 1'), (2, b"", b"dwg: size must be 1 to 200000\n"))
+        self.assertEqual(self.both('"$0" drill 2')[0], 0)
+
+    def test_outputs(self) -> None:
+        data = str(TOP / "samples/flip.dwg")
+        for script, status in (
+            ('"$0" drill 1 >/dev/full', 5),
+            ('"$0" drill 1 >&-', 5),
+            ('"$0" recover < "$1" >/dev/full', 5),
+            ('"$0" audit < "$1" >/dev/full', 3),
+            ('"$0" audit < "$1" >&-', 3),
+            ('"$0" audit < "$1" 2>/dev/full', 5),
+            ('"$0" audit < "$1" 2>&-', 5),
+            ('"$0" sections < "$1" 2>&-', 0),
+            ('"$0" sections < / 2>/dev/full', 5),
+            ('"$0" recover < "$1" 2>&1 >/dev/null', 1),
+        ):
+            with self.subTest(script):
+                self.assertEqual(self.both(script, data)[0], status)
+
+    def test_a_reader_that_leaves(self) -> None:
+        for command in ("show", "recover"):
+            script = f'{{ "$0" {command} < "$1"; echo "$?" >&2; }} | true'
+            self.assertEqual(self.both(script, str(TOP / "samples/flip.dwg"))[0], 0)
+
+
+class SameAsBuiltByTheToolchain(SameAsBuilt):
+    """The same with the toolchain itself, which compiles the program anew for each answer."""
+
+    def setUp(self) -> None:
+        if not os.environ.get("DWG_TEST_TOOLCHAIN"):
+            self.skipTest("the launcher over the toolchain itself, a minute a case (DWG_TEST_TOOLCHAIN=1 has it tested)")
+        super().setUp()
+        (self.bin / "rt").unlink()
+        shutil.copytree(TOP / "crates", self.tree / "crates", ignore=shutil.ignore_patterns("out"), dirs_exist_ok=True)
+        shutil.copy(TOP / "crates.txt", self.tree)
+
+
+class Shell(unittest.TestCase):
+    """The script by the shell's own checker."""
+
     def test_shellcheck(self) -> None:
         if not shutil.which("shellcheck"):
-            self.skipTest("shellcheck isn't installed")
+            self.skipTest("shell scripts, as shellcheck isn't installed")
         ran = subprocess.run(["shellcheck", str(TOP / "dwg")], capture_output=True, check=False)
         self.assertEqual((ran.returncode, ran.stdout), (0, b""))
 

@@ -15,7 +15,9 @@ from typing import Dict, Iterator, List, Sequence, Tuple
 
 import common
 import spelled
-from made import made, tool
+from made import made, needs_program, tool
+
+needs_program()
 
 SVG = "{http://www.w3.org/2000/svg}"
 LINK = "{http://www.w3.org/1999/xlink}href"

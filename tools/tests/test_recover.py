@@ -18,6 +18,8 @@ from typing import Any, Dict, Iterable, List, Optional, Tuple
 import made
 from made import TOOLS, dwg, flipped, layout, program_that, shown, tool
 
+made.needs_program()
+
 RECOVER = made.module(TOOLS / "dwg-recover", "dwg_recover")
 
 # The drawing that is damaged: handles 30 to 30 + COUNT are the model space, the first an INSERT.

@@ -19,6 +19,7 @@ class Samples(unittest.TestCase):
     """The samples are made in a folder of their own."""
 
     def test_made(self) -> None:
+        made.needs_program()
         folder = pathlib.Path(tempfile.mkdtemp(prefix="dwg samples "))
         self.addCleanup(shutil.rmtree, folder)
         shutil.copytree(SAMPLES, folder / "samples")
