@@ -1,0 +1,92 @@
+"""What PROMISES.md names is there, what it counts are the counts, and the pages of the libraries are those of their contracts."""
+
+from __future__ import annotations
+
+import re
+import subprocess
+import unittest
+from typing import Dict, Iterator, NamedTuple, Set
+
+import made
+from made import TOP
+
+PAGE = (TOP / "docs" / "PROMISES.md").read_text(encoding="utf-8")
+WORDS = " ".join(PAGE.split())
+CRATES = made.module(TOP / "bench" / "crate_pages", "crate_pages")
+
+ROW = re.compile(r"^\| (?P<promise>.*) \| `(?P<function>dwg_\w+::[\w:]+)` \| (?P<clauses>[^|]*) \|$", re.M)
+EDITS = re.compile(r"(\d+) (?:edits stand )?in the (?:long )?gate \(`([^`]*)`\)")
+
+
+class Promise(NamedTuple):
+    """A row of the page: what is promised, the function, and its clauses."""
+
+    words: str
+    function: str
+    clauses: Set[str]
+
+
+def promises() -> Iterator[Promise]:
+    """The rows of the page; a clause without a name is the empty one."""
+    for row in ROW.finditer(PAGE):
+        names = set(re.findall(r"`(\w+)`", row["clauses"]))
+        yield Promise(row["promise"], row["function"], names or {""})
+
+
+def contracts() -> Dict[str, Set[str]]:
+    """The public functions of the crates, each with the names of the clauses that it ensures."""
+    told = [contract for crate in CRATES.contracts().values() for contract in crate]
+    return {f"{contract.crate}::{contract.name}": {clause.name for clause in contract.clauses if not clause.asks} for contract in told}
+
+
+class Promises(unittest.TestCase):
+    """The page against the sources."""
+
+    def test_functions_and_clauses(self) -> None:
+        there = contracts()
+        self.assertGreaterEqual(len(there), 250)
+        rows = list(promises())
+        self.assertGreaterEqual(len(rows), 55)
+        for promise in rows:
+            self.assertIn(promise.function, there, promise.words)
+            self.assertLessEqual(promise.clauses, there[promise.function], promise.words)
+
+    def test_every_clause_of_the_program(self) -> None:
+        there = contracts()
+        for function in ("dwg_cli::run", "dwg_answers::outcome_laws"):
+            named = set().union(*(promise.clauses for promise in promises() if promise.function == function))
+            self.assertEqual(named, there[function])
+
+    def test_tables_have_no_other_rows(self) -> None:
+        tables = re.findall(r"(?m)^\| promise \| function \| clause \|\n\|---\|---\|---\|\n((?:\|.*\n)+)", PAGE)
+        self.assertEqual(sum(table.count("\n") for table in tables), len(list(promises())))
+
+    def test_other_names(self) -> None:
+        sources = "\n".join(path.read_text(encoding="utf-8") for kind in ("src/**/*.rt", "specs/**/*.antt") for path in (TOP / "crates").glob(f"*/{kind}"))
+        known = set(re.findall(r"\w+", sources)) | {path.name for path in (TOP / "crates").glob("*/src/*.rt")}
+        for name in re.findall(r"`([\w.]+)`", PAGE):
+            self.assertIn(name, known)
+
+    def test_edits(self) -> None:
+        counted = [(int(count), pattern) for count, pattern in EDITS.findall(WORDS)]
+        self.assertEqual([pattern for _, pattern in counted], ["crates/*/must-fail/*.edit", "edits/*/*.edit"])
+        for count, pattern in counted:
+            self.assertEqual(count, len(list(TOP.glob(pattern))), pattern)
+
+    def test_trusted(self) -> None:
+        printed = subprocess.run([str(TOP / "bench" / "trusted")], capture_output=True, text=True, check=True).stdout
+        figures = re.findall(r": (\d+ definitions, \d+ lines in \d+ files)", printed)
+        self.assertEqual(len(figures), 3)
+        for figure in figures:
+            self.assertIn(figure, WORDS)
+        self.assertEqual(len(re.findall(r"\d+ definitions, \d+ lines in \d+ files", WORDS)), 3)
+
+    def test_pages_of_libraries(self) -> None:
+        ran = subprocess.run([str(TOP / "bench" / "crate_pages"), "--check"], capture_output=True, text=True, check=False)
+        self.assertEqual((ran.returncode, ran.stdout, ran.stderr), (0, "", ""))
+        pages = sorted(path.parent.name for path in (TOP / "crates").glob("*/README.md"))
+        self.assertEqual(pages, sorted(CRATES.contracts()))
+
+
+if __name__ == "__main__":
+    unittest.main()
