@@ -1,4 +1,4 @@
-"""What PROMISES.md names is there, what it counts are the counts, and the pages of the libraries are those of their contracts."""
+"""What PROMISES.md names is there, what it counts are the counts, and the pages and the map of the libraries are those of the sources."""
 
 from __future__ import annotations
 
@@ -86,6 +86,14 @@ class Promises(unittest.TestCase):
         self.assertEqual((ran.returncode, ran.stdout, ran.stderr), (0, "", ""))
         pages = sorted(path.parent.name for path in (TOP / "crates").glob("*/README.md"))
         self.assertEqual(pages, sorted(CRATES.contracts()))
+
+    def test_crates_of_the_map(self) -> None:
+        page = (TOP / "docs" / "ARCHITECTURE.md").read_text(encoding="utf-8").split("\n## Crates\n")[1].split("\n## ")[0]
+        order = re.findall(r"(?m)^\| \[?`(\w+)`", page)
+        below = {crate: words.split() for crate, words in (line.split(":") for line in (TOP / "crates.txt").read_text(encoding="utf-8").splitlines())}
+        self.assertEqual(sorted(order), sorted(below))
+        for crate in order:
+            self.assertLessEqual(set(below[crate]) & set(order), set(order[: order.index(crate)]), crate)
 
 
 if __name__ == "__main__":
