@@ -36,7 +36,7 @@ def promises() -> Iterator[Promise]:
 def contracts() -> Dict[str, Set[str]]:
     """The public functions of the crates, each with the names of the clauses that it ensures."""
     told = [contract for crate in CRATES.contracts().values() for contract in crate]
-    return {f"{contract.crate}::{contract.name}": {clause.name for clause in contract.clauses if not clause.asks} for contract in told}
+    return {f"{contract.crate}::{contract.name}": {clause.name for clause in contract.clauses if clause.keyword == "ensures"} for contract in told}
 
 
 class Promises(unittest.TestCase):
