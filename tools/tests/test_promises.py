@@ -17,6 +17,12 @@ CRATES = made.module(TOP / "bench" / "crate_pages", "crate_pages")
 ROW = re.compile(r"^\| (?P<promise>.*) \| `(?P<function>dwg_\w+::[\w:]+)` \| (?P<clauses>[^|]*) \|$", re.M)
 EDITS = re.compile(r"(\d+) (?:edits stand )?in the (?:long )?gate \(`([^`]*)`\)")
 
+# Words between backticks that stand for what a reader names: a code of one's own, and the end of names.
+STAND_FOR_OTHERS = {"mycode", "mycode_is_code", "Lemmas", "_LINE"}
+
+SOURCES = ("crates/*/src/**/*.rt", "crates/*/specs/**/*.antt", "crates/*/proofs/**/*.antt", "tools/*", "tools/tests/*.py", "bench/*", "dwg")
+PLACES = ("*", "docs/*", "edits/*", "crates/*/*", "crates/*/src/**/*", "crates/*/proofs/**/*", "crates/*/must-fail/*")
+
 
 class Promise(NamedTuple):
     """A row of the page: what is promised, the function, and its clauses."""
@@ -37,6 +43,16 @@ def contracts() -> Dict[str, Set[str]]:
     """The public functions of the crates, each with the names of the clauses that it ensures."""
     told = [contract for crate in CRATES.contracts().values() for contract in crate]
     return {f"{contract.crate}::{contract.name}": {clause.name for clause in contract.clauses if clause.keyword == "ensures"} for contract in told}
+
+
+def words_of_sources() -> Set[str]:
+    """The words of the sources, and those of the names of files and folders."""
+    words: Set[str] = set()
+    for path in (path for pattern in SOURCES + PLACES for path in TOP.glob(pattern)):
+        words |= set(re.findall(r"\w+", str(path.relative_to(TOP))))
+        if path.is_file() and path.suffix in (".rt", ".antt", ".py", ""):
+            words |= set(re.findall(r"\w+", path.read_text(encoding="utf-8", errors="replace")))
+    return words
 
 
 class Promises(unittest.TestCase):
@@ -61,11 +77,13 @@ class Promises(unittest.TestCase):
         tables = re.findall(r"(?m)^\| promise \| function \| clause \|\n\|---\|---\|---\|\n((?:\|.*\n)+)", PAGE)
         self.assertEqual(sum(table.count("\n") for table in tables), len(list(promises())))
 
-    def test_other_names(self) -> None:
-        sources = "\n".join(path.read_text(encoding="utf-8") for kind in ("src/**/*.rt", "specs/**/*.antt") for path in (TOP / "crates").glob(f"*/{kind}"))
-        known = set(re.findall(r"\w+", sources)) | {path.name for path in (TOP / "crates").glob("*/src/*.rt")}
-        for name in re.findall(r"`([\w.]+)`", PAGE):
-            self.assertIn(name, known)
+    def test_names(self) -> None:
+        known = words_of_sources()
+        for name in ("PROMISES.md", "ARCHITECTURE.md", "DECISIONS.md"):
+            page = " ".join((TOP / "docs" / name).read_text(encoding="utf-8").split())
+            named = {word for span in re.findall(r"`([^`]+)`", page) for word in re.findall(r"[A-Za-z_]\w*", span)}
+            self.assertGreaterEqual(len(named), 80, name)
+            self.assertEqual(named - known - STAND_FOR_OTHERS, set(), name)
 
     def test_edits(self) -> None:
         counted = [(int(count), pattern) for count, pattern in EDITS.findall(WORDS)]
