@@ -20,7 +20,7 @@ EDITS = re.compile(r"(\d+) (?:edits stand )?in the (?:long )?gate \(`([^`]*)`\)"
 # Words between backticks that stand for what a reader names: a code of one's own, and the end of names.
 STAND_FOR_OTHERS = {"mycode", "mycode_is_code", "Lemmas", "_LINE"}
 
-SOURCES = ("crates/*/src/**/*.rt", "crates/*/specs/**/*.antt", "crates/*/proofs/**/*.antt", "tools/*", "tools/tests/*.py", "bench/*", "dwg")
+SOURCES = ("crates/*/src/**/*.rt", "crates/*/specs/**/*.antt", "crates/*/proofs/**/*.antt", "tools/*", "tools/**/*.py", "bench/*", "dwg")
 PLACES = ("*", "docs/*", "edits/*", "crates/*/*", "crates/*/src/**/*", "crates/*/proofs/**/*", "crates/*/must-fail/*")
 
 
