@@ -40,7 +40,7 @@ lib,dwg_object)
     sleep "${SLEEP:-0}"
     echo "rt: dwg_bits proved"
     ;;
-all\ check\ --jobs\ [1-9]*,dwg_answers)
+all\ check\ --jobs\ [1-9]*,dwg_cli)
     printf '== dwg_base\n== dwg_bits\n== dwg_text\ncrate dwg_text: modules\nlogic=proved functions=2\n'
     sleep "${SLEEP:-0}"
     [ -z "${BROKEN:-}" ] || { echo "error: not proved"; exit 1; }
@@ -99,7 +99,7 @@ class InTree(unittest.TestCase):
         self.addCleanup(shutil.rmtree, self.folder)
         self.tree = self.folder / "tree"
         crate = self.tree / "crates" / "dwg_cli"
-        for name in ("dwg_object", "dwg_answers", "dwg_cli/src", "dwg_cli/data"):
+        for name in ("dwg_object", "dwg_cli/src", "dwg_cli/data"):
             (crate.parent / name).mkdir(parents=True)
         (crate / "src" / "main.rt").write_text("fn main() {}\n")
         shutil.copy(TOP / "crates/dwg_cli/data/smallest.dwg", crate / "data")
