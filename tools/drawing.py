@@ -8,6 +8,7 @@ from __future__ import annotations
 import argparse
 import contextlib
 import enum
+import errno
 import itertools
 import math
 import os
@@ -15,10 +16,12 @@ import re
 import shutil
 import signal
 import struct
+import stat
 import subprocess
 import sys
 import tempfile
 import threading
+import time
 import unicodedata
 from dataclasses import dataclass, field
 from functools import lru_cache
@@ -64,6 +67,7 @@ class Exit(enum.IntEnum):
 
     USAGE = 64
     NOTHING_KEPT = 65
+    NOTHING_FOUND = 66
     NO_PROGRAM = 69
     FAILURE = 70
     EXISTS = 73
@@ -209,12 +213,27 @@ def read_recovery(notes: bytes) -> Recovery:
 # ---------------------------------------------------------------------------------------------------------------------
 
 
+# How much is read of notes and of a line, whatever the program writes.
+MOST_NOTES = 1 << 16
+
+
 @dataclass(frozen=True)
 class Answer:
     """What one run of the program gave: its status, its output, its notes."""
 
     status: Status
     output: bytes
+    notes: bytes
+
+
+@dataclass(frozen=True)
+class Tally:
+    """What one run of the program gave whose output may be long: its first and its last line, how many there are, and the notes."""
+
+    status: Status
+    first: bytes
+    last: bytes
+    count: int
     notes: bytes
 
 
@@ -243,11 +262,6 @@ class ProgramFailed(ToolError):
     def __init__(self, why: str) -> None:
         super().__init__(f"the program dwg gave no answer: {why}", Exit.NO_PROGRAM)
         self.why = why
-
-    @property
-    def is_interrupt(self) -> bool:
-        """Whether the program was interrupted: Ctrl-C reaches it before the tool."""
-        return self.why == f"killed by signal {int(signal.SIGINT)}"
 
 
 class NotBuilt(ToolError):
@@ -283,6 +297,20 @@ class Program:
             out, notes = ran.communicate(given)
         return Answer(_status_of(ran.returncode, notes), out or b"", notes)
 
+    def tally(self, words: Sequence[str], source: Union[int, IO[bytes]]) -> Tally:
+        """Runs the program and counts the lines of its output, of which no more than a piece is held."""
+        first, last, count = b"", b"", 0
+        with tempfile.TemporaryFile() as notes, self._started(words, source, subprocess.PIPE, notes) as ran:
+            assert ran.stdout is not None
+            for piece in iter(lambda: ran.stdout.read(MOST_NOTES), b""):  # type: ignore[union-attr]
+                first = (first + piece)[:MOST_NOTES] if b"\n" not in first else first
+                last = (last + piece)[-MOST_NOTES:]
+                count += piece.count(b"\n")
+            code = ran.wait()
+            notes.seek(0)
+            said = notes.read(MOST_NOTES)
+        return Tally(_status_of(code, said), first.partition(b"\n")[0], last.rstrip(b"\n").rpartition(b"\n")[2], count, said)
+
     @contextlib.contextmanager
     def lines(self, words: Sequence[str], source: Union[int, IO[bytes]]) -> Iterator[Iterator[bytes]]:
         """The lines of the output while the program runs; what it notes goes to a file, and status 3 and above is ToolError behind the last line."""
@@ -292,7 +320,7 @@ class Program:
             ran.stdout.close()
             code = ran.wait()
             notes.seek(0)
-            said = notes.read()
+            said = notes.read(MOST_NOTES)
             status = _status_of(code, said)
             if status > Status.FOUND:
                 raise ToolError(said.decode("utf-8", "replace").strip() or f"the program ended with status {int(status)}", status)
@@ -318,6 +346,11 @@ class Program:
             with self._lock:
                 self._running.discard(ran)
 
+    @property
+    def is_stopped(self) -> bool:
+        """Whether no run can begin any more."""
+        return self._stopped
+
     def stop(self) -> None:
         """Ends all runs, and lets none begin."""
         with self._lock:
@@ -327,7 +360,11 @@ class Program:
 
 
 def _status_of(code: int, notes: bytes) -> Status:
-    """The status of the program. NotBuilt where the launcher has none; ProgramFailed where it has no such status or was killed."""
+    """The status of the program. NotBuilt where the launcher has none; ProgramFailed where it has no such status or was killed, with its last note."""
+    if code == -signal.SIGXFSZ:
+        return Status.WRITE_FAULT
+    if code == -signal.SIGINT:
+        _await_interrupt()
     if code < 0:
         raise ProgramFailed(f"killed by signal {-code}")
     if code == Exit.NO_PROGRAM and notes:
@@ -335,7 +372,16 @@ def _status_of(code: int, notes: bytes) -> Status:
     try:
         return Status(code)
     except ValueError:
-        raise ProgramFailed(f"status {code}") from None
+        lines = notes.decode("utf-8", "replace").split("\n")
+        said = next((line for line in reversed(lines) if line.strip()), "")
+        raise ProgramFailed(f"status {code}: {said}" if said else f"status {code}") from None
+
+
+def program_file(path: str) -> str:
+    """The file of the program that a name leads to: where that is the launcher of a checkout, what it has built."""
+    real = os.path.realpath(path)
+    built = os.path.join(os.path.dirname(real), "crates", "dwg_cli", "out", "dwg_cli")
+    return built if os.path.isfile(built) else real
 
 
 # ---------------------------------------------------------------------------------------------------------------------
@@ -344,22 +390,31 @@ def _status_of(code: int, notes: bytes) -> Status:
 
 _SHORT_ESCAPES = {"\\": "\\\\", "\t": "\\t", "\n": "\\n", "\r": "\\r"}
 
+# What turns the direction of a text: with one of these in a name a terminal shows another name.
+_DIRECTIONS = set("\u061c\u200e\u200f\u202a\u202b\u202c\u202d\u202e\u2066\u2067\u2068\u2069")
+
 
 def _escaped(letter: str) -> str:
     if letter in _SHORT_ESCAPES:
         return _SHORT_ESCAPES[letter]
-    if letter.isprintable() or letter == " " or unicodedata.category(letter) not in ("Cc", "Cs", "Zl", "Zp"):
+    if letter not in _DIRECTIONS and unicodedata.category(letter) not in ("Cc", "Cs", "Zl", "Zp"):
         return letter
-    return "".join(f"\\x{byte:02x}" for byte in letter.encode("utf-8", "surrogateescape"))
+    is_byte = "\udc80" <= letter <= "\udcff"
+    return "".join(f"\\x{byte:02x}" for byte in letter.encode("utf-8", "surrogateescape" if is_byte else "surrogatepass"))
 
 
 def one_line(text: str) -> str:
-    """A file name or a message as it stands in a line of a table.
+    """A file name as it stands in a line of a table or of a message.
 
-    A backslash is `\\\\`, a tabulator `\\t`, a line feed `\\n`, a carriage return `\\r`; each byte of any other control or line end, and
-    each byte that isn't UTF-8, is `\\x` and two hexadecimal digits. `printf %b` of bash gives the name back.
+    A backslash is `\\\\`, a tabulator `\\t`, a line feed `\\n`, a carriage return `\\r`; each byte of any other control or line end, of what
+    turns the direction of a text, and each byte that isn't UTF-8, is `\\x` and two hexadecimal digits. `printf %b` of bash gives the name back.
     """
     return text if text.isprintable() and "\\" not in text else "".join(map(_escaped, text))
+
+
+def one_message(text: str) -> str:
+    """A message as it stands on a line: as a name does, but backslashes stay, since the names in it are escaped already."""
+    return "\\".join(one_line(part) for part in text.split("\\"))
 
 
 # ---------------------------------------------------------------------------------------------------------------------
@@ -377,32 +432,57 @@ def uninterrupted() -> Iterator[None]:
         signal.pthread_sigmask(signal.SIG_SETMASK, kept)
 
 
+# Files that were begun and don't have their name yet: what an interrupt leaves of them, the end of the tool removes.
+_unplaced: Set[str] = set()
+
+
+def _remove_unplaced() -> None:
+    while _unplaced:
+        with contextlib.suppress(OSError):
+            os.unlink(_unplaced.pop())
+
+
 class WholeFile:
     """A file that takes its name when `place` is called, and leaves nothing behind where that is never called.
 
-    Used as a context; `file` is where to write. Unless `force`, a file that has the name meanwhile is left, with FileExistsError.
+    Used as a context; `file` is where to write. Unless `force`, a file that has the name meanwhile is left, with FileExistsError;
+    with it a regular file is replaced, and keeps its mode and its owner, and what is no regular file is left.
     """
+
+    file: IO[bytes]
 
     def __init__(self, path: str, force: bool = False) -> None:
         self.path, self.force = path, force
-        folder, name = os.path.split(path)
-        self._folder = folder or "."
-        with uninterrupted():
-            handle, self._temporary = tempfile.mkstemp(prefix=f".{name[:100]}.", suffix=".part", dir=self._folder)
-            self.file: IO[bytes] = os.fdopen(handle, "w+b")
+        self._folder = os.path.dirname(path) or "."
+        self._temporary = ""
 
     def __enter__(self) -> "WholeFile":
+        # A letter has four bytes at the most, and a name 255.
+        front = f".{os.path.basename(self.path)[:25]}."
+        try:
+            with uninterrupted():
+                handle, self._temporary = tempfile.mkstemp(prefix=front, suffix=".part", dir=self._folder)
+                _unplaced.add(self._temporary)
+                self.file = os.fdopen(handle, "w+b")
+        except BaseException:
+            self.__exit__()
+            raise
         return self
 
     def finish(self) -> None:
         """Sees to it that all that was written is on the disk."""
         self.file.flush()
-        os.fchmod(self.file.fileno(), 0o666 & ~_mask())
-        os.fsync(self.file.fileno())
+        handle, old = self.file.fileno(), self._replaced()
+        if old:
+            with contextlib.suppress(OSError):
+                os.fchown(handle, old.st_uid, old.st_gid)
+        os.fchmod(handle, stat.S_IMODE(old.st_mode) & 0o777 if old else 0o666 & ~_mask())
+        os.fsync(handle)
 
     def place(self) -> None:
         """Gives the file its name."""
         if self.force:
+            self._replaced()
             os.replace(self._temporary, self.path)
         else:
             self._link()
@@ -413,21 +493,42 @@ class WholeFile:
             finally:
                 os.close(folder)
 
+    def _replaced(self) -> Optional[os.stat_result]:
+        """The regular file that is to be replaced; None where there is none, and FileExistsError where what has the name must stay."""
+        if not self.force:
+            return None
+        try:
+            there = os.lstat(self.path)
+        except FileNotFoundError:
+            return None
+        if not stat.S_ISREG(there.st_mode):
+            raise FileExistsError(errno.EEXIST, "File exists", self.path)
+        return there
+
     def _link(self) -> None:
-        """Gives the file its name where no other has it: by a link, which never replaces, or on a file system without links by a rename."""
+        """Gives the file its name where no other has it: by a link, which never replaces, or else by a rename over a name that is taken first."""
         try:
             os.link(self._temporary, self.path)
         except FileExistsError:
-            raise
+            raise FileExistsError(errno.EEXIST, "File exists", self.path) from None
         except OSError:
-            if os.path.lexists(self.path):
-                raise FileExistsError(17, "File exists", self.path) from None
-            os.replace(self._temporary, self.path)
+            with uninterrupted():
+                os.close(os.open(self.path, os.O_WRONLY | os.O_CREAT | os.O_EXCL))
+                try:
+                    os.replace(self._temporary, self.path)
+                except OSError:
+                    os.unlink(self.path)
+                    raise
 
     def __exit__(self, *_: object) -> None:
-        self.file.close()
-        with contextlib.suppress(OSError):
-            os.unlink(self._temporary)
+        with uninterrupted():
+            # What can't be written any more is given up: where it was to be kept, `finish` has told.
+            with contextlib.suppress(OSError, AttributeError):
+                self.file.close()
+            if self._temporary:
+                with contextlib.suppress(OSError):
+                    os.unlink(self._temporary)
+                _unplaced.discard(self._temporary)
 
 
 def _mask() -> int:
@@ -443,6 +544,116 @@ def write_whole(path: str, data: bytes, force: bool = False) -> None:
         whole.file.write(data)
         whole.finish()
         whole.place()
+
+
+# ---------------------------------------------------------------------------------------------------------------------
+# Inputs and outputs
+# ---------------------------------------------------------------------------------------------------------------------
+
+
+def is_standard(path: Optional[str]) -> bool:
+    """Whether a word stands for a standard stream: `-`, or none at all."""
+    return path is None or path == "-"
+
+
+def input_name(path: Optional[str]) -> str:
+    """What an input is called in messages."""
+    return "standard input" if path is None or path == "-" else one_line(path)
+
+
+def open_input(path: Optional[str], limit: Optional[int] = LIMIT + 1) -> IO[bytes]:
+    """An input that can be read again and again: a regular file, or what a pipe gives, kept in a file without a name.
+
+    Of a pipe so many bytes are kept at the most, one more than the program takes. ToolError with status 4 where the input can't be read.
+    """
+    try:
+        file = open(0, "rb", closefd=False) if is_standard(path) else open(str(path), "rb")
+        if not is_standard(path) and stat.S_ISREG(os.fstat(file.fileno()).st_mode):
+            return file
+        with file:
+            return _kept(file, input_name(path), limit)
+    except OSError as fault:
+        raise ToolError(f"{input_name(path)}: {fault.strerror}", Status.READ_FAULT) from None
+
+
+def _kept(file: IO[bytes], name: str, limit: Optional[int]) -> IO[bytes]:
+    """What a pipe gives, as a file that can be read again."""
+    if file.isatty():
+        raise ToolError(f"{name} is a terminal, and no drawing comes from there; name a file", Exit.USAGE)
+    kept = tempfile.TemporaryFile()
+    left = limit
+    while left is None or left:
+        piece = file.read(1 << 20 if left is None else min(left, 1 << 20))
+        if not piece:
+            break
+        kept.write(piece)
+        left = None if left is None else left - len(piece)
+    kept.flush()
+    kept.seek(0)
+    return kept
+
+
+def _state_of(file: IO[bytes]) -> Tuple[int, int]:
+    """The size of an open file and the time of its last change."""
+    told = os.fstat(file.fileno())
+    return told.st_size, told.st_mtime_ns
+
+
+def _status_at(path: Optional[str], stream: int) -> Optional[os.stat_result]:
+    """What stands at a name, links followed, or is the standard stream; None where nothing does."""
+    try:
+        return os.fstat(stream) if path is None or path == "-" else os.stat(path)
+    except OSError:
+        return None
+
+
+def is_one_file(one: Optional[os.stat_result], other: Optional[os.stat_result]) -> bool:
+    """Whether two are one regular file, whatever their names."""
+    return one is not None and other is not None and stat.S_ISREG(one.st_mode) and os.path.samestat(one, other)
+
+
+def refuse_output(path: Optional[str], force: bool, sources: Iterable[Optional[str]]) -> None:
+    """Refuses an output before any work: one that is an input by any name, one that is there, and what `force` doesn't replace."""
+    name = "standard output" if path is None or path == "-" else one_line(path)
+    there = _status_at(path, 1)
+    if any(is_one_file(there, _status_at(source, 0)) for source in sources):
+        raise ToolError(f"{name} is the input itself; name another output", Exit.EXISTS)
+    if path is None or path == "-":
+        return
+    if not path:
+        raise ToolError("the output has no name", Exit.USAGE)
+    try:
+        found = os.lstat(path)
+    except FileNotFoundError:
+        return
+    except OSError as fault:
+        raise ToolError(f"{name}: {fault.strerror}", Status.WRITE_FAULT) from None
+    if stat.S_ISDIR(found.st_mode):
+        raise ToolError(f"{name} is a folder", Exit.EXISTS)
+    if not force:
+        raise ToolError(f"{name} is there already; --force replaces it", Exit.EXISTS)
+    if not stat.S_ISREG(found.st_mode):
+        raise ToolError(f"{name} is no regular file, and --force replaces no other", Exit.EXISTS)
+
+
+@contextlib.contextmanager
+def output(path: Optional[str], force: bool) -> Iterator[IO[bytes]]:
+    """Standard output, or a file that is written whole or not at all; status 5 where that fails, 73 where the file is there."""
+    try:
+        if path is None or path == "-":
+            yield sys.stdout.buffer
+            sys.stdout.buffer.flush()
+            return
+        with WholeFile(path, force) as whole:
+            yield whole.file
+            whole.finish()
+            whole.place()
+    except FileExistsError:
+        raise ToolError(f"{one_line(str(path))} is there already", Exit.EXISTS) from None
+    except BrokenPipeError:
+        raise
+    except OSError as fault:
+        raise ToolError(f"the output can't be written: {fault.strerror}", Status.WRITE_FAULT) from None
 
 
 # ---------------------------------------------------------------------------------------------------------------------
@@ -798,15 +1009,13 @@ def class_names(front: Front) -> Dict[int, str]:
 
 
 class Drawing:
-    """A drawing that can be shown more than once: a file, or what comes on standard input, kept in a file without a name meanwhile."""
+    """A drawing that can be shown more than once: a file, or what comes by a pipe, kept in a file without a name meanwhile."""
 
-    def __init__(self, program: Program, path: Optional[str]) -> None:
+    def __init__(self, program: Program, path: Optional[str], file: Optional[IO[bytes]] = None) -> None:
         self.program = program
-        self.name = "standard input" if path is None or path == "-" else one_line(path)
-        try:
-            self.file: IO[bytes] = _kept_input() if path is None or path == "-" else open(path, "rb")
-        except OSError as fault:
-            raise ToolError(f"{self.name}: {fault.strerror}", Status.READ_FAULT) from None
+        self.name = input_name(path)
+        self.file = open_input(path) if file is None else file
+        self._state = _state_of(self.file)
 
     @contextlib.contextmanager
     def show(self) -> Iterator[Tuple[Front, Iterator[Object]]]:
@@ -832,6 +1041,8 @@ class Drawing:
                     bad = fault
             for _ in lines:
                 pass
+        if _state_of(self.file) != self._state:
+            raise ToolError("it was changed while it was read", Status.READ_FAULT)
         if bad or not first:
             raise ToolError(f"the text of `show` isn't as it should be: {bad or 'it is empty'}", Exit.FAILURE)
 
@@ -839,42 +1050,6 @@ class Drawing:
         """The names of layers, styles, linetypes, applications and blocks, by handle."""
         with self.show() as (_, found):
             return names_of(found)
-
-
-def _kept_input() -> IO[bytes]:
-    """Standard input as a file that can be read again, with one byte more than the program takes at the most."""
-    if os.isatty(0):
-        raise ToolError("a drawing is read from standard input, and that is a terminal; name a file", Exit.USAGE)
-    kept = tempfile.TemporaryFile()
-    left = LIMIT + 1
-    while left:
-        piece = sys.stdin.buffer.read(min(left, 1 << 20))
-        if not piece:
-            break
-        kept.write(piece)
-        left -= len(piece)
-    kept.flush()
-    return kept
-
-
-@contextlib.contextmanager
-def output(path: Optional[str], force: bool) -> Iterator[IO[bytes]]:
-    """Standard output, or a file that is written whole or not at all; status 5 where that fails, 73 where the file exists."""
-    try:
-        if path is None:
-            yield sys.stdout.buffer
-            sys.stdout.buffer.flush()
-            return
-        with WholeFile(path, force) as whole:
-            yield whole.file
-            whole.finish()
-            whole.place()
-    except FileExistsError:
-        raise ToolError(f"{one_line(str(path))} exists; --force replaces it", Exit.EXISTS) from None
-    except BrokenPipeError:
-        raise
-    except OSError as fault:
-        raise ToolError(f"the output can't be written: {fault.strerror}", Status.WRITE_FAULT) from None
 
 
 # ---------------------------------------------------------------------------------------------------------------------
@@ -892,7 +1067,7 @@ ONE_DRAWING: List[Tuple[int, str]] = [
     (Exit.USAGE, "the words aren't understood, or name what isn't there"),
     (Exit.NO_PROGRAM, "the program dwg isn't found or gives no answer"),
     (Exit.FAILURE, "failure of the tool itself"),
-    (Exit.EXISTS, "the output is there already"),
+    (Exit.EXISTS, "the output is the input, or is there already"),
     (Exit.INTERRUPTED, "interrupted"),
     (Exit.CLOSED_PIPE, "nobody reads the output any more"),
 ]
@@ -912,42 +1087,129 @@ class Parser(argparse.ArgumentParser):
             formatter_class=argparse.RawDescriptionHelpFormatter,
             allow_abbrev=False,
         )
+        self.add_argument("--version", action=_Version, help="say which commit this tool is of, and end")
         self.add_argument("--program", metavar="PATH", help="the program dwg (else the one that DWG names, else dwg beside tools/, else dwg on the PATH)")
 
     def error(self, message: str) -> NoReturn:
-        self.print_usage(sys.stderr)
+        with contextlib.suppress(OSError):
+            self.print_usage(sys.stderr)
         raise ToolError(message, Exit.USAGE)
 
 
-def _terminate(number: int, _: object) -> NoReturn:
+class _Version(argparse.Action):
+    """Says which commit a tool is of, where that is known, and ends."""
+
+    def __init__(self, option_strings: Sequence[str], dest: str, **more: Any) -> None:
+        super().__init__(option_strings, argparse.SUPPRESS, nargs=0, **more)
+
+    def __call__(self, parser: argparse.ArgumentParser, *_: Any) -> None:
+        print(f"{parser.prog}, commit {commit() or 'unknown'}\n{TESTED}")
+        parser.exit()
+
+
+def commit() -> str:
+    """The commit of the tools: the one that `make install` noted, else what git says of the checkout; nothing where neither knows."""
+    top = os.path.dirname(os.path.dirname(os.path.realpath(__file__)))
+    with contextlib.suppress(OSError), open(os.path.join(top, "COMMIT"), encoding="ascii", errors="replace") as noted:
+        return noted.readline().strip()
+    if not os.path.exists(os.path.join(top, ".git")):
+        return ""
+    words = ["git", "-C", top, "describe", "--always", "--dirty= and changes", "--exclude=*", "--abbrev=40"]
+    environment = {name: value for name, value in os.environ.items() if not name.startswith("GIT_")}
+    with contextlib.suppress(OSError, subprocess.SubprocessError):
+        ran = subprocess.run(words, stdin=subprocess.DEVNULL, stdout=subprocess.PIPE, stderr=subprocess.DEVNULL, env=environment, timeout=20, check=True)
+        return ran.stdout.decode("ascii", "replace").strip()
+    return ""
+
+
+def tell(message: str) -> None:
+    """Says a message of one line on standard error; where nobody can read it, it is lost, and nothing else."""
+    with contextlib.suppress(OSError, ValueError):
+        print(f"{os.path.basename(sys.argv[0])}: {one_message(message)}", file=sys.stderr, flush=True)
+
+
+def open_missing_streams() -> None:
+    """Opens /dev/null for each standard stream that is closed, so that no file that is opened later stands in its place."""
+    for number, name in enumerate(("stdin", "stdout", "stderr")):
+        try:
+            os.fstat(number)
+        except OSError:
+            # The lowest number that is free is given, and that is this one.
+            os.set_inheritable(os.open(os.devnull, os.O_RDWR), True)
+        if getattr(sys, name) is None:
+            mode = "r" if number == 0 else "w"
+            setattr(sys, name, open(number, mode, encoding="utf-8", errors="backslashreplace", closefd=False))
+
+
+_ENDING = (signal.SIGINT, signal.SIGTERM, signal.SIGHUP)
+
+# Whether this process was interrupted.
+_interrupted: List[bool] = []
+
+
+def _ignore_signals() -> None:
+    for number in _ENDING:
+        signal.signal(number, signal.SIG_IGN)
+
+
+def _end(number: int, _: object) -> NoReturn:
+    """Ends the tool once: a second signal doesn't disturb what the first makes it tidy."""
+    _ignore_signals()
+    if number == signal.SIGINT:
+        _interrupted.append(True)
+        raise KeyboardInterrupt
     raise SystemExit(128 + number)
 
 
-def run_tool(main: Callable[[], int]) -> NoReturn:
-    """Runs a tool and ends with its status: a message of one line for each failure, never a traceback."""
-    name = os.path.basename(sys.argv[0])
-    signal.signal(signal.SIGTERM, _terminate)
-    signal.signal(signal.SIGHUP, _terminate)
+def _take_signals() -> None:
+    """Ends the tool by each signal that isn't ignored already, and lets in an interrupt that waited while Python began."""
+    for number in _ENDING:
+        if signal.getsignal(number) != signal.SIG_IGN:
+            signal.signal(number, _end)
+    signal.pthread_sigmask(signal.SIG_UNBLOCK, {signal.SIGINT})
+
+
+def _await_interrupt() -> None:
+    """Waits a moment for the interrupt that ended the program: Ctrl-C reaches it too, and perhaps before the tool."""
+    for _ in range(50):
+        if _interrupted:
+            raise KeyboardInterrupt
+        time.sleep(0.01)
+
+
+def _ran(main: Callable[[], int]) -> int:
+    """The status of a tool: what it says of each failure is a message of one line."""
     try:
+        _take_signals()
         status = int(main())
         sys.stdout.flush()
+        return status
     except ToolError as fault:
-        if isinstance(fault, ProgramFailed) and fault.is_interrupt:
-            status = Exit.INTERRUPTED
-        else:
-            print(f"{name}: {fault}", file=sys.stderr)
-            status = fault.status
+        tell(str(fault))
+        return fault.status
+    except BrokenPipeError:
+        return Exit.CLOSED_PIPE
+    except OSError as fault:
+        where = f"{one_line(os.fsdecode(fault.filename))}: " if isinstance(fault.filename, (str, bytes)) else ""
+        tell(f"{where}{fault.strerror or fault}")
+    except Exception as fault:  # pylint: disable=broad-except
+        tell(f"failure of the tool itself: {type(fault).__name__}: {fault}")
+    return Exit.FAILURE
+
+
+def run_tool(main: Callable[[], int]) -> NoReturn:
+    """Runs a tool and ends with its status, and never by a traceback. Its scripts begin with interrupts blocked, which this lets in."""
+    open_missing_streams()
+    try:
+        status = _ran(main)
+        _ignore_signals()
     except KeyboardInterrupt:
         status = Exit.INTERRUPTED
-    except BrokenPipeError:
-        # Nobody reads the output any more; what is left of it goes nowhere.
-        os.dup2(os.open(os.devnull, os.O_WRONLY), 1)
-        status = Exit.CLOSED_PIPE
-    except OSError as fault:
-        where = f"{one_line(os.fsdecode(fault.filename))}: " if fault.filename else ""
-        print(f"{name}: {where}{fault.strerror or fault}", file=sys.stderr)
-        status = Exit.FAILURE
-    except Exception as fault:  # pylint: disable=broad-except
-        print(f"{name}: failure of the tool itself: {type(fault).__name__}: {one_line(str(fault))}", file=sys.stderr)
-        status = Exit.FAILURE
-    sys.exit(int(status))
+    except SystemExit as end:
+        status = end.code if isinstance(end.code, int) else 0 if end.code is None else Exit.FAILURE
+    _remove_unplaced()
+    for stream in (sys.stdout, sys.stderr):
+        with contextlib.suppress(OSError, ValueError):
+            stream.flush()
+    # (the end of Python itself would flush again, and has a status of its own where that fails)
+    os._exit(int(status))
