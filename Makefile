@@ -1,6 +1,7 @@
 # What there is to do with this folder; each is a line of what stands already. make alone proves and builds the program.
 #
-# make install takes PREFIX (/usr/local) and DESTDIR. The tools stand together in PREFIX/lib/dwg, links to them in PREFIX/bin.
+# make install takes PREFIX (/usr/local) and DESTDIR, whatever is in their names. The tools stand together in PREFIX/lib/dwg, links to them in
+# PREFIX/bin. make uninstall takes away what install brought, and nothing else.
 
 PREFIX = /usr/local
 DESTDIR =
@@ -9,10 +10,13 @@ PROGRAM = crates/dwg_cli/out/dwg_cli
 TOOLS = $(notdir $(wildcard tools/dwg-*))
 MODULES = $(wildcard tools/*.py)
 
-bin = $(DESTDIR)$(PREFIX)/bin
-lib = $(DESTDIR)$(PREFIX)/lib/dwg
-man = $(DESTDIR)$(PREFIX)/share/man
-completions = $(DESTDIR)$(PREFIX)/share/bash-completion/completions
+# A name as a word of the shell, whatever is in it.
+quoted = '$(subst ','\'',$(1))'
+
+bin = $(call quoted,$(DESTDIR)$(PREFIX)/bin)
+lib = $(call quoted,$(DESTDIR)$(PREFIX)/lib/dwg)
+man = $(call quoted,$(DESTDIR)$(PREFIX)/share/man)
+completions = $(call quoted,$(DESTDIR)$(PREFIX)/share/bash-completion/completions)
 
 .PHONY: build test check-tools bench install uninstall
 
@@ -30,16 +34,22 @@ bench:
 
 install: build
 	install -d $(bin) $(lib)/tools $(man)/man1 $(man)/man7 $(completions)
-	install -m 755 $(PROGRAM) $(bin)/dwg
+	install -m 755 $(call quoted,$(PROGRAM)) $(bin)/dwg
 	ln -sfn ../../bin/dwg $(lib)/dwg
+	{ [ -e .git ] && git describe --always --dirty=' and changes' --exclude='*' --abbrev=40 2>/dev/null || echo; } > $(lib)/COMMIT
+	chmod 644 $(lib)/COMMIT
 	install -m 644 $(MODULES) $(lib)/tools
 	install -m 755 $(addprefix tools/,$(TOOLS)) $(lib)/tools
-	for tool in $(TOOLS); do ln -sfn ../lib/dwg/tools/$$tool $(bin)/$$tool; done
+	for tool in $(TOOLS); do ln -sfn "../lib/dwg/tools/$$tool" $(bin)/"$$tool"; done
 	install -m 644 docs/dwg.1 $(man)/man1
 	install -m 644 docs/dwg-tools.7 $(man)/man7
+	for tool in $(TOOLS); do echo .so man7/dwg-tools.7 > $(man)/man1/"$$tool".1 && chmod 644 $(man)/man1/"$$tool".1; done
 	install -m 644 tools/completion.bash $(completions)/dwg
-	for tool in $(TOOLS); do ln -sfn dwg $(completions)/$$tool; done
+	for tool in $(TOOLS); do ln -sfn dwg $(completions)/"$$tool"; done
 
 uninstall:
-	rm -f $(bin)/dwg $(addprefix $(bin)/,$(TOOLS)) $(man)/man1/dwg.1 $(man)/man7/dwg-tools.7 $(completions)/dwg $(addprefix $(completions)/,$(TOOLS))
-	rm -rf $(lib)
+	for tool in $(TOOLS); do rm -f $(bin)/"$$tool" $(lib)/tools/"$$tool" $(man)/man1/"$$tool".1 $(completions)/"$$tool"; done
+	for module in $(notdir $(MODULES)); do rm -f $(lib)/tools/"$$module"; done
+	rm -f $(bin)/dwg $(lib)/dwg $(lib)/COMMIT $(man)/man1/dwg.1 $(man)/man7/dwg-tools.7 $(completions)/dwg
+	rm -rf $(lib)/tools/__pycache__
+	for folder in $(lib)/tools $(lib); do [ ! -d "$$folder" ] || rmdir "$$folder" || :; done

@@ -18,6 +18,8 @@ _dwg_tool() {
         mapfile -t COMPREPLY < <(compgen -W "$("$1" --help 2>/dev/null | grep -oE -- '--[a-z][a-z-]*' | sort -u)" -- "$word")
     elif [[ $before == --program || $before == --resume || $before == --before || $before == --output || $before == -o ]]; then
         mapfile -t COMPREPLY < <(compgen -f -- "$word")
+    elif [[ $before == --print0 ]]; then
+        mapfile -t COMPREPLY < <(compgen -W "sound unsound damaged changed failed unreadable" -- "$word")
     elif [[ $before != --jobs && $before != --width && $before != --background && $before != --block && $before != --space && $before != --ignore ]]; then
         mapfile -t COMPREPLY < <(
             compgen -d -- "$word"

@@ -359,6 +359,13 @@ class Program:
                 ran.kill()
 
 
+def ready_program(given: Optional[str]) -> Program:
+    """The program that is found, which can answer at once."""
+    program = Program(find_program(given))
+    program.prepare()
+    return program
+
+
 def _status_of(code: int, notes: bytes) -> Status:
     """The status of the program. NotBuilt where the launcher has none; ProgramFailed where it has no such status or was killed, with its last note."""
     if code == -signal.SIGXFSZ:

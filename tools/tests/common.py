@@ -95,7 +95,7 @@ class InFolder(unittest.TestCase):
     def interrupted(self, name: str, *words: object) -> int:
         """The status of a tool that is interrupted while the program, which never ends, shows its first objects."""
         begun = self.folder / "begun"
-        endless = program_that(self.folder, "endless", ['"$REAL" show', f"touch {begun}", "exec sleep 60"])
+        endless = program_that(self.folder, "endless", ['[ "$1" != drill ] || exit 0', '"$REAL" show', f"touch {begun}", "exec sleep 60"])
         said = [sys.executable, str(TOOLS / name), "--program", str(endless), *map(str, words)]
         with subprocess.Popen(said, stdin=subprocess.DEVNULL, stdout=subprocess.PIPE, stderr=subprocess.PIPE) as started:
             end = time.monotonic() + 30
@@ -108,5 +108,5 @@ class InFolder(unittest.TestCase):
         return started.returncode
 
     def failing(self, *lines: str) -> Path:
-        """A program that fails."""
-        return program_that(self.folder, "failing", lines)
+        """A program that is there, and fails."""
+        return program_that(self.folder, "failing", ['[ "$1" != drill ] || exit 0', *lines])

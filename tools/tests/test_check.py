@@ -2,20 +2,24 @@
 
 from __future__ import annotations
 
+import errno
 import gzip
+import hashlib
 import io
 import json
 import os
 import pathlib
 import random
+import resource
 import shutil
 import signal
 import subprocess
 import tempfile
 import time
+import types
 import unittest
 import zipfile
-from typing import Dict, List, Optional, Tuple
+from typing import Any, Dict, List, Optional, Tuple
 
 import made
 from made import TOOLS, WRITER, flipped, hole, layout, program_that, tool, unescaped
@@ -229,7 +233,7 @@ def read_table(text: bytes) -> List[List[str]]:
     return [line.split("\t") for line in lines[1:-1]]
 
 
-class Check(unittest.TestCase):
+class Base(unittest.TestCase):
     """Each test has a folder of its own."""
 
     maxDiff = None
@@ -244,6 +248,25 @@ class Check(unittest.TestCase):
             (self.folder / name).parent.mkdir(parents=True, exist_ok=True)
             (self.folder / name).write_bytes(made.made(count))
         return [str(self.folder / name) for name in names]
+
+    def counting(self) -> pathlib.Path:
+        """A program that notes each audit."""
+        return program_that(self.folder, "counting", [f'[ "$1" != audit ] || echo >>"{self.folder}/count"', 'exec "$REAL" "$@"'])
+
+    def audits(self) -> int:
+        """How many audits there were since this was last asked."""
+        count = self.folder / "count"
+        number = len(count.read_bytes()) if count.exists() else 0
+        count.write_bytes(b"")
+        return number
+
+    def verdicts(self, ran: "subprocess.CompletedProcess[bytes]") -> List[List[str]]:
+        """Name, verdict and detail of each line of a table."""
+        return [[os.path.basename(row[0]), *row[1:3]] for row in read_table(ran.stdout)]
+
+
+class Check(Base):
+    """What is said of files."""
 
     def test_verdicts(self) -> None:
         files = Files(self.folder)
@@ -347,8 +370,12 @@ class Check(unittest.TestCase):
         given = f"{self.folder}/z.bak\n{self.folder}/b\n".encode()
         self.assertEqual(paths(tool("dwg-check", self.folder / "a.dwg", "-", given=given)), ["a.dwg", "z.bak", "b/1.dwg", "b/2.DWG", "b/c/3.dwg"])
         os.mkdir(self.folder / "nothing")
+        said = b"dwg-check: nothing was found to check; of folders only *.dwg is taken, and --all takes every file\n"
         ran = tool("dwg-check", self.folder / "nothing")
-        self.assertEqual((ran.returncode, read_table(ran.stdout), ran.stderr), (0, [], b"dwg-check: 0 files\n"))
+        self.assertEqual((ran.returncode, read_table(ran.stdout), ran.stderr), (66, [], b"dwg-check: 0 files\n" + said))
+        for words, given in (([self.folder / "nothing", "--quiet"], b""), (["-", "--quiet"], b""), (["--quiet", "--resume", self.folder / "log", self.folder / "nothing"], b"")):
+            ran = tool("dwg-check", *words, given=given)
+            self.assertEqual((ran.returncode, ran.stderr), (66, said))
 
     def test_order(self) -> None:
         paths = self.some([f"{index:02}.dwg" for index in range(40)], 1)
@@ -356,17 +383,6 @@ class Check(unittest.TestCase):
         self.assertEqual([row[0] for row in read_table(tool("dwg-check", "--jobs", "4", *paths).stdout)], paths)
         backwards = paths[::-1]
         self.assertEqual([row[0] for row in read_table(tool("dwg-check", "--jobs", "3", *backwards).stdout)], backwards)
-
-    def counting(self) -> pathlib.Path:
-        """A program that notes each audit."""
-        return program_that(self.folder, "counting", [f'[ "$1" != audit ] || echo >>"{self.folder}/count"', 'exec "$REAL" "$@"'])
-
-    def audits(self) -> int:
-        """How many audits there were since this was last asked."""
-        count = self.folder / "count"
-        number = len(count.read_bytes()) if count.exists() else 0
-        count.write_bytes(b"")
-        return number
 
     def test_resume(self) -> None:
         paths = self.some([f"d/{name}.dwg" for name in "abcde"])
@@ -380,10 +396,11 @@ class Check(unittest.TestCase):
         (self.folder / "d" / "f.dwg").write_bytes(made.made(7))
         os.utime(self.folder / "d" / "c.dwg", ns=(5, 5))
         third = run()
-        self.assertEqual((len(read_table(third.stdout)), self.audits()), (7, 3))
+        # That of another time is known by its content.
+        self.assertEqual((len(read_table(third.stdout)), self.audits()), (7, 2))
         # A line that was cut off counts for nothing, and doesn't spoil the one behind it.
         kept = log.read_bytes()
-        first_line = kept.index(b"\n")
+        first_line = kept.index(b"\n", kept.index(b"\n") + 1)
         log.write_bytes(kept[: first_line - 20])
         self.assertEqual((run().stdout, self.audits()), (third.stdout, 6))
         self.assertEqual((run().stdout, self.audits()), (third.stdout, 0))
@@ -418,7 +435,7 @@ class Check(unittest.TestCase):
             self.assertEqual((started.returncode, out, said), (status, b"", b""))
             for pid in (folder / "pids").read_text().split():
                 self.assertFalse(pathlib.Path(f"/proc/{pid}").exists())
-            lines = (folder / "log").read_bytes().split(b"\n")
+            lines = (folder / "log").read_bytes().split(b"\n")[1:]
             self.assertEqual(lines[-1], b"")
             self.assertTrue(4 <= len(lines) - 1 < 30)
             self.assertTrue(all(json.loads(line)["verdict"] == "sound" for line in lines[:-1]))
@@ -447,9 +464,13 @@ class Check(unittest.TestCase):
             self.assertEqual((b" of 12, " in said, b"/s, " in said, b" left" in said), (shown, shown, shown), said)
 
     def test_words(self) -> None:
-        for words in ([], ["--nothing", "x"], ["--jobs", "0", "x"], ["--jobs", "many", "x"], ["--al", "x"]):
+        for words in ([], ["--nothing", "x"], ["--jobs", "0", "x"], ["--jobs", "many", "x"], ["--al", "x"], ["--verify", "x"], ["--json", "--print0", "damaged", "x"], ["--print0", "nothing", "x"]):
             ran = tool("dwg-check", *words)
             self.assertEqual((ran.returncode, ran.stdout), (64, b""), words)
+        for number in ("\u00b2", "\u0663", "-1", "1001", "9" * 5000):
+            ran = tool("dwg-check", f"--jobs={number}", "x")
+            self.assertEqual(ran.returncode, 64)
+            self.assertIn(b"is no number from 1 to 1000", ran.stderr)
         self.assertEqual(tool("dwg-check", "--program", "/nowhere/dwg", "x").returncode, 69)
         self.assertEqual(tool("dwg-check", "x", DWG="/nowhere/dwg").returncode, 69)
         self.assertEqual(tool("dwg-check", "--program", "/bin/false", "x").returncode, 69)
@@ -471,13 +492,288 @@ class Check(unittest.TestCase):
             ran = subprocess.run(words, stdout=full, stderr=subprocess.PIPE, check=False)
         self.assertEqual((ran.returncode, ran.stderr), (70, b"dwg-check: No space left on device\n"))
         ran = tool("dwg-check", "--resume", "/dev/full", self.folder)
-        self.assertEqual((ran.returncode, ran.stderr), (70, b"dwg-check: /dev/full: no regular file\n"))
+        self.assertEqual((ran.returncode, ran.stderr), (73, b"dwg-check: /dev/full is no regular file\n"))
+
+    def test_one_file_never_ends_a_run(self) -> None:
+        self.some(["a.dwg", "b.dwg", "c.dwg"])
+        (self.folder / "b.dwg").write_bytes(made.made(6))
+        good = ["sound", ""]
+        odd = "its answer isn't as it should be: "
+        # What the program does about one file alone, by its commands.
+        answers = {
+            'case $1 in audit) "$REAL" audit; : >"$B"; exit;; esac': "changed while it was checked",
+            '[ "$1" != sections ] || exit 6': "status 6 for `sections`",
+            '[ "$1" != sections ] || exit 0': odd,
+            '[ "$1" != sections ] || { echo odd; exit 0; }': odd,
+            '[ "$1" != sections ] || { echo; exit 0; }': odd,
+            '[ "$1" != sections ] || { printf "preview 1\\nsection \\377 at x\\n"; exit 0; }': odd,
+            '[ "$1" != sections ] || { printf "section 2 at 999999 size 4\\nsection 0 at 3 size x\\n"; exit 0; }': odd,
+            '[ "$1" != audit ] || { printf "finding \\377\\naudit no 1\\n"; exit 1; }': odd,
+            '[ "$1" != audit ] || exit 0': "`audit` doesn't end as it should",
+            '[ "$1" != audit ] || { echo nothing; exit 1; }': "`audit` doesn't end as it should",
+            '[ "$1" != audit ] || { echo audit yes; exit 1; }': "`audit` doesn't end as it should",
+            '[ "$1" != audit ] || { echo "audit no 7"; exit 1; }': "`audit` doesn't end as it should",
+            '[ "$1" != audit ] || { head -c 200000 /dev/zero >&2; exit 3; }': "status 3",
+            '[ "$1" != audit ] || { printf "dwg: refused: a\\033b 99999999999999999999 at 1: x\\n" >&2; exit 3; }': "status 3",
+            '[ "$1" != audit ] || exit 77': "status 77",
+            '[ "$1" != audit ] || { kill -INT $$; sleep 5; }': "killed by signal 2",
+            '[ "$1" != audit ] || { kill -SEGV $$; sleep 5; }': "killed by signal 11",
+        }
+        for line, why in answers.items():
+            (self.folder / "b.dwg").write_bytes(made.made(6))
+            size = len(made.made(6))
+            lines = [f'B="{self.folder}/b.dwg"', '[ "$1" != drill ] || exit 0', f'if [ "$(stat -Lc %s /dev/stdin)" = {size} ]; then', line, "fi", 'exec "$REAL" "$@"']
+            program = program_that(self.folder, "odd", lines)
+            for log in ([], ["--resume", self.folder / "log"]):
+                ran = tool("dwg-check", "--program", program, "--quiet", *log, *(self.folder / f"{name}.dwg" for name in "abc"))
+                (a, b, c) = self.verdicts(ran)
+                self.assertEqual((ran.returncode, a, b[:2], c, ran.stderr), (1, ["a.dwg", *good], ["b.dwg", "failed"], ["c.dwg", *good], b""), line)
+                self.assertTrue(b[2].startswith(why), b)
+                (self.folder / "b.dwg").write_bytes(made.made(6))
+
+    def test_a_name_that_no_file_has_never_ends_a_run(self) -> None:
+        (path,) = self.some(["a.dwg"])
+        for log in ([], ["--resume", self.folder / "log"]):
+            ran = tool("dwg-check", "-", "--quiet", *log, given=b"x\0y\n" + b"n" * 5000 + b"\n" + os.fsencode(path) + b"\n")
+            self.assertEqual(([row[1] for row in read_table(ran.stdout)], ran.stderr), (["unreadable", "unreadable", "sound"], b""))
+
+    def test_print0(self) -> None:
+        names = ["a b.dwg", "line\nfeed.dwg", "back\\slash.dwg", "tab\t.dwg"]
+        paths = self.some(sorted(names))
+        self.some(["whole.dwg"])
+        for path in paths:
+            pathlib.Path(path).write_bytes(made.made(5)[:-1])
+        ran = tool("dwg-check", "--print0", "damaged", self.folder)
+        self.assertEqual((ran.returncode, ran.stdout), (1, b"".join(os.fsencode(path) + b"\0" for path in paths)))
+        self.assertEqual(ran.stderr, b"dwg-check: 5 files: 4 damaged, 1 sound\n")
+        self.assertEqual(tool("dwg-check", "--print0", "unsound", self.folder).stdout, b"")
+
+    def test_the_recipe_recovers_all_that_is_damaged(self) -> None:
+        page = (made.TOP / "docs" / "dwg-tools.7").read_text()
+        recipe = page.split("\nRecover all that is damaged", 1)[1].split("-offset indent\n", 1)[1].split(".Ed\n", 1)[0]
+        recipe = recipe.replace("\\(dq", '"').replace("\\e", "\\")
+        folders = ["a", "b", "c d\n", "-e", "f\\t\t"]
+        names = ["plan.dwg", "it's \"$x\".dwg", "-n.dwg", " \n.dwg", "\udce4\\.dwg"]
+        data = made.made(5)
+        lost = flipped(data, layout(data).frames[20].place + 4)
+        for folder in folders:
+            (self.folder / "plans" / folder).mkdir(parents=True)
+            for name in names:
+                (self.folder / "plans" / folder / name).write_bytes(lost)
+            (self.folder / "plans" / folder / "whole.dwg").write_bytes(data)
+        environment = {**os.environ, "DWG": made.PROGRAM, "PATH": f"{TOOLS}:{os.environ['PATH']}"}
+        subprocess.run(["sh", "-c", recipe], cwd=self.folder, check=False, env=environment)
+        expected = {f"{folder}/{name}{more}" for folder in folders for name in names for more in ("", ".notes", ".txt")}
+        under = self.folder / "recovered" / "plans"
+        found = {str(path.relative_to(under)) for path in under.rglob("*") if path.is_file()}
+        self.assertEqual(found, expected)
+        reports = {path: path.read_bytes() for path in under.rglob("*.txt")}
+        self.assertTrue(all(b" is damaged: objects 20 " in report for report in reports.values()))
+        # What is there already stays.
+        subprocess.run(["sh", "-c", recipe], cwd=self.folder, check=False, env=environment, stderr=subprocess.DEVNULL)
+        self.assertEqual({path: path.read_bytes() for path in under.rglob("*.txt")}, reports)
 
     def test_nothing_is_written(self) -> None:
         self.some(["a.dwg"])
         before = sorted((path.name, path.stat().st_mtime_ns) for path in self.folder.iterdir())
         tool("dwg-check", self.folder)
         self.assertEqual(sorted((path.name, path.stat().st_mtime_ns) for path in self.folder.iterdir()), before)
+
+
+class Logs(Base):
+    """What LOG is, what it keeps, and what is refused as one."""
+
+    def setUp(self) -> None:
+        super().setUp()
+        self.log = self.folder / "log"
+        (self.folder / "d").mkdir()
+
+    def resume(self, *words: object, **more: str) -> "subprocess.CompletedProcess[bytes]":
+        """What a run with LOG answers."""
+        return tool("dwg-check", "--quiet", "--resume", self.log, *words, self.folder / "d", **more)
+
+    def lines(self) -> List[Dict[str, Any]]:
+        """The lines of LOG."""
+        return [json.loads(line) for line in self.log.read_bytes().splitlines()]
+
+    def test_a_forgotten_log_writes_into_nothing(self) -> None:
+        plan, other = self.some(["plan.dwg", "other.dwg"])
+        (self.folder / "link").symlink_to("plan.dwg")
+        (self.folder / "empty.dwg").write_bytes(b"")
+        os.link(self.folder / "empty.dwg", self.folder / "empty")
+        older = b'{"path": "a", "verdict": "sound", "detail": "", "absolute": "/a", "bytes": 1, "mtime_ns": 1, "refusal": null}\n'
+        others = [made.made(5), b"text\n", b"\n", b"{}\n", b'{"log": "dwg-check", "form": 2, "program": "x"}\n', b'{"log": "dwg-check", "form": 1, "program": "x"}', b"[" * 200_000, bytes(300_000), older]
+        for index, data in enumerate(others):
+            (self.folder / f"other{index}").write_bytes(data)
+        names = ["plan.dwg", "link", "empty.dwg", "none.dwg", *(f"other{index}" for index in range(len(others)))]
+        before = {path.name: (path.read_bytes(), path.stat().st_mtime_ns) for path in self.folder.iterdir() if path.is_file()}
+        for name in names:
+            ran = tool("dwg-check", "--resume", self.folder / name, other)
+            self.assertEqual((ran.returncode, ran.stdout, ran.stderr.count(b"\n")), (73, b"", 1), name)
+        # By another name it is a drawing that is to be checked.
+        self.assertEqual(tool("dwg-check", "--resume", self.folder / "empty", self.folder / "empty.dwg", plan).returncode, 73)
+        self.assertEqual({path.name: (path.read_bytes(), path.stat().st_mtime_ns) for path in self.folder.iterdir() if path.is_file()}, before)
+
+    def test_a_log_that_is_the_output_is_refused(self) -> None:
+        (path,) = self.some(["d/a.dwg"])
+        self.assertEqual(self.resume().returncode, 0)
+        kept = self.log.read_bytes()
+        with open(self.log, "ab") as out:
+            ran = subprocess.run([str(TOOLS / "dwg-check"), "--resume", str(self.log), path], stdout=out, stderr=subprocess.PIPE, check=False, env={**os.environ, "DWG": made.PROGRAM})
+        self.assertEqual((ran.returncode, self.log.read_bytes()), (73, kept))
+
+    def test_the_head_names_the_program(self) -> None:
+        self.some(["d/a.dwg", "d/b.dwg"])
+        first, second = self.counting(), program_that(self.folder, "second", [f'[ "$1" != audit ] || echo >>"{self.folder}/count"', 'exec "$REAL" "$@"'])
+        self.assertEqual(self.resume("--program", first).returncode, 0)
+        head, *rows = self.lines()
+        self.assertEqual((head["log"], head["form"], head["program"]), ("dwg-check", 1, hashlib.sha256(first.read_bytes()).hexdigest()))
+        self.assertEqual({row["sha256"] for row in rows}, {hashlib.sha256(made.made(5)).hexdigest()})
+        self.audits()
+        self.assertEqual((self.resume("--program", first).returncode, self.audits()), (0, 0))
+        # What another program found is checked anew, behind a head of its own.
+        self.assertEqual((self.resume("--program", second).returncode, self.audits()), (0, 2))
+        self.assertEqual((self.resume("--program", second).returncode, self.audits(), len(self.lines())), (0, 0, 6))
+        self.assertEqual((self.resume("--program", first).returncode, self.audits(), len(self.lines())), (0, 0, 9))
+
+    def rot(self, path: str, place: int) -> None:
+        """Changes a byte, and leaves size and time as they are."""
+        told = os.stat(path)
+        with open(path, "r+b") as file:
+            file.seek(place)
+            byte = file.read(1)
+            file.seek(place)
+            file.write(bytes([byte[0] ^ 1]))
+        os.utime(path, ns=(told.st_atime_ns, told.st_mtime_ns))
+
+    def test_verify_sees_a_changed_byte_of_the_same_size_and_time(self) -> None:
+        data = made.made(5)
+        a, b, c = self.some(["d/a.dwg", "d/b.dwg", "d/c.dwg"])
+        program = self.counting()
+        run = lambda *words: self.verdicts(self.resume("--program", program, *words))
+        sound = [[f"{name}.dwg", "sound", ""] for name in "abc"]
+        self.assertEqual(run(), sound)
+        self.audits()
+        self.assertEqual((run("--verify"), self.audits()), (sound, 0))
+        frame = layout(data).frames[20]
+        self.rot(a, frame.place + 4)
+        # A byte of the preview, which is no part of a drawing.
+        self.rot(b, layout(data).preview + 18)
+        self.assertEqual(run(), sound)
+        expected = [["a.dwg", "changed", f"damaged: objects 20 at {frame.place}: check"], ["b.dwg", "changed", "sound"], sound[2]]
+        for words in (["--verify"], ["--verify"], []):
+            ran = self.resume("--program", program, *words)
+            self.assertEqual((ran.returncode, self.verdicts(ran)), (1, expected))
+        self.assertEqual(self.audits(), 2)
+        changed = tool("dwg-check", "--quiet", "--program", program, "--resume", self.log, "--verify", "--print0", "changed", self.folder / "d")
+        self.assertEqual(changed.stdout, b"".join(os.fsencode(path) + b"\0" for path in (a, b)))
+        # Another program sees it too; what comes back from a copy is a new state.
+        self.assertEqual([row[1] for row in self.verdicts(self.resume("--verify"))], ["changed", "changed", "sound"])
+        for path in (a, b):
+            pathlib.Path(path).write_bytes(data)
+        self.assertEqual(self.verdicts(self.resume("--verify")), sound)
+
+    def test_a_moved_archive_is_read_and_not_checked(self) -> None:
+        self.some(["d/a.dwg", "d/b.dwg"])
+        (self.folder / "d" / "c.dwg").write_bytes(made.made(9)[:-3])
+        program = self.counting()
+        first = self.resume("--program", program)
+        self.audits()
+        os.rename(self.folder / "d", self.folder / "e")
+        (self.folder / "d").mkdir()
+        for name in ("a", "b", "c"):
+            os.rename(self.folder / "e" / f"{name}.dwg", self.folder / "d" / f"x{name}.dwg")
+        again = self.resume("--program", program)
+        self.assertEqual((again.stdout.replace(b"/x", b"/"), self.audits()), (first.stdout, 0))
+
+    def test_unreadable_files_add_one_line(self) -> None:
+        os.mkfifo(self.folder / "d" / "a.dwg")
+        for _ in range(3):
+            self.assertEqual([row[1] for row in self.verdicts(self.resume())], ["unreadable"])
+        self.assertEqual(len(self.lines()), 2)
+
+    def test_damaged_lines_are_passed_and_told(self) -> None:
+        self.some(["d/a.dwg", "d/b.dwg"])
+        program = self.counting()
+        first = self.resume("--program", program)
+        head, one, two = self.log.read_bytes().splitlines(keepends=True)
+        row = json.loads(one)
+        wrong: List[Dict[str, Any]] = [{name: value} for name in row for value in (["x"], {"x": 1}, True, 1.5, -0.0, 1e400)]
+        wrong += [{"refusal": {"part": "objects", "index": "1", "place": 2, "reason": []}}, {"verdict": "odd"}, {"path": None}]
+        damaged = [json.dumps({**row, **more}).encode() + b"\n" for more in wrong]
+        damaged += [b"[" * 200_000 + b"\n", b'{"bytes":' * 20_000 + b"\n", b"9" * 100_000 + b"\n", b"x" * 1_000_000 + b"\n", b"\xff\0\n", b"\n", b"null\n", b"[]\n", one[:-20] + b"\n"]
+        odd = json.dumps({**row, "absolute": "/nowhere", "detail": "\ud800\udfff\udc80", "path": "\0"}).encode() + b"\n"
+        self.audits()
+        self.log.write_bytes(head + one + b"".join(damaged) + odd + two)
+        ran = self.resume("--program", program)
+        self.assertEqual((ran.returncode, ran.stdout, self.audits()), (0, first.stdout, 0))
+        self.assertEqual(ran.stderr, f"dwg-check: {self.log}: {len(damaged)} damaged lines are passed, the first is line 3\n".encode())
+        self.log.write_bytes(head + one + two[:-9])
+        ran = self.resume("--program", program)
+        self.assertEqual((ran.stdout, ran.stderr), (first.stdout, f"dwg-check: {self.log}: a damaged line is passed, the first is line 3\n".encode()))
+
+    def test_a_text_in_log_that_no_terminal_should_have(self) -> None:
+        (path,) = self.some(["d/a.dwg"])
+        self.resume()
+        head, one = self.log.read_bytes().splitlines(keepends=True)
+        self.log.write_bytes(head + json.dumps({**json.loads(one), "detail": "\ud800\x1b[31m\u202e\t"}).encode() + b"\n")
+        (row,) = read_table(self.resume().stdout)
+        self.assertEqual((row[0], row[2]), (path, "\\xed\\xa0\\x80\\x1b[31m\\xe2\\x80\\xae\\t"))
+
+    def test_a_full_disk_under_log_is_told_at_once(self) -> None:
+        self.some([f"d/{index:02}.dwg" for index in range(30)])
+        slow = program_that(self.folder, "slow", [f'[ "$1" != audit ] || {{ echo x >>"{self.folder}/begun"; sleep 0.1; }}', 'exec "$REAL" "$@"'])
+        words = [str(TOOLS / "dwg-check"), "--program", str(slow), "--quiet", "--jobs", "1", "--resume", str(self.log), str(self.folder / "d")]
+        for index in range(30):
+            (self.folder / "d" / f"{index:02}.dwg").write_bytes(made.made(5 + index))
+        limit = lambda: resource.setrlimit(resource.RLIMIT_FSIZE, (3000, 3000))
+        with subprocess.Popen(words, stdout=subprocess.PIPE, stderr=subprocess.PIPE, preexec_fn=limit) as started:
+            assert started.stderr is not None
+            first = started.stderr.readline()
+            self.assertEqual(first, f"dwg-check: {self.log}: File too large; what is finished from now on isn't kept\n".encode())
+            self.assertLess((self.folder / "begun").read_bytes().count(b"\n"), 25)
+            out, rest = started.communicate(timeout=60)
+        self.assertEqual((started.returncode, rest, [row[1] for row in read_table(out)]), (70, b"", ["sound"] * 30))
+        # No line is there in half.
+        self.assertTrue(self.log.read_bytes().endswith(b"}\n"))
+        self.assertTrue(3 < len(self.lines()) < 12)
+        self.assertEqual(self.resume("--program", slow).stderr, b"")
+        self.assertEqual(len(self.lines()), 31)
+
+    def test_two_runs_on_one_log(self) -> None:
+        self.some(["d/a.dwg"])
+        hanging = program_that(self.folder, "hanging", [f'[ "$1" != audit ] || {{ touch "{self.folder}/begun"; sleep 1.5; }}', 'exec "$REAL" "$@"'])
+        words = [str(TOOLS / "dwg-check"), "--program", str(hanging), "--resume", str(self.log), str(self.folder / "d")]
+        with subprocess.Popen(words, stdout=subprocess.PIPE, stderr=subprocess.PIPE) as started:
+            while not (self.folder / "begun").exists():
+                time.sleep(0.02)
+            (self.folder / "symbolic").symlink_to("log")
+            os.link(self.log, self.folder / "hard")
+            kept = self.log.read_bytes()
+            for name in ("log", "symbolic", "hard"):
+                ran = tool("dwg-check", "--resume", self.folder / name, self.folder / "d")
+                self.assertEqual((ran.returncode, ran.stdout, ran.stderr), (73, b"", f"dwg-check: {self.folder / name}: another run writes into it\n".encode()))
+            self.assertEqual(self.log.read_bytes(), kept)
+            started.communicate(timeout=30)
+        self.assertEqual((started.returncode, self.resume().returncode), (0, 0))
+
+    def test_log_where_there_are_no_locks(self) -> None:
+        check = made.module(TOOLS / "dwg-check", "dwg_check")
+        told: List[str] = []
+        kept, check.tell = (check.fcntl, check.tell), told.append
+        check.fcntl = types.SimpleNamespace(LOCK_EX=2, LOCK_NB=4, flock=self.no_lock)
+        try:
+            log = check.Log(str(self.log), told.append)
+            log.begin("0" * 64)
+            log.close()
+        finally:
+            check.fcntl, check.tell = kept
+        self.assertEqual((told, len(self.lines())), ([f"{self.log} can't be locked (No locks available); let no other run write into it"], 1))
+
+    @staticmethod
+    def no_lock(*_: object) -> None:
+        """A file system that has no locks."""
+        raise OSError(errno.ENOLCK, "No locks available")
 
 
 if __name__ == "__main__":

@@ -10,7 +10,7 @@ import tempfile
 import unittest
 
 import made
-from drawing import Answer, Exit, Found, Kept, Loss, Program, ProgramFailed, Refusal, Said, Status, ToolError, TooLarge, WholeFile, find_program, one_line, read_note, read_notes, read_recovery, write_whole
+from drawing import Answer, Exit, Found, Kept, Loss, Program, ProgramFailed, Refusal, Said, Status, ToolError, TooLarge, WholeFile, find_program, one_line, one_message, read_note, read_notes, read_recovery, write_whole
 
 # A note of each form in docs/FORMAT.md, and its value.
 NOTES = {
@@ -57,10 +57,15 @@ class Names(unittest.TestCase):
     """A name on a line can be told apart from each other name, and is read back."""
 
     def test_escapes(self) -> None:
-        rows = {"a b": "a b", "a\\b": "a\\\\b", "a\tb\nc\r": "a\\tb\\nc\\r", "\u00e4\u6587": "\u00e4\u6587", "\udce4": "\\xe4", "\x1b\x7f": "\\x1b\\x7f", "\u0085\u2028": "\\xc2\\x85\\xe2\\x80\\xa8"}
+        rows = {"a b": "a b", "a\\b": "a\\\\b", "a\tb\nc\r": "a\\tb\\nc\\r", "\u00e4\u6587": "\u00e4\u6587", "\udce4": "\\xe4", "\x1b\x7f": "\\x1b\\x7f", "\u0085\u2028": "\\xc2\\x85\\xe2\\x80\\xa8", "a\u202eb\u2066": "a\\xe2\\x80\\xaeb\\xe2\\x81\\xa6"}
         for name, line in rows.items():
             self.assertEqual(one_line(name), line)
             self.assertEqual(made.unescaped(line), os.fsencode(name))
+
+
+    def test_messages(self) -> None:
+        """What is escaped already isn't escaped again, and nothing that isn't goes to a terminal."""
+        self.assertEqual(one_message(one_line("a\\\n") + " \x1b\u202e\n\ud800"), "a\\\\\\n \\x1b\\xe2\\x80\\xae\\n\\xed\\xa0\\x80")
 
 
 class Running(unittest.TestCase):
@@ -142,6 +147,22 @@ class Whole(unittest.TestCase):
         self.assertEqual(self.path.read_bytes(), b"one")
         write_whole(str(self.path), b"two", force=True)
         self.assertEqual((self.path.read_bytes(), os.listdir(self.folder)), (b"two", ["file"]))
+
+    def test_a_file_system_without_links(self) -> None:
+        """A name that is taken stays, and one that isn't is given."""
+        kept, os.link = os.link, self.no_link
+        try:
+            write_whole(str(self.path), b"one")
+            with self.assertRaises(FileExistsError):
+                write_whole(str(self.path), b"two")
+        finally:
+            os.link = kept
+        self.assertEqual((self.path.read_bytes(), os.listdir(self.folder)), (b"one", ["file"]))
+
+    @staticmethod
+    def no_link(*_: object) -> None:
+        """A file system that has no links."""
+        raise PermissionError(1, "Operation not permitted")
 
     def test_left(self) -> None:
         with self.assertRaises(KeyError), WholeFile(str(self.path)) as whole:

@@ -50,9 +50,23 @@ class House(unittest.TestCase):
             told = subprocess.run([str(TOOLS / name), "--help"], capture_output=True, text=True, check=True).stdout
             self.assertIn(f".Nm {name}\n", page)
             section = page[page.index(f".Ss {name}\n") :]
-            for option in set(re.findall(r"--[a-z][a-z-]*", told.split("exit status")[0])) - {"--help", "--program"}:
+            for option in set(re.findall(r"--[a-z][a-z0-9-]*", told.split("exit status")[0])) - {"--help", "--program", "--version"}:
                 self.assertIn(f".It Fl -{option[2:]}", section.split("\n.Ss ")[0].split("\n.Sh ")[0], f"{name} {option}")
             self.assertTrue(told.splitlines()[-1].startswith("This tool is tested"), name)
+        for status in set(re.findall(r"(?m)^  (\d+) +\w", subprocess.run([str(TOOLS / "dwg-check"), "--help"], capture_output=True, text=True, check=True).stdout)) - {"0", "1"}:
+            self.assertIn(f".It {status}\n", page)
+
+    def test_version(self) -> None:
+        """A tool says its commit, and that it isn't proved."""
+        git = ["git", "-C", str(TOP), "rev-parse", "HEAD"]
+        known = subprocess.run(git, capture_output=True, text=True, check=False) if shutil.which("git") and (TOP / ".git").exists() else None
+        commit = known.stdout.strip() if known and known.returncode == 0 else "unknown"
+        for name in NAMES:
+            # (neither the folder nor what git is told elsewhere counts)
+            ran = subprocess.run([str(TOOLS / name), "--version"], capture_output=True, text=True, check=True, cwd="/", env={**os.environ, "GIT_DIR": "/nowhere"})
+            first, second = ran.stdout.splitlines()
+            self.assertIn(first, (f"{name}, commit {commit}", f"{name}, commit {commit} and changes"))
+            self.assertTrue(second.startswith("This tool is tested (tools/test), not proved"))
 
     def completed(self, *words: str) -> List[str]:
         """What completion proposes for the last word."""
@@ -69,11 +83,12 @@ class House(unittest.TestCase):
         self.assertEqual(self.completed("dwg", "re"), ["recover", "rewrite"])
         self.assertEqual(self.completed("dwg", "make", ""), [])
         self.assertEqual(self.completed("dwg-check", "--j"), ["--jobs", "--json"])
-        self.assertEqual(self.completed("dwg-recover", "--"), ["--before", "--even-empty", "--force", "--help", "--json", "--program"])
+        self.assertEqual(self.completed("dwg-recover", "--"), ["--before", "--even-empty", "--force", "--help", "--json", "--program", "--version"])
         self.assertEqual(self.completed("dwg-check", "p"), ["plan a.dwg", "plans"])
         self.assertEqual(self.completed("dwg-check", "--json", "P"), ["PLAN.DWG"])
         self.assertEqual(self.completed("dwg-check", "--resume", "n"), ["notes.txt"])
         self.assertEqual(self.completed("dwg-check", "--jobs", ""), [])
+        self.assertEqual(self.completed("dwg-check", "--print0", "da"), ["damaged"])
         for name in NAMES:
             self.assertIn("--help", self.completed(name, "--h"))
 
@@ -81,27 +96,49 @@ class House(unittest.TestCase):
         if not shutil.which("make"):
             self.skipTest("make install, as make isn't installed")
         made.needs_program()
-        program = pathlib.Path(made.PROGRAM).resolve()
-        destination = self.folder / "root"
-        words = ["make", "-s", f"DESTDIR={str(destination)}", "PREFIX=/usr", "DWG=true", f"PROGRAM={program}"]
-        if " " in str(destination):
-            destination = pathlib.Path(tempfile.mkdtemp(prefix="dwg-root-"))
-            self.addCleanup(shutil.rmtree, destination)
-            words[2] = f"DESTDIR={destination}"
+        # (a copy has a name that make and the shell would take apart)
+        program = self.folder / "the program"
+        shutil.copy(pathlib.Path(made.PROGRAM).resolve(), program)
+        is_launcher = pathlib.Path(made.PROGRAM).resolve() == TOP / "dwg"
+        destination = self.folder / "it's root"
+        words = ["make", "-s", f"DESTDIR={destination}", "PREFIX=/usr/my tools", "DWG=true", f"PROGRAM={program}"]
         subprocess.run([*words, "install"], cwd=TOP, check=True)
-        installed = destination / "usr" / "bin"
+        top = destination / "usr" / "my tools"
+        self.assertEqual([path.name for path in self.folder.iterdir() if path.is_dir()], ["it's root"])
+        installed = top / "bin"
         self.assertEqual(sorted(path.name for path in installed.iterdir()), ["dwg", *NAMES])
-        for page in ("man1/dwg.1", "man7/dwg-tools.7"):
-            self.assertTrue((destination / "usr/share/man" / page).is_file())
+        self.installed_pages(top / "share" / "man")
         for name in NAMES:
             subprocess.run([str(installed / name), "--help"], stdout=subprocess.DEVNULL, check=True)
+            told = [subprocess.run([str(path / name), "--version"], capture_output=True, check=True).stdout for path in (installed, TOOLS)]
+            self.assertEqual(told[0], told[1])
         (self.folder / "a.dwg").write_bytes(made.made(3))
         environment = {key: value for key, value in os.environ.items() if key != "DWG"}
-        if os.access(installed / "dwg", os.X_OK) and program != TOP / "dwg":
-            ran = subprocess.run([str(installed / "dwg-check"), str(self.folder)], capture_output=True, check=False, env=environment)
+        if not is_launcher:
+            ran = subprocess.run([str(installed / "dwg-check"), str(self.folder / "a.dwg")], capture_output=True, check=False, env=environment)
             self.assertEqual(ran.returncode, 0, ran.stderr)
-        subprocess.run([*words, "uninstall"], cwd=TOP, check=True)
-        self.assertEqual([path for path in destination.rglob("*") if not path.is_dir()], [])
+        self.uninstalled(words, top)
+
+    def installed_pages(self, pages: pathlib.Path) -> None:
+        """Each name has a page, and `man` finds it."""
+        for page in ("man1/dwg.1", "man7/dwg-tools.7", *(f"man1/{name}.1" for name in NAMES)):
+            self.assertTrue((pages / page).is_file())
+        if shutil.which("man"):
+            for name in ("dwg", "dwg-tools", *NAMES):
+                ran = subprocess.run(["man", "-M", str(pages), name], capture_output=True, text=True, check=False, env={**os.environ, "MANPAGER": "cat", "LC_ALL": "C"})
+                if "man: can't" in ran.stderr or "has been minimized" in ran.stdout:
+                    continue
+                self.assertEqual((ran.returncode, "DWG" in ran.stdout), (0, True), ran.stderr)
+
+    def uninstalled(self, words: List[str], top: pathlib.Path) -> None:
+        """What was installed goes away, and nothing else, of whatever name."""
+        own = [top / "lib" / "dwg" / "own", self.folder / "it's", top.parent / "my", self.folder / "root", self.folder / "tools"]
+        for path in own:
+            path.write_bytes(b"own")
+        subprocess.run([*words, "uninstall"], cwd=TOP, check=True, stderr=subprocess.DEVNULL)
+        left = {path for path in (self.folder / "it's root").rglob("*") if not path.is_dir()}
+        self.assertEqual(left, {own[0], own[2]})
+        self.assertTrue(all(path.read_bytes() == b"own" for path in own))
 
 
 if __name__ == "__main__":

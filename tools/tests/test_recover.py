@@ -345,6 +345,35 @@ class Chains(unittest.TestCase):
         self.assertEqual(self.breaks({5: 6, 6: 0, 7: 7}, 5, 6), ["behind 7: what follows is 7, a ring of 1 that stands apart"])
         self.assertEqual(self.breaks({5: 0x2F, 6: 0}, 5, 6, [0x2F]), ["behind 5: what follows is 2F, of kind LAYER, which is no member of the block"])
 
+    def test_chains_are_walked_once(self) -> None:
+        """Chains that no first leads to: descending handles, tails that lead into rings, and many rings, each linear in its members."""
+        count = 60_000
+        shapes = {
+            "descending": {handle: handle - 1 for handle in range(2, count)},
+            "tails": {handle: handle + 1 if handle % 3 else handle - 1 for handle in range(1, count)},
+            "rings": {handle: handle + 1 if handle % 2 else handle - 1 for handle in range(1, count + 1)},
+        }
+        for name, nexts in shapes.items():
+            steps = 0
+
+            class Counted(RECOVER.Chains):
+                """Chains that count the steps along them."""
+
+                def following(self, handle: int, block: Any) -> Optional[int]:
+                    nonlocal steps
+                    steps += 1
+                    return super().following(handle, block)
+
+            survey = RECOVER.Survey()
+            survey.spaces, survey.blocks, survey.nexts = [(1, 2)], {1: RECOVER.Block("B", 0, 0)}, nexts
+            for handle in nexts:
+                survey.modes[handle], survey.kinds[handle] = 2, "LINE"
+            begin = time.monotonic()
+            (chain,) = Counted(survey).broken()
+            self.assertLess(time.monotonic() - begin, 10, name)
+            self.assertLess(steps, 4 * count, name)
+            self.assertEqual(sum("stands apart" in str(one) for one in chain.breaks), count // 2 if name == "rings" else 0)
+
     def test_members(self) -> None:
         """Who is a member of which block, by a text that is written here: both spaces, a block with an attribute of its own, a raw entity."""
         text = """drawing AC1015 codepage 30 lead - mark -
@@ -413,7 +442,7 @@ object 34 LINE raw 19
             with tempfile.NamedTemporaryFile() as file:
                 file.write(recovered)
                 file.flush()
-                survey = RECOVER.survey_of(RECOVER.Program(made.PROGRAM), file.name)
+                survey = RECOVER.survey_of(RECOVER.Drawing(RECOVER.Program(made.PROGRAM), file.name))
             self.assertEqual({f"{chain.block:X}" for chain in RECOVER.Chains(survey).broken()}, found, f"{handle:X}")
 
 

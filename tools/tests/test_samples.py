@@ -26,8 +26,27 @@ class Samples(unittest.TestCase):
         for path in folder.glob("samples/*.dwg"):
             path.unlink()
         subprocess.run([str(folder / "samples" / "make")], check=True, env={**os.environ, "DWG": made.PROGRAM})
+        self.check(folder)
+
+    def check(self, folder: pathlib.Path) -> None:
+        """Those that were made in a folder are those of this tree."""
         for name in ("hole.dwg", "cut.dwg", "flip.dwg"):
             self.assertEqual((folder / "samples" / name).read_bytes(), (SAMPLES / name).read_bytes())
+            (folder / "samples" / name).unlink()
+
+    def test_made_from_elsewhere(self) -> None:
+        """Neither the folder that it is called from, nor one in which the shell looks for folders, leads it elsewhere."""
+        folder = pathlib.Path(tempfile.mkdtemp(prefix="dwg samples "))
+        self.addCleanup(shutil.rmtree, folder)
+        shutil.copytree(SAMPLES, folder / "samples")
+        (folder / "elsewhere" / "samples").mkdir(parents=True)
+        (folder / "elsewhere" / "samples" / "plan.dwg").touch()
+        (folder / "dwg").symlink_to(made.PROGRAM)
+        for name in ("./dwg", "dwg", str(folder / "dwg"), ""):
+            environment = {**os.environ, "DWG": name, "CDPATH": str(folder / "elsewhere")}
+            subprocess.run(["samples/make"], cwd=folder, check=True, env=environment)
+            self.check(folder)
+        self.assertEqual(os.listdir(folder / "elsewhere" / "samples"), ["plan.dwg"])
 
 
 if __name__ == "__main__":

@@ -1,0 +1,277 @@
+"""What goes over all tools: nothing is written into what was read, no output is half there, and each end is told by its own status."""
+
+from __future__ import annotations
+
+import collections
+import os
+import random
+import re
+import resource
+import signal
+import stat
+import subprocess
+import time
+import unittest
+from pathlib import Path
+from typing import Any, Callable, Dict, List, Sequence
+
+import common
+import made
+from made import TOOLS, flipped, layout, made as drawn, program_that, tool
+
+# How each tool that writes a file is told to, with the input and the output.
+WRITERS: Dict[str, Callable[[object, object], List[object]]] = {
+    "dwg-json": lambda source, out: [source, "--output", out],
+    "dwg-picture": lambda source, out: [source, "--output", out],
+    "dwg-recover": lambda source, out: [source, out],
+}
+
+# Each tool over one drawing.
+ALL: Dict[str, Callable[[object], List[object]]] = {
+    "dwg-json": lambda source: [source],
+    "dwg-picture": lambda source: [source],
+    "dwg-diff": lambda source: [source, source],
+    "dwg-check": lambda source: [source],
+    "dwg-recover": lambda source: [source, "-"],
+}
+
+
+def in_bash(script: str, *words: object, **more: Any) -> "subprocess.CompletedProcess[bytes]":
+    """What a script of bash gives, in which the tools are on the path."""
+    environment = {**os.environ, "DWG": made.PROGRAM, "PATH": f"{TOOLS}:{os.environ['PATH']}"}
+    return subprocess.run(["bash", "-c", script, "bash", *map(str, words)], capture_output=True, check=False, env=environment, timeout=100, **more)
+
+
+def limited_to(size: int) -> Callable[[], None]:
+    """Lets no file become larger than so many bytes: what comes behind fails as on a full disk."""
+    return lambda: resource.setrlimit(resource.RLIMIT_FSIZE, (size, size))
+
+
+class Outputs(common.InFolder):
+    """Outputs are refused before any work, or are written whole."""
+
+    def names_of(self, path: Path) -> List[object]:
+        """A file by other names: a symbolic link, a hard link, another path."""
+        (self.folder / "symbolic").symlink_to(path.name)
+        os.link(path, self.folder / "hard")
+        return [path, self.folder / "symbolic", self.folder / "hard", f"{self.folder}/../{self.folder.name}/{path.name}"]
+
+    def test_an_output_that_is_the_input_by_any_name_is_refused(self) -> None:
+        path = self.file("a.dwg", drawn(3, 1))
+        names = self.names_of(path)
+        for name, words in WRITERS.items():
+            for source, out in [(path, other) for other in names] + [(other, path) for other in names]:
+                for more in ([], ["--force"]):
+                    ran = tool(name, *words(source, out), *more)
+                    self.assertEqual((ran.returncode, ran.stdout), (73, b""), (name, source, out, more))
+                    self.assertIn(b"is the input itself", ran.stderr)
+        self.assertEqual((path.read_bytes(), path.stat().st_nlink), (drawn(3, 1), 2))
+
+    def test_an_output_that_is_standard_input_is_refused(self) -> None:
+        path = self.file("a.dwg", drawn(3, 1))
+        for name in ("dwg-json", "dwg-picture"):
+            self.assertEqual(in_bash(f'{name} --output "$1" --force < "$1"', path).returncode, 73)
+        self.assertEqual(in_bash('dwg-recover --force - "$1" < "$1"', path).returncode, 73)
+        older = self.file("b.dwg", drawn(4, 1))
+        self.assertEqual(tool("dwg-recover", "--force", "--before", older, path, older).returncode, 73)
+        self.assertEqual((path.read_bytes(), older.read_bytes()), (drawn(3, 1), drawn(4, 1)))
+
+    def test_a_table_or_text_is_not_added_to_the_input(self) -> None:
+        path, other = self.file("a.dwg", drawn(3, 1)), self.file("b.dwg", drawn(4, 1))
+        for script, status in (('dwg-json "$1" >> "$1"', 73), ('dwg-picture "$1" >> "$1"', 73), ('dwg-diff "$2" "$1" >> "$1"', 2), ('dwg-check "$1" >> "$1"', 73), ('dwg-recover "$1" - >> "$1"', 73), ('dwg-recover "$1" "$2.out" >> "$1"', 73), ('dwg-json < "$1" >> "$1"', 73)):
+            self.assertEqual(in_bash(script, path, other).returncode, status, script)
+            self.assertEqual(path.read_bytes(), drawn(3, 1), script)
+
+    def test_force_replaces_regular_files_alone(self) -> None:
+        path, target = self.file("a.dwg", drawn(3, 1)), self.file("target", b"precious")
+        (self.folder / "link").symlink_to("target")
+        (self.folder / "loop").symlink_to("loop")
+        (self.folder / "folder").mkdir()
+        os.mkfifo(self.folder / "fifo")
+        before = {one.name: one.lstat().st_mode for one in self.folder.iterdir()}
+        for name, words in WRITERS.items():
+            for out in ("link", "loop", "folder", "fifo", "/dev/null", "/proc/self/fd/1"):
+                ran = tool(name, *words(path, self.folder / out), "--force")
+                self.assertEqual((ran.returncode, ran.stdout), (73, b""), (name, out, ran.stderr))
+        self.assertTrue(stat.S_ISCHR(os.stat("/dev/null").st_mode))
+        self.assertEqual(({one.name: one.lstat().st_mode for one in self.folder.iterdir()}, target.read_bytes()), (before, b"precious"))
+
+    def test_force_keeps_the_mode(self) -> None:
+        path = self.file("a.dwg", drawn(3, 1))
+        for mode in (0o600, 0o640, 0o444, 0o755):
+            for name, words in WRITERS.items():
+                out = self.file("out", b"old")
+                out.chmod(mode)
+                self.assertEqual(tool(name, *words(path, out), "--force").returncode, 0)
+                self.assertEqual((stat.S_IMODE(out.stat().st_mode), out.read_bytes() != b"old"), (mode, True))
+                out.unlink()
+
+    def test_an_output_that_is_there_is_refused_before_the_work(self) -> None:
+        path = self.file("a.dwg", drawn(3, 1))
+        out = self.file("out", b"old")
+        noting = program_that(self.folder, "noting", [f'echo "$1" >>"{self.folder}/runs"', 'exec "$REAL" "$@"'])
+        for name, words in WRITERS.items():
+            self.assertEqual(tool(name, "--program", noting, *words(path, out)).returncode, 73)
+            # Nor is standard input read, which would never end here.
+            with subprocess.Popen([str(TOOLS / name), *map(str, words("-", out))], stdin=subprocess.PIPE, stderr=subprocess.PIPE) as started:
+                self.assertEqual(started.wait(timeout=20), 73)
+        self.assertEqual((out.read_bytes(), (self.folder / "runs").exists()), (b"old", False))
+
+    def test_a_full_disk_leaves_no_temporary_file(self) -> None:
+        path = self.file("a.dwg", drawn(30, 1))
+        for name, words in WRITERS.items():
+            for size in (100, 0, 9000):
+                said = [str(TOOLS / name), "--program", made.PROGRAM, *map(str, words(path, self.folder / "out"))]
+                ran = subprocess.run(said, capture_output=True, check=False, preexec_fn=limited_to(size))
+                if size < 9000:
+                    self.assertEqual((ran.returncode, ran.stdout), (5, b""), (name, size, ran.stderr))
+                for left in ("out", "out.notes"):
+                    (self.folder / left).unlink() if ran.returncode < 2 and (self.folder / left).exists() else None
+                self.assertEqual(os.listdir(self.folder), ["a.dwg"], (name, size))
+
+    def test_long_names(self) -> None:
+        path = self.file("a.dwg", drawn(3, 1))
+        for name, out in (("dwg-json", "\u6587" * 85), ("dwg-picture", "x" * 255), ("dwg-recover", "\u6587" * 83), ("dwg-json", "\U0001f4d0" * 63)):
+            ran = tool(name, *WRITERS[name](path, self.folder / out))
+            self.assertEqual((ran.returncode, ran.stderr), (0, b""))
+            self.assertTrue((self.folder / out).is_file())
+
+    def test_two_outputs_come_together_or_not_at_all(self) -> None:
+        path, out = self.file("a.dwg", drawn(3, 1)), self.folder / "out"
+        coming = program_that(self.folder, "coming", [f'[ "$1" != recover ] || echo precious >"{out}"', 'exec "$REAL" "$@"'])
+        self.assertEqual(tool("dwg-recover", "--program", coming, path, out).returncode, 73)
+        self.assertEqual((out.read_bytes(), sorted(os.listdir(self.folder))), (b"precious\n", ["a.dwg", "coming", "out"]))
+
+
+class Inputs(common.InFolder):
+    """A pipe is an input as a file is, and `-` is a standard stream."""
+
+    def test_pipes_are_inputs(self) -> None:
+        old, new = self.file("old.dwg", drawn(50, 3)), self.file("new.dwg", drawn(51, 3))
+        same = {
+            'dwg-diff <(cat "$1") <(cat "$2")': tool("dwg-diff", old, new),
+            'dwg-diff <(cat "$1") "$2"': tool("dwg-diff", old, new),
+            'cat "$1" | dwg-json /dev/stdin': tool("dwg-json", old),
+            'dwg-json <(cat "$1")': tool("dwg-json", old),
+            'cat "$1" | dwg-json -o -': tool("dwg-json", old),
+            'dwg-picture <(cat "$1") -o -': tool("dwg-picture", old),
+            'mkfifo "$3"; cat "$1" >"$3" & dwg-json "$3"': tool("dwg-json", old),
+        }
+        for script, expected in same.items():
+            ran = in_bash(script, old, new, self.folder / "fifo")
+            self.assertEqual((ran.returncode, ran.stdout, ran.stderr), (expected.returncode, expected.stdout, expected.stderr), script)
+        ran = in_bash('dwg-check --json <(cat "$1") <(head -c 90 "$2") /dev/fd/99', old, new)
+        self.assertEqual(re.findall(rb'"verdict": "([a-z]+)"', ran.stdout), [b"sound", b"damaged", b"unreadable"])
+
+    def test_an_input_that_has_too_many_bytes(self) -> None:
+        self.assertEqual(in_bash("dwg-json <(cat \"$1\" /dev/zero 2>/dev/null)", self.file("a.dwg", drawn(3, 1))).returncode, 7)
+
+    def test_hyphens_are_standard_streams(self) -> None:
+        data = drawn(50, 3)
+        parts = layout(data)
+        damaged = flipped(data, parts.frames[40].place + 5)
+        answer = made.dwg("recover", given=damaged)
+        ran = tool("dwg-recover", "-", "-", given=damaged)
+        self.assertEqual((ran.returncode, ran.stdout), (1, answer.stdout))
+        self.assertTrue(ran.stderr.startswith(b"standard input is damaged: objects "), ran.stderr)
+        self.assertNotIn(b".notes", ran.stderr)
+        path = self.file("in.dwg", damaged)
+        words = tool("dwg-recover", path, "-")
+        self.assertEqual((words.returncode, words.stdout, words.stderr.split(b"\n")[1:]), (1, answer.stdout, ran.stderr.split(b"\n")[1:]))
+        before = in_bash('dwg-recover --before <(dwg-nothing; cat "$2") "$1" -', path, self.file("older.dwg", data))
+        self.assertIn(b"of the older drawing 1 is not in the recovered one", before.stderr)
+        self.assertEqual(tool("dwg-recover", "--before", "-", "-", "-", given=damaged).returncode, 64)
+        self.assertEqual(tool("dwg-recover", "-", "-", given=b"nothing").returncode, 65)
+        self.assertEqual(sorted(os.listdir(self.folder)), ["in.dwg", "older.dwg"])
+        self.assertFalse(Path("-").exists() or Path("-.notes").exists())
+
+
+class Ends(common.InFolder):
+    """However a tool ends, its status says how."""
+
+    def test_closed_streams(self) -> None:
+        path = self.file("a.dwg", drawn(3, 1))
+        for name, words in ALL.items():
+            for closed in (">&-", "2>&-", "<&-", ">&- 2>&-", "<&- >&- 2>&-"):
+                ran = in_bash(f'{name} "$@" {closed}', *words(path))
+                self.assertEqual(ran.returncode, 0, (name, closed, ran.stderr))
+                self.assertNotIn(b"rror", ran.stderr)
+        # No file that is opened takes the place of a stream.
+        out, log = self.folder / "out.json", self.folder / "log"
+        self.assertEqual(in_bash('dwg-json "$1" -o "$2" <&- >&- 2>&-', path, out).returncode, 0)
+        self.assertEqual(out.read_bytes(), tool("dwg-json", path).stdout)
+        self.assertEqual(in_bash('dwg-check --resume "$2" "$1" <&- >&- 2>&-', path, log).returncode, 0)
+        self.assertEqual(len(log.read_bytes().splitlines()), 2)
+        ran = in_bash('dwg-json "$1" 2>&-', self.folder / "none")
+        self.assertEqual((ran.returncode, ran.stdout), (4, b""))
+
+    @unittest.skipUnless(os.path.exists("/dev/full"), "a full disk, as there is no /dev/full")
+    def test_full_standard_streams(self) -> None:
+        path = self.file("a.dwg", drawn(3, 1))
+        statuses = {"dwg-json": 5, "dwg-picture": 5, "dwg-diff": 0, "dwg-check": 70, "dwg-recover": 5}
+        for name, words in ALL.items():
+            self.assertEqual(in_bash(f'{name} "$@" >/dev/full 2>/dev/full', *words(path)).returncode, statuses[name], name)
+        self.assertEqual(in_bash('dwg-json "$1" 2>/dev/full', self.folder / "none").returncode, 4)
+
+    def end_of(self, name: str, words: Sequence[object], wait: float, to_all: bool) -> int:
+        """The status of a tool that is interrupted after a time."""
+        environment = {**os.environ, "DWG": made.PROGRAM}
+        said = [str(TOOLS / name), *map(str, words)]
+        with subprocess.Popen(said, stdin=subprocess.DEVNULL, stdout=subprocess.PIPE, stderr=subprocess.PIPE, start_new_session=True, env=environment) as started:
+            time.sleep(wait)
+            (os.killpg if to_all else os.kill)(started.pid, signal.SIGINT)
+            _, errors = started.communicate(timeout=30)
+        self.assertNotIn(b"Traceback", errors)
+        # A shell says 130 of one that the signal killed, too.
+        return 130 if started.returncode == -signal.SIGINT else started.returncode
+
+    def test_an_interrupt_at_any_moment_has_one_status(self) -> None:
+        if subprocess.run(["env", "--block-signal=INT", "true"], capture_output=True, check=False).returncode:
+            self.skipTest("interrupts while Python begins, as env can't block signals")
+        data = drawn(200, 7)
+        path, out = self.file("a.dwg", flipped(data, layout(data).frames[99].place + 5)), self.folder / "out.dwg"
+        chance = random.Random(3)
+        statuses: Dict[int, int] = collections.Counter()
+        for turn in range(60):
+            status = self.end_of("dwg-recover", [path, out], 0.2 * chance.random(), bool(turn % 2))
+            statuses[status] += 1
+            self.assertIn(status, (1, 130))
+            # Status 1 says that OUT is there, and OUT is never there in half.
+            self.assertEqual([one for one in os.listdir(self.folder) if one.endswith(".part")], [])
+            if status == 1 or out.exists():
+                self.assertEqual(out.read_bytes(), made.dwg("recover", given=path.read_bytes()).stdout)
+            for left in (out, self.folder / "out.dwg.notes"):
+                if left.exists():
+                    left.unlink()
+        self.assertGreater(statuses[130], 10)
+        for name in ("dwg-json", "dwg-diff", "dwg-check"):
+            for _ in range(10):
+                self.assertIn(self.end_of(name, ALL[name](self.file("b.dwg", data)), 0.1 * chance.random(), True), (0, 130))
+
+    def test_an_interrupt_that_reaches_the_program_first(self) -> None:
+        path = self.file("a.dwg", drawn(20, 1))
+        for name, words in ALL.items():
+            killed = program_that(self.folder, "killed", ['[ "$1" != drill ] || exit 0', 'kill -INT $PPID $$; sleep 9'])
+            ran = tool(name, "--program", killed, *words(path))
+            self.assertEqual((ran.returncode, ran.stderr), (130, b""), name)
+
+    def test_a_signal_that_is_ignored_stays_so(self) -> None:
+        path = self.file("a.dwg", drawn(3, 1))
+        hanging = program_that(self.folder, "hanging", [f'touch "{self.folder}/begun"; sleep 1', 'exec "$REAL" "$@"'])
+        script = 'trap "" HUP; dwg-json --program "$2" "$1" & until [ -e "$3" ]; do sleep 0.02; done; kill -HUP $!; wait $!'
+        self.assertEqual(in_bash(script, path, hanging, self.folder / "begun").returncode, 0)
+
+    def test_nothing_turns_the_direction_of_a_terminal(self) -> None:
+        letters = "\u202e\u2066\u200f\u061c\x1b\x9b"
+        path = self.file(f"a{letters}.dwg", drawn(3, 1))
+        for name, words in ALL.items():
+            for source in (path, self.folder / f"none{letters}"):
+                ran = tool(name, *words(source), "--" + letters) if source != path else tool(name, *words(source))
+                for said in (ran.stderr, b"" if name in ("dwg-recover", "dwg-picture") else ran.stdout):
+                    self.assertFalse(set(letters) & set(said.decode()), (name, said))
+        line = tool("dwg-check", path).stdout.decode().splitlines()[1].split("\t")[0]
+        self.assertEqual(made.unescaped(line), os.fsencode(path))
+
+
+if __name__ == "__main__":
+    unittest.main()
