@@ -664,7 +664,8 @@ class Logs(Base):
         for words in (["--verify"], ["--verify"], []):
             ran = self.resume("--program", program, *words)
             self.assertEqual((ran.returncode, self.verdicts(ran)), (1, expected))
-        self.assertEqual(self.audits(), 2)
+        # What is changed is looked at again by each of the two that verify.
+        self.assertEqual(self.audits(), 4)
         changed = tool("dwg-check", "--quiet", "--program", program, "--resume", self.log, "--verify", "--print0", "changed", self.folder / "d")
         self.assertEqual(changed.stdout, b"".join(os.fsencode(path) + b"\0" for path in (a, b)))
         # Another program sees it too; what comes back from a copy is a new state.
@@ -711,6 +712,14 @@ class Logs(Base):
         self.log.write_bytes(head + one + two[:-9])
         ran = self.resume("--program", program)
         self.assertEqual((ran.stdout, ran.stderr), (first.stdout, f"dwg-check: {self.log}: a damaged line is passed, the first is line 3\n".encode()))
+
+    def test_a_log_with_a_line_without_end(self) -> None:
+        self.some(["d/a.dwg"])
+        self.resume()
+        os.truncate(self.log, 1 << 42)
+        begin = time.monotonic()
+        self.assertEqual(self.resume().returncode, 73)
+        self.assertLess(time.monotonic() - begin, 20)
 
     def test_a_text_in_log_that_no_terminal_should_have(self) -> None:
         (path,) = self.some(["d/a.dwg"])
