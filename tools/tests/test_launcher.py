@@ -461,23 +461,23 @@ class Unproved(InTree):
         self.assertRegex(self.run_it("--version").stdout.decode(), r"^dwg [0-9a-f]{7,}(-dirty)?, proved and built\n$")
 
 
-class SameAsBuilt(InTree):
-    """Without a build the launcher answers as the program that is built, by status, output and notes, however the streams are."""
+PAUSING = '(head -c 60 "$1"; sleep 5; tail -c +61 "$1") | "$0" sections'
+SMALLEST = str(TOP / "crates/dwg_cli/data/smallest.dwg")
+
+
+class Compared(InTree):
+    """A launcher without a program, whose toolchain runs the real program as one without its proof, beside that program."""
 
     def setUp(self) -> None:
         made.needs_program()
         super().setUp()
-
-    def launcher(self) -> str:
-        """A launcher without a program, whose toolchain runs the real program as one without its proof."""
-        return str(self.tree / "dwg")
 
     def both(self, script: str, *words: str) -> Tuple[int, bytes, bytes]:
         """What a script answers, whose "$0" is the program and whose words follow; the launcher's line aside, it is the same by both."""
         variables = self.environment({"UNPROVED": made.PROGRAM, "DWG_BUILT": "1", "PATH": f"{self.bin}:{os.environ['PATH']}"})
         built, unproved = (
             subprocess.run(["bash", "-c", script, program, *words], stdin=subprocess.DEVNULL, capture_output=True, env=variables, check=False, timeout=600)
-            for program in (made.PROGRAM, self.launcher())
+            for program in (made.PROGRAM, str(self.tree / "dwg"))
         )
         first, _, notes = unproved.stderr.partition(b"\n")
         if not unproved.stderr.startswith(b"dwg: the program isn't built, so"):
@@ -489,13 +489,15 @@ class SameAsBuilt(InTree):
         self.assertEqual(list(self.temporary.iterdir()), [])
         return built.returncode, built.stdout, built.stderr
 
+
+class SameAsBuilt(Compared):
+    """Without a build the launcher answers as the program that is built, by status, output and notes, however the streams are."""
+
     def test_inputs(self) -> None:
-        smallest = TOP / "crates/dwg_cli/data/smallest.dwg"
-        pausing = '(head -c 60 "$1"; sleep 5; tail -c +61 "$1") | "$0" sections'
-        self.assertEqual(self.both(pausing, str(smallest))[0], 0)
+        self.assertEqual(self.both(PAUSING, SMALLEST)[0], 0)
         self.assertEqual(self.both('"$0" sections < /'), (4, b"", b"dwg: read fault\n"))
         self.assertEqual(self.both('"$0" sections <&-'), (4, b"", b"dwg: read fault\n"))
-        self.assertEqual(self.both('head -c 60 "$1" | "$0" sections', str(smallest)), (3, b"", b"dwg: refused: header 0 at 60: short\n"))
+        self.assertEqual(self.both('head -c 60 "$1" | "$0" sections', SMALLEST), (3, b"", b"dwg: refused: header 0 at 60: short\n"))
         self.assertEqual(self.both('head -c 33554433 /dev/zero | "$0" show'), (7, b"", b"dwg: input too long\n"))
         self.assertEqual(self.both('"$0" show </dev/zero')[0], 7)
         self.assertEqual(self.both('"$0" recover < "$1"', str(TOP / "samples/flip.dwg"))[0], 1)
@@ -520,7 +522,7 @@ class SameAsBuilt(InTree):
             ('"$0" audit < "$1" 2>&-', 5),
             ('"$0" sections < "$1" 2>&-', 0),
             ('"$0" sections < / 2>/dev/full', 5),
-            ('"$0" recover < "$1" 2>&1 >/dev/null', 1),
+            ('"$0" recover < "$1" >/dev/null', 1),
         ):
             with self.subTest(script):
                 self.assertEqual(self.both(script, data)[0], status)
@@ -531,16 +533,42 @@ class SameAsBuilt(InTree):
             self.assertEqual(self.both(script, str(TOP / "samples/flip.dwg"))[0], 0)
 
 
-class SameAsBuiltByTheToolchain(SameAsBuilt):
+    def test_a_terminal(self) -> None:
+        for program in (made.PROGRAM, str(self.tree / "dwg")):
+            ours, theirs = pty.openpty()
+            variables = self.environment({"UNPROVED": made.PROGRAM, "DWG_BUILT": "1", "PATH": f"{self.bin}:{os.environ['PATH']}"})
+            with subprocess.Popen([program, "sections"], stdin=theirs, stdout=subprocess.PIPE, stderr=subprocess.PIPE, env=variables) as started:
+                os.close(theirs)
+                # A line, and the end of the input at the beginning of the next.
+                os.write(ours, b"no drawing\n\x04")
+                out, said = started.communicate(timeout=60)
+            os.close(ours)
+            self.assertEqual((started.returncode, out, said.splitlines()[-1]), (3, b"", b"dwg: refused: header 0 at 11: short"))
+
+
+class SameAsBuiltByTheToolchain(Compared):
     """The same with the toolchain itself, which compiles the program anew for each answer."""
 
     def setUp(self) -> None:
         if not os.environ.get("DWG_TEST_TOOLCHAIN"):
-            self.skipTest("the launcher over the toolchain itself, a minute a case (DWG_TEST_TOOLCHAIN=1 has it tested)")
+            self.skipTest("the launcher over the toolchain itself, some minutes (DWG_TEST_TOOLCHAIN=1 has it tested)")
         super().setUp()
         (self.bin / "rt").unlink()
         shutil.copytree(TOP / "crates", self.tree / "crates", ignore=shutil.ignore_patterns("out"), dirs_exist_ok=True)
         shutil.copy(TOP / "crates.txt", self.tree)
+
+    def test_answers(self) -> None:
+        flip = str(TOP / "samples/flip.dwg")
+        for script, words, status in (
+            (PAUSING, [SMALLEST], 0),
+            ('"$0" --help', [], 2),
+            ('"$0" recover < "$1"', [flip], 1),
+            ('"$0" recover < "$1" >/dev/full', [flip], 5),
+            ('"$0" sections < /', [], 4),
+            ('"$0" sections <&-', [], 4),
+        ):
+            with self.subTest(script):
+                self.assertEqual(self.both(script, *words)[0], status)
 
 
 class Shell(unittest.TestCase):
