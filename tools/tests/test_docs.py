@@ -35,7 +35,7 @@ class Docs(unittest.TestCase):
         ran = check()
         last = LAST.match(ran.stdout.splitlines()[-1])
         assert last is not None, ran.stdout
-        self.assertEqual((ran.returncode, last[2], last[3], ran.stderr), (0, "0", "2", ""), ran.stdout)
+        self.assertEqual((ran.returncode, last[2], last[3], ran.stderr), (0, "0", "1", ""), ran.stdout)
         self.assertGreaterEqual(int(last[1]), 30)
 
     def test_all_documents_have_examples(self) -> None:
