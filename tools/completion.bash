@@ -15,11 +15,11 @@ _dwg_tool() {
     local IFS=$'\n'
     COMPREPLY=()
     if [[ $word == -* ]]; then
-        mapfile -t COMPREPLY < <(compgen -W "$("$1" --help 2>/dev/null | grep -oE -- '--[a-z][a-z-]*' | sort -u)" -- "$word")
+        mapfile -t COMPREPLY < <(compgen -W "$("$1" --help 2>/dev/null | grep -oE -- '--[a-z][a-z0-9-]*' | sort -u)" -- "$word")
     elif [[ $before == --program || $before == --resume || $before == --before || $before == --output || $before == -o ]]; then
         mapfile -t COMPREPLY < <(compgen -f -- "$word")
     elif [[ $before == --print0 ]]; then
-        mapfile -t COMPREPLY < <(compgen -W "sound unsound damaged changed failed unreadable" -- "$word")
+        mapfile -t COMPREPLY < <(compgen -W $'sound\nunsound\ndamaged\nchanged\nfailed\nunreadable' -- "$word")
     elif [[ $before != --jobs && $before != --width && $before != --background && $before != --block && $before != --space && $before != --ignore ]]; then
         mapfile -t COMPREPLY < <(
             compgen -d -- "$word"
