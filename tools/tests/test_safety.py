@@ -8,6 +8,7 @@ import random
 import re
 import resource
 import signal
+import socket
 import stat
 import subprocess
 import time
@@ -86,14 +87,17 @@ class Outputs(common.InFolder):
         path, target = self.file("a.dwg", drawn(3, 1)), self.file("target", b"precious")
         (self.folder / "link").symlink_to("target")
         (self.folder / "loop").symlink_to("loop")
+        (self.folder / "device").symlink_to("/dev/null")
+        (self.folder / "stream").symlink_to("/proc/self/fd/1")
         (self.folder / "folder").mkdir()
         os.mkfifo(self.folder / "fifo")
+        with socket.socket(socket.AF_UNIX) as bound:
+            bound.bind(os.path.relpath(self.folder / "socket"))
         before = {one.name: one.lstat().st_mode for one in self.folder.iterdir()}
         for name, words in WRITERS.items():
-            for out in ("link", "loop", "folder", "fifo", "/dev/null", "/proc/self/fd/1"):
+            for out in before.keys() - {"a.dwg", "target"}:
                 ran = tool(name, *words(path, self.folder / out), "--force")
                 self.assertEqual((ran.returncode, ran.stdout), (73, b""), (name, out, ran.stderr))
-        self.assertTrue(stat.S_ISCHR(os.stat("/dev/null").st_mode))
         self.assertEqual(({one.name: one.lstat().st_mode for one in self.folder.iterdir()}, target.read_bytes()), (before, b"precious"))
 
     def test_force_keeps_the_mode(self) -> None:
