@@ -547,6 +547,12 @@ class Check(Base):
         self.assertEqual((ran.returncode, ran.stdout), (1, b"".join(os.fsencode(path) + b"\0" for path in paths)))
         self.assertEqual(ran.stderr, b"dwg-check: 5 files: 4 damaged, 1 sound\n")
         self.assertEqual(tool("dwg-check", "--print0", "unsound", self.folder).stdout, b"")
+        ours, theirs = os.openpty()
+        words = [str(TOOLS / "dwg-check"), "--program", made.PROGRAM, "--print0", "damaged", str(self.folder)]
+        ran = subprocess.run(words, stdout=theirs, stderr=subprocess.PIPE, check=False)
+        os.close(theirs)
+        os.close(ours)
+        self.assertEqual((ran.returncode, ran.stderr.splitlines()[-1]), (64, b"dwg-check: --print0 prints names as they are, and standard output is a terminal"))
 
     def test_the_recipe_recovers_all_that_is_damaged(self) -> None:
         page = (made.TOP / "docs" / "dwg-tools.7").read_text()
@@ -562,6 +568,10 @@ class Check(Base):
                 (self.folder / "plans" / folder / name).write_bytes(lost)
             (self.folder / "plans" / folder / "whole.dwg").write_bytes(data)
         environment = {**os.environ, "DWG": made.PROGRAM, "PATH": f"{TOOLS}:{os.environ['PATH']}"}
+        (self.folder / "whole" / "plans").mkdir(parents=True)
+        (self.folder / "whole" / "plans" / "a.dwg").write_bytes(data)
+        subprocess.run(["sh", "-c", recipe], cwd=self.folder / "whole", check=True, env=environment)
+        self.assertEqual(os.listdir(self.folder / "whole"), ["plans"])
         subprocess.run(["sh", "-c", recipe], cwd=self.folder, check=False, env=environment)
         expected = {f"{folder}/{name}{more}" for folder in folders for name in names for more in ("", ".notes", ".txt")}
         under = self.folder / "recovered" / "plans"
