@@ -1159,13 +1159,21 @@ def _ignore_signals() -> None:
         signal.signal(number, signal.SIG_IGN)
 
 
+class _Ended(BaseException):
+    """A signal ended the tool."""
+
+    def __init__(self, number: int) -> None:
+        super().__init__(number)
+        self.status = 128 + number
+
+
 def _end(number: int, _: object) -> NoReturn:
     """Ends the tool once: a second signal doesn't disturb what the first makes it tidy."""
     _ignore_signals()
     if number == signal.SIGINT:
         _interrupted.append(True)
         raise KeyboardInterrupt
-    raise SystemExit(128 + number)
+    raise _Ended(number)
 
 
 def _take_signals() -> None:
@@ -1184,16 +1192,25 @@ def _await_interrupt() -> None:
         time.sleep(0.01)
 
 
+def _answered(main: Callable[[], int]) -> int:
+    """The status of a tool, whose output is all written; the words that ask for help end it by themselves."""
+    try:
+        status = int(main())
+    except SystemExit as end:
+        status = end.code if isinstance(end.code, int) else 0
+    sys.stdout.flush()
+    return status
+
+
 def _ran(main: Callable[[], int]) -> int:
     """The status of a tool: what it says of each failure is a message of one line."""
+    status: int = Exit.FAILURE
     try:
         _take_signals()
-        status = int(main())
-        sys.stdout.flush()
-        return status
+        return _answered(main)
     except ToolError as fault:
         tell(str(fault))
-        return fault.status
+        status = fault.status
     except BrokenPipeError:
         return Exit.CLOSED_PIPE
     except OSError as fault:
@@ -1201,7 +1218,9 @@ def _ran(main: Callable[[], int]) -> int:
         tell(f"{where}{fault.strerror or fault}")
     except Exception as fault:  # pylint: disable=broad-except
         tell(f"failure of the tool itself: {type(fault).__name__}: {fault}")
-    return Exit.FAILURE
+    with contextlib.suppress(OSError, ValueError):
+        sys.stdout.flush()
+    return status
 
 
 def run_tool(main: Callable[[], int]) -> NoReturn:
@@ -1212,11 +1231,8 @@ def run_tool(main: Callable[[], int]) -> NoReturn:
         _ignore_signals()
     except KeyboardInterrupt:
         status = Exit.INTERRUPTED
-    except SystemExit as end:
-        status = end.code if isinstance(end.code, int) else 0 if end.code is None else Exit.FAILURE
+    except _Ended as end:
+        status = end.status
     _remove_unplaced()
-    for stream in (sys.stdout, sys.stderr):
-        with contextlib.suppress(OSError, ValueError):
-            stream.flush()
-    # (the end of Python itself would flush again, and has a status of its own where that fails)
+    # The end of Python itself would write what is left of the output: it waits where nobody reads, and has a status of its own where that fails.
     os._exit(int(status))

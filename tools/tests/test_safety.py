@@ -259,6 +259,18 @@ class Ends(common.InFolder):
             ran = tool(name, "--program", killed, *words(path))
             self.assertEqual((ran.returncode, ran.stderr), (130, b""), name)
 
+    def test_an_interrupt_doesnt_wait_for_who_reads(self) -> None:
+        path = self.file("a.dwg", drawn(3000, 1))
+        for number, status in ((signal.SIGINT, 130), (signal.SIGTERM, 143)):
+            said = [str(TOOLS / "dwg-json"), "--program", made.PROGRAM, str(path)]
+            with subprocess.Popen(said, stdout=subprocess.PIPE, stderr=subprocess.PIPE) as started:
+                assert started.stdout is not None
+                # It is held up by its output, of which nobody reads more.
+                started.stdout.read(1)
+                time.sleep(1)
+                started.send_signal(number)
+                self.assertEqual(started.wait(timeout=20), status)
+
     def test_a_signal_that_is_ignored_stays_so(self) -> None:
         path = self.file("a.dwg", drawn(3, 1))
         hanging = program_that(self.folder, "hanging", [f'touch "{self.folder}/begun"; sleep 1', 'exec "$REAL" "$@"'])
