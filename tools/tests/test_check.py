@@ -764,18 +764,24 @@ class Logs(Base):
         hanging = program_that(self.folder, "hanging", [f'[ "$1" != audit ] || {{ touch "{self.folder}/begun"; until [ -e "{self.folder}/go" ]; do sleep 0.1; done; }}', 'exec "$REAL" "$@"'])
         words = [str(TOOLS / "dwg-check"), "--program", str(hanging), "--resume", str(self.log), str(self.folder / "d")]
         with subprocess.Popen(words, stdout=subprocess.PIPE, stderr=subprocess.PIPE) as started:
-            while not (self.folder / "begun").exists():
-                time.sleep(0.02)
-            (self.folder / "symbolic").symlink_to("log")
-            os.link(self.log, self.folder / "hard")
-            kept = self.log.read_bytes()
-            for name in ("log", "symbolic", "hard"):
-                ran = tool("dwg-check", "--resume", self.folder / name, self.folder / "d")
-                self.assertEqual((ran.returncode, ran.stdout, ran.stderr), (73, b"", f"dwg-check: {self.folder / name}: another run writes into it\n".encode()))
-            self.assertEqual(self.log.read_bytes(), kept)
-            (self.folder / "go").touch()
+            try:
+                while not (self.folder / "begun").exists():
+                    time.sleep(0.02)
+                self.second_is_refused()
+            finally:
+                (self.folder / "go").touch()
             started.communicate(timeout=60)
         self.assertEqual((started.returncode, self.resume().returncode), (0, 0))
+
+    def second_is_refused(self) -> None:
+        """A second run on LOG, by whatever name, is refused, and LOG is as it was."""
+        (self.folder / "symbolic").symlink_to("log")
+        os.link(self.log, self.folder / "hard")
+        kept = self.log.read_bytes()
+        for name in ("log", "symbolic", "hard"):
+            ran = tool("dwg-check", "--resume", self.folder / name, "--program", made.PROGRAM, self.folder / "d")
+            self.assertEqual((ran.returncode, ran.stdout, ran.stderr), (73, b"", f"dwg-check: {self.folder / name}: another run writes into it\n".encode()))
+        self.assertEqual(self.log.read_bytes(), kept)
 
     def test_log_where_there_are_no_locks(self) -> None:
         check = made.module(TOOLS / "dwg-check", "dwg_check")
