@@ -5,14 +5,17 @@ from __future__ import annotations
 import math
 import re
 from dataclasses import dataclass
-from typing import Iterator
+from typing import Iterator, List
+from xml.sax.saxutils import escape
 
 from drawing import decoded
 from plane import Affine, Point, plain, seen, turned
-from shapes import Fields, Frame, Shape, Undrawable
+from shapes import FILLED, Context, Fields, Figure, Frame, Undrawable, checked_map
 
-# The height of a capital letter, in sizes of a font without serifs.
-CAPITAL = 0.72
+# All texts are written in one size, to which a map gives theirs, since programs that show SVG lay out very small and very large letters badly;
+# and how far capitals stand above the baseline in a font without serifs, and other letters below.
+FONT = 100.0
+CAPITAL, DEPTH = 0.72 * FONT, 0.24 * FONT
 
 SIGNS = {"d": "\u00b0", "c": "\u2300", "p": "\u00b1", "%": "%", "u": "", "o": "", "k": ""}
 _SIGN = re.compile(r"%%(\d{3}|[dcpuok%])|\\U\+([0-9A-Fa-f]{4})", re.IGNORECASE)
@@ -32,8 +35,8 @@ def readable(text: bytes, page: str) -> str:
 
 
 def breadth(content: str) -> float:
-    """How wide a text is, in sizes of a font without serifs: a guess, letter by letter."""
-    return sum(LETTERS.get(letter, 1.0 if letter > "\u2e7f" else 0.8 if letter.isupper() else 0.65) for letter in content)
+    """How wide a text is in the font: a guess, letter by letter."""
+    return FONT * sum(LETTERS.get(letter, 1.0 if letter > "\u2e7f" else 0.8 if letter.isupper() else 0.65) for letter in content)
 
 
 LETTERS = {**dict.fromkeys("ijl.,:;'|!()[]It f/", 0.4), **dict.fromkeys("mwMW%@", 1.0)}
@@ -66,52 +69,65 @@ def standing(fields: Fields, height: float) -> Standing:
     return Standing(second, angle, anchor, -height / 2 if middle else {1: height / 3, 3: -height}.get(up, 0.0))
 
 
+@dataclass
+class Writing(Figure):
+    """A line of text: where its letters go, whose baseline begins, or has its middle or its end, at the origin, and whether its length is told."""
+
+    content: str
+    letters: Affine
+    anchor: str
+    is_fitted: bool
+
+    def element(self, frame: Frame) -> str:
+        upright = frame.seat(self.letters).after(Affine(1.0, 0.0, 0.0, -1.0))
+        if upright.is_flat():
+            return ""
+        anchored = "" if self.anchor == "start" else f' text-anchor="{self.anchor}"'
+        fitted = f' textLength="{plain(breadth(self.content))}" lengthAdjust="spacingAndGlyphs"' if self.is_fitted else ""
+        return f"<text{upright.attribute()}{anchored}{fitted}{FILLED}>{escape(self.content)}</text>"
+
+    def around(self, frame: Frame) -> List[Point]:
+        length = breadth(self.content)
+        begin = {"start": 0.0, "middle": -0.5, "end": -1.0}[self.anchor] * length
+        corners = [(begin, -DEPTH), (begin + length, -DEPTH), (begin, CAPITAL), (begin + length, CAPITAL)]
+        return [frame.put(self.letters.at(*corner)) for corner in corners]
+
+
 BACKWARD, UPSIDE_DOWN = 2, 4
 
 
-def written(fields: Fields, frame: Frame, content: str) -> Iterator[Shape]:
+def written(fields: Fields, content: str) -> Iterator[Figure]:
     """A text, with its font's height, turn, slant and width."""
     height = abs(fields.real("height"))
     if not content.strip():
         return
     if not height:
         raise Undrawable("no height")
-    stands, generation = standing(fields, height), fields.number("generation")
-    across = abs(fields.real("width", 1.0)) or 1.0
-    flip_x, flip_y = (-1.0 if generation & BACKWARD else 1.0), (-1.0 if generation & UPSIDE_DOWN else 1.0)
-    plane = seen(fields.point("extrusion"), fields.real("elevation"))
-    size = height / CAPITAL
-    length = stands.length or size * across * breadth(content)
-    factor = across if not stands.length else 1.0
+    stands, generation, size = standing(fields, height), fields.number("generation"), height / CAPITAL
+    across = stands.length / breadth(content) if stands.length else size * (abs(fields.real("width", 1.0)) or 1.0)
+    scale = Affine(-across if generation & BACKWARD else across, 0.0, 0.0, -size if generation & UPSIDE_DOWN else size)
     slant = Affine(1.0, 0.0, math.tan(fields.real("oblique")), 1.0)
-    letters = turned(stands.angle).after(slant).after(Affine(flip_x * factor, 0.0, 0.0, flip_y))
-    x, y = plane.at(*stands.place)
-    seen_letters = plane._replace(e=0.0, f=0.0).after(letters)._replace(e=x - frame.x, f=y - frame.y)
-    begin = {"start": 0.0, "middle": -0.5, "end": -1.0}[stands.anchor] * length / factor
-    low, high = stands.baseline - height / 3, stands.baseline + height
-    corners = [(begin, low), (begin + length / factor, low), (begin, high), (begin + length / factor, high)]
-    fitted = f' textLength="{plain(length)}" lengthAdjust="spacingAndGlyphs"' if stands.length else ""
-    anchored = "" if stands.anchor == "start" else f' text-anchor="{stands.anchor}"'
-    upright = seen_letters.after(Affine(1.0, 0.0, 0.0, -1.0))
-    element = f'text{upright.attribute()} y="{plain(-stands.baseline)}" font-size="{plain(size)}"{anchored}{fitted}'
-    yield Shape(element, [seen_letters.at(*corner) for corner in corners], filled=True, content=content)
+    plane = seen(fields.point("extrusion"), fields.real("elevation"))
+    letters = plane.linear().after(turned(stands.angle)).after(slant).after(scale).moved_to(plane.at(*stands.place))
+    base = letters.at(0.0, stands.baseline / size)
+    yield Writing(content, checked_map(letters.moved_to(base)), stands.anchor, bool(stands.length))
 
 
-def text(fields: Fields, frame: Frame, page: str) -> Iterator[Shape]:
+def text(fields: Fields, context: Context) -> Iterator[Figure]:
     """A line of text."""
-    return written(fields, frame, readable(fields.text("text"), page))
+    return written(fields, readable(fields.text("text"), context.page))
 
 
 HIDDEN, CONSTANT = 1, 2
 
 
-def attribute(fields: Fields, frame: Frame, page: str) -> Iterator[Shape]:
+def attribute(fields: Fields, context: Context) -> Iterator[Figure]:
     """The attribute of an insert."""
-    return iter(()) if fields.number("flags") & HIDDEN else text(fields, frame, page)
+    return iter(()) if fields.number("flags") & HIDDEN else text(fields, context)
 
 
-def definition(fields: Fields, frame: Frame, page: str) -> Iterator[Shape]:
+def definition(fields: Fields, context: Context) -> Iterator[Figure]:
     """The definition of an attribute: its tag where the block itself is looked at, and in an insert only what is the same for all."""
-    if frame.tags:
-        return written(fields, frame, readable(fields.text("attrib.tag"), page))
-    return text(fields, frame, page) if fields.number("attrib.flags") & (CONSTANT | HIDDEN) == CONSTANT else iter(())
+    if not context.inside:
+        return written(fields, readable(fields.text("attrib.tag"), context.page))
+    return text(fields, context) if fields.number("attrib.flags") & (CONSTANT | HIDDEN) == CONSTANT else iter(())

@@ -1,4 +1,4 @@
-"""The plane that a drawing is seen in from above: its maps, how other planes are seen in it, and what points extend over."""
+"""The plane that a drawing is seen in from above: its maps, how other planes are seen in it, arcs in it, and what points extend over."""
 
 from __future__ import annotations
 
@@ -24,11 +24,41 @@ class Affine(NamedTuple):
         """Where a point goes."""
         return self.a * x + self.c * y + self.e, self.b * x + self.d * y + self.f
 
+    def along(self, x: float, y: float) -> Point:
+        """Where a direction goes."""
+        return self.a * x + self.c * y, self.b * x + self.d * y
+
     def after(self, first: "Affine") -> "Affine":
         """The map that takes another one first."""
         a, b = self.a * first.a + self.c * first.b, self.b * first.a + self.d * first.b
         c, d = self.a * first.c + self.c * first.d, self.b * first.c + self.d * first.d
         return Affine(a, b, c, d, *self.at(first.e, first.f))
+
+    def moved_to(self, place: Point) -> "Affine":
+        """The map with the origin's image at a place."""
+        return Affine(self.a, self.b, self.c, self.d, *place)
+
+    def linear(self) -> "Affine":
+        """The map that leaves the origin where it is."""
+        return self.moved_to((0.0, 0.0))
+
+    def stretch(self) -> float:
+        """How many times longer a direction becomes at the most."""
+        return (math.hypot(self.a + self.d, self.b - self.c) + math.hypot(self.a - self.d, self.b + self.c)) / 2
+
+    def is_flat(self) -> bool:
+        """Whether all goes to one line."""
+        return abs(self.a * self.d - self.b * self.c) <= 1e-12 * self.stretch() ** 2
+
+    def steps(self) -> Tuple["Affine", "Affine"]:
+        """A linear map in two steps: the first has what changes the shape or the size, the second turns and mirrors."""
+        a, b, c, d = self[:4]
+        # Rounded, since it is computed a little differently at each turn.
+        size = float(f"{math.sqrt(abs(a * d - b * c)):.12g}")
+        away = min(abs(a - d) + abs(b + c), abs(a + d) + abs(b - c))
+        if not size or away > 1e-9 * size:
+            return self, SAME
+        return (SAME if size == 1 else Affine(size, 0.0, 0.0, size)), Affine(a / size, b / size, c / size, d / size)
 
     def attribute(self) -> str:
         """The attribute of an element that it takes."""
@@ -49,6 +79,11 @@ def plain(value: float) -> str:
     return "0" if said == "-0" else said
 
 
+def pair(point: Point) -> str:
+    """A point in a path."""
+    return f"{plain(point[0])} {plain(point[1])}"
+
+
 def unit(direction: Tuple[float, ...]) -> Tuple[float, float, float]:
     """A direction of length 1; upward where there is none."""
     x, y, z = direction
@@ -67,6 +102,80 @@ def seen(normal: Tuple[float, ...], elevation: float = 0.0) -> Affine:
     first = tuple(part / size for part in across)
     second = (y * first[2] - z * first[1], z * first[0] - x * first[2])
     return Affine(first[0], first[1], second[0], second[1], x * elevation, y * elevation)
+
+
+# An ellipse whose minor axis is at most this part of its major one is drawn as a line, and so is an arc whose bulge is at most this.
+FLAT = 1e-5
+
+
+class Arc(NamedTuple):
+    """A part of an ellipse: at each angle it is at the centre, the cosine times the first axis and the sine times the second.
+
+    The axes may lie aslant to each other. The arc begins at an angle and sweeps over others, for a sweep below 0 to lesser ones.
+    """
+
+    centre: Point
+    first: Point
+    second: Point
+    begin: float = 0.0
+    sweep: float = TURN
+
+    def at(self, angle: float) -> Point:
+        """The point at an angle."""
+        (x, y), (a, b), (c, d) = self.centre, self.first, self.second
+        cosine, sine = math.cos(angle), math.sin(angle)
+        return x + a * cosine + c * sine, y + b * cosine + d * sine
+
+    def under(self, seat: Affine) -> "Arc":
+        """Where the arc goes under a map."""
+        return Arc(seat.at(*self.centre), seat.along(*self.first), seat.along(*self.second), self.begin, self.sweep)
+
+    def inner(self, angle: float) -> List[float]:
+        """Where the arc has an angle or the opposite one, in the order of the angles."""
+        low, high = sorted((self.begin, self.begin + self.sweep))
+        halves = range(math.ceil((low - angle) / math.pi), math.floor((high - angle) / math.pi) + 1)
+        return [angle + half * math.pi for half in halves]
+
+    def around(self) -> List[Point]:
+        """Its ends, and where it is leftmost, rightmost, lowest and highest."""
+        angles = [self.begin, self.begin + self.sweep]
+        for first, second in zip(self.first, self.second):
+            angles += self.inner(math.atan2(second, first))
+        return [self.at(angle) for angle in angles]
+
+    def radius(self) -> Optional[float]:
+        """The radius of a whole circle, and None of any other arc."""
+        first, second = math.hypot(*self.first), math.hypot(*self.second)
+        aslant = abs(self.first[0] * self.second[0] + self.first[1] * self.second[1])
+        is_circle = abs(self.sweep) == TURN and first and abs(first - second) <= 1e-9 * first and aslant <= 1e-9 * first * first
+        return first if is_circle else None
+
+    def main_angle(self) -> float:
+        """The angle at which it is farthest from the centre."""
+        (a, b), (c, d) = self.first, self.second
+        return math.atan2(2 * (a * c + b * d), a * a + b * b - c * c - d * d) / 2
+
+    def said(self) -> str:
+        """The arc in a path that has come to where it begins; of one that is flat the way to and fro."""
+        angle = self.main_angle()
+        (a, b), (c, d) = (self._replace(centre=(0.0, 0.0)).at(angle + turn) for turn in (0.0, TURN / 4))
+        major, minor = math.hypot(a, b), math.hypot(c, d)
+        if minor <= FLAT * major or abs(self.sweep) <= 4 * FLAT:
+            corners = sorted(self.inner(angle), reverse=self.sweep < 0)
+            return "".join("L" + pair(self.at(corner)) for corner in [*corners, self.begin + self.sweep])
+        tilt = plain(math.degrees(math.atan2(b, a))) if major - minor > 1e-9 * major else "0"
+        front = f"A{plain(major)} {plain(minor)} {tilt} 0 {int((a * d - b * c) * self.sweep > 0)} "
+        return "".join(front + pair(self.at(end)) for end in self.quarters())
+
+    def quarters(self) -> List[float]:
+        """The ends of parts of at most a quarter of a turn: the two ends of a longer one don't tell well where its centre is."""
+        count = max(1, math.ceil(abs(self.sweep) / (TURN / 4) - 1e-9))
+        return [self.begin + self.sweep * part / count for part in range(1, count + 1)]
+
+
+def circular(centre: Point, radius: float, begin: float = 0.0, sweep: float = TURN) -> Arc:
+    """An arc of a circle."""
+    return Arc(centre, (radius, 0.0), (0.0, radius), begin, sweep)
 
 
 class Endless(NamedTuple):
@@ -93,47 +202,24 @@ class Endless(NamedTuple):
         return ((x + u * begin, y + v * begin), (x + u * end, y + v * end)) if begin <= end else None
 
 
-def hull(points: Iterable[Point]) -> List[Point]:
-    """The corners of the convex hull."""
-    ordered = sorted(set(points))
-    if len(ordered) < 3:
-        return ordered
-    return half_hull(ordered) + half_hull(ordered[::-1])
-
-
-def half_hull(ordered: List[Point]) -> List[Point]:
-    """One side of a hull, without its last point."""
-    side: List[Point] = []
-    for x, y in ordered:
-        while len(side) > 1 and (side[-1][0] - side[-2][0]) * (y - side[-2][1]) <= (side[-1][1] - side[-2][1]) * (x - side[-2][0]):
-            side.pop()
-        side.append((x, y))
-    return side[:-1]
-
-
-class Extent:
-    """The hull of what is drawn: the points are kept until they are many."""
+class Box:
+    """The upright rectangle around what is drawn."""
 
     def __init__(self) -> None:
-        self.points: List[Point] = []
+        self.left = self.low = math.inf
+        self.right = self.high = -math.inf
 
     def add(self, points: Iterable[Point]) -> None:
         """Takes points in."""
-        self.points.extend(points)
-        if len(self.points) > 4096:
-            self.points = hull(self.points)
+        for x, y in points:
+            self.left, self.right = min(self.left, x), max(self.right, x)
+            self.low, self.high = min(self.low, y), max(self.high, y)
+
+    def holds(self, place: Point, reach: float) -> bool:
+        """Whether all is inside that is as close to a place."""
+        x, y = place
+        return self.left <= x - reach and x + reach <= self.right and self.low <= y - reach and y + reach <= self.high
 
     def corners(self) -> List[Point]:
-        """The corners of the hull."""
-        self.points = hull(self.points)
-        return self.points
-
-
-class Box(Extent):
-    """The upright rectangle around what is drawn."""
-
-    def add(self, points: Iterable[Point]) -> None:
-        found = [*self.points, *points]
-        if found:
-            xs, ys = [x for x, _ in found], [y for _, y in found]
-            self.points = [(min(xs), min(ys)), (max(xs), max(ys))]
+        """The lower left corner and the upper right one; none where nothing is drawn."""
+        return [(self.left, self.low), (self.right, self.high)] if self.left <= self.right else []

@@ -1,13 +1,13 @@
-"""The shapes of entities as elements of SVG: reading their fields, where they lie, and a function for each kind that isn't a text."""
+"""What entities look like, as figures that become elements of SVG: reading their fields, and a function for each kind that isn't a text."""
 
 from __future__ import annotations
 
 import math
-from dataclasses import dataclass, replace
-from typing import Dict, Iterator, List, NamedTuple, Optional, Tuple
+from dataclasses import dataclass
+from typing import Dict, Iterator, List, NamedTuple, Optional, Sequence, Tuple, Union
 
 from drawing import Object, Reference, Text, Value, Words, read_field, read_value
-from plane import SAME, TURN, Affine, Endless, Point, plain, seen, unit
+from plane import SAME, TURN, Affine, Arc, Endless, Point, circular, pair, plain, seen, unit
 
 FARTHEST = 1e15
 
@@ -98,92 +98,196 @@ def checked_map(seat: Affine) -> Affine:
     return seat
 
 
-# --- Shapes ----------------------------------------------------------------------------------------------------------
+# --- Figures ---------------------------------------------------------------------------------------------------------
 
 
-@dataclass
-class Shape:
-    """An element of SVG, and points around it. A filled one has the colour as its inside and no line; an endless one is no element yet."""
-
-    element: str
-    points: List[Point]
-    filled: bool = False
-    content: str = ""
-    endless: Optional[Endless] = None
-
-
-@dataclass(frozen=True)
-class Seat:
-    """Where the coordinates of an element count from, the attribute that puts it there, and the map that this is.
+class Frame(NamedTuple):
+    """Where figures are put: from a place, from which coordinates count, by a map that leaves the origin where it is.
 
     Programs that show SVG compute with seven digits, so coordinates count from a place nearby.
     """
 
-    x: float
-    y: float
-    attribute: str = ""
-    map: Affine = SAME
+    x: float = 0.0
+    y: float = 0.0
+    linear: Affine = SAME
 
-    def said(self, x: float, y: float) -> str:
-        """A point in a path."""
-        return f"{plain(x - self.x)} {plain(y - self.y)}"
+    def put(self, point: Point) -> Point:
+        """Where a point comes to lie."""
+        x, y = point[0] - self.x, point[1] - self.y
+        return (x, y) if self.linear is SAME else self.linear.at(x, y)
 
-    def put(self, points: Iterable[Point]) -> List[Point]:
-        """Where points come to lie."""
-        if self.map is SAME:
-            return [(x - self.x, y - self.y) for x, y in points]
-        return [self.map.at(x - self.x, y - self.y) for x, y in points]
+    def put_arc(self, arc: Arc) -> Arc:
+        """Where an arc comes to lie."""
+        return arc.under(self.linear)._replace(centre=self.put(arc.centre))
 
-
-@dataclass(frozen=True)
-class Frame:
-    """The origin of a space or a block, and whether it is a block, which may be turned later."""
-
-    x: float
-    y: float
-    turning: bool = False
-    tags: bool = True
-
-    def flat(self) -> Seat:
-        """The seat of what lies in the plane itself."""
-        return Seat(self.x, self.y)
-
-    def seat(self, plane: Affine, near: Point) -> Seat:
-        """The seat of what lies in a plane, near a point of it."""
-        if plane == SAME:
-            return self.flat()
-        x, y = plane.at(*near)
-        moved = Affine(plane.a, plane.b, plane.c, plane.d, x - self.x, y - self.y)
-        return Seat(near[0], near[1], moved.attribute(), moved)
-
-    def round(self, centre: Point, radius: float, begin: float = 0.0, sweep: float = TURN) -> List[Point]:
-        """Points around an arc: its ends, and those where it is highest, lowest, and outermost; many, where it may be turned."""
-        count = 32 if self.turning else 4
-        step = TURN / count
-        low, high = min(begin, begin + sweep), max(begin, begin + sweep)
-        inner = [at * step for at in range(math.ceil(low / step), math.floor(high / step) + 1)]
-        return [(centre[0] + radius * math.cos(at), centre[1] + radius * math.sin(at)) for at in [low, *inner, high]]
+    def seat(self, inner: Affine) -> Affine:
+        """The map that takes another one, which tells places of this frame, first."""
+        linear = inner if self.linear is SAME else self.linear.after(inner)
+        return linear.moved_to(self.put((inner.e, inner.f)))
 
 
-def line(fields: Fields, frame: Frame, _: str) -> Iterator[Shape]:
+class Figure:
+    """What an entity looks like, in the coordinates of its space or block."""
+
+    def element(self, frame: Frame) -> str:
+        """The element of SVG; empty where nothing can be seen of it."""
+        raise NotImplementedError
+
+    def around(self, frame: Frame) -> List[Point]:
+        """Points between whose least and greatest coordinates it lies."""
+        raise NotImplementedError
+
+
+# What stands in an element that has the colour as its inside and no line.
+FILLED = ' fill="currentColor" stroke="none"'
+
+
+@dataclass
+class Way:
+    """Points and arcs, one behind the other."""
+
+    begin: Point
+    steps: Sequence[Union[Point, Arc]]
+    closed: bool = False
+
+    def said(self, frame: Frame) -> str:
+        """The way in a path."""
+        steps = [frame.put_arc(step).said() if isinstance(step, Arc) else "L" + pair(frame.put(step)) for step in self.steps]
+        return f"M{pair(frame.put(self.begin))}{''.join(steps)}{'z' if self.closed else ''}"
+
+    def around(self, frame: Frame) -> List[Point]:
+        """Points around it."""
+        return [frame.put(self.begin), *around(self.steps, frame)]
+
+
+def around(steps: Sequence[Union[Point, Arc]], frame: Frame) -> List[Point]:
+    """Points around points and arcs."""
+    found: List[Point] = []
+    for step in steps:
+        found += frame.put_arc(step).around() if isinstance(step, Arc) else [frame.put(step)]
+    return found
+
+
+@dataclass
+class Trail(Figure):
+    """Ways, drawn by their line, or filled."""
+
+    ways: List[Way]
+    filled: bool = False
+
+    def element(self, frame: Frame) -> str:
+        return f'<path d="{"".join(way.said(frame) for way in self.ways)}"{FILLED if self.filled else ""}/>'
+
+    def around(self, frame: Frame) -> List[Point]:
+        return [point for way in self.ways for point in way.around(frame)]
+
+
+def outlined(corners: Sequence[Point]) -> Trail:
+    """What corners go around, filled."""
+    return Trail([Way(corners[0], corners[1:], closed=True)], filled=True)
+
+
+@dataclass
+class Curve(Figure):
+    """A circle, an ellipse, or a part of one."""
+
+    arc: Arc
+
+    def element(self, frame: Frame) -> str:
+        arc = frame.put_arc(self.arc)
+        radius = arc.radius()
+        if radius:
+            return f'<circle cx="{plain(arc.centre[0])}" cy="{plain(arc.centre[1])}" r="{plain(radius)}"/>'
+        return f'<path d="M{pair(arc.at(arc.begin))}{arc.said()}"/>'
+
+    def around(self, frame: Frame) -> List[Point]:
+        return frame.put_arc(self.arc).around()
+
+
+@dataclass
+class Dot(Figure):
+    """A dot of a few pixels."""
+
+    place: Point
+
+    def element(self, frame: Frame) -> str:
+        return f'<path class="dot" d="M{pair(frame.put(self.place))}h0"/>'
+
+    def around(self, frame: Frame) -> List[Point]:
+        return [frame.put(self.place)]
+
+
+@dataclass
+class Band(Figure):
+    """A way of a width in drawing units. It is told in its plane, as its width is seen as the plane is; its edges are told as they are seen."""
+
+    way: Way
+    plane: Affine
+    width: float
+    edges: List[Union[Point, Arc]]
+
+    def element(self, frame: Frame) -> str:
+        seat = frame.seat(self.plane.moved_to(self.plane.at(*self.way.begin)))
+        if seat.is_flat():
+            return ""
+        is_plain = self.plane == SAME == frame.linear
+        path = self.way.said(frame if is_plain else Frame(*self.way.begin))
+        return f'<path class="wide"{"" if is_plain else seat.attribute()} stroke-width="{plain(self.width)}" d="{path}"/>'
+
+    def around(self, frame: Frame) -> List[Point]:
+        return around(self.edges, frame)
+
+
+@dataclass
+class Moved(Figure):
+    """A figure elsewhere."""
+
+    figure: Figure
+    by: Point
+
+    def within(self, frame: Frame) -> Frame:
+        """The frame that the figure itself is put into: its place is moved the other way."""
+        return frame._replace(x=frame.x - self.by[0], y=frame.y - self.by[1])
+
+    def element(self, frame: Frame) -> str:
+        return self.figure.element(self.within(frame))
+
+    def around(self, frame: Frame) -> List[Point]:
+        return self.figure.around(self.within(frame))
+
+
+@dataclass
+class Straight(Figure):
+    """A line without an end, which is cut when all of the picture is known; its place alone counts for what the picture shows."""
+
+    line: Endless
+
+    def within(self, frame: Frame) -> Endless:
+        """The line in a frame without a map."""
+        return self.line._replace(place=frame.put(self.line.place))
+
+    def around(self, frame: Frame) -> List[Point]:
+        return [frame.put(self.line.place)]
+
+
+# --- Kinds -----------------------------------------------------------------------------------------------------------
+
+
+class Context(NamedTuple):
+    """What a figure depends on beside its entity: the code page, and whether the entity is in a block that is inserted."""
+
+    page: str
+    inside: bool
+
+
+def line(fields: Fields, _: Context) -> Iterator[Figure]:
     """A line, whose points aren't told in its plane."""
-    seat, ends = frame.flat(), [fields.pair("start"), fields.pair("end")]
-    yield Shape(f'path d="M{seat.said(*ends[0])}L{seat.said(*ends[1])}"', seat.put(ends))
+    yield Trail([Way(fields.pair("start"), [fields.pair("end")])])
 
 
-def point(fields: Fields, frame: Frame, _: str) -> Iterator[Shape]:
-    """A point: a dot of a few pixels."""
-    seat, place = frame.flat(), fields.pair("place")
-    yield Shape(f'path class="dot" d="M{seat.said(*place)}h0"', seat.put([place]))
-
-
-def circle(fields: Fields, frame: Frame, _: str) -> Iterator[Shape]:
-    """A circle."""
-    x, y, z = fields.point("centre")
-    radius = abs(fields.real("radius"))
-    seat = frame.seat(seen(fields.point("extrusion"), z), (x, y))
-    element = f'circle{seat.attribute} cx="{plain(x - seat.x)}" cy="{plain(y - seat.y)}" r="{plain(radius)}"'
-    yield Shape(element, seat.put(frame.round((x, y), radius)))
+def point(fields: Fields, _: Context) -> Iterator[Figure]:
+    """A point."""
+    yield Dot(fields.pair("place"))
 
 
 def swept(fields: Fields) -> Tuple[float, float]:
@@ -193,148 +297,135 @@ def swept(fields: Fields) -> Tuple[float, float]:
     return begin, sweep if sweep > 1e-12 else TURN
 
 
-def arc_element(seat: Seat, centre: Point, radius: float, begin: float, sweep: float) -> str:
-    """An arc in halves, since one of nearly a whole turn is told badly by its ends."""
-    angles = [begin + part * sweep for part in (0.0, 0.5, 1.0)]
-    at = [seat.said(centre[0] + radius * math.cos(angle), centre[1] + radius * math.sin(angle)) for angle in angles]
-    arcs = "".join(f"A{plain(radius)} {plain(radius)} 0 0 1 {end}" for end in at[1:])
-    return f'path{seat.attribute} d="M{at[0]}{arcs}"'
+def circle(fields: Fields, _: Context) -> Iterator[Figure]:
+    """A circle."""
+    x, y, z = fields.point("centre")
+    yield Curve(circular((x, y), abs(fields.real("radius"))).under(seen(fields.point("extrusion"), z)))
 
 
-def arc(fields: Fields, frame: Frame, _: str) -> Iterator[Shape]:
+def arc(fields: Fields, _: Context) -> Iterator[Figure]:
     """An arc, to the left from one angle to the other."""
     x, y, z = fields.point("centre")
-    radius, (begin, sweep) = abs(fields.real("radius")), swept(fields)
-    seat = frame.seat(seen(fields.point("extrusion"), z), (x, y))
-    yield Shape(arc_element(seat, (x, y), radius, begin, sweep), seat.put(frame.round((x, y), radius, begin, sweep)))
+    yield Curve(circular((x, y), abs(fields.real("radius")), *swept(fields)).under(seen(fields.point("extrusion"), z)))
 
 
-def axes(fields: Fields) -> Affine:
-    """Where an ellipse puts a circle around the origin, of radius 1. Its centre and its major axis aren't told in its plane."""
-    x, y, _ = fields.point("centre")
+def ellipse(fields: Fields, _: Context) -> Iterator[Figure]:
+    """An ellipse or a part of it: its angles are those of the circle that it is made from. Its centre and axes aren't told in its plane."""
+    x, y, _z = fields.point("centre")
     u, v, w = fields.point("axis")
     (a, b, c), ratio = unit(fields.point("extrusion")), fields.real("ratio")
     # The minor axis is the normal cross the major one; only its x and y are seen.
-    return checked_map(Affine(u, v, ratio * (b * w - c * v), ratio * (c * u - a * w), x, y))
+    minor = (ratio * (b * w - c * v), ratio * (c * u - a * w))
+    checked(minor)
+    yield Curve(Arc((x, y), (u, v), minor, *swept(fields)))
 
 
-def ellipse(fields: Fields, frame: Frame, _: str) -> Iterator[Shape]:
-    """An ellipse or a part of it: its angles are those of the circle that it is made from."""
-    centre, (begin, sweep) = (0.0, 0.0), swept(fields)
-    seat = frame.seat(axes(fields), centre)
-    # The axes may lie aslant, so that it isn't their ends that are outermost.
-    around = replace(frame, turning=True).round(centre, 1.0, begin, sweep)
-    yield Shape(arc_element(seat, centre, 1.0, begin, sweep), seat.put(around))
-
-
-def endless(fields: Fields, frame: Frame, both_ways: bool) -> Iterator[Shape]:
-    """A line that the picture cuts when all of it is known; its place alone counts for what the picture shows."""
-    place, direction = frame.flat().put([fields.pair("point")])[0], fields.pair("vector")
-    if frame.turning:
+def straight(fields: Fields, context: Context, both_ways: bool) -> Iterator[Figure]:
+    """A line without an end."""
+    found = Endless(fields.pair("point"), fields.pair("vector"), both_ways)
+    if context.inside:
         raise Undrawable("in a block that is inserted")
-    yield Shape("", [place], endless=Endless(place, direction, both_ways))
+    yield Straight(found)
 
 
-def ray(fields: Fields, frame: Frame, _: str) -> Iterator[Shape]:
+def ray(fields: Fields, context: Context) -> Iterator[Figure]:
     """A line from a point on."""
-    return endless(fields, frame, both_ways=False)
+    return straight(fields, context, both_ways=False)
 
 
-def construction_line(fields: Fields, frame: Frame, _: str) -> Iterator[Shape]:
+def construction_line(fields: Fields, context: Context) -> Iterator[Figure]:
     """A line without ends."""
-    return endless(fields, frame, both_ways=True)
+    return straight(fields, context, both_ways=True)
 
 
-def area(seat: Seat, outline: List[Point]) -> Shape:
-    """What an outline goes around, filled."""
-    path = "M" + "L".join(seat.said(*corner) for corner in outline) + "z"
-    return Shape(f'path{seat.attribute} d="{path}"', seat.put(outline), filled=True)
-
-
-def solid(fields: Fields, frame: Frame, _: str) -> Iterator[Shape]:
+def solid(fields: Fields, _: Context) -> Iterator[Figure]:
     """A solid or a trace: its third corner lies beside its first, so that the outline goes from the second to the fourth."""
-    outline = [fields.pair(name) for name in ("first", "second", "fourth", "third")]
-    yield area(frame.seat(seen(fields.point("extrusion"), fields.real("elevation")), outline[0]), outline)
+    plane = seen(fields.point("extrusion"), fields.real("elevation"))
+    yield outlined([plane.at(*fields.pair(name)) for name in ("first", "second", "fourth", "third")])
 
 
-def face(fields: Fields, frame: Frame, _: str) -> Iterator[Shape]:
+def face(fields: Fields, _: Context) -> Iterator[Figure]:
     """A face: its edges, the first of them between the first two corners, but for those whose bit says that they are invisible."""
-    seat, hidden = frame.flat(), fields.number("invisible_edges")
+    hidden = fields.number("invisible_edges")
     corners = [fields.point(name) for name in ("first", "second", "third", "fourth")]
     edges = [edge for at, edge in enumerate(zip(corners, corners[1:] + corners[:1])) if not hidden >> at & 1 and edge[0] != edge[1]]
     if edges:
-        path = "".join(f"M{seat.said(*begin[:2])}L{seat.said(*end[:2])}" for begin, end in edges)
-        yield Shape(f'path d="{path}"', seat.put((x, y) for edge in edges for x, y, _ in edge))
+        yield Trail([Way((begin[0], begin[1]), [(end[0], end[1])]) for begin, end in edges])
 
 
 CLOSED_IN_SPACE = 1
 
 
-def polyline_in_space(fields: Fields, frame: Frame, _: str) -> Iterator[Shape]:
+def polyline_in_space(fields: Fields, _: Context) -> Iterator[Figure]:
     """A polyline in space, whose vertices are listed among its fields."""
-    seat, corners = frame.flat(), [(x, y) for x, y, _ in fields.rows("vertices")]
+    corners = [(x, y) for x, y, _z in fields.rows("vertices")]
     if len(corners) < 2:
         raise Undrawable("fewer than two points")
-    closing = "z" if fields.number("flags_b") & CLOSED_IN_SPACE else ""
-    path = "M" + "L".join(seat.said(*corner) for corner in corners) + closing
-    yield Shape(f'path d="{path}"', seat.put(corners))
+    yield Trail([Way(corners[0], corners[1:], closed=bool(fields.number("flags_b") & CLOSED_IN_SPACE))])
 
 
-class Segment(NamedTuple):
-    """A segment of a polyline: its ends, its bulge, and its widths at both ends."""
+# --- Lightweight polylines -------------------------------------------------------------------------------------------
+
+
+def bulged(begin: Point, end: Point, bulge: float) -> Optional[Arc]:
+    """The arc between two points whose bulge is the tangent of a quarter of the sweep, and None where that is a line."""
+    if abs(bulge) <= 1e-9 or begin == end:
+        return None
+    (x, y), (u, v) = begin, end
+    aside = (1 - bulge * bulge) / (4 * bulge)
+    centre = (x + u) / 2 - (v - y) * aside, (y + v) / 2 + (u - x) * aside
+    radius, angle = math.hypot(x - centre[0], y - centre[1]), math.atan2(y - centre[1], x - centre[0])
+    return circular(centre, radius, angle, 4 * math.atan(bulge))
+
+
+@dataclass
+class Segment:
+    """A segment of a polyline, in its plane: its ends, its widths at both, and its arc where it is one."""
 
     begin: Point
     end: Point
-    bulge: float
-    widths: Point
+    widths: Tuple[float, float]
+    arc: Optional[Arc]
 
-    def bent(self) -> bool:
-        """Whether it is an arc."""
-        return abs(self.bulge) > 1e-9 and self.begin != self.end
+    def at(self, part: float) -> Point:
+        """A point of it: the begin at 0, the end at 1."""
+        if self.arc:
+            return self.arc.at(self.arc.begin + self.arc.sweep * part)
+        (x, y), (u, v) = self.begin, self.end
+        return x + (u - x) * part, y + (v - y) * part
 
-    def circle(self) -> Tuple[Point, float, float, float]:
-        """The centre, the radius, the angle of the begin and the sweep of an arc. The bulge is the tangent of a quarter of the sweep."""
-        (x, y), (u, v), bulge = self.begin, self.end, self.bulge
-        aside = (1 - bulge * bulge) / (4 * bulge)
-        centre = (x + u) / 2 - (v - y) * aside, (y + v) / 2 + (u - x) * aside
-        return centre, math.hypot(x - centre[0], y - centre[1]), math.atan2(y - centre[1], x - centre[0]), 4 * math.atan(bulge)
+    def left(self, part: float) -> Point:
+        """The direction to the left at a point of it."""
+        if self.arc:
+            angle, inward = self.arc.begin + self.arc.sweep * part, math.copysign(1.0, -self.arc.sweep)
+            return inward * math.cos(angle), inward * math.sin(angle)
+        (x, y), (u, v) = self.begin, self.end
+        length = math.hypot(u - x, v - y) or 1.0
+        return (y - v) / length, (u - x) / length
 
-    def said(self, seat: Seat) -> str:
-        """The segment in a path."""
-        if not self.bent():
-            return f"L{seat.said(*self.end)}"
-        radius = plain(self.circle()[1])
-        return f"A{radius} {radius} 0 {int(abs(self.bulge) > 1)} {int(self.bulge > 0)} {seat.said(*self.end)}"
-
-    def points(self, frame: Frame) -> List[Point]:
-        """Points around the segment."""
-        return frame.round(*self.circle()) if self.bent() else [self.begin, self.end]
-
-    def along(self) -> List[Tuple[Point, Point]]:
-        """Points along the segment, each with the direction to its left."""
-        if not self.bent():
-            (x, y), (u, v) = self.begin, self.end
-            length = math.hypot(u - x, v - y) or 1.0
-            left = ((y - v) / length, (u - x) / length)
-            return [(self.begin, left), (self.end, left)]
-        (x, y), radius, begin, sweep = self.circle()
-        count = max(2, math.ceil(abs(sweep) / (TURN / 64)))
-        inward = -1.0 if sweep > 0 else 1.0
-        angles = [begin + sweep * at / count for at in range(count + 1)]
-        return [
-            ((x + radius * math.cos(at), y + radius * math.sin(at)), (inward * math.cos(at), inward * math.sin(at))) for at in angles
-        ]
+    def beside(self, part: float, half: float) -> Point:
+        """The point at a distance to the left of a point of it."""
+        (x, y), (u, v) = self.at(part), self.left(part)
+        return x + u * half, y + v * half
 
     def band(self) -> List[Point]:
-        """The outline of a segment with widths."""
-        along = self.along()
+        """The outline of a segment with widths: along its left and back along its right."""
+        count = max(2, math.ceil(abs(self.arc.sweep) / (TURN / PARTS))) if self.arc else 1
         first, last = self.widths
-        halves = [(first + (last - first) * at / (len(along) - 1)) / 2 for at in range(len(along))]
-        left = [(x + u * half, y + v * half) for ((x, y), (u, v)), half in zip(along, halves)]
-        right = [(x - u * half, y - v * half) for ((x, y), (u, v)), half in zip(along, halves)]
-        return left + right[::-1]
+        halves = [(at / count, (first + (last - first) * at / count) / 2) for at in range(count + 1)]
+        left = [self.beside(part, half) for part, half in halves]
+        return left + [self.beside(part, -half) for part, half in reversed(halves)]
+
+    def edges(self, half: float) -> List[Union[Point, Arc]]:
+        """The edges of a segment of one width."""
+        if self.arc:
+            radius = self.arc.first[0]
+            return [circular(self.arc.centre, radius + aside, self.arc.begin, self.arc.sweep) for aside in (half, -half)]
+        return [self.beside(part, aside) for part in (0.0, 1.0) for aside in (half, -half)]
 
 
+# In how many parts of a turn the edges of an arc are told whose width changes.
+PARTS = 256
 CLOSED = 512
 
 
@@ -346,37 +437,61 @@ def segments_of(fields: Fields) -> List[Segment]:
     closed = bool(fields.number("flag") & CLOSED)
     ends = points[1:] + (points[:1] if closed else [])
     return [
-        Segment(begin, end, bulges[at] if at < len(bulges) else 0.0, widths[at] if at < len(widths) else (width, width))
+        Segment(begin, end, widths[at] if at < len(widths) else (width, width), bulged(begin, end, bulges[at] if at < len(bulges) else 0.0))
         for at, (begin, end) in enumerate(zip(points, ends))
     ]
 
 
-def polyline(fields: Fields, frame: Frame, _: str) -> Iterator[Shape]:
+def polyline(fields: Fields, _: Context) -> Iterator[Figure]:
     """A lightweight polyline: a thin line, and its widths as they are."""
-    segments = segments_of(fields)
+    segments, closed = segments_of(fields), bool(fields.number("flag") & CLOSED)
     if not segments:
         raise Undrawable("fewer than two points")
     normal = fields.point("normal") if "normal" in fields.values else (0.0, 0.0, 1.0)
-    seat = frame.seat(seen(normal, fields.real("elevation")), segments[0].begin)
-    closing = "z" if fields.number("flag") & CLOSED else ""
-    path = f"M{seat.said(*segments[0].begin)}{''.join(one.said(seat) for one in segments)}{closing}"
-    around = [at for one in segments for at in one.points(frame)]
-    yield Shape(f'path{seat.attribute} d="{path}"', seat.put(around))
-    widths = {width for one in segments for width in one.widths}
-    if len(widths) == 1:
-        yield from even(path, seat, segments, widths.pop())
-    else:
-        yield from uneven(seat, segments, bool(closing))
+    plane = seen(normal, fields.real("elevation"))
+    way = Way(segments[0].begin, [one.arc or one.end for one in segments], closed)
+    yield Trail([under(way, plane)])
+    widths = {abs(width) for one in segments for width in one.widths}
+    if len(widths) > 1:
+        yield from uneven(plane, segments, closed)
+    elif any(widths):
+        yield even(plane, way, segments, widths.pop())
 
 
-def even(path: str, seat: Seat, segments: List[Segment], width: float) -> Iterator[Shape]:
+def under(way: Way, plane: Affine) -> Way:
+    """A way of a plane as it is seen."""
+    return Way(plane.at(*way.begin), seen_steps(way.steps, plane), way.closed)
+
+
+def seen_steps(steps: Sequence[Union[Point, Arc]], plane: Affine) -> List[Union[Point, Arc]]:
+    """Points and arcs of a plane as they are seen."""
+    return [step.under(plane) if isinstance(step, Arc) else plane.at(*step) for step in steps]
+
+
+def even(plane: Affine, way: Way, segments: List[Segment], width: float) -> Band:
     """The width of a polyline that has one."""
-    if width:
-        around = [at for one in segments for at in one.band()]
-        yield Shape(f'path{seat.attribute} class="wide" stroke-width="{plain(abs(width))}" d="{path}"', seat.put(around))
+    long = [one for one in segments if one.arc or one.begin != one.end]
+    edges = [edge for one in long for edge in one.edges(width / 2)]
+    joined = zip(long, long[1:] + (long[:1] if way.closed else []))
+    corners = [corner for one, other in joined for corner in mitred(one, other, width / 2)]
+    return Band(way, plane, width, seen_steps([way.begin, *edges, *corners], plane))
 
 
-def uneven(seat: Seat, segments: List[Segment], closed: bool) -> Iterator[Shape]:
+# How many times longer than the half width a corner is at the most before it is cut off, in SVG.
+LONGEST_CORNER = 4
+
+
+def mitred(one: Segment, other: Segment, half: float) -> List[Point]:
+    """The outer corner where two wide segments meet, unless it is cut off."""
+    (a, b), (c, d) = one.left(1.0), other.left(0.0)
+    along, (x, y) = 1 + a * c + b * d, one.end
+    if math.hypot(a + c, b + d) >= LONGEST_CORNER * along:
+        return []
+    outward = math.copysign(half / along, b * c - a * d)
+    return [(x + (a + c) * outward, y + (b + d) * outward)]
+
+
+def uneven(plane: Affine, segments: List[Segment], closed: bool) -> Iterator[Figure]:
     """The widths of a polyline, segment by segment, and the gaps where two wide ones meet."""
     bands = [one.band() if any(one.widths) else [] for one in segments]
     outlines = [band for band in bands if band]
@@ -386,4 +501,4 @@ def uneven(seat: Seat, segments: List[Segment], closed: bool) -> Iterator[Shape]
             middle = len(bands[at]) // 2
             outlines += [[one.end, bands[at][middle - 1], bands[after][0]], [one.end, bands[at][middle], bands[after][-1]]]
     for outline in outlines:
-        yield area(seat, outline)
+        yield outlined([plane.at(*corner) for corner in outline])

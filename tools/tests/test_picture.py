@@ -3,6 +3,7 @@
 from __future__ import annotations
 
 import math
+import pathlib
 import re
 import shutil
 import struct
@@ -11,7 +12,7 @@ import unittest
 import xml.etree.ElementTree as ElementTree
 import zlib
 from dataclasses import dataclass
-from typing import Dict, Iterator, List, Sequence, Tuple
+from typing import Callable, Dict, Iterator, List, Sequence, Tuple
 
 import common
 import spelled
@@ -40,7 +41,9 @@ def at(matrix: Matrix, x: float, y: float) -> Point:
 
 
 def matrix_of(element: ElementTree.Element) -> Matrix:
-    """The map of an element's attribute."""
+    """The map of an element's attributes."""
+    if element.tag == SVG + "use" and element.get("x"):
+        return 1, 0, 0, 1, float(element.get("x", "")), float(element.get("y", ""))
     said = element.get("transform", "matrix(1 0 0 1 0 0)")
     name, numbers = said.rstrip(")").split("(")
     values = tuple(map(float, numbers.split()))
@@ -49,16 +52,21 @@ def matrix_of(element: ElementTree.Element) -> Matrix:
     return values  # type: ignore[return-value]
 
 
-def arc_points(begin: Point, radius: float, large: bool, left: bool, end: Point) -> List[Point]:
-    """Points along an arc of a path, by the rules of SVG: of the two circles the one that the flags say."""
-    half = math.dist(begin, end) / 2 if hasattr(math, "dist") else math.hypot(begin[0] - end[0], begin[1] - end[1]) / 2
-    radius = max(radius, half)
-    toward = math.atan2(end[1] - begin[1], end[0] - begin[0])
-    away = math.sqrt(max(0.0, radius * radius - half * half)) * (1 if left != large else -1)
-    centre = (begin[0] + end[0]) / 2 - away * math.sin(toward), (begin[1] + end[1]) / 2 + away * math.cos(toward)
-    first, last = (math.atan2(y - centre[1], x - centre[0]) for x, y in (begin, end))
+def arc_points(begin: Point, radii: Point, tilt: float, large: bool, left: bool, end: Point) -> List[Point]:
+    """Points along an arc of a path, by the rules of SVG: of the two ellipses with these radii the one that the flags say."""
+    cosine, sine = math.cos(math.radians(tilt)), math.sin(math.radians(tilt))
+    # Where the ellipse is a circle of radius 1.
+    (x, y), (u, v) = (((cosine * p + sine * q) / radii[0], (cosine * q - sine * p) / radii[1]) for p, q in (begin, end))
+    half = math.hypot(u - x, v - y) / 2
+    grown = max(1.0, half)
+    toward = math.atan2(v - y, u - x)
+    away = math.sqrt(grown * grown - half * half) * (1 if left != large else -1)
+    centre = (x + u) / 2 - away * math.sin(toward), (y + v) / 2 + away * math.cos(toward)
+    first, last = (math.atan2(q - centre[1], p - centre[0]) for p, q in ((x, y), (u, v)))
     sweep = (last - first) % (2 * math.pi) if left else -((first - last) % (2 * math.pi))
-    return [(centre[0] + radius * math.cos(first + sweep * k / 8), centre[1] + radius * math.sin(first + sweep * k / 8)) for k in range(9)]
+    angles = [first + sweep * k / 8 for k in range(9)]
+    flat = [((centre[0] + grown * math.cos(angle)) * radii[0], (centre[1] + grown * math.sin(angle)) * radii[1]) for angle in angles]
+    return [(cosine * p - sine * q, sine * p + cosine * q) for p, q in flat]
 
 
 def path_points(path: str) -> List[Point]:
@@ -69,46 +77,63 @@ def path_points(path: str) -> List[Point]:
         if letter in "ML":
             found.append((values[0], values[1]))
         elif letter == "A":
-            found += arc_points(found[-1], values[0], bool(values[3]), bool(values[4]), (values[5], values[6]))[1:]
+            x, y, tilt, large, left, *end = values
+            found += arc_points(found[-1], (x, y), tilt, bool(large), bool(left), (end[0], end[1]))[1:]
         elif letter == "z":
             found.append(found[0])
     return found
 
 
+def thirds(points: Sequence[Point]) -> List[Point]:
+    """The begin, the middle and the end of an arc."""
+    return [points[0], points[(len(points) - 1) // 2], points[-1]]
+
+
 @dataclass
 class Seen:
-    """An element as it is seen: points along it with y upward, its colour, its width, whether it is filled, its text and its map."""
+    """An element as it is seen: points along it with y upward, its colour, its width in pixels, whether it is filled, its text, the map of a
+    letter of size 1 where it is a text, and its own attributes."""
 
     name: str
     points: List[Point]
     colour: str
-    width: str
+    width: float
     filled: bool
     text: str
     matrix: Matrix
     element: ElementTree.Element
 
 
+STYLED = ("color", "stroke", "stroke-width", "fill", "font-size")
+
+
 class Picture:
     """A picture, read back."""
 
     def __init__(self, svg: bytes) -> None:
+        self.svg = svg
         self.root = ElementTree.fromstring(svg)
         self.named: Dict[str, ElementTree.Element] = {one.get("id", ""): one for one in self.root.iter() if one.get("id")}
-        self.seen = list(self.walk(self.root, (1, 0, 0, -1, 0, 0), {}))
         self.box = tuple(map(float, self.root.get("viewBox", "").split()))
+        self.unit = self.box[2] / float(self.root.get("width", "1"))
+        sheet = self.root.findtext(SVG + "style", "")
+        self.classes = {name: said for name, said in re.findall(r"\.(\w+){stroke-width:([^}]*)}", sheet)}
+        self.seen = list(self.walk(self.root, (1, 0, 0, -1, 0, 0), {}))
 
-    def walk(self, element: ElementTree.Element, outer: Matrix, style: Dict[str, str], depth: int = 0) -> Iterator[Seen]:
+    def walk(self, element: ElementTree.Element, outer: Matrix, style: Dict[str, str]) -> Iterator[Seen]:
         """All that is seen of an element."""
         if element.tag in (SVG + "defs", SVG + "style", SVG + "rect"):
             return
         matrix = times(outer, matrix_of(element))
-        style = {**style, **{name: element.get(name, "") for name in ("stroke", "stroke-width", "fill") if element.get(name)}}
+        own = {name: element.get(name, "") for name in STYLED if element.get(name)}
+        if element.get("class") in self.classes:
+            own["stroke-width"] = self.classes[element.get("class", "")]
+        style = {**style, **own}
         if element.tag == SVG + "use":
-            yield from self.walk(self.named[element.get(LINK, "#")[1:]], matrix, style, depth + 1)
+            yield from self.walk(self.named[element.get(LINK, "#")[1:]], matrix, style)
         elif element.tag in (SVG + "g", SVG + "svg"):
             for child in element:
-                yield from self.walk(child, matrix, style, depth + 1)
+                yield from self.walk(child, matrix, style)
         else:
             yield self.shape(element, matrix, style)
 
@@ -121,10 +146,19 @@ class Picture:
             x, y, radius = (float(element.get(part, "0")) for part in ("cx", "cy", "r"))
             points = [(x + radius * math.cos(k * math.pi / 4), y + radius * math.sin(k * math.pi / 4)) for k in range(9)]
         else:
-            points = [(0.0, float(element.get("y", "0")))]
+            points, size = [(0.0, 0.0)], float(style["font-size"])
+            matrix = times(matrix, (size, 0, 0, size, 0, 0))
         filled = style.get("stroke") == "none"
         colour = style["fill"] if filled else style["stroke"]
-        return Seen(name, [at(matrix, *one) for one in points], colour, style["stroke-width"], filled, element.text or "", matrix, element)
+        width = float(style["stroke-width"]) / self.unit
+        seen = style["color"] if colour == "currentColor" else colour
+        return Seen(name, [at(matrix, *one) for one in points], seen, width, filled, element.text or "", matrix, element)
+
+    def drawn(self) -> List[float]:
+        """The least x and y and the greatest, of what the view box has within its margin."""
+        x, y, wide, tall = self.box
+        margin = max(wide, tall) * 0.02 / 1.04
+        return [x + margin, -y - tall + margin, x + wide - margin, -y - margin]
 
 
 def pixels_of(png: bytes) -> List[List[Tuple[int, ...]]]:
@@ -160,6 +194,17 @@ def unfiltered(kind: int, line: bytes, above: bytes, size: int) -> bytes:
     return bytes(out)
 
 
+def in_plane(normal: spelled.Up, x: float, y: float, z: float) -> Point:
+    """Where a point of a plane is seen from above, in three coordinates by the rule of the arbitrary axis."""
+    unit = lambda one: tuple(part / math.sqrt(sum(part * part for part in one)) for part in one)
+    cross = lambda one, other: tuple(one[p] * other[q] - one[q] * other[p] for p, q in ((1, 2), (2, 0), (0, 1)))
+    up = unit(normal)
+    right = unit(cross((0, 1, 0) if abs(up[0]) < 1 / 64 and abs(up[1]) < 1 / 64 else (0, 0, 1), up))
+    forward = cross(up, right)
+    return x * right[0] + y * forward[0] + z * up[0], x * right[1] + y * forward[1] + z * up[1]
+
+
+RSVG = shutil.which("rsvg-convert")
 BROWSER = next(filter(None, map(shutil.which, ("chromium", "chromium-browser", "google-chrome"))), None)
 
 
@@ -196,8 +241,8 @@ class Pictures(common.InFolder):
         one.point((4500000.125, 5300000.25, 0))
         line, circle, _ = self.picture(one).seen
         self.near(line.points, [(0, 0), (1.125, 2.25)], 1e-9)
-        self.near([circle.points[0], circle.points[4]], [(-0.5625, 0.25), (0.4375, 0.25)], 1e-9)
-        numbers = re.findall(r"-?\d+\.?\d*", line.element.get("d", "") + circle.element.get("cx", "") + circle.element.get("transform", ""))
+        self.near([circle.points[0], circle.points[4]], [(0.4375, 0.25), (-0.5625, 0.25)], 1e-9)
+        numbers = re.findall(r"-?\d+\.?\d*", " ".join([line.element.get("d", ""), circle.element.get("cx", ""), circle.element.get("cy", "")]))
         self.assertTrue(all(abs(float(number)) < 10 for number in numbers), numbers)
 
     def test_circle_and_arc(self) -> None:
@@ -211,11 +256,11 @@ class Pictures(common.InFolder):
         _, circle, quarter, rest, right, mirrored = self.picture(one).seen
         self.near(circle.points[:3:2], [(2, 0), (0, 2)])
         root = math.sqrt(2)
-        self.near([quarter.points[0], quarter.points[8], quarter.points[-1]], [(2, 0), (root, root), (0, 2)])
-        self.near([rest.points[0], rest.points[8], rest.points[-1]], [(0, 2), (-root, -root), (2, 0)])
-        self.near([right.points[0], right.points[8], right.points[-1]], [(root, -root), (2, 0), (root, root)])
+        self.near(thirds(quarter.points), [(2, 0), (root, root), (0, 2)])
+        self.near(thirds(rest.points), [(0, 2), (-root, -root), (2, 0)])
+        self.near(thirds(right.points), [(root, -root), (2, 0), (root, root)])
         # Seen from below: x is turned round, so that the arc goes from the left to the top.
-        self.near([mirrored.points[0], mirrored.points[8], mirrored.points[-1]], [(-5, 0), (-3 - root, root), (-3, 2)])
+        self.near(thirds(mirrored.points), [(-5, 0), (-3 - root, root), (-3, 2)])
 
     def test_projection(self) -> None:
         one = spelled.Drawing()
@@ -224,10 +269,11 @@ class Pictures(common.InFolder):
         one.point((0, 0, 0))
         standing, tilted, _ = self.picture(one).seen
         # In the plane of normal X the axes are Y and Z, and the elevation goes along X: the circle is a line at x = 3.
-        self.near([standing.points[0], standing.points[2], standing.points[4]], [(3, 6), (3, 1), (3, -4)])
+        self.assertEqual({round(x, 6) for x, _ in standing.points}, {3})
+        self.assertEqual([round(limit(y for _, y in standing.points), 6) for limit in (min, max)], [-4, 6])
         # Z cross (0, s, c) is -X, and the other axis is (0, -c, s).
         sine, cosine = math.sin(1), math.cos(1)
-        self.near([tilted.points[0], tilted.points[2]], [(-5, 10 * sine), (0, 10 * sine - 5 * cosine)])
+        self.near(tilted.points[::8][:2], [(-5, 10 * sine), (0, 10 * sine - 5 * cosine)])
 
     def test_ellipses(self) -> None:
         one = spelled.Drawing()
@@ -238,14 +284,14 @@ class Pictures(common.InFolder):
         one.ellipse((0, 0, 0), (2, 0, 0), 0.5, 0, math.pi / 2, normal=(0.0, 0.0, -2.0))
         one.ellipse((0, 0, 9), (2, 0, 0), 0.5, 0, math.pi, normal=(0.0, math.sin(1), math.cos(1)))
         _, whole, quarter, right, mirrored, tilted = self.picture(one).seen
-        self.near(whole.points[::4], [(2, 0), (0, 1), (-2, 0), (0, -1), (2, 0)])
+        self.near(whole.points[::8], [(2, 0), (0, 1), (-2, 0), (0, -1), (2, 0)])
         # The other axis is a quarter to the left, (-1, 0). The angle of an eighth is at a third and not at the half of what a circle would have.
         root = math.sqrt(0.5)
-        self.near(quarter.points[::8], [(0, 3), (-root, 3 * root), (-1, 0)])
-        self.near(right.points[::8], [(5, 0), (7, 1), (5, 2)])
-        self.near(mirrored.points[::8], [(2, 0), (2 * root, -root), (0, -1)])
+        self.near(thirds(quarter.points), [(0, 3), (-root, 3 * root), (-1, 0)])
+        self.near(thirds(right.points), [(5, 0), (7, 1), (5, 2)])
+        self.near(thirds(mirrored.points), [(2, 0), (2 * root, -root), (0, -1)])
         # The normal (0, s, c) cross (2, 0, 0) is (0, 2 c, -2 s).
-        self.near(tilted.points[::8], [(2, 0), (0, math.cos(1)), (-2, 0)])
+        self.near(thirds(tilted.points), [(2, 0), (0, math.cos(1)), (-2, 0)])
 
     def test_extent_of_an_ellipse(self) -> None:
         one = spelled.Drawing()
@@ -255,6 +301,134 @@ class Pictures(common.InFolder):
         radius = 2 * math.sqrt(2)
         for found, value in zip((x, y, wide, tall), (-1.04 * radius, -1.04 * radius, 2.08 * radius, 2.08 * radius)):
             self.assertAlmostEqual(found, value, delta=0.03)
+
+    def test_tilted_curves_within_the_frame(self) -> None:
+        round_at = lambda begin, end: [(5 * math.cos(begin + (end - begin) * k / 5000), 5 * math.sin(begin + (end - begin) * k / 5000)) for k in range(5001)]
+        # A bulge of 1 is half a turn; it lies to the right of the way, here around (2, 0).
+        half = [(2 + 2 * math.cos(k * math.pi / 5000), 2 * math.sin(k * math.pi / 5000)) for k in range(-5000, 1)]
+        grown = [(2 + (x - 2) * radius / 2, y * radius / 2) for x, y in half for radius in (1.5, 2.5)]
+        for normal in ((1.0, 1.0, 1.0), (0.3, -0.9, -0.2), (1.0, 0.0, 0.0), spelled.DOWN):
+            cases = {
+                "circle": (lambda one, **where: one.circle((1, 2, 3), 5, normal, **where), [(1 + x, 2 + y, 3) for x, y in round_at(0, 2 * math.pi)]),
+                "arc": (lambda one, **where: one.arc((0, 0, 0), 5, 0.3, 2.9, normal, **where), [(*at, 0) for at in round_at(0.3, 2.9)]),
+                "bulge": (lambda one, **where: one.polyline([(0, 0), (4, 0)], [1, 0], normal=normal, **where), [(*at, 0) for at in half]),
+                "width": (lambda one, **where: one.polyline([(0, 0), (4, 0)], [1, 0], width=1, normal=normal, **where), [(*at, 0) for at in grown]),
+            }  # fmt: skip
+            for name, (put, points) in cases.items():
+                flat = [in_plane(normal, *at) for at in points]
+                with self.subTest(name, normal=normal):
+                    self.is_framed(lambda one: put(one), flat)
+                with self.subTest(name, normal=normal, inserted=True):
+                    angle, sine, cosine = 0.7, math.sin(0.7), math.cos(0.7)
+                    self.is_framed(lambda one: self.turned_block(one, put, angle), [(cosine * x - sine * y, sine * x + cosine * y) for x, y in flat])
+
+    def turned_block(self, one: spelled.Drawing, put: Callable[..., object], angle: float) -> None:
+        """A block with one entity, which another block inserts turned, and that twice as large and mirrored, whose insert undoes both."""
+        one.block(0x30, b"INNER")
+        one.block(0x31, b"OUTER")
+        put(one, owner=0x30)
+        one.insert(0x30, (0, 0, 0), (-2, 2, 1), -angle, owner=0x31)
+        one.insert(0x31, (0, 0, 0), (-0.5, 0.5, 1))
+
+    def is_framed(self, put: Callable[[spelled.Drawing], object], points: Sequence[Point]) -> None:
+        """That the view is no larger and no smaller than what is drawn, with three dots at the origin, from which coordinates count."""
+        one = spelled.Drawing()
+        for _ in range(3):
+            one.point((0, 0, 0))
+        put(one)
+        picture = self.picture(one)
+        xs, ys = [0.0, *(x for x, _ in points)], [0.0, *(y for _, y in points)]
+        size = max(max(xs) - min(xs), max(ys) - min(ys))
+        low = max(size / 20 - (max(ys) - min(ys)), 0) / 2, max(size / 20 - (max(xs) - min(xs)), 0) / 2
+        expected = [min(xs) - low[1], min(ys) - low[0], max(xs) + low[1], max(ys) + low[0]]
+        for found, value in zip(picture.drawn(), expected):
+            self.assertAlmostEqual(found, value, delta=1e-4 * size)
+
+    def test_corners_of_wide_polylines_within_the_frame(self) -> None:
+        # The corner of a right angle is as far out as the half width, on both axes; a sharper one is cut off.
+        self.is_framed(lambda one: one.polyline([(-4, 0), (0, 0), (0, -4)], width=2), [(-4, -1), (1, 1), (1, -4)])
+        self.is_framed(lambda one: one.polyline([(-4, 0), (0, 0), (0, 4)], width=2), [(-4, -1), (1, -1), (1, 4)])
+        self.is_framed(lambda one: one.polyline([(0, 0), (4, 0), (4, 4), (0, 4)], width=2, closed=True), [(-1, -1), (5, 5)])
+        self.is_framed(lambda one: one.polyline([(-4, 0), (0, 0), (-4, 0.1)], width=2), [(-4.025, -1), (0.025, 1.1)])
+
+    def test_lines_as_wide_without_vector_effect(self) -> None:
+        one = spelled.Drawing()
+        one.block(0x30, b"INNER")
+        one.block(0x31, b"OUTER")
+        one.circle((0, 0, 0), 2, owner=0x30, weight=23)
+        one.line((0, 0, 0), (2, 0, 0), owner=0x30, weight=30)
+        one.polyline([(0, 0), (2, 0)], [1, 0], owner=0x30, layer=one.WALLS, weight=16)
+        one.insert(0x30, (1, 0, 0), (3, 3, 1), 1.0, owner=0x31, weight=30)
+        one.insert(0x30, (1, 0, 0), (3, 0.5, 1), 1.0, owner=0x31, weight=30)
+        one.insert(0x31, (0, 0, 0), (-7, 7, 1), 0.5, weight=20)
+        one.circle((0, 0, 0), 5, normal=(1.0, 1.0, 1.0), weight=18)
+        picture = self.picture(one)
+        for found in picture.seen:
+            # Turned and mirrored alone, so that no line becomes wider, and nowhere wider than elsewhere.
+            a, b, c, d, *_ = found.matrix
+            self.assertLess(abs(a * a + b * b - 1) + abs(c * c + d * d - 1) + abs(a * c + b * d), 1e-6)
+            self.assertIsNone(found.element.get("transform"))
+        width = lambda millimetres: round(millimetres * 96 / 25.4, 2)
+        self.assertEqual([round(found.width, 2) for found in picture.seen], [*map(width, (2.11, 1.4, 0.9)), *map(width, (2.11, 1.4, 0.9)), width(1.06)])
+        self.assertNotIn(b"vector-effect", picture.svg)
+        self.assertEqual([found.name for found in picture.seen], ["circle", "path", "path", "path", "path", "path", "path"])
+
+    def test_as_librsvg_shows_it(self) -> None:
+        if not RSVG:
+            self.skipTest("pictures by librsvg, as rsvg-convert isn't installed")
+        one, png = self.shown_elsewhere(), self.folder / "a.png"
+        svg = tool("dwg-picture", "--width", "312", given=one.file()).stdout
+        subprocess.run([RSVG, "-o", str(png)], input=svg, timeout=100, check=True)
+        self.looks_right(pixels_of(png.read_bytes()))
+
+    def test_as_a_browser_shows_it(self) -> None:
+        if not BROWSER:
+            self.skipTest("pictures in a browser, as chromium isn't installed")
+        svg = self.file("a.svg", tool("dwg-picture", "--width", "312", given=self.shown_elsewhere().file()).stdout)
+        self.looks_right(self.shot(svg))
+
+    def shown_elsewhere(self) -> spelled.Drawing:
+        """A field of nine squares of ten units: what programs that show SVG tell apart that don't know all of it."""
+        one = spelled.Drawing()
+        for corner in ((0, 0, 0), (30, 30, 0)):
+            one.point(corner)
+        one.block(0x30, b"INNER")
+        one.circle((0, 0, 0), 2, owner=0x30)
+        one.solid([(-1, -1), (1, -1), (-1, 1), (1, 1)], owner=0x30, colour=0)
+        one.block(0x31, b"OUTER")
+        one.insert(0x30, (0, 0, 0), (0.5, 0.5, 1), 1.0, owner=0x31, colour=0)
+        # Three rings of eight pixels, whose middles aren't filled: tilted, in a block within a block, and of unequal scales.
+        one.circle((5, 5, 0), 4, normal=(0.0, math.sin(1), math.cos(1)), colour=1, weight=23)
+        one.insert(0x31, (25, 5, 0), (4, 4, 1), 0.3, colour=5, layer=one.WALLS)
+        one.insert(0x30, (15, 5, 0), (2, 1, 1), colour=3)
+        # A line of eight pixels, two of one, and a polyline of three units.
+        one.line((0, 15, 0), (10, 15, 0), weight=23)
+        one.line((10, 15, 0), (20, 15, 0))
+        one.insert(self.line_in_a_block(one), (20, 15, 0), (1000, 0.001, 1))
+        one.polyline([(0, 25), (10, 25)], width=3, colour=4)
+        return one
+
+    def line_in_a_block(self, one: spelled.Drawing) -> int:
+        """A block with a line that is a hundredth of a unit long."""
+        one.block(0x32, b"LINE")
+        one.line((0, 0, 0), (0.01, 0, 0), owner=0x32)
+        return 0x32
+
+    def looks_right(self, rows: List[List[Tuple[int, ...]]]) -> None:
+        """Whether a picture of 312 pixels, ten a unit and 0.6 units around, shows what it should."""
+        white, red, green, blue = (255, 255, 255), (255, 0, 0), (0, 255, 0), (0, 0, 255)
+        found = lambda right, up: rows[round(312 - 10 * (up + 0.6))][round(10 * (right + 0.6))]
+        dark = lambda right, up: sum(255 - sum(rows[y][round(10 * (right + 0.6))]) / 3 for y in range(round(312 - 10 * (up + 1.6)), round(312 - 10 * (up - 0.4)))) / 255
+        places = {
+            (5, 5): white, (1, 5): red, (5, 5 + 4 * math.cos(1)): red, (5, 5 + 3 * math.cos(1)): white, (25, 5): blue, (25, 7.9): white,
+            (15, 5): green, (15, 6.5): white, (5, 25): (0, 255, 255), (5, 26.3): (0, 255, 255), (5, 26.7): white,
+        }  # fmt: skip
+        self.assertEqual({place: found(*place) for place in places}, places)
+        # How much ink a line has across, in pixels, wherever it stands between them.
+        for right, width in ((5, 7.97), (15, 1.0), (25, 1.0)):
+            self.assertAlmostEqual(dark(right, 15), width, delta=0.1)
+        # The ring of the block in a block is 4 units wide, its line one pixel, and red, as the layer is.
+        self.assertAlmostEqual(sum(255 - rows[round(312 - 56)][x][1] for x in range(round(10 * 28.6), round(10 * 30.6))) / 255, 1.0, delta=0.1)
 
     def test_endless(self) -> None:
         one = spelled.Drawing()
@@ -395,12 +569,12 @@ class Pictures(common.InFolder):
         opened, closed, lower, upper, quarter, most, mirrored = self.picture(one).seen
         self.near(opened.points, [(0, 0), (2, 0), (2, 2)])
         self.near(closed.points, [(0, 0), (2, 0), (2, 2), (0, 0), (0, 0)])
-        self.near([lower.points[0], lower.points[4], lower.points[-1]], [(0, 0), (1, -1), (2, 0)])
-        self.near([upper.points[0], upper.points[4], upper.points[-1]], [(0, 0), (1, 1), (2, 0)])
+        self.near(thirds(lower.points), [(0, 0), (1, -1), (2, 0)])
+        self.near(thirds(upper.points), [(0, 0), (1, 1), (2, 0)])
         # A quarter of a circle to the left from (0, 0) to (1, 1) goes around (0, 1); three quarters go around (1, 0).
-        self.near([quarter.points[4]], [(math.sqrt(0.5), 1 - math.sqrt(0.5))])
-        self.near([most.points[4]], [(1 + math.sqrt(0.5), -math.sqrt(0.5))])
-        self.near([mirrored.points[0], mirrored.points[4], mirrored.points[-1]], [(0, 0), (-1, -1), (-2, 0)])
+        self.near(thirds(quarter.points), [(0, 0), (math.sqrt(0.5), 1 - math.sqrt(0.5)), (1, 1)])
+        self.near(thirds(most.points), [(0, 0), (1 + math.sqrt(0.5), -math.sqrt(0.5)), (1, 1)])
+        self.near(thirds(mirrored.points), [(0, 0), (-1, -1), (-2, 0)])
 
     def test_widths(self) -> None:
         one = spelled.Drawing()
@@ -438,7 +612,6 @@ class Pictures(common.InFolder):
         self.assertEqual(len(seen), 11)
         self.assertIn("45\u00b0 \u23005 \u00b11 A \u20ac <&> %", seen)
         self.near(seen["plain"].points, [(1, 2)])
-        self.assertEqual(seen["plain"].element.get("font-size"), "1")
         # What is to the right and upward of a letter; y in the text is downward.
         sides = lambda text: [round(value, 6) + 0.0 for value in seen[text].matrix[:2]] + [round(-value, 6) + 0.0 for value in seen[text].matrix[2:4]]
         self.assertEqual(sides("plain"), [1, 0, 0, 1])
@@ -453,8 +626,9 @@ class Pictures(common.InFolder):
         self.assertEqual(seen["middle"].element.get("text-anchor"), "middle")
         self.near(seen["middle"].points, [(5, 5.64)])
         self.near(seen["top"].points, [(5, 5.28)])
-        self.assertEqual(seen["fit"].element.get("textLength"), "5")
-        self.assertEqual(sides("fit"), [0.6, 0.8, -0.8, 0.6])
+        # From (0, 0) to (3, 4): the letters are so wide that the length is 5, in letters of size 1, and no higher.
+        length = float(seen["fit"].element.get("textLength", "")) / 100
+        self.assertEqual([round(value, 6) for value in sides("fit")], [round(value, 6) for value in (3 / length, 4 / length, -0.8, 0.6)])
 
     def test_inserts(self) -> None:
         one = spelled.Drawing()
@@ -481,7 +655,8 @@ class Pictures(common.InFolder):
         self.near(lines[0] + lines[1], [(0, 0), (2, 0), (1, 0), (1, -1)])
         self.near(lines[2] + lines[3], [(5, 0), (5, 4), (5, 2), (8, 2)])
         self.near(lines[4] + lines[5], [(-5, 0), (-7, 0), (-6, 0), (-6, -1)])
-        self.assertEqual(len(picture.named), 2)
+        # Each block is defined once, and once more for the insert that stretches it.
+        self.assertEqual(len(picture.named), 4)
         seen = self.picture(one, "--block", "tag").seen
         self.assertEqual([found.text for found in seen if found.text], ["NO", "NO"])
 
@@ -514,8 +689,88 @@ class Pictures(common.InFolder):
         one.minsert(0x30, (0, 0, 0), (65535, 65535), (1.0, 1.0))
         one.minsert(0x30, (0, 0, 0), (2, 1), (1.0, 1.0))
         answer = tool("dwg-picture", given=one.file())
-        self.assertEqual((answer.returncode, answer.stderr), (0, b"dwg-picture: not drawn: 1 MINSERT (more than 100000 copies in all)\n"))
+        self.assertEqual((answer.returncode, answer.stderr), (0, b"dwg-picture: not drawn: 1 MINSERT (more than 1000000 copies in all)\n"))
         self.near([found.points[0] for found in Picture(answer.stdout).seen], [(0, 0), (1, 0)])
+
+    def test_copies_through_nesting(self) -> None:
+        one = spelled.Drawing()
+        for depth in range(40):
+            one.block(0x200 + depth, b"B%d" % depth)
+        one.last = 0x400
+        for depth in range(39):
+            for place in (0, 1):
+                one.insert(0x201 + depth, (place * 2.0**depth, 0, 0), owner=0x200 + depth)
+        one.line((0, 0, 0), (1, 1, 0), owner=0x227)
+        one.insert(0x200, (0, 0, 0))
+        one.circle((0, 0, 0), 1)
+        self.assertLess(len(one.file()), 12000)
+        answer = tool("dwg-picture", given=one.file())
+        self.assertEqual(answer.returncode, 0)
+        self.assertRegex(answer.stderr.decode(), r"\Adwg-picture: not drawn: \d+ INSERT \(more than 1000000 copies in all\)\n\Z")
+        self.assertLess(len(answer.stdout), 20000)
+        root = ElementTree.fromstring(answer.stdout)
+        # How many elements each definition draws; those that it uses stand before it.
+        drawn: Dict[str, int] = {}
+        count = lambda element: 1 + sum(map(count, element)) + drawn.get(element.get(LINK, "#")[1:], 0)
+        for definition in root.iter(SVG + "defs"):
+            drawn[definition[0].get("id", "")] = count(definition[0])
+        self.assertTrue(400000 < max(drawn.values()) <= 1000000, drawn)
+        self.assertEqual(len(list(root.iter(SVG + "circle"))), 1)
+
+    def test_block_on_many_layers(self) -> None:
+        one = spelled.Drawing()
+        one.block(0x30, b"B")
+        for layer in range(600):
+            one.layer(0x1000 + layer, b"L%d" % layer, 1 + layer % 255, values=layer % 20 << 5)
+        one.last = 0x2000
+        for place in range(600):
+            one.line((place, 0, 0), (place, 1, 0), owner=0x30)
+        for layer in range(600):
+            one.insert(0x30, (0, layer, 0), rotation=layer, layer=0x1000 + layer)
+        answer = tool("dwg-picture", given=one.file())
+        self.assertEqual((answer.returncode, answer.stderr), (0, b""))
+        self.assertEqual((answer.stdout.count(b"<path"), answer.stdout.count(b"<use"), answer.stdout.count(b"<defs>")), (600, 600, 1))
+        self.assertLess(len(answer.stdout), 200000)
+        firsts = Picture(answer.stdout).seen[::600]
+        self.assertEqual(len(firsts), 600)
+        self.assertEqual([found.colour for found in firsts[255:261]], ["#ff0000", "#ffff00", "#00ff00", "#00ffff", "#0000ff", "#ff00ff"])
+        self.assertEqual([round(found.width, 2) for found in firsts[15:20]], [round(hundredths * 96 / 2540, 2) for hundredths in (80, 90, 100, 106, 120)])
+
+    def test_pens_through_nesting(self) -> None:
+        one = spelled.Drawing()
+        one.layer(0x30, b"GREEN", 3, values=20 << 5)
+        one.block(0x31, b"INNER")
+        one.block(0x32, b"OUTER")
+        # By layer 0, by block, its own, and by layer 0 and block in turn.
+        for colour, weight in ((256, 29), (0, 30), (2, 15), (256, 30), (0, 29), (256, 29)):
+            one.line((0, 0, 0), (1, 0, 0), owner=0x31, colour=colour, weight=weight)
+        one.insert(0x31, (0, 0, 0), owner=0x32)
+        one.insert(0x31, (0, 0, 0), owner=0x32, colour=0, weight=30)
+        one.insert(0x31, (0, 0, 0), owner=0x32, layer=one.WALLS, colour=0, weight=30)
+        one.insert(0x32, (0, 0, 0), layer=0x30, colour=5, weight=22)
+        one.insert(0x32, (0, 0, 0), layer=one.WALLS, colour=6, weight=9)
+        width = lambda weight: round({0: 25.4 / 96, 9: 0.35, 15: 0.8, 20: 1.4, 22: 2.0}[weight] * 96 / 25.4, 2)
+        expected = []
+        for (layer, at_layer), (own, at_own) in ((("#00ff00", 20), ("#0000ff", 22)), (("#ff0000", 0), ("#ff00ff", 9))):
+            # What the inner block has for what is by layer 0 and by block: both the layer's, the layer's and the insert's, and WALLS' and the insert's.
+            for (one_layer, at_one), (by_block, at_block) in (
+                ((layer, at_layer), (layer, at_layer)), ((layer, at_layer), (own, at_own)), (("#ff0000", 0), (own, at_own)),
+            ):  # fmt: skip
+                pairs = [(one_layer, at_one), (by_block, at_block), ("#ffff00", 15), (one_layer, at_block), (by_block, at_one), (one_layer, at_one)]
+                expected += [(colour, width(weight)) for colour, weight in pairs]
+        self.assertEqual([(found.colour, round(found.width, 2)) for found in self.picture(one).seen], expected)
+
+    def test_too_large_through_nesting(self) -> None:
+        one = spelled.Drawing()
+        one.block(0x30, b"INNER")
+        one.block(0x31, b"OUTER")
+        one.point((0, 0, 0), owner=0x30)
+        one.insert(0x30, (0, 0, 0), (1e9, 1e9, 1), owner=0x31)
+        one.insert(0x31, (0, 0, 0), (1e-9, 1e-9, 1))
+        one.insert(0x31, (5, 0, 0), (1e9, 1e9, 1))
+        answer = tool("dwg-picture", given=one.file())
+        self.assertEqual((answer.returncode, answer.stderr), (0, b"dwg-picture: not drawn: 1 INSERT (a number that is none or too large)\n"))
+        self.near([found.points[0] for found in Picture(answer.stdout).seen], [(0, 0)])
 
     def test_loop_and_missing(self) -> None:
         one = spelled.Drawing()
@@ -542,11 +797,10 @@ class Pictures(common.InFolder):
         for depth in range(200):
             one.line((0, depth, 0), (1, depth, 0), owner=0x200 + depth)
             one.insert(0x200 + depth + 1, (0, 0, 0), owner=0x200 + depth)
-            one.insert(0x200 + depth + 1, (5, 0, 0), owner=0x200 + depth)
         one.insert(0x200, (0, 0, 0))
         answer = tool("dwg-picture", given=one.file())
         self.assertEqual(answer.returncode, 0)
-        self.assertEqual(answer.stderr, b"dwg-picture: not drawn: 2 INSERT (more than 64 deep)\n")
+        self.assertEqual(answer.stderr, b"dwg-picture: not drawn: 1 INSERT (more than 64 deep)\n")
         self.assertEqual(answer.stdout.count(b"<defs>"), 64)
 
     def test_colours_and_layers(self) -> None:
@@ -578,7 +832,7 @@ class Pictures(common.InFolder):
             # Of the insert on a layer that is off only what is on layer 0 isn't seen: that by block is on layer 0 too.
             ("#ff0000", 1.0),
         ]  # fmt: skip
-        self.assertEqual([(found.colour, float(found.width)) for found in seen], expected)
+        self.assertEqual([(found.colour, round(found.width, 2)) for found in seen], expected)
         self.assertEqual(len(drawn), 5)
         white = [found.colour for found in self.picture(one, "--background", "black").seen]
         self.assertEqual(white[1], "#ffffff")
@@ -684,15 +938,20 @@ class Pictures(common.InFolder):
         one.insert(0x30, (x + 30, y + 10, 0), rotation=math.pi, colour=5)
         one.insert(0x30, (-x - 10, y + 10, 0), normal=spelled.DOWN, scale=(-1, 1, 1), colour=6)
         one.arc((x + 25, y + 25, 0), 4.9, 0, math.pi, colour=4, weight=23)
-        svg, shot = self.file("a.svg", tool("dwg-picture", "--width", "312", given=one.file()).stdout), self.folder / "a.png"
-        words = [BROWSER, "--headless", "--no-sandbox", "--disable-gpu", f"--user-data-dir={self.folder / 'profile'}", "--window-size=312,500"]
-        subprocess.run([*words, f"--screenshot={shot}", svg.as_uri()], stdout=subprocess.DEVNULL, stderr=subprocess.DEVNULL, timeout=100, check=True)
-        rows = pixels_of(shot.read_bytes())
+        rows = self.shot(self.file("a.svg", tool("dwg-picture", "--width", "312", given=one.file()).stdout))
         # The view has 30 units and a margin of 0.6 on each side: ten pixels a unit.
         found = lambda right, up: rows[round(312 - 10 * (up + 0.6))][round(10 * (right + 0.6))]
         squares = {(5, 5): (255, 0, 0), (5, 25): (0, 255, 0), (25, 5): (0, 0, 255), (15, 15): (255, 0, 255), (25, 15): (255, 255, 255), (15, 5): (255, 255, 255)}
         self.assertEqual({place: found(*place) for place in squares}, squares)
         self.assertEqual((found(25, 29.9), found(25, 20.1)), ((0, 255, 255), (255, 255, 255)))
+
+    def shot(self, svg: pathlib.Path) -> List[List[Tuple[int, ...]]]:
+        """What a browser shows of a picture."""
+        assert BROWSER
+        shot = self.folder / "a.png"
+        words = [BROWSER, "--headless", "--no-sandbox", "--disable-gpu", f"--user-data-dir={self.folder / 'profile'}", "--window-size=312,500"]
+        subprocess.run([*words, f"--screenshot={shot}", svg.as_uri()], stdout=subprocess.DEVNULL, stderr=subprocess.DEVNULL, timeout=100, check=True)
+        return pixels_of(shot.read_bytes())
 
     def test_output_and_trouble(self) -> None:
         path, out = self.file("a.dwg", made(3, 1)), self.folder / "out.svg"
