@@ -150,26 +150,27 @@ class Arc(NamedTuple):
         is_circle = abs(self.sweep) == TURN and first and abs(first - second) <= 1e-9 * first and aslant <= 1e-9 * first * first
         return first if is_circle else None
 
-    def main_angle(self) -> float:
-        """The angle at which it is farthest from the centre."""
+    def axes(self) -> Tuple[float, Point, Point]:
+        """The angle at which it is farthest from the centre, and the longer and the shorter half axis."""
         (a, b), (c, d) = self.first, self.second
-        return math.atan2(2 * (a * c + b * d), a * a + b * b - c * c - d * d) / 2
+        angle = math.atan2(2 * (a * c + b * d), a * a + b * b - c * c - d * d) / 2
+        cosine, sine = math.cos(angle), math.sin(angle)
+        return angle, (a * cosine + c * sine, b * cosine + d * sine), (c * cosine - a * sine, d * cosine - b * sine)
 
     def said(self) -> str:
         """The arc in a path that has come to where it begins; of one that is flat the way to and fro."""
-        angle = self.main_angle()
-        (a, b), (c, d) = (self._replace(centre=(0.0, 0.0)).at(angle + turn) for turn in (0.0, TURN / 4))
-        major, minor = math.hypot(a, b), math.hypot(c, d)
-        if minor <= FLAT * major or abs(self.sweep) <= 4 * FLAT:
+        angle, (a, b), (c, d) = self.axes()
+        long, short = math.hypot(a, b), math.hypot(c, d)
+        if short <= FLAT * long or abs(self.sweep) <= 4 * FLAT:
             corners = sorted(self.inner(angle), reverse=self.sweep < 0)
             return "".join("L" + pair(self.at(corner)) for corner in [*corners, self.begin + self.sweep])
-        tilt = plain(math.degrees(math.atan2(b, a))) if major - minor > 1e-9 * major else "0"
-        front = f"A{plain(major)} {plain(minor)} {tilt} 0 {int((a * d - b * c) * self.sweep > 0)} "
-        return "".join(front + pair(self.at(end)) for end in self.quarters())
+        tilt = plain(math.degrees(math.atan2(b, a))) if long - short > 1e-9 * long else "0"
+        front = f"A{plain(long)} {plain(short)} {tilt} 0 {int((a * d - b * c) * self.sweep > 0)} "
+        return "".join([front + pair(self.at(end)) for end in self.ends()])
 
-    def quarters(self) -> List[float]:
-        """The ends of parts of at most a quarter of a turn: the two ends of a longer one don't tell well where its centre is."""
-        count = max(1, math.ceil(abs(self.sweep) / (TURN / 4) - 1e-9))
+    def ends(self) -> List[float]:
+        """The ends of parts of at most a third of a turn: the two ends of a longer one don't tell well where its centre is."""
+        count = max(1, math.ceil(abs(self.sweep) / (TURN / 3) - 1e-9))
         return [self.begin + self.sweep * part / count for part in range(1, count + 1)]
 
 

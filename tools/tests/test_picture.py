@@ -273,7 +273,7 @@ class Pictures(common.InFolder):
         self.assertEqual([round(limit(y for _, y in standing.points), 6) for limit in (min, max)], [-4, 6])
         # Z cross (0, s, c) is -X, and the other axis is (0, -c, s).
         sine, cosine = math.sin(1), math.cos(1)
-        self.near(tilted.points[::8][:2], [(-5, 10 * sine), (0, 10 * sine - 5 * cosine)])
+        self.near(tilted.points[::6], [(-5, 10 * sine), (0, 10 * sine - 5 * cosine), (5, 10 * sine), (0, 10 * sine + 5 * cosine), (-5, 10 * sine)])
 
     def test_ellipses(self) -> None:
         one = spelled.Drawing()
@@ -284,7 +284,7 @@ class Pictures(common.InFolder):
         one.ellipse((0, 0, 0), (2, 0, 0), 0.5, 0, math.pi / 2, normal=(0.0, 0.0, -2.0))
         one.ellipse((0, 0, 9), (2, 0, 0), 0.5, 0, math.pi, normal=(0.0, math.sin(1), math.cos(1)))
         _, whole, quarter, right, mirrored, tilted = self.picture(one).seen
-        self.near(whole.points[::8], [(2, 0), (0, 1), (-2, 0), (0, -1), (2, 0)])
+        self.near(whole.points[::6], [(2, 0), (0, 1), (-2, 0), (0, -1), (2, 0)])
         # The other axis is a quarter to the left, (-1, 0). The angle of an eighth is at a third and not at the half of what a circle would have.
         root = math.sqrt(0.5)
         self.near(thirds(quarter.points), [(0, 3), (-root, 3 * root), (-1, 0)])
@@ -302,25 +302,28 @@ class Pictures(common.InFolder):
         for found, value in zip((x, y, wide, tall), (-1.04 * radius, -1.04 * radius, 2.08 * radius, 2.08 * radius)):
             self.assertAlmostEqual(found, value, delta=0.03)
 
-    def test_tilted_curves_within_the_frame(self) -> None:
-        round_at = lambda begin, end: [(5 * math.cos(begin + (end - begin) * k / 5000), 5 * math.sin(begin + (end - begin) * k / 5000)) for k in range(5001)]
+    def curves(self, normal: spelled.Up) -> Dict[str, Tuple[Callable[..., object], List[Point]]]:
+        """Curves in a plane, by a name: what spells them, and many points of them as they are seen."""
+        around = lambda begin, end: [(math.cos(begin + (end - begin) * k / 5000), math.sin(begin + (end - begin) * k / 5000)) for k in range(5001)]
         # A bulge of 1 is half a turn; it lies to the right of the way, here around (2, 0).
-        half = [(2 + 2 * math.cos(k * math.pi / 5000), 2 * math.sin(k * math.pi / 5000)) for k in range(-5000, 1)]
-        grown = [(2 + (x - 2) * radius / 2, y * radius / 2) for x, y in half for radius in (1.5, 2.5)]
-        for normal in ((1.0, 1.0, 1.0), (0.3, -0.9, -0.2), (1.0, 0.0, 0.0), spelled.DOWN):
-            cases = {
-                "circle": (lambda one, **where: one.circle((1, 2, 3), 5, normal, **where), [(1 + x, 2 + y, 3) for x, y in round_at(0, 2 * math.pi)]),
-                "arc": (lambda one, **where: one.arc((0, 0, 0), 5, 0.3, 2.9, normal, **where), [(*at, 0) for at in round_at(0.3, 2.9)]),
-                "bulge": (lambda one, **where: one.polyline([(0, 0), (4, 0)], [1, 0], normal=normal, **where), [(*at, 0) for at in half]),
-                "width": (lambda one, **where: one.polyline([(0, 0), (4, 0)], [1, 0], width=1, normal=normal, **where), [(*at, 0) for at in grown]),
-            }  # fmt: skip
-            for name, (put, points) in cases.items():
-                flat = [in_plane(normal, *at) for at in points]
+        half = lambda radius: [(2 + radius * x, radius * y, 0) for x, y in around(-math.pi, 0)]
+        cases = {
+            "circle": (lambda one, **where: one.circle((1, 2, 3), 5, normal, **where), [(1 + 5 * x, 2 + 5 * y, 3) for x, y in around(0, 2 * math.pi)]),
+            "arc": (lambda one, **where: one.arc((0, 0, 0), 5, 0.3, 2.9, normal, **where), [(5 * x, 5 * y, 0) for x, y in around(0.3, 2.9)]),
+            "bulge": (lambda one, **where: one.polyline([(0, 0), (4, 0)], [1, 0], normal=normal, **where), half(2)),
+            "width": (lambda one, **where: one.polyline([(0, 0), (4, 0)], [1, 0], width=1, normal=normal, **where), half(1.5) + half(2.5)),
+        }  # fmt: skip
+        return {name: (put, [in_plane(normal, *at) for at in points]) for name, (put, points) in cases.items()}
+
+    def test_tilted_curves_within_the_frame(self) -> None:
+        for normal in ((1.0, 1.0, 1.0), (0.3, -0.9, -0.2), (1.0, 0.0, 0.0)):
+            for name, (put, points) in self.curves(normal).items():
                 with self.subTest(name, normal=normal):
-                    self.is_framed(lambda one: put(one), flat)
-                with self.subTest(name, normal=normal, inserted=True):
-                    angle, sine, cosine = 0.7, math.sin(0.7), math.cos(0.7)
-                    self.is_framed(lambda one: self.turned_block(one, put, angle), [(cosine * x - sine * y, sine * x + cosine * y) for x, y in flat])
+                    self.is_framed(put, points)
+        sine, cosine = math.sin(0.7), math.cos(0.7)
+        for name, (put, points) in self.curves((1.0, 1.0, 1.0)).items():
+            with self.subTest(name, inserted=True):
+                self.is_framed(lambda one: self.turned_block(one, put, 0.7), [(cosine * x - sine * y, sine * x + cosine * y) for x, y in points])
 
     def turned_block(self, one: spelled.Drawing, put: Callable[..., object], angle: float) -> None:
         """A block with one entity, which another block inserts turned, and that twice as large and mirrored, whose insert undoes both."""
@@ -731,10 +734,11 @@ class Pictures(common.InFolder):
         self.assertEqual((answer.returncode, answer.stderr), (0, b""))
         self.assertEqual((answer.stdout.count(b"<path"), answer.stdout.count(b"<use"), answer.stdout.count(b"<defs>")), (600, 600, 1))
         self.assertLess(len(answer.stdout), 200000)
-        firsts = Picture(answer.stdout).seen[::600]
-        self.assertEqual(len(firsts), 600)
-        self.assertEqual([found.colour for found in firsts[255:261]], ["#ff0000", "#ffff00", "#00ff00", "#00ffff", "#0000ff", "#ff00ff"])
-        self.assertEqual([round(found.width, 2) for found in firsts[15:20]], [round(hundredths * 96 / 2540, 2) for hundredths in (80, 90, 100, 106, 120)])
+        # Each insert hands its layer's pen on: the colours 1 to 6 and the widths 15 to 20.
+        pens = [(group.get("stroke"), group.get("class")) for group in ElementTree.fromstring(answer.stdout).iter(SVG + "g") for _ in group.findall(SVG + "use")]
+        self.assertEqual(len(pens), 600)
+        self.assertEqual([colour for colour, _ in pens[255:261]], ["#ff0000", "#ffff00", "#00ff00", "#00ffff", "#0000ff", "#ff00ff"])
+        self.assertEqual([width for _, width in pens[15:20]], ["w80", "w90", "w100", "w106", "w120"])
 
     def test_pens_through_nesting(self) -> None:
         one = spelled.Drawing()
