@@ -400,8 +400,9 @@ class Pictures(common.InFolder):
         one.solid([(-1, -1), (1, -1), (-1, 1), (1, 1)], owner=0x30, colour=0)
         one.block(0x31, b"OUTER")
         one.insert(0x30, (0, 0, 0), (0.5, 0.5, 1), 1.0, owner=0x31, colour=0)
-        # Three rings of eight pixels, whose middles aren't filled: tilted, in a block within a block, and of unequal scales.
-        one.circle((5, 5, 0), 4, normal=(0.0, math.sin(1), math.cos(1)), colour=1, weight=23)
+        # Rings, whose middles aren't filled: a tilted one of eight pixels, whose plane has its axes to the left and downward, one in a block
+        # within a block, and one of unequal scales.
+        one.circle((-5, -5 / math.cos(1), 0), 4, normal=(0.0, math.sin(1), math.cos(1)), colour=1, weight=23)
         one.insert(0x31, (25, 5, 0), (4, 4, 1), 0.3, colour=5, layer=one.WALLS)
         one.insert(0x30, (15, 5, 0), (2, 1, 1), colour=3)
         # A line of eight pixels, two of one, and a polyline of three units.
