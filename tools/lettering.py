@@ -34,12 +34,16 @@ def readable(text: bytes, page: str) -> str:
     return _UNSAID.sub("\ufffd", _SIGN.sub(sign, decoded(text, page)))
 
 
+# How wide letters are in fonts without serifs, in their size: between Arial and DejaVu Sans. Others of the alphabet are alike.
+LETTERS = {**dict.fromkeys("ijl'|.,:;!I", 0.28), **dict.fromkeys("ft()[]/ ", 0.33), "r": 0.38, "w": 0.77, **dict.fromkeys("mMW%@", 0.92)}
+SMALL, CAPITALS, WIDE = 0.59, 0.69, 1.0
+# How much wider than the guess a text may be in one of these fonts.
+WIDEST = 1.1
+
+
 def breadth(content: str) -> float:
     """How wide a text is in the font: a guess, letter by letter."""
-    return FONT * sum(LETTERS.get(letter, 1.0 if letter > "\u2e7f" else 0.8 if letter.isupper() else 0.65) for letter in content)
-
-
-LETTERS = {**dict.fromkeys("ijl.,:;'|!()[]It f/", 0.4), **dict.fromkeys("mwMW%@", 1.0)}
+    return FONT * sum(LETTERS.get(letter, WIDE if letter > "\u2e7f" else CAPITALS if letter.isupper() else SMALL) for letter in content)
 
 
 @dataclass(frozen=True)
@@ -87,7 +91,7 @@ class Writing(Figure):
         return f"<text{upright.attribute()}{anchored}{fitted}{FILLED}>{escape(self.content)}</text>"
 
     def around(self, frame: Frame) -> List[Point]:
-        length = breadth(self.content)
+        length = breadth(self.content) * (1.0 if self.is_fitted else WIDEST)
         begin = {"start": 0.0, "middle": -0.5, "end": -1.0}[self.anchor] * length
         corners = [(begin, -DEPTH), (begin + length, -DEPTH), (begin, CAPITAL), (begin + length, CAPITAL)]
         return [frame.put(self.letters.at(*corner)) for corner in corners]

@@ -137,7 +137,11 @@ class Arc(NamedTuple):
         return [angle + half * math.pi for half in halves]
 
     def around(self) -> List[Point]:
-        """Its ends, and where it is leftmost, rightmost, lowest and highest."""
+        """Points between whose least and greatest coordinates it lies: of a part its ends, and where it is farthest out on each side."""
+        if abs(self.sweep) == TURN:
+            (x, y), (a, b), (c, d) = self.centre, self.first, self.second
+            across, up = math.hypot(a, c), math.hypot(b, d)
+            return [(x - across, y - up), (x + across, y + up)]
         angles = [self.begin, self.begin + self.sweep]
         for first, second in zip(self.first, self.second):
             angles += self.inner(math.atan2(second, first))

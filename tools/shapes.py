@@ -118,7 +118,7 @@ class Frame(NamedTuple):
 
     def put_arc(self, arc: Arc) -> Arc:
         """Where an arc comes to lie."""
-        return arc.under(self.linear)._replace(centre=self.put(arc.centre))
+        return Arc(self.put(arc.centre), self.linear.along(*arc.first), self.linear.along(*arc.second), arc.begin, arc.sweep)
 
     def seat(self, inner: Affine) -> Affine:
         """The map that takes another one, which tells places of this frame, first."""
