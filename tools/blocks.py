@@ -69,7 +69,7 @@ class Drawn:
 
     def reach(self, near: Point) -> float:
         """How far it is at the most from a place."""
-        return max(math.hypot(x, y) for x, y in self.around(Frame(*near)))
+        return max((math.hypot(x, y) for x, y in self.around(Frame(*near))), default=0.0)
 
 
 @dataclass

@@ -91,10 +91,13 @@ class Writing(Figure):
         return f"<text{upright.attribute()}{anchored}{fitted}{FILLED}>{escape(self.content)}</text>"
 
     def around(self, frame: Frame) -> List[Point]:
+        seat = frame.seat(self.letters)
+        if seat.is_flat():
+            return []
         length = breadth(self.content) * (1.0 if self.is_fitted else WIDEST)
         begin = {"start": 0.0, "middle": -0.5, "end": -1.0}[self.anchor] * length
         corners = [(begin, -DEPTH), (begin + length, -DEPTH), (begin, CAPITAL), (begin + length, CAPITAL)]
-        return [frame.put(self.letters.at(*corner)) for corner in corners]
+        return [seat.at(*corner) for corner in corners]
 
 
 BACKWARD, UPSIDE_DOWN = 2, 4

@@ -134,7 +134,7 @@ class Figure:
         raise NotImplementedError
 
     def around(self, frame: Frame) -> List[Point]:
-        """Points between whose least and greatest coordinates it lies."""
+        """Points between whose least and greatest coordinates it lies; none where nothing can be seen of it."""
         raise NotImplementedError
 
 
@@ -226,8 +226,12 @@ class Band(Figure):
     width: float
     edges: List[Union[Point, Arc]]
 
+    def seat(self, frame: Frame) -> Affine:
+        """Where a frame puts the plane, told from the begin of the way."""
+        return frame.seat(self.plane.moved_to(self.plane.at(*self.way.begin)))
+
     def element(self, frame: Frame) -> str:
-        seat = frame.seat(self.plane.moved_to(self.plane.at(*self.way.begin)))
+        seat = self.seat(frame)
         if seat.is_flat():
             return ""
         is_plain = self.plane == SAME == frame.linear
@@ -235,7 +239,7 @@ class Band(Figure):
         return f'<path class="wide"{"" if is_plain else seat.attribute()} stroke-width="{plain(self.width)}" d="{path}"/>'
 
     def around(self, frame: Frame) -> List[Point]:
-        return around(self.edges, frame)
+        return [] if self.seat(frame).is_flat() else around(self.edges, frame)
 
 
 @dataclass

@@ -354,6 +354,19 @@ class Pictures(common.InFolder):
         self.is_framed(lambda one: one.polyline([(0, 0), (4, 0), (4, 4), (0, 4)], width=2, closed=True), [(-1, -1), (5, 5)])
         self.is_framed(lambda one: one.polyline([(-4, 0), (0, 0), (-4, 0.1)], width=2), [(-4.025, -1), (0.025, 1.1)])
 
+    def test_seen_from_the_side(self) -> None:
+        one = spelled.Drawing()
+        one.polyline([(0, 0), (4, 0)], width=2, normal=(1.0, 0.0, 0.0))
+        one.text(b"text", (9, 9), 5, {"normal": (1.0, 0.0, 0.0)})
+        one.circle((0, 1, 0), 3, normal=(0.0, 1.0, 0.0))
+        one.point((0, 0, 0))
+        picture = self.picture(one)
+        # A text and a width aren't seen, nor do they widen the view; a circle is a line.
+        self.assertEqual([found.name for found in picture.seen], ["path", "path", "path"])
+        for found, value in zip(picture.drawn(), (-3, 0, 3, 4)):
+            self.assertAlmostEqual(found, value, delta=1e-6)
+        self.assertEqual(sorted({(round(x, 6), round(y, 6) + 0.0) for x, y in picture.seen[1].points}), [(-3, 0), (3, 0)])
+
     def test_lines_as_wide_without_vector_effect(self) -> None:
         one = spelled.Drawing()
         one.block(0x30, b"INNER")
@@ -740,6 +753,22 @@ class Pictures(common.InFolder):
         self.assertEqual(len(pens), 600)
         self.assertEqual([colour for colour, _ in pens[255:261]], ["#ff0000", "#ffff00", "#00ff00", "#00ffff", "#0000ff", "#ff00ff"])
         self.assertEqual([width for _, width in pens[15:20]], ["w80", "w90", "w100", "w106", "w120"])
+
+    def test_block_by_many_scales(self) -> None:
+        one = spelled.Drawing()
+        one.block(0x30, b"B")
+        for place in range(400):
+            one.line((place, 0, 0), (place, 1, 0), owner=0x30)
+        for place in range(400):
+            one.insert(0x30, (0, place, 0), (1 + place / 400, 1, 1))
+        answer = tool("dwg-picture", given=one.file())
+        told = b"dwg-picture: blocks are inserted by so many scales that some have lines as wide as they are stretched\n"
+        self.assertEqual((answer.returncode, answer.stderr), (0, told))
+        # The block is defined for itself and for 250 scales; all other inserts stretch the first of these.
+        self.assertEqual((answer.stdout.count(b"<defs>"), answer.stdout.count(b"<path"), answer.stdout.count(b"<use")), (251, 251 * 400, 400))
+        root = ElementTree.fromstring(answer.stdout)
+        last = [use.get("transform") for use in root.iter(SVG + "use")][-1]
+        self.assertEqual(last, "matrix(1.9975 0 0 1 0 200)")
 
     def test_pens_through_nesting(self) -> None:
         one = spelled.Drawing()
