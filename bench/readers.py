@@ -22,6 +22,9 @@ sys.dont_write_bytecode = True
 import header_variables  # noqa: E402  pylint: disable=wrong-import-position
 
 TOP = Path(__file__).resolve().parents[1]
+sys.path.insert(0, str(TOP / "tools"))
+
+from drawing import find_program  # noqa: E402  pylint: disable=wrong-import-position
 
 PACKAGES = {"ogrinfo": "gdal-bin", "g++": "g++", "dpkg-source": "dpkg-dev"}
 # ezdxf is a package for the interpreter of the system.
@@ -65,6 +68,20 @@ def run(words: Sequence[str], source: Optional[Path] = None, output: Optional[Pa
                 started.returncode = os.WEXITSTATUS(status) if os.WIFEXITED(status) else -os.WTERMSIG(status)
             said.seek(0)
             return Ran(started.returncode, said.read(), used.ru_utime + used.ru_stime, used.ru_maxrss * 1024)
+
+
+def proved_program(given: Optional[str]) -> str:
+    """The program that is timed: the one given, else the one that DWG names, else the one that `make` has proved and built.
+
+    Where that isn't built, the script `dwg` says so in a line, and this process ends with its status.
+    """
+    program = find_program(given)
+    os.environ["DWG_PROVED_ONLY"] = "1"
+    ran = subprocess.run([program, "drill", "1"], stdin=subprocess.DEVNULL, stdout=subprocess.DEVNULL, check=False)
+    if ran.returncode:
+        sys.exit(ran.returncode)
+    os.environ["DWG_BUILT"] = "1"
+    return program
 
 
 def make_drawing(program: str, folder: Path, entities: int, seed: int) -> Path:

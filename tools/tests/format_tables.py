@@ -227,7 +227,7 @@ class PageNeeds:
         """The kinds that the words for holders mean."""
         if said in ("each item of application data", "every object", "each reactor"):
             return sorted(self.kinds)
-        said = re.sub(r"^each (?:dash|mark|entry) of an? |, its first at position 0 and its second at 1$", "", said)
+        said = re.sub(r"^each (?:dash|insert|entry) of an? |, its first at position 0 and its second at 1$", "", said)
         found: List[str] = []
         for word in said.split(", "):
             group = {"entities": self.entities, "an entity with links": self.entities, "each control": self.controls}.get(word, {word})

@@ -106,7 +106,7 @@ PLANTED = [
     Planted("kinds", "kinds", '(codes "3DFACE") true', '(codes "3DFACE") false'),
     Planted("fields", "page", "| 14 | `seqend` |", "| 14 | `end` |"),
     Planted("fields", "needs", 'row 25 Grouped (codes "grouped")', 'row 26 Grouped (codes "grouped")'),
-    Planted("needs", "page", "| 17 | `insert` | each mark of a BLOCK HEADER | entity |", "| 17 | `insert` | each mark of a BLOCK HEADER | any |"),
+    Planted("needs", "page", "| 17 | `insert` | each insert of a BLOCK HEADER | entity |", "| 17 | `insert` | each insert of a BLOCK HEADER | any |"),
     Planted("needs", "page", "| XRECORD, GROUP | any |", "| XRECORD | any |"),
     Planted("needs", "page", "STYLE; null or STYLE", "STYLE; STYLE"),
     Planted("needs", "needs", "end_need kind.Polyline3d = Some (NullOrIs kind.Vertex3d)", "end_need kind.Polyline3d = Some (Is kind.Vertex3d)"),
