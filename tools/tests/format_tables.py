@@ -133,6 +133,21 @@ def page_kinds(page: str) -> Dict[int, str]:
     return found
 
 
+def defined_class_kinds(kinds: str, hints: str) -> Dict[Tuple[str, str], str]:
+    """The kind of a number that a class can have, by the item class and the DXF name, by the definitions."""
+    names = names_of_kinds(kinds)
+    of_hint = {hint: names[variant] for hint, variant in re.findall(r"^hinted_kind_of hint\.(\w+) = (\w+)$", kinds, re.M)}
+    found = {("any other, or no class of the number", ""): " and ".join(sorted({of_hint["Absent"], of_hint["Other"]}))}
+    for item, name, named, other in re.findall(r'class\.item == (\d+) then \(if bytes_eq class\.dxf_name \(codes "(\w+)"\) then (\w+) else (\w+)\)', hints):
+        found.update({(item, f"`{name}`"): of_hint[named], (item, "any other"): of_hint[other]})
+    return found
+
+
+def page_class_kinds(page: str) -> Dict[Tuple[str, str], str]:
+    """And by the page."""
+    return {(item, name): kind for item, name, kind in rows(page, "Kinds", "item class", "DXF name", "kind")}
+
+
 def defined_entities(kinds: str) -> Dict[str, bool]:
     """The kinds that are ones of entities, by the definitions."""
     return {name: True for _, _, name, is_entity, _ in kind_rows(kinds) if is_entity}

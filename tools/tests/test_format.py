@@ -14,6 +14,7 @@ class Sources(NamedTuple):
 
     page: str
     kinds: str
+    hints: str
     needs: str
     sound: str
     refusals: str
@@ -27,6 +28,7 @@ class Sources(NamedTuple):
 SOURCES = Sources(
     page=tables.PAGE.read_text(encoding="utf-8"),
     kinds=tables.definitions("dwg_kinds", "Kinds"),
+    hints=tables.definitions("dwg_classes", "Hints"),
     needs=tables.definitions("dwg_kinds", "Needs"),
     sound=tables.definitions("dwg_graph", "Sound"),
     refusals=tables.definitions("dwg_base", "Refusals"),
@@ -41,7 +43,8 @@ SOURCES = Sources(
 def kinds(given: Sources) -> List[str]:
     """What differs in the kinds of numbers, and in which of them are ones of entities."""
     numbers = tables.differences(tables.page_kinds(given.page), tables.defined_kinds(given.kinds))
-    return numbers + tables.differences(tables.page_entities(given.page), tables.defined_entities(given.kinds))
+    classes = tables.differences(tables.page_class_kinds(given.page), tables.defined_class_kinds(given.kinds, given.hints))
+    return numbers + classes + tables.differences(tables.page_entities(given.page), tables.defined_entities(given.kinds))
 
 
 def fields(given: Sources) -> List[str]:
@@ -102,6 +105,9 @@ PLANTED = [
     Planted("kinds", "page", "33, 34, 36 to 39", "33, 36 to 39"),
     Planted("kinds", "page", "28, 31, 32, 35, 40", "28, 31, 32, 40"),
     Planted("kinds", "kinds", 'row (Some 72) Group (codes "GROUP")', 'row (Some 73) Group (codes "GROUP")'),
+    Planted("kinds", "page", "| 499 | any other | OBJECT |", "| 499 | any other | ENTITY |"),
+    Planted("kinds", "hints", "class.item == 499", "class.item == 497"),
+    Planted("kinds", "kinds", "hinted_kind_of hint.Other = Unknown", "hinted_kind_of hint.Other = PlainObject"),
     Planted("kinds", "kinds", "(33, 34)", "(33, 33)"),
     Planted("kinds", "kinds", '(codes "3DFACE") true', '(codes "3DFACE") false'),
     Planted("fields", "page", "| 14 | `seqend` |", "| 14 | `end` |"),
