@@ -705,6 +705,9 @@ class Pictures(common.InFolder):
         one.point((0, 0, 0), owner=0x30)
         one.minsert(0x30, (0, 0, 0), (65535, 65535), (1.0, 1.0))
         one.minsert(0x30, (0, 0, 0), (2, 1), (1.0, 1.0))
+        # A block with nothing is there at once, however often.
+        one.block(0x31, b"EMPTY")
+        one.minsert(0x31, (0, 0, 0), (65535, 65535), (1.0, 1.0))
         answer = tool("dwg-picture", given=one.file())
         self.assertEqual((answer.returncode, answer.stderr), (0, b"dwg-picture: not drawn: 1 MINSERT (more than 1000000 copies in all)\n"))
         self.near([found.points[0] for found in Picture(answer.stdout).seen], [(0, 0), (1, 0)])
