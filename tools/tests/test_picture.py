@@ -318,8 +318,10 @@ class Pictures(common.InFolder):
     def test_tilted_curves_within_the_frame(self) -> None:
         for normal in ((1.0, 1.0, 1.0), (0.3, -0.9, -0.2), (1.0, 0.0, 0.0)):
             for name, (put, points) in self.curves(normal).items():
-                with self.subTest(name, normal=normal):
-                    self.is_framed(put, points)
+                # A width isn't seen from the side.
+                if name != "width" or normal[2]:
+                    with self.subTest(name, normal=normal):
+                        self.is_framed(put, points)
         sine, cosine = math.sin(0.7), math.cos(0.7)
         for name, (put, points) in self.curves((1.0, 1.0, 1.0)).items():
             with self.subTest(name, inserted=True):
