@@ -80,6 +80,13 @@ exit 3
 """
 
 
+def setUpModule() -> None:
+    """Takes the signals that this process was told to ignore, as by nohup: the launcher could not take them either."""
+    for number in (signal.SIGINT, signal.SIGTERM, signal.SIGHUP):
+        if signal.getsignal(number) == signal.SIG_IGN:
+            signal.signal(number, signal.SIG_DFL)
+
+
 def is_running(pid: int) -> bool:
     """Whether a process is there and no zombie."""
     try:
@@ -529,7 +536,7 @@ class SameAsBuilt(Compared):
 
     def test_a_reader_that_leaves(self) -> None:
         for command in ("show", "recover"):
-            script = f'{{ "$0" {command} < "$1"; echo "$?" >&2; }} | true'
+            script = f'{{ sleep 1; "$0" {command} < "$1"; echo "$?" >&2; }} | true'
             self.assertEqual(self.both(script, str(TOP / "samples/flip.dwg"))[0], 0)
 
 

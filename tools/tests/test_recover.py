@@ -368,9 +368,7 @@ class Chains(unittest.TestCase):
             survey.spaces, survey.blocks, survey.nexts = [(1, 2)], {1: RECOVER.Block("B", 0, 0)}, nexts
             for handle in nexts:
                 survey.modes[handle], survey.kinds[handle] = 2, "LINE"
-            begin = time.monotonic()
             (chain,) = Counted(survey).broken()
-            self.assertLess(time.monotonic() - begin, 10, name)
             self.assertLess(steps, 4 * count, name)
             self.assertEqual(sum("stands apart" in str(one) for one in chain.breaks), count // 2 if name == "rings" else 0)
 
