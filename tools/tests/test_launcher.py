@@ -449,6 +449,17 @@ class Unproved(InTree):
                 self.assertEqual(self.interrupted(number, to_group, SLEEP="30"), status)
                 self.assertEqual(self.interrupted(number, to_group), status)
 
+    def test_other_signals(self) -> None:
+        for number, status in ((signal.SIGQUIT, 131), (signal.SIGALRM, 142)):
+            self.assertEqual(self.interrupted(number, False, SLEEP="30"), status)
+
+    def test_nobody_reads_what_it_says(self) -> None:
+        for script, status in (('"$0" show < /', 5), ('BROKEN="run=none proved=no" "$0" show </dev/null', 70), ('"$0" show </dev/null', 5)):
+            told = f"{{ sleep 1; {script}; echo $? >&3; }} 2>&1 >/dev/null 3>'{self.folder}/status' | true"
+            subprocess.run(["bash", "-c", told, str(self.tree / "dwg")], env=self.environment({}), check=True, timeout=60)
+            self.assertEqual((self.folder / "status").read_text(), f"{status}\n", script)
+            self.assertEqual(list(self.temporary.iterdir()), [])
+
     def test_a_build_elsewhere_is_not_waited_for(self) -> None:
         first = self.start("first", DWG_BUILD="1", SLEEP="1")
         self.wait_for(self.runs)
