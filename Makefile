@@ -1,7 +1,8 @@
 # What there is to do with this folder; each is a line of what stands already. make alone proves and builds the program.
 #
 # make install takes PREFIX (/usr/local) and DESTDIR, whatever is in their names. The tools stand together in PREFIX/lib/dwg, links to them in
-# PREFIX/bin. make uninstall takes away what install brought, and nothing else.
+# PREFIX/bin. make uninstall takes away what install brought, and nothing else: without the file COMMIT that install writes first, nothing outside of
+# PREFIX/lib/dwg.
 
 PREFIX = /usr/local
 DESTDIR =
@@ -34,10 +35,10 @@ bench:
 
 install: build
 	install -d $(bin) $(lib)/tools $(man)/man1 $(man)/man7 $(completions)
+	{ [ -e .git ] && unset GIT_DIR GIT_WORK_TREE GIT_COMMON_DIR GIT_INDEX_FILE && git describe --always --dirty=' and changes' --exclude='*' --abbrev=40 2>/dev/null || echo; } > $(lib)/COMMIT
+	chmod 644 $(lib)/COMMIT
 	install -m 755 $(call quoted,$(PROGRAM)) $(bin)/dwg
 	ln -sfn ../../bin/dwg $(lib)/dwg
-	{ [ -e .git ] && git describe --always --dirty=' and changes' --exclude='*' --abbrev=40 2>/dev/null || echo; } > $(lib)/COMMIT
-	chmod 644 $(lib)/COMMIT
 	install -m 644 $(MODULES) $(lib)/tools
 	install -m 755 $(addprefix tools/,$(TOOLS)) $(lib)/tools
 	for tool in $(TOOLS); do ln -sfn "../lib/dwg/tools/$$tool" $(bin)/"$$tool"; done
@@ -48,8 +49,10 @@ install: build
 	for tool in $(TOOLS); do ln -sfn dwg $(completions)/"$$tool"; done
 
 uninstall:
-	for tool in $(TOOLS); do rm -f $(bin)/"$$tool" $(lib)/tools/"$$tool" $(man)/man1/"$$tool".1 $(completions)/"$$tool"; done
+	@[ -e $(lib)/COMMIT ] || echo no tools are installed in $(lib) >&2
+	[ ! -e $(lib)/COMMIT ] || for tool in $(TOOLS); do rm -f $(bin)/"$$tool" $(lib)/tools/"$$tool" $(man)/man1/"$$tool".1 $(completions)/"$$tool"; done
 	for module in $(notdir $(MODULES)); do rm -f $(lib)/tools/"$$module"; done
-	rm -f $(bin)/dwg $(lib)/dwg $(lib)/COMMIT $(man)/man1/dwg.1 $(man)/man7/dwg-tools.7 $(completions)/dwg
+	[ ! -e $(lib)/COMMIT ] || rm -f $(bin)/dwg $(lib)/dwg $(man)/man1/dwg.1 $(man)/man7/dwg-tools.7 $(completions)/dwg
+	rm -f $(lib)/COMMIT
 	rm -rf $(lib)/tools/__pycache__
 	for folder in $(lib)/tools $(lib); do [ ! -d "$$folder" ] || rmdir "$$folder" || :; done

@@ -300,7 +300,7 @@ class Program:
     def tally(self, words: Sequence[str], source: Union[int, IO[bytes]]) -> Tally:
         """Runs the program and counts the lines of its output, of which no more than a piece is held."""
         first, last, count = b"", b"", 0
-        with tempfile.TemporaryFile() as notes, self._started(words, source, subprocess.PIPE, notes) as ran:
+        with _file_of_notes() as notes, self._started(words, source, subprocess.PIPE, notes) as ran:
             assert ran.stdout is not None
             for piece in iter(lambda: ran.stdout.read(MOST_NOTES), b""):  # type: ignore[union-attr]
                 first = (first + piece)[:MOST_NOTES] if b"\n" not in first else first
@@ -314,7 +314,7 @@ class Program:
     @contextlib.contextmanager
     def lines(self, words: Sequence[str], source: Union[int, IO[bytes]]) -> Iterator[Iterator[bytes]]:
         """The lines of the output while the program runs; what it notes goes to a file, and status 3 and above is ToolError behind the last line."""
-        with tempfile.TemporaryFile() as notes, self._started(words, source, subprocess.PIPE, notes) as ran:
+        with _file_of_notes() as notes, self._started(words, source, subprocess.PIPE, notes) as ran:
             assert ran.stdout is not None
             yield iter(ran.stdout)
             ran.stdout.close()
@@ -357,6 +357,14 @@ class Program:
             self._stopped = True
             for ran in self._running:
                 ran.kill()
+
+
+def _file_of_notes() -> IO[bytes]:
+    """A file without a name for notes; ProgramFailed where there is no place for one, since that says nothing of the file that is read."""
+    try:
+        return tempfile.TemporaryFile()
+    except OSError as fault:
+        raise ProgramFailed(f"no temporary file: {fault.strerror}") from None
 
 
 def ready_program(given: Optional[str]) -> Program:

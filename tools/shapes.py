@@ -412,13 +412,20 @@ class Segment:
         (x, y), (u, v) = self.at(part), self.left(part)
         return x + u * half, y + v * half
 
+    def half(self, part: float) -> float:
+        """Half the width at a point of it."""
+        first, last = self.widths
+        return (first + (last - first) * part) / 2
+
+    def corner(self, part: float, side: int) -> Point:
+        """The point at the edge to the left of a point of it, or for a side below 0 to the right."""
+        return self.beside(part, side * self.half(part))
+
     def band(self) -> List[Point]:
         """The outline of a segment with widths: along its left and back along its right."""
         count = max(2, math.ceil(abs(self.arc.sweep) / (TURN / PARTS))) if self.arc else 1
-        first, last = self.widths
-        halves = [(at / count, (first + (last - first) * at / count) / 2) for at in range(count + 1)]
-        left = [self.beside(part, half) for part, half in halves]
-        return left + [self.beside(part, -half) for part, half in reversed(halves)]
+        parts = [at / count for at in range(count + 1)]
+        return [self.corner(part, 1) for part in parts] + [self.corner(part, -1) for part in reversed(parts)]
 
     def edges(self, half: float) -> List[Union[Point, Arc]]:
         """The edges of a segment of one width."""
@@ -495,14 +502,31 @@ def mitred(one: Segment, other: Segment, half: float) -> List[Point]:
     return [(x + (a + c) * outward, y + (b + d) * outward)]
 
 
+@dataclass
+class Tapered(Figure):
+    """A segment with widths, filled. Of an arc its outline has hundreds of corners, so that it is told anew each time and never kept."""
+
+    segment: Segment
+    plane: Affine
+
+    def outline(self) -> Trail:
+        """The outline as it is seen."""
+        return outlined([self.plane.at(*corner) for corner in self.segment.band()])
+
+    def element(self, frame: Frame) -> str:
+        return self.outline().element(frame)
+
+    def around(self, frame: Frame) -> List[Point]:
+        return self.outline().around(frame)
+
+
 def uneven(plane: Affine, segments: List[Segment], closed: bool) -> Iterator[Figure]:
     """The widths of a polyline, segment by segment, and the gaps where two wide ones meet."""
-    bands = [one.band() if any(one.widths) else [] for one in segments]
-    outlines = [band for band in bands if band]
+    for one in segments:
+        if any(one.widths):
+            yield Tapered(one, plane)
     for at, one in enumerate(segments):
-        after = at + 1 if at + 1 < len(segments) else 0 if closed else at
-        if after != at and one.widths[1] and segments[after].widths[0]:
-            middle = len(bands[at]) // 2
-            outlines += [[one.end, bands[at][middle - 1], bands[after][0]], [one.end, bands[at][middle], bands[after][-1]]]
-    for outline in outlines:
-        yield outlined([plane.at(*corner) for corner in outline])
+        after = segments[at + 1] if at + 1 < len(segments) else segments[0] if closed else one
+        if after is not one and one.widths[1] and after.widths[0]:
+            for side in (1, -1):
+                yield outlined([plane.at(*corner) for corner in (one.end, one.corner(1.0, side), after.corner(0.0, side))])

@@ -18,13 +18,18 @@ import tempfile
 import time
 import types
 import unittest
+import unittest.mock
 import zipfile
 from typing import Any, Dict, List, Optional, Tuple
 
 import made
 from made import TOOLS, WRITER, flipped, hole, layout, program_that, tool, unescaped
 
+import drawing
+
 made.needs_program()
+
+CHECK = made.module(TOOLS / "dwg-check", "dwg_check")
 
 LIMIT = 33_554_432
 COLUMNS = ["path", "verdict", "detail", "findings", "bytes", "trailing", "version"]
@@ -463,6 +468,45 @@ class Check(Base):
             self.assertEqual(started.wait(), 0)
             self.assertEqual((b" of 12, " in said, b"/s, " in said, b" left" in said), (shown, shown, shown), said)
 
+    def test_a_terminal_that_goes_ends_no_run(self) -> None:
+        for index in range(8):
+            (self.folder / f"{index:02}.dwg").write_bytes(made.made(1))
+        slow = program_that(self.folder, "slow", ['[ "$1" != audit ] || sleep 1', 'exec "$REAL" "$@"'])
+        ours, theirs = os.openpty()
+        started = subprocess.Popen([str(TOOLS / "dwg-check"), "--program", str(slow), "--jobs", "2", str(self.folder)], stdout=subprocess.PIPE, stderr=theirs)
+        os.close(theirs)
+        os.read(ours, 1)
+        os.close(ours)
+        out, _ = started.communicate(timeout=100)
+        self.assertEqual((started.returncode, len(read_table(out))), (0, 8))
+
+    def test_few_descriptors_change_no_verdict(self) -> None:
+        for index in range(80):
+            (self.folder / f"{index:02}.dwg").write_bytes(made.made(1))
+        limited = lambda: resource.setrlimit(resource.RLIMIT_NOFILE, (64, 64))
+        said = [str(TOOLS / "dwg-check"), "--program", made.PROGRAM, "--jobs", "60", str(self.folder)]
+        ran = subprocess.run(said, capture_output=True, check=False, preexec_fn=limited)
+        self.assertEqual((ran.returncode, ran.stderr), (0, b"dwg-check: 80 files: 80 sound\n"))
+
+    def test_a_want_of_the_system_is_no_fault_of_the_file(self) -> None:
+        (path,) = self.some(["a.dwg"])
+        checker = CHECK.Checker(drawing.Program(made.PROGRAM))
+        for name, number in (("tempfile.TemporaryFile", errno.ENOENT), ("dwg_check.open_regular", errno.EMFILE)):
+            with unittest.mock.patch(name, side_effect=OSError(number, os.strerror(number))):
+                row = checker.check(str(path))
+            self.assertEqual((row.verdict, os.strerror(number) in row.detail), ("failed", True), row)
+
+    def test_who_waits_to_write_into_a_pipe_waits_on(self) -> None:
+        pipe = self.folder / "pipe.dwg"
+        os.mkfifo(pipe)
+        with subprocess.Popen(["sh", "-c", 'printf precious >"$1"', "sh", str(pipe)]) as writer:
+            time.sleep(0.5)
+            self.assertEqual([row[2] for row in read_table(tool("dwg-check", self.folder).stdout)], ["no regular file"])
+            time.sleep(0.5)
+            self.assertIsNone(writer.poll())
+            self.assertEqual(pipe.read_bytes(), b"precious")
+        self.assertEqual(writer.returncode, 0)
+
     def test_words(self) -> None:
         for words in ([], ["--nothing", "x"], ["--jobs", "0", "x"], ["--jobs", "many", "x"], ["--al", "x"], ["--verify", "x"], ["--json", "--print0", "damaged", "x"], ["--print0", "nothing", "x"]):
             ran = tool("dwg-check", *words)
@@ -631,6 +675,12 @@ class Logs(Base):
         with open(self.log, "ab") as out:
             ran = subprocess.run([str(TOOLS / "dwg-check"), "--resume", str(self.log), path], stdout=out, stderr=subprocess.PIPE, check=False, env={**os.environ, "DWG": made.PROGRAM})
         self.assertEqual((ran.returncode, self.log.read_bytes()), (73, kept))
+        # Messages would stand where the head of LOG is.
+        other = self.folder / "other"
+        with open(other, "wb") as out:
+            ran = subprocess.run([str(TOOLS / "dwg-check"), "--resume", str(other), path], stdout=subprocess.PIPE, stderr=out, check=False, env={**os.environ, "DWG": made.PROGRAM})
+        self.assertEqual((ran.returncode, ran.stdout), (73, b""))
+        self.assertTrue(other.read_bytes().endswith(b"is standard error too\n"))
 
     def test_the_head_names_the_program(self) -> None:
         self.some(["d/a.dwg", "d/b.dwg"])

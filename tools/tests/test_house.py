@@ -102,7 +102,14 @@ class House(unittest.TestCase):
         is_launcher = pathlib.Path(made.PROGRAM).resolve() == TOP / "dwg"
         destination = self.folder / "it's root"
         words = ["make", "-s", f"DESTDIR={destination}", "PREFIX=/usr/my tools", "DWG=true", f"PROGRAM={program}"]
-        subprocess.run([*words, "install"], cwd=TOP, check=True)
+        # What wasn't installed isn't taken away.
+        foreign = destination / "usr" / "my tools" / "bin" / "dwg"
+        foreign.parent.mkdir(parents=True)
+        foreign.write_bytes(b"own")
+        subprocess.run([*words, "uninstall"], cwd=TOP, check=True, stderr=subprocess.DEVNULL)
+        self.assertEqual(foreign.read_bytes(), b"own")
+        # git has this variable set where it runs a hook, in another checkout perhaps.
+        subprocess.run([*words, "install"], cwd=TOP, check=True, env={**os.environ, "GIT_DIR": str(self.folder)})
         top = destination / "usr" / "my tools"
         self.assertEqual([path.name for path in self.folder.iterdir() if path.is_dir()], ["it's root"])
         installed = top / "bin"

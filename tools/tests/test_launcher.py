@@ -412,6 +412,12 @@ class Unproved(InTree):
         self.assertEqual((ran.returncode, ran.stdout), (70, b""))
         self.assertIn(b"isn't built, and the toolchain's command rt isn't on the path", ran.stderr)
 
+    def test_a_relative_folder_for_temporary_files(self) -> None:
+        for name in ("relative", "-x"):
+            (self.folder / name).mkdir()
+            ran = subprocess.run([str(self.tree / "dwg"), "show"], input=b"input", capture_output=True, env=self.environment({"TMPDIR": name}), cwd=self.folder, check=False)
+            self.assertEqual((ran.returncode, ran.stdout, os.listdir(self.folder / name)), (3, b"unproved show\ninput", []), ran.stderr)
+
     def test_no_place_for_the_input(self) -> None:
         ran = self.run_it("show", TMPDIR=str(self.folder / "nowhere"))
         self.assertEqual((ran.returncode, ran.stdout), (70, b""), ran.stderr)
@@ -474,7 +480,14 @@ class Unproved(InTree):
         git("init", "-q")
         git("add", ".")
         git("commit", "-q", "-m", "all")
-        self.assertRegex(self.run_it("--version").stdout.decode(), r"^dwg [0-9a-f]{7,}, not proved here: the program isn't built\n$")
+        version = self.run_it("--version").stdout.decode()
+        self.assertRegex(version, r"^dwg [0-9a-f]{7,}, not proved here: the program isn't built\n$")
+        # git has such variables set where it runs a hook, in another checkout perhaps.
+        other = self.folder / "other"
+        other.mkdir()
+        for words in (("init", "-q"), ("commit", "-q", "--allow-empty", "-m", "x")):
+            subprocess.run(["git", "-c", "user.name=t", "-c", "user.email=t@example.org", *words], cwd=other, check=True)
+        self.assertEqual(self.run_it("--version", GIT_DIR=str(other / ".git"), GIT_WORK_TREE=str(other)).stdout.decode(), version)
         self.run_it(DWG_BUILD="1")
         self.assertRegex(self.run_it("--version").stdout.decode(), r"^dwg [0-9a-f]{7,}(-dirty)?, proved and built\n$")
 

@@ -5,9 +5,11 @@ from __future__ import annotations
 import math
 import pathlib
 import re
+import resource
 import shutil
 import struct
 import subprocess
+import tracemalloc
 import unittest
 import xml.etree.ElementTree as ElementTree
 import zlib
@@ -16,7 +18,10 @@ from typing import Callable, Dict, Iterator, List, Sequence, Tuple
 
 import common
 import spelled
-from made import made, needs_program, tool
+from made import PROGRAM, TOOLS, made, needs_program, shown, tool
+
+import drawing
+import shapes
 
 needs_program()
 
@@ -713,6 +718,34 @@ class Pictures(common.InFolder):
         answer = tool("dwg-picture", given=one.file())
         self.assertEqual((answer.returncode, answer.stderr), (0, b"dwg-picture: not drawn: 1 MINSERT (more than 1000000 copies in all)\n"))
         self.near([found.points[0] for found in Picture(answer.stdout).seen], [(0, 0), (1, 0)])
+
+    def test_copies_of_nothing(self) -> None:
+        one = spelled.Drawing()
+        for block in (0x30, 0x31, 0x32):
+            one.block(block, b"B%d" % block)
+        one.entity(39, "1" * 30, owner=0x31)
+        one.minsert(0x30, (0, 0, 0), (65535, 65535), (1.0, 1.0), owner=0x32)
+        for block in (0x30, 0x31, 0x32):
+            one.minsert(block, (0, 0, 0), (65535, 65535), (1.0, 1.0))
+        one.line((0, 0, 0), (1, 1, 0))
+        path = self.file("a.dwg", one.file())
+        limited = lambda: resource.setrlimit(resource.RLIMIT_AS, (1 << 30, 1 << 30))
+        ran = subprocess.run([str(TOOLS / "dwg-picture"), "--program", PROGRAM, str(path)], capture_output=True, check=False, preexec_fn=limited)
+        self.assertEqual((ran.returncode, ran.stderr), (0, b"dwg-picture: not drawn: 1 BODY\n"))
+        self.assertEqual(len(Picture(ran.stdout).seen), 1)
+
+    def test_tapered_arcs_are_not_kept_corner_by_corner(self) -> None:
+        one = spelled.Drawing()
+        handle = one.polyline([(k, k % 2) for k in range(200)], [1.0] * 200, [(1.0, 0.0)] * 200)
+        (lines,) = [lines for found, _, lines in shown(one.file()) if found == handle]
+        fields = shapes.Fields(drawing.Object(handle, "LWPOLYLINE", "typed", 77, [line.encode() for line in lines]))
+        tracemalloc.start()
+        figures = list(shapes.polyline(fields, shapes.Context("cp1252", False)))
+        size, _ = tracemalloc.get_traced_memory()
+        tracemalloc.stop()
+        self.assertEqual(len(figures), 1 + 199)
+        self.assertLess(size, 199 * 2000)
+        self.assertGreater(len(figures[1].around(shapes.Frame())), 250)
 
     def test_copies_through_nesting(self) -> None:
         one = spelled.Drawing()

@@ -18,6 +18,7 @@ from typing import Any, Callable, Dict, List, Sequence
 
 import common
 import made
+import spelled
 from made import TOOLS, flipped, layout, made as drawn, program_that, tool
 
 # How each tool that writes a file is told to, with the input and the output.
@@ -186,6 +187,7 @@ class Inputs(common.InFolder):
         self.assertIn(b"of the older drawing 1 is not in the recovered one", before.stderr)
         self.assertEqual(tool("dwg-recover", "--before", "-", "-", "-", given=damaged).returncode, 64)
         self.assertEqual(tool("dwg-recover", "-", "-", given=b"nothing").returncode, 65)
+        self.assertEqual(tool("dwg-recover", "--before", "", path, "-").returncode, 4)
         self.assertEqual(sorted(os.listdir(self.folder)), ["in.dwg", "older.dwg"])
         self.assertFalse(Path("-").exists() or Path("-.notes").exists())
 
@@ -216,6 +218,18 @@ class Ends(common.InFolder):
         for name, words in ALL.items():
             self.assertEqual(in_bash(f'{name} "$@" >/dev/full 2>/dev/full', *words(path)).returncode, statuses[name], name)
         self.assertEqual(in_bash('dwg-json "$1" 2>/dev/full', self.folder / "none").returncode, 4)
+        # What can't be said of a picture takes nothing of it away.
+        one = spelled.Drawing()
+        one.entity(39, "1" * 30)
+        nothing, out = self.file("nothing.dwg", one.file()), self.folder / "out.svg"
+        for closed in ("/dev/full", ">(exec true)"):
+            self.assertEqual((in_bash(f'dwg-picture "$1" -o "$2" 2> {closed}', nothing, out).returncode, out.exists()), (0, True))
+            out.unlink()
+
+    def test_a_python_that_looks_for_no_modules_beside_a_script(self) -> None:
+        path = self.file("a.dwg", drawn(3, 1))
+        for name, words in ALL.items():
+            self.assertEqual(tool(name, *words(path), PYTHONSAFEPATH="1").returncode, 0, name)
 
     def end_of(self, name: str, words: Sequence[object], wait: float, to_all: bool) -> int:
         """The status of a tool that is interrupted after a time."""
@@ -287,6 +301,23 @@ class Ends(common.InFolder):
                     self.assertFalse(set(letters) & set(said.decode()), (name, said))
         line = tool("dwg-check", path).stdout.decode().splitlines()[1].split("\t")[0]
         self.assertEqual(made.unescaped(line), os.fsencode(path))
+
+    def test_a_name_in_a_drawing_turns_and_colours_no_terminal(self) -> None:
+        letters = "\x1b]0;t\x07\n\x9b"
+        one = spelled.Drawing()
+        one.of_class(500, letters.encode("latin-1"))
+        odd = one.entity(500, "1" * 30, mode=1)
+        one.entity(500, "1" * 30)
+        # The chain of a block leads to it, which is no member.
+        main = "0" * 5 + spelled.reals((0, 0, 0)) + spelled.text(b"") + spelled.byte(0) + spelled.text(b"") + spelled.long(0)
+        one.entry(49, 0x30, b"B", main, [(5, 0), (3, 0), (4, odd), (4, odd), (3, 0), (5, 0)])
+        path = self.file("a.dwg", one.file(2))
+        for name, words in ALL.items():
+            ran = tool(name, *words(path))
+            said = ran.stderr + (b"" if name in ("dwg-recover", "dwg-picture") else ran.stdout)
+            self.assertFalse(set(letters) - set("\n]0;t") & set(said.decode()), (name, said))
+        self.assertEqual(tool("dwg-picture", path).stderr, b"dwg-picture: nothing is drawn\ndwg-picture: not drawn: 1 \\x1b]0;t\\x07\\n\\xc2\\x9b\n")
+        self.assertIn(b"its first is %X, of kind \\x1b]0;t\\x07\\n\\xc2\\x9b, which" % odd, tool("dwg-recover", path, "-").stderr)
 
 
 if __name__ == "__main__":
