@@ -311,6 +311,13 @@ class Check(Base):
             else:
                 self.assertIsNone(row["refusal"])
 
+    def test_zeros_and_then_others(self) -> None:
+        paths = self.some(["a.bin", "b.bin"])
+        for path, data in zip(paths, (bytes(70000), bytes(70000) + b"precious")):
+            pathlib.Path(path).write_bytes(data)
+        ran = tool("dwg-check", *paths)
+        self.assertEqual([row[2] for row in read_table(ran.stdout)], ["zero bytes", "unknown bytes"])
+
     def test_all_sound(self) -> None:
         self.some(["a.dwg", "b.dwg"])
         ran = tool("dwg-check", self.folder)
