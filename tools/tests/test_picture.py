@@ -316,7 +316,7 @@ class Pictures(common.InFolder):
             "circle": (lambda one, **where: one.circle((1, 2, 3), 5, normal, **where), [(1 + 5 * x, 2 + 5 * y, 3) for x, y in around(0, 2 * math.pi)]),
             "arc": (lambda one, **where: one.arc((0, 0, 0), 5, 0.3, 2.9, normal, **where), [(5 * x, 5 * y, 0) for x, y in around(0.3, 2.9)]),
             "bulge": (lambda one, **where: one.polyline([(0, 0), (4, 0)], [1, 0], normal=normal, **where), half(2)),
-            "width": (lambda one, **where: one.polyline([(0, 0), (4, 0)], [1, 0], width=1, normal=normal, **where), half(1.5) + half(2.5)),
+            "width": (lambda one, **where: one.polyline([(0, 0), (4, 0)], [1, 0], width=1, normal=normal, **where), half(1.5) + half(2.5) if normal[2] else half(2)),
         }  # fmt: skip
         return {name: (put, [in_plane(normal, *at) for at in points]) for name, (put, points) in cases.items()}
 
