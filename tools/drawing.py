@@ -314,7 +314,7 @@ class Program:
     @contextlib.contextmanager
     def lines(self, words: Sequence[str], source: Union[int, IO[bytes]]) -> Iterator[Iterator[bytes]]:
         """The lines of the output while the program runs; what it notes goes to a file, and status 3 and above is ToolError behind the last line."""
-        with _file_of_notes() as notes, self._started(words, source, subprocess.PIPE, notes) as ran:
+        with tempfile.TemporaryFile() as notes, self._started(words, source, subprocess.PIPE, notes) as ran:
             assert ran.stdout is not None
             yield iter(ran.stdout)
             ran.stdout.close()
