@@ -1221,6 +1221,9 @@ def _ran(main: Callable[[], int]) -> int:
         status = fault.status
     except BrokenPipeError:
         return Exit.CLOSED_PIPE
+    except MemoryError:
+        tell("no memory was to be had")
+        status = Status.NO_MEMORY
     except OSError as fault:
         where = f"{one_line(os.fsdecode(fault.filename))}: " if isinstance(fault.filename, (str, bytes)) else ""
         tell(f"{where}{fault.strerror or fault}")

@@ -82,7 +82,7 @@ exit 3
 
 def setUpModule() -> None:
     """Takes the signals that this process was told to ignore, as by nohup: the launcher could not take them either."""
-    for number in (signal.SIGINT, signal.SIGTERM, signal.SIGHUP):
+    for number in (signal.SIGINT, signal.SIGTERM, signal.SIGHUP, signal.SIGQUIT, signal.SIGALRM):
         if signal.getsignal(number) == signal.SIG_IGN:
             signal.signal(number, signal.SIG_DFL)
 
