@@ -394,6 +394,13 @@ class Unproved(InTree):
         ran = subprocess.run(["./dwg", "show"], cwd=self.tree, input=b"", capture_output=True, env=self.environment({}), check=False)
         self.assertIn(b"; `make` proves and builds it", ran.stderr)
 
+    def test_cdpath(self) -> None:
+        other = self.folder / "elsewhere" / "tree"
+        other.mkdir(parents=True)
+        for words in (["./tree/dwg"], ["tree/dwg"]):
+            ran = subprocess.run([*words, "show"], cwd=self.folder, input=b"input", capture_output=True, env=self.environment({"CDPATH": str(other.parent)}), check=False)
+            self.expect_unproved(ran, "show", "input")
+
     def test_no_answer(self) -> None:
         for said, why in (
             ("checked: no-answer: the program wrote more than 1048576 bytes to standard output or to standard error, the limit on each\nrun=no-answer proved=no", "its output or its notes have more than 1 MiB"),
