@@ -289,12 +289,18 @@ class Program:
             raise ProgramFailed(f"status {int(status)} for `drill 1`")
         os.environ["DWG_BUILT"] = "1"
 
-    def run(self, words: Sequence[str], source: Union[int, IO[bytes], bytes, None] = None, output: Optional[IO[bytes]] = None) -> Answer:
-        """Runs the program on words. The source is a file, a descriptor, bytes, or nothing; the output goes to a file where one is given."""
+    def run(
+        self, words: Sequence[str], source: Union[int, IO[bytes], bytes, None] = None, output: Optional[IO[bytes]] = None, seconds: Optional[float] = None
+    ) -> Answer:
+        """Runs the program on words, for so many seconds at the most. The source is a file, a descriptor, bytes, or nothing; the output goes to a
+        file where one is given."""
         given = source if isinstance(source, bytes) else None
         stdin = subprocess.PIPE if given is not None else subprocess.DEVNULL if source is None else source
         with self._started(words, stdin, output if output is not None else subprocess.PIPE) as ran:
-            out, notes = ran.communicate(given)
+            try:
+                out, notes = ran.communicate(given, seconds)
+            except subprocess.TimeoutExpired:
+                raise ProgramFailed(f"`{words[0]}` takes more than {seconds} seconds") from None
         return Answer(_status_of(ran.returncode, notes), out or b"", notes)
 
     def tally(self, words: Sequence[str], source: Union[int, IO[bytes]]) -> Tally:

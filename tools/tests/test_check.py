@@ -347,6 +347,17 @@ class Check(Base):
             ran = tool("dwg-check", "--program", stand_in, self.folder)
             self.assertEqual([row[1:3] for row in read_table(ran.stdout)], [["failed", why]])
 
+    def test_recover_without_end(self) -> None:
+        """Bytes without a header, in which frames lie in each other so that `recover` takes very long, hold no run up."""
+        stand_in = program_that(self.folder, "stand-in", ['[ "$1" = recover ] && exec sleep 20', 'exec "$REAL" "$@"'])
+        path = self.folder / "bytes.dwg"
+        path.write_bytes(b"\x80XX\0" + bytes(range(256)))
+        with unittest.mock.patch.object(CHECK, "MOST_SECONDS", 0.2, create=True):
+            begin = time.monotonic()
+            row = CHECK.Checker(drawing.Program(str(stand_in))).check(str(path))
+        self.assertLess(time.monotonic() - begin, 10)
+        self.assertEqual((row.verdict, row.detail), ("failed", "`recover` takes more than 0.2 seconds"))
+
     def test_names(self) -> None:
         names = [b"a b.dwg", b"line\nfeed.dwg", b"tab\t.dwg", b"back\\slash.dwg", b"back\\n.dwg", b"return\r.dwg", b"\xe4.dwg", "\u00e4\u6587.DwG".encode(), "\u2028\u0085.dwg".encode(), b"\x01\x7f.dwg"]
         folder = os.fsencode(self.folder)

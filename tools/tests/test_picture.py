@@ -875,6 +875,21 @@ class Pictures(common.InFolder):
         self.assertEqual(answer.stderr, b"dwg-picture: not drawn: 1 INSERT (more than 64 deep)\n")
         self.assertEqual(answer.stdout.count(b"<defs>"), 64)
 
+    def test_deep_from_inside(self) -> None:
+        """Blocks that are drawn by themselves before others insert them are followed no deeper."""
+        one = spelled.Drawing()
+        for depth in range(400):
+            one.block(0x200 + depth, b"B%d" % depth)
+        one.last = 0x400
+        for depth in range(400):
+            one.line((0, depth, 0), (1, depth, 0), owner=0x200 + depth)
+            if depth:
+                one.insert(0x200 + depth - 1, (0, 0, 0), owner=0x200 + depth)
+        for depth in range(400):
+            one.insert(0x200 + depth, (0, 0, 0), (1.5, 2, 1) if depth == 399 else (1, 1, 1))
+        answer = tool("dwg-picture", given=one.file())
+        self.assertEqual((answer.returncode, answer.stderr), (0, b"dwg-picture: not drawn: 6 INSERT (more than 64 deep)\n"))
+
     def test_colours_and_layers(self) -> None:
         one = spelled.Drawing()
         one.layer(0x30, b"OFF", 3, values=2)
