@@ -35,6 +35,7 @@ bench:
 
 install: build
 	install -d $(bin) $(lib)/tools $(man)/man1 $(man)/man7 $(completions)
+	rm -f $(lib)/COMMIT
 	{ [ -e .git ] && unset GIT_DIR GIT_WORK_TREE GIT_COMMON_DIR GIT_INDEX_FILE && git describe --always --dirty=' and changes' --exclude='*' --abbrev=40 2>/dev/null || echo; } > $(lib)/COMMIT
 	chmod 644 $(lib)/COMMIT
 	install -m 755 $(call quoted,$(PROGRAM)) $(bin)/dwg
@@ -44,7 +45,7 @@ install: build
 	for tool in $(TOOLS); do ln -sfn "../lib/dwg/tools/$$tool" $(bin)/"$$tool"; done
 	install -m 644 docs/dwg.1 $(man)/man1
 	install -m 644 docs/dwg-tools.7 $(man)/man7
-	for tool in $(TOOLS); do echo .so man7/dwg-tools.7 > $(man)/man1/"$$tool".1 && chmod 644 $(man)/man1/"$$tool".1; done
+	for tool in $(TOOLS); do rm -f $(man)/man1/"$$tool".1 && echo .so man7/dwg-tools.7 > $(man)/man1/"$$tool".1 && chmod 644 $(man)/man1/"$$tool".1; done
 	install -m 644 tools/completion.bash $(completions)/dwg
 	for tool in $(TOOLS); do ln -sfn dwg $(completions)/"$$tool"; done
 

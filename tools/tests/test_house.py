@@ -108,8 +108,16 @@ class House(unittest.TestCase):
         foreign.write_bytes(b"own")
         subprocess.run([*words, "uninstall"], cwd=TOP, check=True, stderr=subprocess.DEVNULL)
         self.assertEqual(foreign.read_bytes(), b"own")
+        # A link that has a name of what is installed is replaced, and nothing is written to where it leads.
+        elsewhere = self.folder / "elsewhere"
+        elsewhere.write_bytes(b"own")
+        for link in ("lib/dwg/COMMIT", *(f"share/man/man1/{name}.1" for name in NAMES)):
+            path = destination / "usr" / "my tools" / link
+            path.parent.mkdir(parents=True, exist_ok=True)
+            path.symlink_to(elsewhere)
         # git has this variable set where it runs a hook, in another checkout perhaps.
         subprocess.run([*words, "install"], cwd=TOP, check=True, env={**os.environ, "GIT_DIR": str(self.folder)})
+        self.assertEqual(elsewhere.read_bytes(), b"own")
         top = destination / "usr" / "my tools"
         self.assertEqual([path.name for path in self.folder.iterdir() if path.is_dir()], ["it's root"])
         installed = top / "bin"
