@@ -13,6 +13,7 @@ import subprocess
 import tempfile
 import time
 import unittest
+import unittest.mock
 from typing import Any, Dict, Iterable, List, Optional, Tuple
 
 import made
@@ -99,6 +100,20 @@ class Recover(unittest.TestCase):
         self.assertIn("passes the audit", text)
         self.assertNotIn("Lost", text)
         self.assertEqual(self.out.stat().st_mode & 0o777, 0o666 & ~current_mask())
+
+    def test_notes_without_output(self) -> None:
+        """Where the output can't take its name, the notes that were there are there again, and none where there were none."""
+        for old in (b"old", None):
+            with tempfile.TemporaryDirectory() as folder:
+                out, path = os.path.join(folder, "out"), os.path.join(folder, "out.notes")
+                if old is not None:
+                    pathlib.Path(path).write_bytes(old)
+                with RECOVER.WholeFile(out, True) as whole, RECOVER.WholeFile(path, True) as notes:
+                    notes.file.write(b"new")
+                    notes.finish()
+                    with unittest.mock.patch.object(whole, "place", side_effect=OSError), self.assertRaises(OSError):
+                        RECOVER.place_both(notes, whole)
+                self.assertEqual({name: pathlib.Path(folder, name).read_bytes() for name in os.listdir(folder)}, {} if old is None else {"out.notes": old})
 
     def test_lost_objects(self) -> None:
         lost = [0x40, 0x41, 0x60]
