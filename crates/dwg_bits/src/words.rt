@@ -81,7 +81,7 @@ fn by_bytes(bytes: &[u8], from: u64, to: u64) -> u64
 /// byte behind it. In the last bytes the word is the last one there is. Where no bits are asked, no word is read: it would
 /// be shifted by all of its 64 bits.
 #[tactic(auto, using(crate::proofs::WordParts::word_and_byte, crate::proofs::WordParts::moved_fits))]
-fn number_anywhere(bytes: &[u8], place: u64, count: u32) -> u64
+pub(crate) fn number_at(bytes: &[u8], place: u64, count: u32) -> u64
     requires few { count ≤ 64 }
     requires reach { place + count < 2 ^ 64 }
     requires within { place + count ≤ 8 * length bytes.now }
@@ -102,22 +102,6 @@ fn number_anywhere(bytes: &[u8], place: u64, count: u32) -> u64
         in_byte(bytes, rest, more),
         more,
     )
-}
-
-/// The number that up to 64 bits from a place on spell: of the word that begins in the byte of the first of them, where they lie in it, as
-/// nearly all do.
-#[inline(always)]
-pub(crate) fn number_at(bytes: &[u8], place: u64, count: u32) -> u64
-    requires few { count ≤ 64 }
-    requires reach { place + count < 2 ^ 64 }
-    requires within { place + count ≤ 8 * length bytes.now }
-    ensures { result ≡ num (bits_between bytes.now place (place + count)) }
-{
-    let at = (place / 8) as usize;
-    if 1 <= count && (place % 8) as u32 + count <= 64 && at + 8 <= bytes.len() {
-        return in_word(bytes, at, place, count);
-    }
-    number_anywhere(bytes, place, count)
 }
 
 /// Seven bytes' bits: at whatever bit they begin, they lie in eight bytes.
