@@ -8,3 +8,5 @@ pub mod Memory
 pub mod Refusals
 -- The first item of a number in a list whose items have numbers.
 pub mod FirstItem
+-- The versions of the format.
+pub mod Versions

@@ -10,6 +10,7 @@ mod lists;
 mod memory;
 mod refusal;
 mod slices;
+mod version;
 
 pub use bytes::{ByteRun, append_bytes};
 pub use device::{Failed, NoMemory, Sink, Source, WriteFault, put_all};
@@ -20,3 +21,4 @@ pub use lists::{push_item, with_item, with_room};
 pub use memory::{MemSink, MemSource};
 pub use refusal::{Fault, Refusal, part_word, reason_word};
 pub use slices::{bounded_bytes, bytes_behind};
+pub use version::Version;

@@ -1,5 +1,6 @@
 //! The tests, by what they are of; and how their cases are read and told.
 
+mod common;
 mod dicts;
 mod entities;
 mod fields;
@@ -8,3 +9,4 @@ mod more;
 mod shapes;
 mod table;
 mod tables;
+mod versions;

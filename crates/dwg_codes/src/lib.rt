@@ -15,6 +15,7 @@ mod points;
 mod run;
 mod tagged;
 mod text;
+mod versioned;
 
 pub use byte_part::BytePart;
 pub use code::{BitCode, code_laws};
@@ -33,3 +34,4 @@ pub use points::Code3BD;
 pub use run::{byte_run_laws, bytes_length, read_bytes, write_bytes};
 pub use tagged::{CodeBD, CodeBL, CodeBS, CodeBT, ONE_WORD};
 pub use text::{read_text, text_length, write_text};
+pub use versioned::{CodeExtrusion, CodeThickness};

@@ -4,6 +4,14 @@ pub mod Parsing
 pub mod Members
 -- The application data of an object, which stand in its main bits.
 pub mod AppList
+-- What was skipped.
+pub mod Skipping
+-- How the bits of a part are laid out.
+pub mod Layouts
+-- The picture of an entity.
+pub mod Pictures
+-- The bit size among the main bits of a common part.
+pub mod BitSizes
 -- What all entities have.
 pub mod Entities
 -- What a reader of entities has read, as the parts that the grammar tells.

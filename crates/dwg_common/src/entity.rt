@@ -1,10 +1,11 @@
 //! What all entities have.
 
-ghost use Rattle.dwg_common.specs.CommonLaws.{entity_is_body};
+ghost use Rattle.dwg_common.specs.CommonLaws.{entity_is_body, entity_narrower, entity_sizes_alike};
 ghost use Rattle.dwg_common.specs.Entities.{entity_common};
 
 use crate::app_data::AppData;
-use crate::body::{BodyCode, Lengths};
+use crate::body::{BodyCode, BodyCode14, Lengths};
+use crate::layout::Layout;
 use crate::look::{look_bits, look_fits, read_look, write_look};
 use crate::named::{names_bits, names_fit, read_named, write_names};
 use crate::start::{read_start, start_bits, start_fits, write_start};
@@ -70,6 +71,8 @@ pub(crate) struct Start {
     pub(crate) mode: u8,
     /// How many objects watch it.
     pub(crate) reactors: u32,
+    /// Whether its linetype is that of its layer, where that is spelled here.
+    pub(crate) bylayer: bool,
     /// Whether it names no entities before and behind it.
     pub(crate) nolinks: bool,
 }
@@ -100,6 +103,13 @@ pub(crate) struct Named {
     pub(crate) reactors: Items<Ref>,
     /// Its dictionary of extensions.
     pub(crate) xdict: Ref,
+    /// What it names after that.
+    pub(crate) after: AfterDictionary,
+}
+
+/// What an entity names after its dictionary.
+#[derive(Clone, Copy)]
+pub(crate) struct AfterDictionary {
     /// The entities before and behind it.
     pub(crate) links: Option<Links>,
     /// Its layer.
@@ -116,17 +126,18 @@ impl BodyCode for EntityCommon {
 
     fn parse(
         alloc: Global,
+        layout: Layout,
         main: &mut BitCursor<'_>,
         refs: &mut BitCursor<'_>,
         base: Handle,
     ) -> Result<Option<EntityCommon>, NoMemory> {
-        let Some(start) = read_start(alloc, main, base)? else {
+        let Some(start) = read_start(alloc, layout, main, base)? else {
             return Ok(None);
         };
-        let Some(look) = read_look(main) else {
+        let Some(look) = read_look(layout.version, start.bylayer, main) else {
             return Ok(None);
         };
-        let Some(named) = read_named(alloc, refs, base, &start, look)? else {
+        let Some(named) = read_named(alloc, layout.version, refs, base, &start, look)? else {
             return Ok(None);
         };
         Ok(Some(EntityCommon {
@@ -136,44 +147,50 @@ impl BodyCode for EntityCommon {
             owner: named.owner,
             reactors: named.reactors,
             xdict: named.xdict,
-            links: named.links,
+            links: named.after.links,
             colour: look.colour,
             linetype_scale: look.linetype_scale,
             linetype_flag: look.linetype_flag,
-            linetype: named.linetype,
+            linetype: named.after.linetype,
             plotstyle_flag: look.plotstyle_flag,
-            plotstyle: named.plotstyle,
+            plotstyle: named.after.plotstyle,
             invisible: look.invisible,
             lineweight: look.lineweight,
-            layer: named.layer,
+            layer: named.after.layer,
         }))
     }
 
-    fn fits(&self, base: Handle) -> bool {
-        if !start_fits(self, base) {
+    fn fits_in(&self, layout: Layout, base: Handle) -> bool {
+        if !start_fits(self, layout, base) {
             return false;
         }
-        if !look_fits(self) {
+        if !look_fits(self, layout.version) {
             return false;
         }
-        names_fit(self, base)
+        names_fit(self, layout.version, base)
     }
 
-    fn lengths(&self, base: Handle) -> Lengths {
+    fn lengths_in(&self, layout: Layout, base: Handle) -> Lengths {
         Lengths {
-            main: start_bits(self, base) + look_bits(self),
-            refs: names_bits(self, base),
+            main: start_bits(self, layout, base) + look_bits(self, layout.version),
+            refs: names_bits(self, layout.version, base),
         }
     }
 
-    fn write_main(&self, base: Handle, sink: &mut BitSink) {
-        write_start(self, base, sink);
-        write_look(self, sink);
+    fn write_main_in(&self, layout: Layout, base: Handle, sink: &mut BitSink) {
+        write_start(self, layout, base, sink);
+        write_look(self, layout.version, sink);
     }
 
-    fn write_refs(&self, base: Handle, sink: &mut BitSink) {
-        write_names(self, base, sink);
+    fn write_refs_in(&self, layout: Layout, base: Handle, sink: &mut BitSink) {
+        write_names(self, layout.version, base, sink);
     }
 
-    ghost laws = { λ base small. entity_is_body base small };
+    ghost laws = { λ layout base few small. entity_is_body layout base few small };
+}
+
+impl BodyCode14 for EntityCommon {
+    ghost narrower = { entity_narrower };
+
+    ghost sizes_alike = { entity_sizes_alike };
 }

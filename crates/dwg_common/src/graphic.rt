@@ -1,10 +1,10 @@
 //! The picture of an entity, as bits (Open Design Specification, "Common entity data").
-#![tactic(auto, unfolding(crate::specs::Entities::graphic))]
+#![tactic(auto, unfolding(crate::specs::Pictures::graphic))]
 
 ghost use Rattle.std.specs.Prelude.{◌≡◌, ◌^◌, ◌<◌, ◌≤◌, ◌↔◌, length, IfOk, IsTrue};
 ghost use Rattle.dwg_bits.specs.Sink.{Extends};
 ghost use Rattle.dwg_common.specs.Parsing.{Keeps, Parses};
-ghost use Rattle.dwg_common.specs.Entities.{graphic};
+ghost use Rattle.dwg_common.specs.Pictures.{graphic};
 
 use crate::parts::parse_code;
 use crate::sized::{parse_sized_by, sized_bits_by, sized_fits, write_sized_by};

@@ -2,6 +2,7 @@
 
 ghost use Rattle.std.specs.Prelude.{◌^◌, ◌<◌, ℕ};
 ghost use Rattle.dwg_grammar.specs.Bodies.{IsFreeBody};
+ghost use Rattle.dwg_common.specs.declared.layout.Layout.{Layout};
 ghost use Rattle.dwg_common.specs.Entities.{entity_common};
 ghost use Rattle.dwg_common.specs.NonEntities.{object_common};
 
@@ -10,6 +11,6 @@ ghost use Rattle.dwg_common.specs.NonEntities.{object_common};
 /// bits or fewer reference bits; other bits that spell the same references spell the same; and any bits may follow the
 /// references.
 pub fn common_laws()
-    ensures entity { (base : ℕ) → base < 2 ^ 63 → IsFreeBody base (entity_common base) }
-    ensures object { (base : ℕ) → base < 2 ^ 63 → IsFreeBody base (object_common base) }
+    ensures entity { (layout : Layout) (base : ℕ) → layout.size < 2 ^ 32 → base < 2 ^ 63 → IsFreeBody base (entity_common layout base) }
+    ensures object { (layout : Layout) (base : ℕ) → layout.size < 2 ^ 32 → base < 2 ^ 63 → IsFreeBody base (object_common layout base) }
 {}

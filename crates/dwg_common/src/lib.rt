@@ -4,30 +4,41 @@
 
 mod app_data;
 mod app_list;
+mod bit_size;
 mod body;
 mod counts;
 mod entity;
+mod given;
 mod graphic;
 mod laws;
+mod layout;
 mod links;
 mod look;
 mod named;
 mod object;
 mod parts;
 mod points;
+mod rows;
 mod sized;
+mod skip;
 mod start;
 mod tv;
 mod two_refs;
 
 pub use app_data::AppData;
-pub use body::{BodyCode, Lengths, body_laws};
+pub use body::{BodyCode, BodyCode14, Lengths, body_laws, older_laws};
 pub use counts::{TOO_MANY, count_bits, count_fits, write_count};
 pub use entity::{EntityCommon, Links};
+pub use given::{
+    length_given, parse_given, parse_ref_since, ref_since_bits, ref_since_fits, write_given,
+    write_ref_since,
+};
 pub use laws::common_laws;
+pub use layout::Layout;
 pub use object::ObjectCommon;
 pub use parts::{parse_bytes, parse_code, parse_ref, parse_refs, parse_when};
-pub use points::{Code2DD, Code2RD, known_place, known_point};
+pub use points::{Code2DD, Code2RD, known_extrusion, known_place, known_point, known_thickness};
 pub use sized::{parse_sized, sized_bits, sized_fits, write_sized};
+pub use skip::read_size;
 pub use tv::{parse_tv, tv_bits, tv_fits, write_tv};
 pub use two_refs::{CodeTwoRefs, two_refs_fit};

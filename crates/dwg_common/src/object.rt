@@ -1,12 +1,14 @@
 //! What all objects have that are no entities.
 
-ghost use Rattle.dwg_common.specs.CommonLaws.{object_is_body};
+ghost use Rattle.dwg_common.specs.CommonLaws.{object_is_body, object_narrower, object_sizes_alike};
 ghost use Rattle.dwg_common.specs.NonEntities.{object_common};
 
 use crate::app_data::AppData;
 use crate::app_list::{app_fits, app_length, read_items, write_app};
-use crate::body::{BodyCode, Lengths};
+use crate::bit_size::{bit_size_bits, read_bit_size, write_bit_size};
+use crate::body::{BodyCode, BodyCode14, Lengths};
 use crate::counts::TOO_MANY;
+use crate::layout::Layout;
 use crate::parts::{parse_code, parse_ref, parse_refs};
 use dwg_base::{Handle, Items, NoMemory};
 use dwg_bits::{BitCursor, BitSink};
@@ -33,11 +35,15 @@ impl BodyCode for ObjectCommon {
 
     fn parse(
         alloc: Global,
+        layout: Layout,
         main: &mut BitCursor<'_>,
         refs: &mut BitCursor<'_>,
         base: Handle,
     ) -> Result<Option<ObjectCommon>, NoMemory> {
         let Some(app) = read_items(alloc, main, base)? else {
+            return Ok(None);
+        };
+        let Some(()) = read_bit_size(layout, main) else {
             return Ok(None);
         };
         let Some(count) = parse_code::<CodeBL>(&(), main) else {
@@ -60,7 +66,7 @@ impl BodyCode for ObjectCommon {
         }))
     }
 
-    fn fits(&self, base: Handle) -> bool {
+    fn fits_in(&self, _layout: Layout, base: Handle) -> bool {
         let reactors = self.reactors.as_slice();
         if !app_fits(self.app.as_slice(), base) {
             return false;
@@ -77,28 +83,37 @@ impl BodyCode for ObjectCommon {
         self.xdict.fits(base)
     }
 
-    fn lengths(&self, base: Handle) -> Lengths {
+    fn lengths_in(&self, layout: Layout, base: Handle) -> Lengths {
         let reactors = self.reactors.as_slice();
         let count = reactors.len() as u32;
         Lengths {
-            main: app_length(self.app.as_slice(), base) + CodeBL::length(&(), &count),
+            main: app_length(self.app.as_slice(), base)
+                + bit_size_bits(layout)
+                + CodeBL::length(&(), &count),
             refs: ref_bits(self.owner, base)
                 + refs_bits(reactors, base)
                 + ref_bits(self.xdict, base),
         }
     }
 
-    fn write_main(&self, base: Handle, sink: &mut BitSink) {
+    fn write_main_in(&self, layout: Layout, base: Handle, sink: &mut BitSink) {
         let count = self.reactors.as_slice().len() as u32;
         write_app(self.app.as_slice(), base, sink);
+        write_bit_size(layout, sink);
         CodeBL::write(&(), &count, sink);
     }
 
-    fn write_refs(&self, base: Handle, sink: &mut BitSink) {
+    fn write_refs_in(&self, _layout: Layout, base: Handle, sink: &mut BitSink) {
         write_ref(self.owner, base, sink);
         write_refs(self.reactors.as_slice(), base, sink);
         write_ref(self.xdict, base, sink);
     }
 
-    ghost laws = { λ base small. object_is_body base small };
+    ghost laws = { λ layout base few small. object_is_body layout base few small };
+}
+
+impl BodyCode14 for ObjectCommon {
+    ghost narrower = { object_narrower };
+
+    ghost sizes_alike = { object_sizes_alike };
 }

@@ -3,10 +3,12 @@
 ghost use Rattle.std.specs.Prelude.{◌≡◌, ◌<◌, ⊤};
 ghost use Rattle.dwg_grammar.specs.Codes.{IsPoint3};
 ghost use Rattle.dwg_grammar.proofs.PointLemmas.{rd2_is_code, dd2_is_code};
+ghost use Rattle.dwg_grammar.specs.Versions.{extrusion, thickness};
 ghost use Rattle.dwg_grammar.specs.Points.{IsPoint2, rd2, dd2};
 ghost use Rattle.dwg_common.specs.Parsing.{Keeps, Parses};
 
 use crate::parts::parse_code;
+use dwg_base::Version;
 use dwg_bits::{BitCursor, BitSink};
 use dwg_codes::{BitCode, CodeDD, CodeRD, Point2, Point3};
 
@@ -17,6 +19,24 @@ pub fn known_point(point: &Point3)
     let _x = point.x;
     let _y = point.y;
     let _z = point.z;
+}
+
+/// A word is a thickness in each version: as [`known_point`].
+#[tactic(auto, using(dwg_grammar::proofs::VersionLemmas::thickness_value))]
+pub fn known_thickness(version: Version, word: u64)
+    ensures { (thickness version).IsValue word }
+{
+    let _newer = version.is_newer();
+    let _word = word;
+}
+
+/// A point is an extrusion in each version: as [`known_point`].
+#[tactic(auto, using(dwg_grammar::proofs::VersionLemmas::extrusion_value))]
+pub fn known_extrusion(version: Version, point: &Point3)
+    ensures { (extrusion version).IsValue point.now }
+{
+    let _newer = version.is_newer();
+    known_point(point);
 }
 
 /// The words of a point of the plane lie in the range of their type: as [`known_point`].

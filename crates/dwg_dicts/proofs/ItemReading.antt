@@ -3,6 +3,7 @@ use Rattle.std.proofs.Common.{◌≡◌, refl, ◌∙◌, ap, ap₂, ℕ, Bool, 
 use Rattle.std.specs.Prelude.{option_and_then}
 use Rattle.std.specs.Option.{option_map}
 use Rattle.std.proofs.lemmas.List.{map-append}
+use Rattle.dwg_base.specs.declared.version.Version.{Version}
 use Rattle.dwg_common.proofs.MemberLemmas.{joined_again}
 use Rattle.dwg_grammar.specs.Codes.{tv}
 use Rattle.dwg_grammar.specs.Combinators.{items}
@@ -60,12 +61,12 @@ start_in_front start (Some names) targets =
     [ None ↦ refl | Some others ↦ refl ]
 
 -- so a dictionary is parsed by what it begins with and then its items
-pub dictionary_parsed : (base : ℕ) (main references : List Bool)
-    → (dictionary_body base).parse main references
-    ≡ option_and_then (λ (one : (ℕ × (ℕ × ℕ)) × List Bool). option_map (seen_as one.0) ((items_alone base one.0.0).parse one.1 references)) (dictionary_start.parse main)
+pub dictionary_parsed : (version : Version) (base : ℕ) (main references : List Bool)
+    → (dictionary_body version base).parse main references
+    ≡ option_and_then (λ (one : (ℕ × (ℕ × ℕ)) × List Bool). option_map (seen_as one.0) ((items_alone base one.0.0).parse one.1 references)) ((dictionary_start version).parse main)
 unfolding dictionary_body
-dictionary_parsed base main references =
-    elim (dictionary_start.parse main) as (λ begun.
+dictionary_parsed version base main references =
+    elim ((dictionary_start version).parse main) as (λ begun.
     option_and_then (λ (told : ((ℕ × (ℕ × ℕ)) × List (List ℕ)) × List Bool).
     option_map (λ (named : List Reference × List Bool). seen_as told.0.0 (both_found (told.0.1, told.1) named)) ((items (reference base) told.0.0.0).parse references))
     (option_and_then (λ (one : (ℕ × (ℕ × ℕ)) × List Bool). option_map (λ (two : List (List ℕ) × List Bool). ((one.0, two.0), two.1)) ((items tv one.0.0).parse one.1)) begun)

@@ -1,10 +1,15 @@
 -- Controls, dictionaries and records meet the laws of bodies.
-use Rattle.std.proofs.Common.{◌≡◌, refl, sym, ◌∙◌, ap, ap₂, ℕ, ◌^◌, ◌<◌, List, length}
+use Rattle.std.proofs.Common.{◌≡◌, refl, sym, ◌∙◌, ap, ap₂, ℕ, ◌^◌, ◌<◌, List, length, arith}
+use Rattle.dwg_base.specs.declared.version.Version.{Version}
+use Rattle.dwg_base.specs.declared.version.Version.TheVariants.{Ac1014, Ac1015}
+use Rattle.dwg_base.specs.Versions.{is_newer}
 use Rattle.dwg_common.specs.LawSets.{codes, parts}
 use Rattle.dwg_common.proofs.MemberLemmas.{joined_counted, told_of_joined, names_of_joined, joined_again}
-use Rattle.dwg_grammar.specs.Codes.{bl}
+use Rattle.dwg_grammar.specs.Codes.{bl, bs}
 use Rattle.dwg_grammar.specs.Combinators.{chain}
-use Rattle.dwg_grammar.proofs.TableLemmas.{bl_is_code}
+use Rattle.dwg_grammar.proofs.TableLemmas.{bl_is_code, bs_is_code}
+use Rattle.dwg_grammar.proofs.VersionLemmas.{given_is_code}
+use Rattle.dwg_grammar.specs.Grammar.{IsCode, AnyLetters}
 use Rattle.dwg_grammar.specs.Bodies.{IsBody}
 use Rattle.dwg_grammar.proofs.MadeBodies.{body_is_body}
 use Rattle.dwg_grammar.proofs.ToEndBodies.{to_end_is_body}
@@ -12,6 +17,8 @@ use Rattle.dwg_grammar.specs.References.{some_refs, IsReferencePart}
 use Rattle.dwg_grammar.proofs.ReferenceParts.{some_is_part}
 use Rattle.dwg_grammar.specs.Reference.{Reference}
 use Rattle.dwg_dicts.specs.declared.dictionary.Dictionary.{Dictionary}
+use Rattle.dwg_dicts.specs.declared.xrecord.XRecord.{XRecord}
+use Rattle.dwg_dicts.specs.Cloning.{cloning}
 use Rattle.dwg_dicts.specs.Dictionaries.{dictionary_main, names_of, targets_of, item_of, named_items, dictionary_body}
 use Rattle.dwg_dicts.specs.Entries.{entries_body, layer_control_body, style_control_body, appid_control_body}
 use Rattle.dwg_dicts.specs.EntriesAndTwo.{entries_and_two, two_more_body, block_control_body, ltype_control_body}
@@ -64,12 +71,16 @@ pub ltype_control_is_body : (base : ℕ) → base < 2 ^ 63 → IsBody base (ltyp
 unfolding ltype_control_body
 ltype_control_is_body base small = two_more_is_body base _ _ small (λ named. refl) (λ control. refl)
 
+-- the cloning is a code
+pub cloning_is_code : (version : Version) → IsCode AnyLetters (cloning version)
+cloning_is_code version = given_is_code AnyLetters (is_newer version) 0 bs bs_is_code
+
 -- what is put together of a dictionary is told by it
-dictionary_told : (base : ℕ) (told : (ℕ × (ℕ × ℕ)) × List (List ℕ)) (named : List Reference) → dictionary_main.IsValue told → (some_refs base told.0.0).grammar.IsValue named
+dictionary_told : (version : Version) (base : ℕ) (told : (ℕ × (ℕ × ℕ)) × List (List ℕ)) (named : List Reference) → (dictionary_main version).IsValue told → (some_refs base told.0.0).grammar.IsValue named
     → (◌≡◌ {A = (ℕ × (ℕ × ℕ)) × List (List ℕ)} ((length (named_items told.1 named), told.0.1), names_of (named_items told.1 named)) told)
     × (targets_of (named_items told.1 named) ≡ named)
 unfolding chain
-dictionary_told base told named fits names =
+dictionary_told version base told named fits names =
     let as_many : length named ≡ length told.1 = names.0 ∙ sym fits.1.0 in (
       ap₂ (λ (count : ℕ) (all : List (List ℕ)). ((count, told.0.1), all)) (joined_counted item_of told.1 named as_many ∙ fits.1.0)
           (told_of_joined item_of (λ item. item.name) (λ name target. refl) told.1 named as_many),
@@ -82,12 +93,21 @@ dictionary_again : (dictionary : Dictionary)
 dictionary_again dictionary = rw (joined_again item_of (λ item. item.name) (λ item. item.target) (λ item. refl) dictionary.items)
 
 -- a dictionary is a body
-pub dictionary_is_body : (base : ℕ) → base < 2 ^ 63 → IsBody base (dictionary_body base)
+pub dictionary_is_body : (version : Version) (base : ℕ) → base < 2 ^ 63 → IsBody base (dictionary_body version base)
 unfolding dictionary_body
-dictionary_is_body base small =
-    body_is_body base dictionary_main (λ told. some_refs base told.0.0) _ _ _ (search codes depth 8) (λ told fits. some_is_part base told.0.0 small) (dictionary_told base) dictionary_again
+dictionary_is_body version base small =
+    body_is_body base (dictionary_main version) (λ told. some_refs base told.0.0) _ _ _ (search (codes, cloning_is_code) depth 8) (λ told fits. some_is_part base told.0.0 small) (dictionary_told version base) dictionary_again
 
 -- a record is a body
-pub xrecord_is_body : (base : ℕ) → base < 2 ^ 63 → IsBody base (xrecord_body base)
+pub xrecord_is_body : (version : Version) (base : ℕ) → base < 2 ^ 63 → IsBody base (xrecord_body version base)
 unfolding xrecord_body
-xrecord_is_body base small = search (to_end_is_body, codes) depth 8
+xrecord_is_body version base small = search (to_end_is_body, codes, cloning_is_code) depth 8
+
+-- what AC1014 can spell, AC1015 can spell
+pub dictionary_narrower : (base : ℕ) (dictionary : Dictionary) → (dictionary_body Ac1014 base).Fits dictionary → (dictionary_body Ac1015 base).Fits dictionary
+unfolding dictionary_body
+dictionary_narrower base dictionary fits = (((fits.0.0.0, (omega (arith, fits.0.0.1.0), fits.0.0.1.1)), fits.0.1), fits.1)
+
+pub xrecord_narrower : (base : ℕ) (xrecord : XRecord) → (xrecord_body Ac1014 base).Fits xrecord → (xrecord_body Ac1015 base).Fits xrecord
+unfolding xrecord_body
+xrecord_narrower base xrecord fits = ((fits.0.0, omega (arith, fits.0.1)), fits.1)

@@ -1,8 +1,9 @@
 -- Dictionaries: names of objects (Open Design Specification, "DICTIONARY").
 use Rattle.std.specs.Prelude.{ℕ, Bool, List, length, map}
 use Rattle.dwg_common.specs.Members.{joined}
-use Rattle.dwg_grammar.specs.Codes.{bl, bs, rc, tv}
-use Rattle.dwg_grammar.specs.Combinators.{seq, items}
+use Rattle.dwg_grammar.specs.Codes.{bl, rc, tv}
+use Rattle.dwg_base.specs.declared.version.Version.{Version}
+use Rattle.dwg_grammar.specs.Combinators.{◌⋄◌, seq, items}
 use Rattle.dwg_grammar.specs.Grammar.{Grammar}
 use Rattle.dwg_grammar.specs.ToEnd.{AreValues}
 use Rattle.dwg_grammar.specs.Bodies.{BodyGrammar}
@@ -10,16 +11,17 @@ use Rattle.dwg_grammar.specs.MakingBodies.{body}
 use Rattle.dwg_grammar.specs.References.{some_refs}
 use Rattle.dwg_grammar.specs.Reference.{Reference}
 use Rattle.dwg_grammar.specs.ReferenceCodes.{reference}
+use Rattle.dwg_dicts.specs.Cloning.{cloning}
 use Rattle.dwg_dicts.specs.declared.dictionary.DictItem.{DictItem}
 use Rattle.dwg_dicts.specs.declared.dictionary.Dictionary.{Dictionary}
 
--- BL count of items; BS cloning; RC hard_owner
-abbrev pub dictionary_start : Grammar Bool (ℕ × (ℕ × ℕ))
-dictionary_start = seq bl (λ count. seq bs (λ cloning. rc))
+-- BL count of items; BS cloning, in AC1014 nothing; RC hard_owner
+abbrev pub dictionary_start : Version → Grammar Bool (ℕ × (ℕ × ℕ))
+dictionary_start version = bl ⋄ cloning version ⋄ rc
 
 -- these; TV per name
-abbrev pub dictionary_main : Grammar Bool ((ℕ × (ℕ × ℕ)) × List (List ℕ))
-dictionary_main = seq dictionary_start (λ start. items tv start.0)
+abbrev pub dictionary_main : Version → Grammar Bool ((ℕ × (ℕ × ℕ)) × List (List ℕ))
+dictionary_main version = seq (dictionary_start version) (λ start. items tv start.0)
 
 -- the names of items, and their targets
 abbrev pub names_of : List DictItem → List (List ℕ)
@@ -49,9 +51,9 @@ abbrev pub AreItems : ℕ → List DictItem → Type 0
 AreItems base listed = AreValues tv (names_of listed) × AreValues (reference base) (targets_of listed)
 
 -- the main bits; target per item
-unfoldable pub dictionary_body : ℕ → BodyGrammar Dictionary
-dictionary_body base =
-    body dictionary_main (λ told. some_refs base told.0.0)
-    (λ told named. record { cloning = told.0.1.0; hard_owner = told.0.1.1; items = named_items told.1 named })
+unfoldable pub dictionary_body : Version → ℕ → BodyGrammar Dictionary
+dictionary_body version base =
+    body (dictionary_main version) (λ told. some_refs base told.0.0)
+    (λ ((count, (cloning, hard_owner)), names) targets. record { cloning = cloning; hard_owner = hard_owner; items = named_items names targets })
     (λ dictionary. ((length dictionary.items, (dictionary.cloning, dictionary.hard_owner)), names_of dictionary.items))
     (λ dictionary. targets_of dictionary.items)

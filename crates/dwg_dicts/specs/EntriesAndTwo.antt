@@ -19,9 +19,9 @@ two_more_body {V} into named_of base = body bl (entries_and_two base) (λ count 
 -- entries, model, paper
 unfoldable pub block_control_body : ℕ → BodyGrammar BlockControl
 block_control_body base =
-    two_more_body (λ named. record { entries = named.0; model = named.1.0; paper = named.1.1 }) (λ control. (control.entries, (control.model, control.paper))) base
+    two_more_body (λ (entries, (model, paper)). record { entries = entries; model = model; paper = paper }) (λ control. (control.entries, (control.model, control.paper))) base
 
 -- entries, first, second
 unfoldable pub ltype_control_body : ℕ → BodyGrammar LtypeControl
 ltype_control_body base =
-    two_more_body (λ named. record { entries = named.0; first = named.1.0; second = named.1.1 }) (λ control. (control.entries, (control.first, control.second))) base
+    two_more_body (λ (entries, (first, second)). record { entries = entries; first = first; second = second }) (λ control. (control.entries, (control.first, control.second))) base

@@ -2,6 +2,8 @@
 pub mod Entries
 -- Controls that name two objects behind the entries of their table.
 pub mod EntriesAndTwo
+-- What becomes of an object of a name that is there already when dictionaries are merged.
+pub mod Cloning
 -- Dictionaries: names of objects.
 pub mod Dictionaries
 -- Records: bytes of an application, and objects that they name.

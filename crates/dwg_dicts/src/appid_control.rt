@@ -1,12 +1,16 @@
 //! The control of applications.
 
+ghost use Rattle.dwg_common.proofs.LayoutLemmas.{same_alike};
 ghost use Rattle.dwg_dicts.specs.DictLaws.{appid_control_is_body};
 ghost use Rattle.dwg_dicts.specs.Entries.{appid_control_body};
 
 use dwg_base::{Handle, Items, NoMemory};
 use dwg_bits::{BitCursor, BitSink};
 use dwg_codes::CodeBL;
-use dwg_common::{BodyCode, Lengths, count_bits, count_fits, parse_code, parse_refs, write_count};
+use dwg_common::{
+    BodyCode, BodyCode14, Layout, Lengths, count_bits, count_fits, parse_code, parse_refs,
+    write_count,
+};
 use dwg_handles::{Ref, refs_bits, refs_fit, write_refs};
 use std::alloc::Global;
 
@@ -19,10 +23,11 @@ pub struct AppIdControl {
 
 #[tactic(auto, unfolding(crate::specs::Entries::appid_control_body, dwg_grammar::specs::Combinators::chain))]
 impl BodyCode for AppIdControl {
-    ghost grammar = { appid_control_body };
+    ghost grammar = { λ layout. appid_control_body };
 
     fn parse(
         alloc: Global,
+        _layout: Layout,
         main: &mut BitCursor<'_>,
         refs: &mut BitCursor<'_>,
         base: Handle,
@@ -36,7 +41,7 @@ impl BodyCode for AppIdControl {
         Ok(Some(AppIdControl { entries }))
     }
 
-    fn fits(&self, base: Handle) -> bool {
+    fn fits_in(&self, _layout: Layout, base: Handle) -> bool {
         let entries = self.entries.as_slice();
         if !count_fits(entries) {
             return false;
@@ -44,7 +49,7 @@ impl BodyCode for AppIdControl {
         refs_fit(entries, base)
     }
 
-    fn lengths(&self, base: Handle) -> Lengths {
+    fn lengths_in(&self, _layout: Layout, base: Handle) -> Lengths {
         let entries = self.entries.as_slice();
         Lengths {
             main: count_bits(entries),
@@ -52,13 +57,19 @@ impl BodyCode for AppIdControl {
         }
     }
 
-    fn write_main(&self, _base: Handle, sink: &mut BitSink) {
+    fn write_main_in(&self, _layout: Layout, _base: Handle, sink: &mut BitSink) {
         write_count(self.entries.as_slice(), sink);
     }
 
-    fn write_refs(&self, base: Handle, sink: &mut BitSink) {
+    fn write_refs_in(&self, _layout: Layout, base: Handle, sink: &mut BitSink) {
         write_refs(self.entries.as_slice(), base, sink);
     }
 
-    ghost laws = { λ base small. appid_control_is_body base small };
+    ghost laws = { λ layout base few small. appid_control_is_body base small };
+}
+
+impl BodyCode14 for AppIdControl {
+    ghost narrower = { λ base value fits. fits };
+
+    ghost sizes_alike = { λ size base value. same_alike (appid_control_body base) value };
 }

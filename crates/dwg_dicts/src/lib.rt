@@ -4,6 +4,7 @@
 
 mod appid_control;
 mod block_control;
+mod cloning;
 mod dict_items;
 mod dictionary;
 mod laws;

@@ -1,5 +1,6 @@
 //! The control of linetypes.
 
+ghost use Rattle.dwg_common.proofs.LayoutLemmas.{same_alike};
 ghost use Rattle.dwg_dicts.specs.DictLaws.{ltype_control_is_body};
 ghost use Rattle.dwg_dicts.specs.EntriesAndTwo.{ltype_control_body};
 
@@ -7,7 +8,8 @@ use dwg_base::{Handle, Items, NoMemory};
 use dwg_bits::{BitCursor, BitSink};
 use dwg_codes::CodeBL;
 use dwg_common::{
-    BodyCode, Lengths, count_bits, count_fits, parse_code, parse_ref, parse_refs, write_count,
+    BodyCode, BodyCode14, Layout, Lengths, count_bits, count_fits, parse_code, parse_ref,
+    parse_refs, write_count,
 };
 use dwg_handles::{Ref, ref_bits, refs_bits, refs_fit, write_ref, write_refs};
 use std::alloc::Global;
@@ -25,10 +27,11 @@ pub struct LtypeControl {
 
 #[tactic(auto, unfolding(crate::specs::EntriesAndTwo::ltype_control_body, dwg_grammar::specs::Combinators::chain, dwg_grammar::specs::ReferenceCodes::reference))]
 impl BodyCode for LtypeControl {
-    ghost grammar = { ltype_control_body };
+    ghost grammar = { λ layout. ltype_control_body };
 
     fn parse(
         alloc: Global,
+        _layout: Layout,
         main: &mut BitCursor<'_>,
         refs: &mut BitCursor<'_>,
         base: Handle,
@@ -52,7 +55,7 @@ impl BodyCode for LtypeControl {
         }))
     }
 
-    fn fits(&self, base: Handle) -> bool {
+    fn fits_in(&self, _layout: Layout, base: Handle) -> bool {
         let entries = self.entries.as_slice();
         if !count_fits(entries) {
             return false;
@@ -66,7 +69,7 @@ impl BodyCode for LtypeControl {
         self.second.fits(base)
     }
 
-    fn lengths(&self, base: Handle) -> Lengths {
+    fn lengths_in(&self, _layout: Layout, base: Handle) -> Lengths {
         let entries = self.entries.as_slice();
         Lengths {
             main: count_bits(entries),
@@ -76,15 +79,21 @@ impl BodyCode for LtypeControl {
         }
     }
 
-    fn write_main(&self, _base: Handle, sink: &mut BitSink) {
+    fn write_main_in(&self, _layout: Layout, _base: Handle, sink: &mut BitSink) {
         write_count(self.entries.as_slice(), sink);
     }
 
-    fn write_refs(&self, base: Handle, sink: &mut BitSink) {
+    fn write_refs_in(&self, _layout: Layout, base: Handle, sink: &mut BitSink) {
         write_refs(self.entries.as_slice(), base, sink);
         write_ref(self.first, base, sink);
         write_ref(self.second, base, sink);
     }
 
-    ghost laws = { λ base small. ltype_control_is_body base small };
+    ghost laws = { λ layout base few small. ltype_control_is_body base small };
+}
+
+impl BodyCode14 for LtypeControl {
+    ghost narrower = { λ base value fits. fits };
+
+    ghost sizes_alike = { λ size base value. same_alike (ltype_control_body base) value };
 }

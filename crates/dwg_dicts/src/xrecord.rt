@@ -2,15 +2,21 @@
 
 ghost use Rattle.std.specs.Prelude.{◌≡◌, ◌^◌, ◌<◌, IfOk};
 ghost use Rattle.std.specs.Option.{option_map};
+ghost use Rattle.dwg_base.specs.declared.version.Version.TheVariants.{Ac1014};
 ghost use Rattle.dwg_bits.specs.Cursor.{rest};
+ghost use Rattle.dwg_common.proofs.LayoutLemmas.{same_alike};
 ghost use Rattle.dwg_common.specs.Parsing.{Keeps};
-ghost use Rattle.dwg_dicts.specs.DictLaws.{xrecord_is_body};
+ghost use Rattle.dwg_dicts.specs.DictLaws.{xrecord_is_body, xrecord_narrower};
 ghost use Rattle.dwg_dicts.specs.XRecords.{all_targets, xrecord_body};
 
+use crate::cloning::{CodeCloning, cloning_fits};
 use dwg_base::{ByteRun, Handle, Items, NoMemory};
 use dwg_bits::{BitCursor, BitSink};
-use dwg_codes::{BitCode, CodeBS};
-use dwg_common::{BodyCode, Lengths, parse_code, parse_sized, sized_bits, sized_fits, write_sized};
+use dwg_codes::BitCode;
+use dwg_common::{
+    BodyCode, BodyCode14, Layout, Lengths, parse_code, parse_sized, sized_bits, sized_fits,
+    write_sized,
+};
 use dwg_handles::{Ref, read_refs_to_end, refs_bits, refs_fit, write_refs};
 use std::alloc::Global;
 
@@ -25,8 +31,8 @@ pub struct XRecord {
     pub targets: Items<Ref>,
 }
 
-/// Reads references until fewer than eight bits are left, as they are parsed. The only refusal is want of memory, which is
-/// taken only for references that are there.
+/// Reads references until fewer than eight bits are left, as they are parsed. Err: out of memory, which is taken only for
+/// references that are there.
 #[tactic(auto, using(crate::proofs::EndReading::all_parsed))]
 fn read_targets(
     alloc: Global,
@@ -41,10 +47,11 @@ fn read_targets(
 
 #[tactic(auto, unfolding(crate::specs::XRecords::xrecord_body))]
 impl BodyCode for XRecord {
-    ghost grammar = { xrecord_body };
+    ghost grammar = { λ layout. xrecord_body layout.version };
 
     fn parse(
         alloc: Global,
+        layout: Layout,
         main: &mut BitCursor<'_>,
         refs: &mut BitCursor<'_>,
         base: Handle,
@@ -52,7 +59,7 @@ impl BodyCode for XRecord {
         let Some(bytes) = parse_sized(alloc, main)? else {
             return Ok(None);
         };
-        let Some(cloning) = parse_code::<CodeBS>(&(), main) else {
+        let Some(cloning) = parse_code::<CodeCloning>(&layout.version, main) else {
             return Ok(None);
         };
         let Some(targets) = read_targets(alloc, refs, base)? else {
@@ -65,30 +72,38 @@ impl BodyCode for XRecord {
         }))
     }
 
-    fn fits(&self, base: Handle) -> bool {
-        // Each number of its type can be told.
-        let _cloning = self.cloning;
+    fn fits_in(&self, layout: Layout, base: Handle) -> bool {
+        if !cloning_fits(layout.version, self.cloning) {
+            return false;
+        }
         if !sized_fits(self.bytes.as_slice()) {
             return false;
         }
         refs_fit(self.targets.as_slice(), base)
     }
 
-    fn lengths(&self, base: Handle) -> Lengths {
+    fn lengths_in(&self, layout: Layout, base: Handle) -> Lengths {
         Lengths {
-            main: sized_bits(self.bytes.as_slice()) + CodeBS::length(&(), &self.cloning),
+            main: sized_bits(self.bytes.as_slice())
+                + CodeCloning::length(&layout.version, &self.cloning),
             refs: refs_bits(self.targets.as_slice(), base),
         }
     }
 
-    fn write_main(&self, _base: Handle, sink: &mut BitSink) {
+    fn write_main_in(&self, layout: Layout, _base: Handle, sink: &mut BitSink) {
         write_sized(self.bytes.as_slice(), sink);
-        CodeBS::write(&(), &self.cloning, sink);
+        CodeCloning::write(&layout.version, &self.cloning, sink);
     }
 
-    fn write_refs(&self, base: Handle, sink: &mut BitSink) {
+    fn write_refs_in(&self, _layout: Layout, base: Handle, sink: &mut BitSink) {
         write_refs(self.targets.as_slice(), base, sink);
     }
 
-    ghost laws = { λ base small. xrecord_is_body base small };
+    ghost laws = { λ layout base few small. xrecord_is_body layout.version base small };
+}
+
+impl BodyCode14 for XRecord {
+    ghost narrower = { xrecord_narrower };
+
+    ghost sizes_alike = { λ size base value. same_alike (xrecord_body Ac1014 base) value };
 }

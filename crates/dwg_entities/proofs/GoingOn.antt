@@ -1,6 +1,8 @@
 -- What is parsed of a body whose main bits go on behind those of another, and which names the same: that one, and then what is behind.
 use Rattle.std.proofs.Common.{◌≡◌, refl, ◌∙◌, ℕ, Bool, List, Option, Some, None}
 use Rattle.std.specs.Prelude.{option_map, option_and_then}
+use Rattle.dwg_base.specs.declared.version.Version.{Version}
+use Rattle.dwg_base.specs.declared.version.Version.TheVariants.{Ac1015}
 use Rattle.dwg_grammar.specs.Codes.{tv}
 use Rattle.dwg_grammar.specs.Grammar.{Grammar}
 use Rattle.dwg_grammar.specs.ReferenceCodes.{reference}
@@ -56,23 +58,23 @@ goes_on more into join (Some one) named =
     ∙ behind_told more into join one.0 one.1 (named one.0)
 
 -- an attribute is parsed as its text and what is behind
-pub attrib_parsed : (base : ℕ) (main refs : List Bool)
-    → (attrib_body base).parse main refs
+pub attrib_parsed : (version : Version) (base : ℕ) (main refs : List Bool)
+    → (attrib_body version base).parse main refs
     ≡ parse_behind attrib_more (λ (text : Text) (more : List ℕ × (ℕ × ℕ)). let attrib : Attrib = record { text = text; tag = more.0; length = more.1.0; flags = more.1.1 } in attrib)
-    ((text_body base).parse main refs)
+    ((text_body version base).parse main refs)
 unfolding attrib_body attrib_main text_body
-attrib_parsed base main refs =
+attrib_parsed version base main refs =
     goes_on attrib_more text_of (λ (text : Text) (more : List ℕ × (ℕ × ℕ)). let attrib : Attrib = record { text = text; tag = more.0; length = more.1.0; flags = more.1.1 } in attrib)
-    (text_main.parse main) (λ (told : Inscription). (reference base).parse refs)
+    ((text_main version).parse main) (λ (told : Inscription). (reference base).parse refs)
 
 -- and the definition of one as its attribute and what is behind
-pub attdef_parsed : (base : ℕ) (main refs : List Bool)
-    → (attdef_body base).parse main refs
-    ≡ parse_behind tv (λ (attrib : Attrib) (prompt : List ℕ). let attdef : Attdef = record { attrib = attrib; prompt = prompt } in attdef) ((attrib_body base).parse main refs)
+pub attdef_parsed : (version : Version) (base : ℕ) (main refs : List Bool)
+    → (attdef_body version base).parse main refs
+    ≡ parse_behind tv (λ (attrib : Attrib) (prompt : List ℕ). let attdef : Attdef = record { attrib = attrib; prompt = prompt } in attdef) ((attrib_body version base).parse main refs)
 unfolding attdef_body attrib_body
-attdef_parsed base main refs =
+attdef_parsed version base main refs =
     goes_on tv attrib_of (λ (attrib : Attrib) (prompt : List ℕ). let attdef : Attdef = record { attrib = attrib; prompt = prompt } in attdef)
-    (attrib_main.parse main) (λ (told : Inscription × (List ℕ × (ℕ × ℕ))). (reference base).parse refs)
+    ((attrib_main version).parse main) (λ (told : Inscription × (List ℕ × (ℕ × ℕ))). (reference base).parse refs)
 
 -- and an insert in columns and rows as its insert and what is behind
 pub minsert_parsed : (base : ℕ) (main refs : List Bool)
@@ -80,10 +82,10 @@ pub minsert_parsed : (base : ℕ) (main refs : List Bool)
     ≡ parse_behind minsert_more
     (λ (insert : Insert) (more : ℕ × (ℕ × (ℕ × ℕ))).
     let minsert : MInsert = record { insert = insert; columns = more.0; rows = more.1.0; column_spacing = more.1.1.0; row_spacing = more.1.1.1 } in minsert)
-    ((insert_body base).parse main refs)
+    ((insert_body Ac1015 base).parse main refs)
 unfolding minsert_body minsert_main insert_body
 minsert_parsed base main refs =
     goes_on minsert_more insert_of
     (λ (insert : Insert) (more : ℕ × (ℕ × (ℕ × ℕ))).
     let minsert : MInsert = record { insert = insert; columns = more.0; rows = more.1.0; column_spacing = more.1.1.0; row_spacing = more.1.1.1 } in minsert)
-    (insert_main.parse main) (λ (told : Setting). (insert_refs base told.1.1.1.1).grammar.parse refs)
+    ((insert_main Ac1015).parse main) (λ (told : Setting). (insert_refs base told.1.1.1.1).grammar.parse refs)

@@ -1,7 +1,8 @@
 -- The definition of an attribute (Open Design Specification, "ATTDEF").
 use Rattle.std.specs.Prelude.{ℕ}
+use Rattle.dwg_base.specs.declared.version.Version.{Version}
 use Rattle.dwg_grammar.specs.Codes.{tv}
-use Rattle.dwg_grammar.specs.Combinators.{seq}
+use Rattle.dwg_grammar.specs.Combinators.{◌⋄◌}
 use Rattle.dwg_grammar.specs.Bodies.{BodyGrammar}
 use Rattle.dwg_grammar.specs.MakingBodies.{body}
 use Rattle.dwg_grammar.specs.References.{one_ref}
@@ -9,7 +10,7 @@ use Rattle.dwg_entities.specs.declared.attdef.Attdef.{Attdef}
 use Rattle.dwg_entities.specs.AttribBody.{attrib_main, label_of, attrib_of}
 
 -- the main bits of its attribute; TV prompt; and among the references the style of its attribute's text
-unfoldable pub attdef_body : ℕ → BodyGrammar Attdef
-attdef_body base =
-    body (seq attrib_main (λ label. tv)) (λ told. one_ref base) (λ told style. record { attrib = attrib_of told.0 style; prompt = told.1 })
+unfoldable pub attdef_body : Version → ℕ → BodyGrammar Attdef
+attdef_body version base =
+    body (attrib_main version ⋄ tv) (λ told. one_ref base) (λ told style. record { attrib = attrib_of told.0 style; prompt = told.1 })
     (λ attdef. (label_of attdef.attrib, attdef.prompt)) (λ attdef. attdef.attrib.text.style)

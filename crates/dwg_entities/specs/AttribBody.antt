@@ -1,7 +1,8 @@
 -- An attribute (Open Design Specification, "ATTRIB").
 use Rattle.std.specs.Prelude.{ℕ, Bool, List}
+use Rattle.dwg_base.specs.declared.version.Version.{Version}
 use Rattle.dwg_grammar.specs.Codes.{rc, bs, tv}
-use Rattle.dwg_grammar.specs.Combinators.{seq}
+use Rattle.dwg_grammar.specs.Combinators.{◌⋄◌}
 use Rattle.dwg_grammar.specs.Grammar.{Grammar}
 use Rattle.dwg_grammar.specs.Bodies.{BodyGrammar}
 use Rattle.dwg_grammar.specs.MakingBodies.{body}
@@ -12,11 +13,11 @@ use Rattle.dwg_entities.specs.TextBody.{Inscription, text_main, inscription_of, 
 
 -- behind those of its text: TV tag; BS length; RC flags
 abbrev pub attrib_more : Grammar Bool (List ℕ × (ℕ × ℕ))
-attrib_more = seq tv (λ tag. seq bs (λ length. rc))
+attrib_more = tv ⋄ bs ⋄ rc
 
 -- its main bits
-unfoldable pub attrib_main : Grammar Bool (Inscription × (List ℕ × (ℕ × ℕ)))
-attrib_main = seq text_main (λ inscription. attrib_more)
+unfoldable pub attrib_main : Version → Grammar Bool (Inscription × (List ℕ × (ℕ × ℕ)))
+attrib_main version = text_main version ⋄ attrib_more
 
 -- what the main bits of an attribute tell
 abbrev pub label_of : Attrib → Inscription × (List ℕ × (ℕ × ℕ))
@@ -27,5 +28,5 @@ abbrev pub attrib_of : Inscription × (List ℕ × (ℕ × ℕ)) → Reference �
 attrib_of (inscription, (tag, (length, flags))) style = record { text = text_of inscription style; tag = tag; length = length; flags = flags }
 
 -- the main bits, and among the references the style of its text
-unfoldable pub attrib_body : ℕ → BodyGrammar Attrib
-attrib_body base = body attrib_main (λ told. one_ref base) attrib_of label_of (λ attrib. attrib.text.style)
+unfoldable pub attrib_body : Version → ℕ → BodyGrammar Attrib
+attrib_body version base = body (attrib_main version) (λ told. one_ref base) attrib_of label_of (λ attrib. attrib.text.style)

@@ -1,10 +1,12 @@
 -- Texts, attributes and their definitions, inserts, and the begin and end of blocks meet the laws of bodies.
 use Rattle.std.proofs.Common.{◌≡◌, refl, ap, ℕ, ◌^◌, ◌<◌, Bool, List, Option, arith}
-use Rattle.dwg_grammar.specs.Codes.{rd, bs, tv}
+use Rattle.dwg_base.specs.declared.version.Version.{Version}
+use Rattle.dwg_base.specs.declared.version.Version.TheVariants.{Ac1014, Ac1015}
+use Rattle.dwg_grammar.specs.Codes.{bs, tv}
 use Rattle.dwg_grammar.proofs.CombinatorLemmas.{always_is_code}
 use Rattle.dwg_grammar.proofs.BodyLemmas.{free_of_body}
-use Rattle.dwg_common.specs.LawSets.{codes, default_codes, parts, bodies}
-use Rattle.dwg_grammar.specs.Combinators.{seq}
+use Rattle.dwg_common.specs.LawSets.{codes, parts, bodies, versions}
+use Rattle.dwg_grammar.specs.Combinators.{◌⋄◌}
 use Rattle.dwg_grammar.specs.Grammar.{IsCode, AnyLetters}
 use Rattle.dwg_grammar.specs.Bodies.{IsBody, IsFreeBody}
 use Rattle.dwg_common.specs.CommonLaws.{there_by_test}
@@ -16,77 +18,83 @@ use Rattle.dwg_entities.specs.AttribBody.{attrib_main, attrib_body, attrib_of, l
 use Rattle.dwg_entities.specs.BlockBody.{block_body}
 use Rattle.dwg_entities.specs.Closing.{endblk_main, endblk_body, seqend_main, seqend_body}
 use Rattle.dwg_entities.specs.FlagLaws.{worth_told}
+use Rattle.dwg_entities.specs.declared.attdef.Attdef.{Attdef}
+use Rattle.dwg_entities.specs.declared.attrib.Attrib.{Attrib}
 use Rattle.dwg_entities.specs.declared.insert.Attributes.{Attributes}
+use Rattle.dwg_entities.specs.declared.insert.Insert.{Insert}
+use Rattle.dwg_entities.specs.declared.text.Text.{Text}
 use Rattle.dwg_entities.specs.InsertBody.{Setting, attributes, insert_refs, setting_of, insert_of, insert_body}
 use Rattle.dwg_entities.specs.MInsertBody.{minsert_main, repeats_of, minsert_of, minsert_body}
-use Rattle.dwg_grammar.specs.Points.{dd2}
 use Rattle.dwg_entities.specs.ScaleLaws.{scale_is_code}
-use Rattle.dwg_entities.specs.TextBody.{Inscription, flags_of, text_main, inscription_of, text_of, text_body}
+use Rattle.dwg_entities.specs.Scale.{newer_scale}
+use Rattle.dwg_entities.specs.TextBody.{Inscription, word, aligned, flags_of, text_main, inscription_of, text_of, text_body}
+use Rattle.dwg_entities.specs.TextLaws.{word_is_code, aligned_of_read, flags_small, inscription_narrower}
 
 -- what the main bits of a text tell is a code
-text_main_is_code : IsCode AnyLetters text_main
+text_main_is_code : (version : Version) → IsCode AnyLetters (text_main version)
 unfolding text_main
-text_main_is_code = search (codes, default_codes) depth 20
+text_main_is_code version = search (codes, versions, word_is_code, aligned_of_read) depth 20
 
 -- the flags follow from the parts that they tell
-flags_told : (told : Inscription) (style : Reference) → text_main.IsValue told → flags_of (text_of told style) ≡ told.0
+flags_told : (version : Version) (told : Inscription) (style : Reference) → (text_main version).IsValue told → flags_of (text_of told style) ≡ told.0
 unfolding text_main flags_of
-flags_told (flags, ((elevation, (insertion, (alignment, behind))), ((oblique, (rotation, (height, width))), (text, (generation, (horizontal, vertical)))))) style (small, (placed, (lettered, worded))) =
+flags_told version (flags, ((elevation, (insertion, (alignment, behind))), ((oblique, (rotation, (height, width))), (text, (generation, (horizontal, vertical)))))) style (small, (placed, (lettered, worded))) =
     omega (
       arith,
-      worth_told flags 0x01 rd elevation placed.0,
-      worth_told flags 0x02 (dd2 insertion) alignment placed.1.1.0,
-      worth_told flags 0x04 rd oblique lettered.0,
-      worth_told flags 0x08 rd rotation lettered.1.0,
-      worth_told flags 0x10 rd width lettered.1.1.1,
+      flags_small version flags small,
+      worth_told flags 0x01 (word version) elevation placed.0,
+      worth_told flags 0x02 (aligned version insertion) alignment placed.1.1.0,
+      worth_told flags 0x04 (word version) oblique lettered.0,
+      worth_told flags 0x08 (word version) rotation lettered.1.0,
+      worth_told flags 0x10 (word version) width lettered.1.1.1,
       worth_told flags 0x20 bs generation worded.1.0,
       worth_told flags 0x40 bs horizontal worded.1.1.0,
       worth_told flags 0x80 bs vertical worded.1.1.1,
     )
 
 -- so a text tells what it was put together of
-text_told : (told : Inscription) (style : Reference) → text_main.IsValue told → inscription_of (text_of told style) ≡ told
-text_told told style fits = ap (λ (flags : ℕ). let parts : Inscription = (flags, told.1) in parts) (flags_told told style fits)
+text_told : (version : Version) (told : Inscription) (style : Reference) → (text_main version).IsValue told → inscription_of (text_of told style) ≡ told
+text_told version told style fits = ap (λ (flags : ℕ). let parts : Inscription = (flags, told.1) in parts) (flags_told version told style fits)
 
 -- a text is a body
-pub text_is_body : (base : ℕ) → base < 2 ^ 63 → IsBody base (text_body base)
+pub text_is_body : (version : Version) (base : ℕ) → base < 2 ^ 63 → IsBody base (text_body version base)
 unfolding text_body
-text_is_body base small = search (bodies, text_main_is_code, text_told) depth 8
+text_is_body version base small = search (bodies, text_main_is_code, text_told) depth 8
 
-pub text_is_free : (base : ℕ) → base < 2 ^ 63 → IsFreeBody base (text_body base)
+pub text_is_free : (version : Version) (base : ℕ) → base < 2 ^ 63 → IsFreeBody base (text_body version base)
 unfolding text_body
-text_is_free base small = free_of_body base _ (text_is_body base small) (λ over. tt)
+text_is_free version base small = free_of_body base _ (text_is_body version base small) (λ over. tt)
 
 -- what the main bits of an attribute tell is a code
-attrib_main_is_code : IsCode AnyLetters attrib_main
+attrib_main_is_code : (version : Version) → IsCode AnyLetters (attrib_main version)
 unfolding attrib_main
-attrib_main_is_code = search (codes, text_main_is_code) depth 20
+attrib_main_is_code version = search (codes, text_main_is_code) depth 20
 
 -- and an attribute tells what it was put together of
-attrib_told : (told : Inscription × (List ℕ × (ℕ × ℕ))) (style : Reference) → attrib_main.IsValue told → label_of (attrib_of told style) ≡ told
+attrib_told : (version : Version) (told : Inscription × (List ℕ × (ℕ × ℕ))) (style : Reference) → (attrib_main version).IsValue told → label_of (attrib_of told style) ≡ told
 unfolding attrib_main
-attrib_told told style fits = ap (λ (text : Inscription). let parts : Inscription × (List ℕ × (ℕ × ℕ)) = (text, told.1) in parts) (text_told told.0 style fits.0)
+attrib_told version told style fits = ap (λ (text : Inscription). let parts : Inscription × (List ℕ × (ℕ × ℕ)) = (text, told.1) in parts) (text_told version told.0 style fits.0)
 
 -- it is a body
-pub attrib_is_body : (base : ℕ) → base < 2 ^ 63 → IsBody base (attrib_body base)
+pub attrib_is_body : (version : Version) (base : ℕ) → base < 2 ^ 63 → IsBody base (attrib_body version base)
 unfolding attrib_body
-attrib_is_body base small = search (bodies, attrib_main_is_code, attrib_told) depth 8
+attrib_is_body version base small = search (bodies, attrib_main_is_code, attrib_told) depth 8
 
-pub attrib_is_free : (base : ℕ) → base < 2 ^ 63 → IsFreeBody base (attrib_body base)
+pub attrib_is_free : (version : Version) (base : ℕ) → base < 2 ^ 63 → IsFreeBody base (attrib_body version base)
 unfolding attrib_body
-attrib_is_free base small = free_of_body base _ (attrib_is_body base small) (λ over. tt)
+attrib_is_free version base small = free_of_body base _ (attrib_is_body version base small) (λ over. tt)
 
 -- and so is its definition
-pub attdef_is_body : (base : ℕ) → base < 2 ^ 63 → IsBody base (attdef_body base)
+pub attdef_is_body : (version : Version) (base : ℕ) → base < 2 ^ 63 → IsBody base (attdef_body version base)
 unfolding attdef_body
-attdef_is_body base small =
-    body_is_body base (seq attrib_main (λ label. tv)) (λ told. one_ref base) _ _ _ (search (codes, attrib_main_is_code) depth 20) (λ told fits. search parts)
-    (λ told style fits names. (ap (λ (label : Inscription × (List ℕ × (ℕ × ℕ))). let parts : (Inscription × (List ℕ × (ℕ × ℕ))) × List ℕ = (label, told.1) in parts) (attrib_told told.0 style fits.0), refl))
+attdef_is_body version base small =
+    body_is_body base (attrib_main version ⋄ tv) (λ told. one_ref base) _ _ _ (search (codes, attrib_main_is_code) depth 20) (λ told fits. search parts)
+    (λ told style fits names. (ap (λ (label : Inscription × (List ℕ × (ℕ × ℕ))). let parts : (Inscription × (List ℕ × (ℕ × ℕ))) × List ℕ = (label, told.1) in parts) (attrib_told version told.0 style fits.0), refl))
     (λ value. refl)
 
-pub attdef_is_free : (base : ℕ) → base < 2 ^ 63 → IsFreeBody base (attdef_body base)
+pub attdef_is_free : (version : Version) (base : ℕ) → base < 2 ^ 63 → IsFreeBody base (attdef_body version base)
 unfolding attdef_body
-attdef_is_free base small = free_of_body base _ (attdef_is_body base small) (λ over. tt)
+attdef_is_free version base small = free_of_body base _ (attdef_is_body version base small) (λ over. tt)
 
 -- the attributes of an insert are a part of the references
 pub attributes_is_part : (base : ℕ) → base < 2 ^ 63 → IsReferencePart base (attributes base)
@@ -100,13 +108,13 @@ setting_told base told named names =
     (there_by_test told.1.1.1.1 (attributes base).grammar named.1 names.1)
 
 -- it is a body
-pub insert_is_body : (base : ℕ) → base < 2 ^ 63 → IsBody base (insert_body base)
+pub insert_is_body : (version : Version) (base : ℕ) → base < 2 ^ 63 → IsBody base (insert_body version base)
 unfolding insert_body
-insert_is_body base small = search (bodies, scale_is_code, setting_told) depth 20
+insert_is_body version base small = search (bodies, scale_is_code, setting_told) depth 20
 
-pub insert_is_free : (base : ℕ) → base < 2 ^ 63 → IsFreeBody base (insert_body base)
+pub insert_is_free : (version : Version) (base : ℕ) → base < 2 ^ 63 → IsFreeBody base (insert_body version base)
 unfolding insert_body
-insert_is_free base small = free_of_body base _ (insert_is_body base small) (λ over. tt)
+insert_is_free version base small = free_of_body base _ (insert_is_body version base small) (λ over. tt)
 
 -- one in columns and rows tells what it was put together of
 repeats_told : (base : ℕ) (told : Setting × (ℕ × (ℕ × (ℕ × ℕ)))) (named : Reference × Option Attributes) → (insert_refs base told.0.1.1.1.1).grammar.IsValue named
@@ -149,6 +157,23 @@ seqend_is_body base small = main_is_body base seqend_main (always_is_code AnyLet
 pub seqend_is_free : (base : ℕ) → base < 2 ^ 63 → IsFreeBody base (seqend_body base)
 unfolding seqend_body
 seqend_is_free base small = free_of_body base _ (seqend_is_body base small) (λ over. tt)
+
+-- what AC1014 can spell, AC1015 can spell
+pub text_narrower : (base : ℕ) (text : Text) → (text_body Ac1014 base).Fits text → (text_body Ac1015 base).Fits text
+unfolding text_body
+text_narrower base text fits = (inscription_narrower (inscription_of text) fits.0, fits.1)
+
+pub attrib_narrower : (base : ℕ) (attrib : Attrib) → (attrib_body Ac1014 base).Fits attrib → (attrib_body Ac1015 base).Fits attrib
+unfolding attrib_body attrib_main
+attrib_narrower base attrib fits = ((inscription_narrower (inscription_of attrib.text) fits.0.0, fits.0.1), fits.1)
+
+pub attdef_narrower : (base : ℕ) (attdef : Attdef) → (attdef_body Ac1014 base).Fits attdef → (attdef_body Ac1015 base).Fits attdef
+unfolding attdef_body attrib_main
+attdef_narrower base attdef fits = (((inscription_narrower (inscription_of attdef.attrib.text) fits.0.0.0, fits.0.0.1), fits.0.1), fits.1)
+
+pub insert_narrower : (base : ℕ) (insert : Insert) → (insert_body Ac1014 base).Fits insert → (insert_body Ac1015 base).Fits insert
+unfolding insert_body newer_scale
+insert_narrower base insert fits = fits
 
 -- any bits may follow each of these bodies
 pub ruleset bodies_are_free = (text_is_free, attrib_is_free, attdef_is_free, insert_is_free, minsert_is_free, block_is_free, endblk_is_free, seqend_is_free)

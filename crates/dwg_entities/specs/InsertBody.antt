@@ -1,7 +1,8 @@
 -- An insert of a block (Open Design Specification, "INSERT").
 use Rattle.std.specs.Prelude.{ℕ, Bool, Option, is_some}
+use Rattle.dwg_base.specs.declared.version.Version.{Version}
 use Rattle.dwg_grammar.specs.Codes.{bd, bd3, b}
-use Rattle.dwg_grammar.specs.Combinators.{seq}
+use Rattle.dwg_grammar.specs.Combinators.{◌⋄◌}
 use Rattle.dwg_grammar.specs.Grammar.{Grammar}
 use Rattle.dwg_grammar.specs.declared.points.Point3.{Point3}
 use Rattle.dwg_grammar.specs.Bodies.{BodyGrammar}
@@ -16,9 +17,9 @@ use Rattle.dwg_entities.specs.Scale.{scale}
 abbrev pub Setting : Type 0
 Setting = Point3 × (Point3 × (ℕ × (Point3 × Bool)))
 
--- 3BD place; scale; BD rotation; 3BD extrusion; B attributes
-abbrev pub insert_main : Grammar Bool Setting
-insert_main = seq bd3 (λ place. seq scale (λ scale. seq bd (λ rotation. seq bd3 (λ extrusion. b))))
+-- 3BD place; scale, in AC1014 3BD; BD rotation; 3BD extrusion; B attributes
+abbrev pub insert_main : Version → Grammar Bool Setting
+insert_main version = bd3 ⋄ scale version ⋄ bd ⋄ bd3 ⋄ b
 
 -- first, last, seqend
 abbrev pub attributes : ℕ → ReferencePart Attributes
@@ -40,5 +41,5 @@ insert_of (place, (scale, (rotation, (extrusion, there)))) (block, attributes) =
     record { place = place; scale = scale; rotation = rotation; extrusion = extrusion; block = block; attributes = attributes }
 
 -- the main bits, and the references that they tell of
-unfoldable pub insert_body : ℕ → BodyGrammar Insert
-insert_body base = body insert_main (λ told. insert_refs base told.1.1.1.1) insert_of setting_of (λ insert. (insert.block, insert.attributes))
+unfoldable pub insert_body : Version → ℕ → BodyGrammar Insert
+insert_body version base = body (insert_main version) (λ told. insert_refs base told.1.1.1.1) insert_of setting_of (λ insert. (insert.block, insert.attributes))

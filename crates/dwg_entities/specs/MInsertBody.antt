@@ -1,7 +1,8 @@
 -- An insert of a block in columns and rows (Open Design Specification, "MINSERT").
 use Rattle.std.specs.Prelude.{ℕ, Bool, Option}
+use Rattle.dwg_base.specs.declared.version.Version.TheVariants.{Ac1015}
 use Rattle.dwg_grammar.specs.Codes.{bs, bd}
-use Rattle.dwg_grammar.specs.Combinators.{seq}
+use Rattle.dwg_grammar.specs.Combinators.{◌⋄◌}
 use Rattle.dwg_grammar.specs.Grammar.{Grammar}
 use Rattle.dwg_grammar.specs.Bodies.{BodyGrammar}
 use Rattle.dwg_grammar.specs.MakingBodies.{body}
@@ -12,11 +13,11 @@ use Rattle.dwg_entities.specs.InsertBody.{Setting, insert_main, insert_refs, set
 
 -- behind those of its insert: BS columns; BS rows; BD column spacing; BD row spacing
 abbrev pub minsert_more : Grammar Bool (ℕ × (ℕ × (ℕ × ℕ)))
-minsert_more = seq bs (λ columns. seq bs (λ rows. seq bd (λ column_spacing. bd)))
+minsert_more = bs ⋄ bs ⋄ bd ⋄ bd
 
--- its main bits
+-- its main bits, which AC1015 alone has
 unfoldable pub minsert_main : Grammar Bool (Setting × (ℕ × (ℕ × (ℕ × ℕ))))
-minsert_main = seq insert_main (λ setting. minsert_more)
+minsert_main = insert_main Ac1015 ⋄ minsert_more
 
 -- what the main bits of such an insert tell of it
 abbrev pub repeats_of : MInsert → Setting × (ℕ × (ℕ × (ℕ × ℕ)))

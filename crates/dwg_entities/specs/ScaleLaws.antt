@@ -3,15 +3,18 @@ use Rattle.std.proofs.Common.{◌≡◌, refl, sym, ◌∙◌, ap, subst, ℕ, z
 use Rattle.std.specs.Prelude.{◌==◌}
 use Rattle.std.proofs.lemmas.Bool.Decides.{Decides-eqb}
 use Rattle.std.proofs.lemmas.List.{length-append}
-use Rattle.dwg_grammar.specs.Codes.{rd, dd, ONE, IsPoint3}
+use Rattle.dwg_base.specs.declared.version.Version.{Version}
+use Rattle.dwg_base.specs.declared.version.Version.TheVariants.{Ac1014, Ac1015}
+use Rattle.dwg_grammar.specs.Codes.{rd, dd, bd3, ONE, IsPoint3}
 use Rattle.dwg_grammar.specs.Combinators.{seq}
 use Rattle.dwg_grammar.proofs.CombinatorLemmas.{always_is_code, never_is_code, struct_is_code}
 use Rattle.dwg_common.specs.LawSets.{codes, default_codes}
 use Rattle.dwg_grammar.specs.Grammar.{IsCode, AnyLetters}
 use Rattle.dwg_grammar.proofs.NumberLemmas.{rd_is_code}
-use Rattle.dwg_grammar.proofs.TableLemmas.{bit_tagged_is_code}
+use Rattle.dwg_grammar.proofs.TableLemmas.{bit_tagged_is_code, bd3_is_code}
+use Rattle.dwg_grammar.proofs.VersionLemmas.{in_version_is_code}
 use Rattle.dwg_grammar.specs.declared.points.Point3.{Point3}
-use Rattle.dwg_entities.specs.Scale.{WHOLE, scale_free, scale_beside_one, scale_even, scale_by, tag_by, scale_tag, scale}
+use Rattle.dwg_entities.specs.Scale.{WHOLE, scale_free, scale_beside_one, scale_even, scale_by, tag_by, scale_tag, newer_scale, scale}
 
 -- 1.0 is a word
 one_is_word : ONE < 2 ^ 64
@@ -111,11 +114,26 @@ scale_least point zero false y_one z_one false z_same x y z same_y same_z fits =
 scale_least point (suc (suc zero)) false y_one z_one false z_same x y z same_y same_z fits = apart point.y point.x same_y fits.1
 scale_least point (suc (suc (suc (suc tag)))) x_one y_one z_one y_same z_same x y z same_y same_z fits = absurd fits
 
--- a scale is a code
-pub scale_is_code : IsCode AnyLetters scale
-unfolding scale
-scale_is_code =
+-- a scale of AC1015 is a code
+pub newer_scale_is_code : IsCode AnyLetters newer_scale
+unfolding newer_scale
+newer_scale_is_code =
     bit_tagged_is_code 2 scale_by IsPoint3 scale_tag
     (λ tag in_range. scale_by_is_code tag) (λ tag point in_range fits. scale_by_value tag point fits)
     (λ point fits. scale_picked point (point.x == ONE) (point.y == ONE) (point.z == ONE) (point.y == point.x) (point.z == point.x) refl refl refl refl refl fits)
     (λ tag point in_range fits. scale_least point tag (point.x == ONE) (point.y == ONE) (point.z == ONE) (point.y == point.x) (point.z == point.x) refl refl refl refl refl fits)
+
+-- and a scale is one in each version
+pub scale_is_code : (version : Version) → IsCode AnyLetters (scale version)
+scale_is_code version = in_version_is_code AnyLetters version bd3 newer_scale bd3_is_code newer_scale_is_code
+
+-- a point is a scale, and only a point
+pub scale_value : (version : Version) (point : Point3) → IsPoint3 point → (scale version).IsValue point
+unfolding newer_scale
+scale_value Ac1014 point is = is
+scale_value Ac1015 point is = is
+
+pub scale_point : (version : Version) (point : Point3) → (scale version).IsValue point → IsPoint3 point
+unfolding newer_scale
+scale_point Ac1014 point is = is
+scale_point Ac1015 point is = is

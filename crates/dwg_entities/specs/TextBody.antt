@@ -1,7 +1,8 @@
 -- A line of text (Open Design Specification, "TEXT").
 use Rattle.std.specs.Prelude.{ℕ, ◌+◌, Bool, List, Option}
-use Rattle.dwg_grammar.specs.Codes.{rc, rd, bs, bt, be, tv}
-use Rattle.dwg_grammar.specs.Combinators.{seq}
+use Rattle.dwg_base.specs.declared.version.Version.{Version}
+use Rattle.dwg_grammar.specs.Codes.{rc, rd, bs, bd, tv}
+use Rattle.dwg_grammar.specs.Combinators.{seq, ◌⋄◌}
 use Rattle.dwg_grammar.specs.Grammar.{Grammar}
 use Rattle.dwg_grammar.specs.declared.points.Point2.{Point2}
 use Rattle.dwg_grammar.specs.declared.points.Point3.{Point3}
@@ -12,26 +13,35 @@ use Rattle.dwg_grammar.specs.Reference.{Reference}
 use Rattle.dwg_entities.specs.declared.text.Text.{Text}
 use Rattle.dwg_entities.specs.Flags.{unless, worth_unless}
 use Rattle.dwg_grammar.specs.Points.{rd2, dd2}
+use Rattle.dwg_grammar.specs.Versions.{in_version, since_1015, thickness, extrusion}
 
--- where it stands: RD elevation unless 01; 2RD insertion; 2DD alignment against it unless 02; BE extrusion; BT thickness
-abbrev pub text_placing : ℕ → Grammar Bool (Option ℕ × (Point2 × (Option Point2 × (Point3 × ℕ))))
-text_placing flags = seq (unless flags 0x01 rd) (λ elevation. seq rd2 (λ insertion. seq (unless flags 0x02 (dd2 insertion)) (λ alignment. seq be (λ extrusion. bt))))
+-- a number of a text: RD, in AC1014 BD
+abbrev pub word : Version → Grammar Bool ℕ
+word version = in_version version bd rd
 
--- the form of its letters: RD oblique unless 04; RD rotation unless 08; RD height; RD width unless 10
-abbrev pub text_lettering : ℕ → Grammar Bool (Option ℕ × (Option ℕ × (ℕ × Option ℕ)))
-text_lettering flags = seq (unless flags 0x04 rd) (λ oblique. seq (unless flags 0x08 rd) (λ rotation. seq rd (λ height. unless flags 0x10 rd)))
+-- its alignment: 2DD against its insertion, in AC1014 2RD
+abbrev pub aligned : Version → Point2 → Grammar Bool Point2
+aligned version insertion = in_version version rd2 (dd2 insertion)
 
--- its words: TV text; BS generation unless 20; BS horizontal unless 40; BS vertical unless 80
+-- where it stands: RD elevation unless 01; 2RD insertion; 2DD alignment against it unless 02; BE extrusion; BT thickness. In AC1014 BD elevation; 2RD insertion; 2RD alignment; 3BD extrusion; BD thickness
+abbrev pub text_placing : Version → ℕ → Grammar Bool (Option ℕ × (Point2 × (Option Point2 × (Point3 × ℕ))))
+text_placing version flags = unless flags 0x01 (word version) ⋄ seq rd2 (λ insertion. unless flags 0x02 (aligned version insertion) ⋄ extrusion version ⋄ thickness version)
+
+-- the form of its letters: RD oblique unless 04; RD rotation unless 08; RD height; RD width unless 10. In AC1014 each is a BD
+abbrev pub text_lettering : Version → ℕ → Grammar Bool (Option ℕ × (Option ℕ × (ℕ × Option ℕ)))
+text_lettering version flags = unless flags 0x04 (word version) ⋄ unless flags 0x08 (word version) ⋄ word version ⋄ unless flags 0x10 (word version)
+
+-- its words: TV text; BS generation unless 20; BS horizontal unless 40; BS vertical unless 80. The same in AC1014
 abbrev pub text_wording : ℕ → Grammar Bool (List ℕ × (Option ℕ × (Option ℕ × Option ℕ)))
-text_wording flags = seq tv (λ text. seq (unless flags 0x20 bs) (λ generation. seq (unless flags 0x40 bs) (λ horizontal. unless flags 0x80 bs)))
+text_wording flags = tv ⋄ unless flags 0x20 bs ⋄ unless flags 0x40 bs ⋄ unless flags 0x80 bs
 
 -- what its main bits tell: its flags, where it stands, the form of its letters, its words
 abbrev pub Inscription : Type 0
 Inscription = ℕ × ((Option ℕ × (Point2 × (Option Point2 × (Point3 × ℕ)))) × ((Option ℕ × (Option ℕ × (ℕ × Option ℕ))) × (List ℕ × (Option ℕ × (Option ℕ × Option ℕ)))))
 
--- RC flags, and the parts by them
-unfoldable pub text_main : Grammar Bool Inscription
-text_main = seq rc (λ flags. seq (text_placing flags) (λ placing. seq (text_lettering flags) (λ lettering. text_wording flags)))
+-- RC flags, and the parts by them. AC1014 spells no flags: they are 0, so that each part is there
+unfoldable pub text_main : Version → Grammar Bool Inscription
+text_main version = seq (since_1015 version 0 rc) (λ flags. text_placing version flags ⋄ text_lettering version flags ⋄ text_wording flags)
 
 -- a flag is set exactly where its part is missing
 unfoldable pub flags_of : Text → ℕ
@@ -75,5 +85,5 @@ text_of (flags, ((elevation, (insertion, (alignment, (extrusion, thickness)))), 
 }
 
 -- the main bits, and among the references the style
-unfoldable pub text_body : ℕ → BodyGrammar Text
-text_body base = body text_main (λ told. one_ref base) text_of inscription_of (λ text. text.style)
+unfoldable pub text_body : Version → ℕ → BodyGrammar Text
+text_body version base = body (text_main version) (λ told. one_ref base) text_of inscription_of (λ text. text.style)

@@ -1,13 +1,15 @@
 //! The definition of an attribute.
 
 ghost use Rattle.std.specs.Prelude.{◌≡◌};
+ghost use Rattle.dwg_base.specs.declared.version.Version.TheVariants.{Ac1014};
+ghost use Rattle.dwg_common.proofs.LayoutLemmas.{same_alike};
 ghost use Rattle.dwg_entities.specs.AttdefBody.{attdef_body};
-ghost use Rattle.dwg_entities.specs.BodiesLaws.{attdef_is_body};
+ghost use Rattle.dwg_entities.specs.BodiesLaws.{attdef_is_body, attdef_narrower};
 
 use crate::attrib::Attrib;
 use dwg_base::{ByteRun, Handle, NoMemory};
 use dwg_bits::{BitCursor, BitSink};
-use dwg_common::{BodyCode, Lengths, parse_tv, tv_bits, tv_fits, write_tv};
+use dwg_common::{BodyCode, BodyCode14, Layout, Lengths, parse_tv, tv_bits, tv_fits, write_tv};
 use std::alloc::Global;
 
 /// The definition of an attribute (Open Design Specification, "ATTDEF").
@@ -20,16 +22,17 @@ pub struct Attdef {
 }
 
 impl BodyCode for Attdef {
-    ghost grammar = { attdef_body };
+    ghost grammar = { λ layout. attdef_body layout.version };
 
     #[tactic(auto, using(crate::proofs::GoingOn::attdef_parsed))]
     fn parse(
         alloc: Global,
+        layout: Layout,
         main: &mut BitCursor<'_>,
         refs: &mut BitCursor<'_>,
         base: Handle,
     ) -> Result<Option<Attdef>, NoMemory> {
-        let Some(attrib) = Attrib::parse(alloc, main, refs, base)? else {
+        let Some(attrib) = Attrib::parse(alloc, layout, main, refs, base)? else {
             return Ok(None);
         };
         let Some(prompt) = parse_tv(alloc, main)? else {
@@ -39,16 +42,16 @@ impl BodyCode for Attdef {
     }
 
     #[tactic(auto, unfolding(crate::specs::AttdefBody::attdef_body, crate::specs::AttribBody::attrib_body))]
-    fn fits(&self, base: Handle) -> bool {
+    fn fits_in(&self, layout: Layout, base: Handle) -> bool {
         if !tv_fits(self.prompt.as_slice()) {
             return false;
         }
-        self.attrib.fits(base)
+        self.attrib.fits_in(layout, base)
     }
 
     #[tactic(auto, unfolding(crate::specs::AttdefBody::attdef_body, crate::specs::AttribBody::attrib_body))]
-    fn lengths(&self, base: Handle) -> Lengths {
-        let attrib = self.attrib.lengths(base);
+    fn lengths_in(&self, layout: Layout, base: Handle) -> Lengths {
+        let attrib = self.attrib.lengths_in(layout, base);
         Lengths {
             main: attrib.main + tv_bits(self.prompt.as_slice()),
             refs: attrib.refs,
@@ -56,15 +59,21 @@ impl BodyCode for Attdef {
     }
 
     #[tactic(auto, unfolding(crate::specs::AttdefBody::attdef_body, crate::specs::AttribBody::attrib_body))]
-    fn write_main(&self, base: Handle, sink: &mut BitSink) {
-        self.attrib.write_main(base, sink);
+    fn write_main_in(&self, layout: Layout, base: Handle, sink: &mut BitSink) {
+        self.attrib.write_main_in(layout, base, sink);
         write_tv(self.prompt.as_slice(), sink);
     }
 
     #[tactic(auto, unfolding(crate::specs::AttdefBody::attdef_body, crate::specs::AttribBody::attrib_body))]
-    fn write_refs(&self, base: Handle, sink: &mut BitSink) {
-        self.attrib.write_refs(base, sink);
+    fn write_refs_in(&self, layout: Layout, base: Handle, sink: &mut BitSink) {
+        self.attrib.write_refs_in(layout, base, sink);
     }
 
-    ghost laws = { λ base small. attdef_is_body base small };
+    ghost laws = { λ layout base few small. attdef_is_body layout.version base small };
+}
+
+impl BodyCode14 for Attdef {
+    ghost narrower = { attdef_narrower };
+
+    ghost sizes_alike = { λ size base value. same_alike (attdef_body Ac1014 base) value };
 }

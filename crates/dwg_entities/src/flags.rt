@@ -1,9 +1,14 @@
 //! Parts that stand unless a flag is set, as bits (Open Design Specification, "TEXT").
 
 ghost use Rattle.std.specs.Prelude.{◌≡◌, ◌<◌, ◌≤◌, ◌↔◌, IsTrue};
-ghost use Rattle.dwg_grammar.specs.Codes.{bs, rd};
+ghost use Rattle.dwg_grammar.specs.Codes.{bs};
 ghost use Rattle.dwg_grammar.specs.Flags.{has};
 ghost use Rattle.dwg_entities.specs.Flags.{unless, worth_unless};
+ghost use Rattle.dwg_entities.specs.TextBody.{aligned, word};
+
+use crate::words::{known_alignment, known_word};
+use dwg_base::Version;
+use dwg_codes::Point2;
 
 /// Whether the bit of this worth is set.
 pub(crate) fn has(flags: u8, worth: u8) -> bool
@@ -24,14 +29,38 @@ pub(crate) fn worth_unless<T>(part: &Option<T>, worth: u8) -> u8
     }
 }
 
-/// Whether a word is there exactly where the bit of this worth isn't set.
-pub(crate) fn word_fits(flags: u8, worth: u8, word: Option<u64>) -> bool
+/// Whether a number is there exactly where the bit of this worth isn't set.
+pub(crate) fn word_fits(version: Version, flags: u8, worth: u8, number: Option<u64>) -> bool
     requires { 0 < worth }
-    ensures { IsTrue result ↔ (unless flags worth rd).IsValue word }
+    ensures { IsTrue result ↔ (unless flags worth (word version)).IsValue number }
 {
     let missing = has(flags, worth);
-    match word {
-        Some(_) => !missing,
+    match number {
+        Some(inner) => {
+            known_word(version, inner);
+            !missing
+        }
+        None => missing,
+    }
+}
+
+/// Whether an alignment is there exactly where the bit of this worth isn't set.
+pub(crate) fn alignment_fits(
+    version: Version,
+    flags: u8,
+    worth: u8,
+    insertion: Point2,
+    alignment: Option<Point2>,
+) -> bool
+    requires { 0 < worth }
+    ensures { IsTrue result ↔ (unless flags worth (aligned version insertion)).IsValue alignment }
+{
+    let missing = has(flags, worth);
+    match alignment {
+        Some(inner) => {
+            known_alignment(version, insertion, inner);
+            !missing
+        }
         None => missing,
     }
 }

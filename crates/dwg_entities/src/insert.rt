@@ -1,15 +1,19 @@
 //! An insert of a block.
 
 ghost use Rattle.std.specs.Prelude.{◌≡◌, ◌<◌, length};
-ghost use Rattle.dwg_entities.specs.BodiesLaws.{insert_is_body};
+ghost use Rattle.dwg_base.specs.declared.version.Version.TheVariants.{Ac1014};
+ghost use Rattle.dwg_common.proofs.LayoutLemmas.{same_alike};
+ghost use Rattle.dwg_entities.specs.BodiesLaws.{insert_is_body, insert_narrower};
 ghost use Rattle.dwg_entities.specs.InsertBody.{insert_body};
 
 use crate::attributes::{CodeAttributes, attributes_fit_where_there};
-use crate::scale::CodeScale;
+use crate::scale::{CodeScale, known_scale};
 use dwg_base::{Handle, NoMemory};
 use dwg_bits::{BitCursor, BitSink};
 use dwg_codes::{BitCode, Code3BD, CodeB, CodeBD, Point3, length_when, write_when};
-use dwg_common::{BodyCode, Lengths, known_point, parse_code, parse_ref, parse_when};
+use dwg_common::{
+    BodyCode, BodyCode14, Layout, Lengths, known_point, parse_code, parse_ref, parse_when,
+};
 use dwg_handles::{CodeH, Ref};
 use std::alloc::Global;
 
@@ -42,11 +46,12 @@ pub struct Insert {
 }
 
 impl BodyCode for Insert {
-    ghost grammar = { insert_body };
+    ghost grammar = { λ layout. insert_body layout.version };
 
     #[tactic(auto, unfolding(crate::specs::InsertBody::insert_body))]
     fn parse(
         _alloc: Global,
+        layout: Layout,
         main: &mut BitCursor<'_>,
         refs: &mut BitCursor<'_>,
         base: Handle,
@@ -54,7 +59,7 @@ impl BodyCode for Insert {
         let Some(place) = parse_code::<Code3BD>(&(), main) else {
             return Ok(None);
         };
-        let Some(scale) = parse_code::<CodeScale>(&(), main) else {
+        let Some(scale) = parse_code::<CodeScale>(&layout.version, main) else {
             return Ok(None);
         };
         let Some(rotation) = parse_code::<CodeBD>(&(), main) else {
@@ -82,11 +87,11 @@ impl BodyCode for Insert {
         }))
     }
 
-    #[tactic(auto, unfolding(crate::specs::InsertBody::insert_body, crate::specs::Scale::scale, dwg_grammar::specs::ReferenceCodes::reference))]
-    fn fits(&self, base: Handle) -> bool {
+    #[tactic(auto, unfolding(crate::specs::InsertBody::insert_body, dwg_grammar::specs::ReferenceCodes::reference))]
+    fn fits_in(&self, layout: Layout, base: Handle) -> bool {
         // The codes of the main bits tell every number of their types.
         known_point(&self.place);
-        known_point(&self.scale);
+        known_scale(layout.version, &self.scale);
         let _rotation = self.rotation;
         known_point(&self.extrusion);
         if !self.block.fits(base) {
@@ -96,11 +101,11 @@ impl BodyCode for Insert {
     }
 
     #[tactic(auto, unfolding(crate::specs::InsertBody::insert_body))]
-    fn lengths(&self, base: Handle) -> Lengths {
+    fn lengths_in(&self, layout: Layout, base: Handle) -> Lengths {
         let there = self.attributes.is_some();
         Lengths {
             main: Code3BD::length(&(), &self.place)
-                + CodeScale::length(&(), &self.scale)
+                + CodeScale::length(&layout.version, &self.scale)
                 + CodeBD::length(&(), &self.rotation)
                 + Code3BD::length(&(), &self.extrusion)
                 + CodeB::length(&(), &there),
@@ -110,20 +115,26 @@ impl BodyCode for Insert {
     }
 
     #[tactic(auto, unfolding(crate::specs::InsertBody::insert_body))]
-    fn write_main(&self, _base: Handle, sink: &mut BitSink) {
+    fn write_main_in(&self, layout: Layout, _base: Handle, sink: &mut BitSink) {
         Code3BD::write(&(), &self.place, sink);
-        CodeScale::write(&(), &self.scale, sink);
+        CodeScale::write(&layout.version, &self.scale, sink);
         CodeBD::write(&(), &self.rotation, sink);
         Code3BD::write(&(), &self.extrusion, sink);
         CodeB::write(&(), &self.attributes.is_some(), sink);
     }
 
     #[tactic(auto, unfolding(crate::specs::InsertBody::insert_body))]
-    fn write_refs(&self, base: Handle, sink: &mut BitSink) {
+    fn write_refs_in(&self, _layout: Layout, base: Handle, sink: &mut BitSink) {
         let there = self.attributes.is_some();
         CodeH::write(&base, &self.block, sink);
         write_when::<CodeAttributes>(&base, there, &self.attributes, sink);
     }
 
-    ghost laws = { λ base small. insert_is_body base small };
+    ghost laws = { λ layout base few small. insert_is_body layout.version base small };
+}
+
+impl BodyCode14 for Insert {
+    ghost narrower = { insert_narrower };
+
+    ghost sizes_alike = { λ size base value. same_alike (insert_body Ac1014 base) value };
 }

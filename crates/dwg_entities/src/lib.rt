@@ -13,6 +13,7 @@ mod laws;
 mod minsert;
 mod scale;
 mod text;
+mod words;
 
 pub use attdef::Attdef;
 pub use attrib::Attrib;

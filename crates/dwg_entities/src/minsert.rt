@@ -6,11 +6,17 @@ ghost use Rattle.dwg_entities.specs.BodiesLaws.{minsert_is_body};
 ghost use Rattle.dwg_entities.specs.MInsertBody.{minsert_body, minsert_more, repeats_of};
 
 use crate::insert::Insert;
-use dwg_base::{Handle, NoMemory};
+use dwg_base::{Handle, NoMemory, Version};
 use dwg_bits::{BitCursor, BitSink};
 use dwg_codes::{BitCode, CodeBD, CodeBS};
-use dwg_common::{BodyCode, Lengths, parse_code};
+use dwg_common::{BodyCode, Layout, Lengths, parse_code};
 use std::alloc::Global;
+
+/// The layout of its insert: only AC1015 has these.
+const NEWER: Layout = Layout {
+    version: Version::Ac1015,
+    size: 0,
+};
 
 /// An insert of a block that is repeated in columns and rows (Open Design Specification, "MINSERT").
 #[derive(Clone, Copy, Debug, PartialEq, Eq)]
@@ -40,16 +46,17 @@ fn write_repeats(minsert: &MInsert, sink: &mut BitSink)
 }
 
 impl BodyCode for MInsert {
-    ghost grammar = { minsert_body };
+    ghost grammar = { λ layout. minsert_body };
 
     #[tactic(auto, using(crate::proofs::GoingOn::minsert_parsed))]
     fn parse(
         alloc: Global,
+        _layout: Layout,
         main: &mut BitCursor<'_>,
         refs: &mut BitCursor<'_>,
         base: Handle,
     ) -> Result<Option<MInsert>, NoMemory> {
-        let Some(insert) = Insert::parse(alloc, main, refs, base)? else {
+        let Some(insert) = Insert::parse(alloc, NEWER, main, refs, base)? else {
             return Ok(None);
         };
         let Some(columns) = parse_code::<CodeBS>(&(), main) else {
@@ -74,7 +81,7 @@ impl BodyCode for MInsert {
     }
 
     #[tactic(auto, unfolding(crate::specs::MInsertBody::minsert_body, crate::specs::MInsertBody::minsert_main, crate::specs::InsertBody::insert_body))]
-    fn fits(&self, base: Handle) -> bool {
+    fn fits_in(&self, _layout: Layout, base: Handle) -> bool {
         // Their codes tell every number of their types.
         let _columns = self.columns;
         let _rows = self.rows;
@@ -84,7 +91,7 @@ impl BodyCode for MInsert {
     }
 
     #[tactic(auto, unfolding(crate::specs::MInsertBody::minsert_body, crate::specs::MInsertBody::minsert_main, crate::specs::InsertBody::insert_body))]
-    fn lengths(&self, base: Handle) -> Lengths {
+    fn lengths_in(&self, _layout: Layout, base: Handle) -> Lengths {
         let insert = self.insert.lengths(base);
         Lengths {
             main: insert.main
@@ -97,15 +104,15 @@ impl BodyCode for MInsert {
     }
 
     #[tactic(auto, unfolding(crate::specs::MInsertBody::minsert_body, crate::specs::MInsertBody::minsert_main, crate::specs::InsertBody::insert_body))]
-    fn write_main(&self, base: Handle, sink: &mut BitSink) {
+    fn write_main_in(&self, _layout: Layout, base: Handle, sink: &mut BitSink) {
         self.insert.write_main(base, sink);
         write_repeats(self, sink);
     }
 
     #[tactic(auto, unfolding(crate::specs::MInsertBody::minsert_body, crate::specs::MInsertBody::minsert_main, crate::specs::InsertBody::insert_body))]
-    fn write_refs(&self, base: Handle, sink: &mut BitSink) {
+    fn write_refs_in(&self, _layout: Layout, base: Handle, sink: &mut BitSink) {
         self.insert.write_refs(base, sink);
     }
 
-    ghost laws = { λ base small. minsert_is_body base small };
+    ghost laws = { λ layout base few small. minsert_is_body base small };
 }

@@ -4,12 +4,13 @@ ghost use Rattle.std.specs.Prelude.{◌≡◌, ◌<◌, ◌≤◌, ⊤, length};
 ghost use Rattle.dwg_bits.specs.Sink.{Extends};
 ghost use Rattle.dwg_grammar.specs.Codes.{IsPoint3};
 ghost use Rattle.dwg_common.specs.Parsing.{Keeps, Parses};
-ghost use Rattle.dwg_entities.specs.Scale.{scale, scale_beside_one, scale_by, scale_even, scale_free, scale_tag};
-ghost use Rattle.dwg_entities.specs.ScaleLaws.{scale_is_code};
+ghost use Rattle.dwg_entities.specs.Scale.{newer_scale, scale, scale_beside_one, scale_by, scale_even, scale_free, scale_tag};
+ghost use Rattle.dwg_entities.specs.ScaleLaws.{newer_scale_is_code, scale_is_code};
 
+use dwg_base::Version;
 use dwg_bits::{BitCursor, BitSink};
-use dwg_codes::{BitCode, CodeBB, CodeDD, CodeRD, ONE_WORD, Point3};
-use dwg_common::parse_code;
+use dwg_codes::{BitCode, Code3BD, CodeBB, CodeDD, CodeRD, ONE_WORD, Point3};
+use dwg_common::{known_point, parse_code};
 
 /// The tag of a scale of any words.
 const FREE: u8 = 0;
@@ -73,9 +74,9 @@ fn read_behind(tag: u8, cursor: &mut BitCursor<'_>) -> Option<Point3>
 }
 
 /// Reads a scale, as it is parsed.
-#[tactic(auto, unfolding(crate::specs::Scale::scale))]
+#[tactic(auto, unfolding(crate::specs::Scale::newer_scale))]
 fn read_scale(cursor: &mut BitCursor<'_>) -> Option<Point3>
-    ensures parsed { Parses scale result cursor.old cursor.new }
+    ensures parsed { Parses newer_scale result cursor.old cursor.new }
     ensures kept { Keeps cursor.old cursor.new }
 {
     let tag = parse_code::<CodeBB>(&(), cursor)?;
@@ -147,20 +148,20 @@ fn write_behind(tag: u8, point: &Point3, sink: &mut BitSink)
     }
 }
 
-/// The scale of an insert: BB 11 for 1.0 along each axis; 01 where x is 1.0, and y and z each a DD against 1.0; 10 and an RD
+/// The scale of an insert in AC1015: BB 11 for 1.0 along each axis; 01 where x is 1.0, and y and z each a DD against 1.0; 10 and an RD
 /// for all three; 00 and an RD x, and y and z each a DD against x.
-pub(crate) struct CodeScale;
+struct CodeNewerScale;
 
-impl BitCode for CodeScale {
+impl BitCode for CodeNewerScale {
     type Context = ();
 
     type Value = Point3;
 
-    ghost grammar = { λ context. scale };
+    ghost grammar = { λ context. newer_scale };
 
     ghost IsContext = { λ context. ⊤ };
 
-    #[tactic(auto, using(dwg_common::proofs::PartReading::part_read, dwg_common::proofs::PartReading::part_unread, dwg_grammar::proofs::BodyReading::parsed_value, crate::specs::ScaleLaws::scale_is_code))]
+    #[tactic(auto, using(dwg_common::proofs::PartReading::part_read, dwg_common::proofs::PartReading::part_unread, dwg_grammar::proofs::BodyReading::parsed_value, crate::specs::ScaleLaws::newer_scale_is_code))]
     fn read(_context: &(), cursor: &mut BitCursor<'_>) -> Option<Point3> {
         let mut ahead = *cursor;
         let point = read_scale(&mut ahead)?;
@@ -168,18 +169,65 @@ impl BitCode for CodeScale {
         Some(point)
     }
 
-    #[tactic(auto, unfolding(crate::specs::Scale::scale), using(dwg_bits::proofs::BitLaws::length_of_low_bits))]
+    #[tactic(auto, unfolding(crate::specs::Scale::newer_scale), using(dwg_bits::proofs::BitLaws::length_of_low_bits))]
     fn length(_context: &(), value: &Point3) -> u64 {
         let tag = scale_tag(value);
         CodeBB::length(&(), &tag) + bits_behind(tag, value)
     }
 
-    #[tactic(auto, unfolding(crate::specs::Scale::scale))]
+    #[tactic(auto, unfolding(crate::specs::Scale::newer_scale))]
     fn write(_context: &(), value: &Point3, sink: &mut BitSink) {
         let tag = scale_tag(value);
         CodeBB::write(&(), &tag, sink);
         write_behind(tag, value, sink);
     }
 
-    ghost laws = { λ context is. scale_is_code };
+    ghost laws = { λ context is. newer_scale_is_code };
+}
+
+/// The scale of an insert: in AC1014 3BD.
+pub(crate) struct CodeScale;
+
+impl BitCode for CodeScale {
+    type Context = Version;
+
+    type Value = Point3;
+
+    ghost grammar = { scale };
+
+    ghost IsContext = { λ version. ⊤ };
+
+    fn read(context: &Version, cursor: &mut BitCursor<'_>) -> Option<Point3> {
+        match *context {
+            Version::Ac1014 => Code3BD::read(&(), cursor),
+            Version::Ac1015 => CodeNewerScale::read(&(), cursor),
+        }
+    }
+
+    #[tactic(auto, using(crate::specs::ScaleLaws::scale_point))]
+    fn length(context: &Version, value: &Point3) -> u64 {
+        match *context {
+            Version::Ac1014 => Code3BD::length(&(), value),
+            Version::Ac1015 => CodeNewerScale::length(&(), value),
+        }
+    }
+
+    #[tactic(auto, using(crate::specs::ScaleLaws::scale_point))]
+    fn write(context: &Version, value: &Point3, sink: &mut BitSink) {
+        match *context {
+            Version::Ac1014 => Code3BD::write(&(), value, sink),
+            Version::Ac1015 => CodeNewerScale::write(&(), value, sink),
+        }
+    }
+
+    ghost laws = { λ version is. scale_is_code version };
+}
+
+/// A point is a scale in each version: it finds nothing out, as `known_point`.
+#[tactic(auto, using(crate::specs::ScaleLaws::scale_value))]
+pub(crate) fn known_scale(version: Version, point: &Point3)
+    ensures { (scale version).IsValue point.now }
+{
+    let _newer = version.is_newer();
+    known_point(point);
 }

@@ -2,22 +2,25 @@
 
 ghost use Rattle.std.specs.Prelude.{◌≡◌, ◌≤◌, ◌↔◌, length, option_map, IfOk, IsTrue};
 ghost use Rattle.dwg_bits.specs.Sink.{Extends};
+ghost use Rattle.dwg_base.specs.declared.version.Version.TheVariants.{Ac1014};
+ghost use Rattle.dwg_common.proofs.LayoutLemmas.{same_alike};
 ghost use Rattle.dwg_common.specs.Parsing.{Keeps, Parses};
-ghost use Rattle.dwg_grammar.specs.Points.{dd2};
-ghost use Rattle.dwg_entities.specs.BodiesLaws.{text_is_body};
-ghost use Rattle.dwg_entities.specs.Flags.{unless};
+ghost use Rattle.dwg_grammar.specs.Codes.{rc};
+ghost use Rattle.dwg_grammar.specs.Versions.{since_1015};
+ghost use Rattle.dwg_entities.specs.BodiesLaws.{text_is_body, text_narrower};
 ghost use Rattle.dwg_entities.specs.TextBody.{flags_of, lettering_of, placing_of, text_body, text_lettering, text_placing, text_wording, wording_of};
 ghost use Rattle.dwg_entities.specs.TextReading.{lettering_read, placing_read, wording_read};
 
-use crate::flags::{has, number_fits, word_fits, worth_unless};
-use dwg_base::{ByteRun, Handle, NoMemory};
+use crate::flags::{alignment_fits, has, number_fits, word_fits, worth_unless};
+use crate::words::{CodeAlignment, CodeWord, known_word};
+use dwg_base::{ByteRun, Handle, NoMemory, Version};
 use dwg_bits::{BitCursor, BitSink};
 use dwg_codes::{
-    BitCode, CodeBE, CodeBS, CodeBT, CodeRC, CodeRD, Point2, Point3, length_when, write_when,
+    BitCode, CodeBS, CodeExtrusion, CodeRC, CodeThickness, Point2, Point3, length_when, write_when,
 };
 use dwg_common::{
-    BodyCode, Code2DD, Code2RD, Lengths, known_point, parse_code, parse_ref, parse_tv, parse_when,
-    tv_bits, tv_fits, write_tv,
+    BodyCode, BodyCode14, Code2RD, Layout, Lengths, field, known_place, length_given, parse_code,
+    parse_given, parse_ref, parse_when, write_given,
 };
 use dwg_handles::{Ref, ref_bits, write_ref};
 use std::alloc::Global;
@@ -120,6 +123,126 @@ const NO_HORIZONTAL: u8 = 0x40;
 /// Of one without a vertical alignment.
 const NO_VERTICAL: u8 = 0x80;
 
+/// What is done with a part of a text: its fields in the order of their bits, each with its code, with the field that it is told
+/// against, and with the flag that is set where it is missing.
+///
+/// - `parse alloc, version, flags, cursor`: the part as it is parsed, `Ok(None)` where there is none;
+/// - `fits of, version, flags`: goes on where all fit;
+/// - `bits of, version, flags`: its length;
+/// - `write of, version, flags, sink`.
+macro_rules! text_row {
+    ([$name:ident { $($field:ident: $code:ident $(against $default:ident)? $(unless $flag:ident)?),* $(,)? }] parse $alloc:expr, $version:expr, $flags:expr, $cursor:expr) => {{
+        $(text_field!(parse $code [$($default)?] [$($flags, $flag)?] $field, $alloc, $version, $cursor);)*
+        Ok(Some($name { $($field),* }))
+    }};
+    ([$name:ident { $first:ident: $first_code:ident $(unless $first_flag:ident)? $(, $field:ident: $code:ident $(against $default:ident)? $(unless $flag:ident)?)* $(,)? }] bits $of:expr, $version:expr, $flags:expr) => {
+        text_field!(bits $first_code [] [$($flags, $first_flag)?] $of, $first, $version)
+            $(+ text_field!(bits $code [$($of.$default)?] [$($flags, $flag)?] $of, $field, $version))*
+    };
+    ([$name:ident { $($field:ident: $code:ident $(against $default:ident)? $(unless $flag:ident)?),* $(,)? }] fits $of:expr, $version:expr, $flags:expr) => {
+        $(text_field!(fits $code [$($of.$default)?] [$($flags, $flag)?] $of, $field, $version);)*
+    };
+    ([$name:ident { $($field:ident: $code:ident $(against $default:ident)? $(unless $flag:ident)?),* $(,)? }] write $of:expr, $version:expr, $flags:expr, $sink:expr) => {
+        $(text_field!(write $code [$($of.$default)?] [$($flags, $flag)?] $of, $field, $version, $sink);)*
+    };
+}
+
+/// What is done with one field, by its code, the field that it is told against, and the flags with its own.
+macro_rules! text_field {
+    (context CodeWord [] $version:expr) => {
+        &$version
+    };
+    (context CodeAlignment [$default:expr] $version:expr) => {
+        &($version, $default)
+    };
+    (context CodeBS [] $version:expr) => {
+        &()
+    };
+    (parse $code:ident [$($default:expr)?] [$flags:expr, $flag:ident] $field:ident, $alloc:expr, $version:expr, $cursor:expr) => {
+        let Some($field) = parse_when::<$code>(text_field!(context $code [$($default)?] $version), !has($flags, $flag), $cursor) else {
+            return Ok(None);
+        };
+    };
+    (parse CodeWord [] [] $field:ident, $alloc:expr, $version:expr, $cursor:expr) => {
+        let Some($field) = parse_code::<CodeWord>(&$version, $cursor) else {
+            return Ok(None);
+        };
+    };
+    (fits CodeWord [] [$flags:expr, $flag:ident] $of:expr, $field:ident, $version:expr) => {
+        if !word_fits($version, $flags, $flag, $of.$field) {
+            return false;
+        }
+    };
+    (fits CodeAlignment [$default:expr] [$flags:expr, $flag:ident] $of:expr, $field:ident, $version:expr) => {
+        if !alignment_fits($version, $flags, $flag, $default, $of.$field) {
+            return false;
+        }
+    };
+    (fits CodeBS [] [$flags:expr, $flag:ident] $of:expr, $field:ident, $version:expr) => {
+        if !number_fits($flags, $flag, $of.$field) {
+            return false;
+        }
+    };
+    (fits CodeWord [] [] $of:expr, $field:ident, $version:expr) => {
+        known_word($version, $of.$field);
+    };
+    (fits Code2RD [] [] $of:expr, $field:ident, $version:expr) => {
+        known_place(&$of.$field);
+    };
+    (bits $code:ident [$($default:expr)?] [$flags:expr, $flag:ident] $of:expr, $field:ident, $version:expr) => {
+        length_when::<$code>(text_field!(context $code [$($default)?] $version), !has($flags, $flag), &$of.$field)
+    };
+    (bits CodeWord [] [] $of:expr, $field:ident, $version:expr) => {
+        CodeWord::length(&$version, &$of.$field)
+    };
+    (write $code:ident [$($default:expr)?] [$flags:expr, $flag:ident] $of:expr, $field:ident, $version:expr, $sink:expr) => {
+        write_when::<$code>(text_field!(context $code [$($default)?] $version), !has($flags, $flag), &$of.$field, $sink);
+    };
+    (write CodeWord [] [] $of:expr, $field:ident, $version:expr, $sink:expr) => {
+        CodeWord::write(&$version, &$of.$field, $sink);
+    };
+    ($done:ident $code:ident [] [] $($how:tt)*) => {
+        field!($done $code, $($how)*)
+    };
+}
+
+/// What is done with where a text stands.
+macro_rules! placing_row {
+    ($($done:tt)*) => {
+        text_row!([Placing {
+            elevation: CodeWord unless NO_ELEVATION,
+            insertion: Code2RD,
+            alignment: CodeAlignment against insertion unless NO_ALIGNMENT,
+            extrusion: CodeExtrusion,
+            thickness: CodeThickness,
+        }] $($done)*)
+    };
+}
+
+/// What is done with the form of its letters.
+macro_rules! lettering_row {
+    ($($done:tt)*) => {
+        text_row!([Lettering {
+            oblique: CodeWord unless NO_OBLIQUE,
+            rotation: CodeWord unless NO_ROTATION,
+            height: CodeWord,
+            width: CodeWord unless NO_WIDTH,
+        }] $($done)*)
+    };
+}
+
+/// What is done with its words.
+macro_rules! wording_row {
+    ($($done:tt)*) => {
+        text_row!([Wording {
+            text: Tv,
+            generation: CodeBS unless NO_GENERATION,
+            horizontal: CodeBS unless NO_HORIZONTAL,
+            vertical: CodeBS unless NO_VERTICAL,
+        }] $($done)*)
+    };
+}
+
 /// The flags of a text: each is set exactly where its part is missing.
 #[tactic(auto, unfolding(crate::specs::TextBody::flags_of))]
 fn flags_of(text: &Text) -> u8
@@ -135,144 +258,104 @@ fn flags_of(text: &Text) -> u8
         + worth_unless(&text.vertical, NO_VERTICAL)
 }
 
-/// Reads where a text stands behind its flags, as it is parsed.
-fn read_placing(flags: u8, cursor: &mut BitCursor<'_>) -> Option<Placing>
-    ensures parsed { Parses (text_placing flags) (option_map placing_read result) cursor.old cursor.new }
+/// Reads where a text stands, as it is parsed after its flags. Err: out of memory.
+fn read_placing(
+    alloc: Global,
+    version: Version,
+    flags: u8,
+    cursor: &mut BitCursor<'_>,
+) -> Result<Option<Placing>, NoMemory>
+    ensures parsed { IfOk result (λ found. Parses (text_placing version flags) (option_map placing_read found) cursor.old cursor.new) }
     ensures kept { Keeps cursor.old cursor.new }
 {
-    let elevation = parse_when::<CodeRD>(&(), !has(flags, NO_ELEVATION), cursor)?;
-    let insertion = parse_code::<Code2RD>(&(), cursor)?;
-    let alignment = parse_when::<Code2DD>(&insertion, !has(flags, NO_ALIGNMENT), cursor)?;
-    let extrusion = parse_code::<CodeBE>(&(), cursor)?;
-    let thickness = parse_code::<CodeBT>(&(), cursor)?;
-    Some(Placing {
-        elevation,
-        insertion,
-        alignment,
-        extrusion,
-        thickness,
-    })
+    placing_row!(parse alloc, version, flags, cursor)
 }
 
-/// Reads the form of its letters, as it is parsed.
-fn read_lettering(flags: u8, cursor: &mut BitCursor<'_>) -> Option<Lettering>
-    ensures parsed { Parses (text_lettering flags) (option_map lettering_read result) cursor.old cursor.new }
+/// Reads the form of its letters, as it is parsed. Err: out of memory.
+fn read_lettering(
+    alloc: Global,
+    version: Version,
+    flags: u8,
+    cursor: &mut BitCursor<'_>,
+) -> Result<Option<Lettering>, NoMemory>
+    ensures parsed { IfOk result (λ found. Parses (text_lettering version flags) (option_map lettering_read found) cursor.old cursor.new) }
     ensures kept { Keeps cursor.old cursor.new }
 {
-    let oblique = parse_when::<CodeRD>(&(), !has(flags, NO_OBLIQUE), cursor)?;
-    let rotation = parse_when::<CodeRD>(&(), !has(flags, NO_ROTATION), cursor)?;
-    let height = parse_code::<CodeRD>(&(), cursor)?;
-    let width = parse_when::<CodeRD>(&(), !has(flags, NO_WIDTH), cursor)?;
-    Some(Lettering {
-        oblique,
-        rotation,
-        height,
-        width,
-    })
+    lettering_row!(parse alloc, version, flags, cursor)
 }
 
-/// Reads its words, as they are parsed. The only refusal is want of memory, which is taken only for what is there.
+/// Reads its words, as they are parsed. Err: out of memory, which is taken only for what is there.
 fn read_wording(
     alloc: Global,
+    version: Version,
     flags: u8,
     cursor: &mut BitCursor<'_>,
 ) -> Result<Option<Wording>, NoMemory>
     ensures parsed { IfOk result (λ found. Parses (text_wording flags) (option_map wording_read found) cursor.old cursor.new) }
     ensures kept { Keeps cursor.old cursor.new }
 {
-    let Some(text) = parse_tv(alloc, cursor)? else {
-        return Ok(None);
-    };
-    let Some(generation) = parse_when::<CodeBS>(&(), !has(flags, NO_GENERATION), cursor) else {
-        return Ok(None);
-    };
-    let Some(horizontal) = parse_when::<CodeBS>(&(), !has(flags, NO_HORIZONTAL), cursor) else {
-        return Ok(None);
-    };
-    let Some(vertical) = parse_when::<CodeBS>(&(), !has(flags, NO_VERTICAL), cursor) else {
-        return Ok(None);
-    };
-    Ok(Some(Wording {
-        text,
-        generation,
-        horizontal,
-        vertical,
-    }))
+    wording_row!(parse alloc, version, flags, cursor)
 }
 
-/// Whether an alignment is there exactly where its flag isn't set.
-fn alignment_fits(flags: u8, insertion: Point2, alignment: Option<Point2>) -> bool
-    ensures { IsTrue result ↔ (unless flags 0x02 (dd2 insertion)).IsValue alignment }
+/// Whether flags can be told: AC1014 has none.
+fn flags_fit(version: Version, flags: u8) -> bool
+    ensures { IsTrue result ↔ (since_1015 version 0 rc).IsValue flags }
 {
-    let missing = has(flags, NO_ALIGNMENT);
-    match alignment {
-        Some(_) => !missing,
-        None => missing,
+    match version {
+        Version::Ac1014 => flags == 0,
+        Version::Ac1015 => true,
     }
 }
 
-/// Writes where a text stands behind its flags.
-fn write_placing(flags: u8, text: &Text, sink: &mut BitSink)
-    requires value { (text_placing flags).IsValue (placing_of text.now) }
-    requires room { length ((text_placing flags).short (placing_of text.now)) ≤ sink.old.spare }
-    ensures { Extends sink.old sink.new ((text_placing flags).short (placing_of text.now)) }
+/// Writes where a text stands after its flags.
+fn write_placing(version: Version, flags: u8, text: &Text, sink: &mut BitSink)
+    requires value { (text_placing version flags).IsValue (placing_of text.now) }
+    requires room { length ((text_placing version flags).short (placing_of text.now)) ≤ sink.old.spare }
+    ensures { Extends sink.old sink.new ((text_placing version flags).short (placing_of text.now)) }
 {
-    write_when::<CodeRD>(&(), !has(flags, NO_ELEVATION), &text.elevation, sink);
-    Code2RD::write(&(), &text.insertion, sink);
-    write_when::<Code2DD>(
-        &text.insertion,
-        !has(flags, NO_ALIGNMENT),
-        &text.alignment,
-        sink,
-    );
-    CodeBE::write(&(), &text.extrusion, sink);
-    CodeBT::write(&(), &text.thickness, sink);
+    placing_row!(write text, version, flags, sink);
 }
 
 /// Writes the form of its letters.
-fn write_lettering(flags: u8, text: &Text, sink: &mut BitSink)
-    requires value { (text_lettering flags).IsValue (lettering_of text.now) }
-    requires room { length ((text_lettering flags).short (lettering_of text.now)) ≤ sink.old.spare }
-    ensures { Extends sink.old sink.new ((text_lettering flags).short (lettering_of text.now)) }
+fn write_lettering(version: Version, flags: u8, text: &Text, sink: &mut BitSink)
+    requires value { (text_lettering version flags).IsValue (lettering_of text.now) }
+    requires room { length ((text_lettering version flags).short (lettering_of text.now)) ≤ sink.old.spare }
+    ensures { Extends sink.old sink.new ((text_lettering version flags).short (lettering_of text.now)) }
 {
-    write_when::<CodeRD>(&(), !has(flags, NO_OBLIQUE), &text.oblique, sink);
-    write_when::<CodeRD>(&(), !has(flags, NO_ROTATION), &text.rotation, sink);
-    CodeRD::write(&(), &text.height, sink);
-    write_when::<CodeRD>(&(), !has(flags, NO_WIDTH), &text.width, sink);
+    lettering_row!(write text, version, flags, sink);
 }
 
 /// Writes its words.
-fn write_wording(flags: u8, text: &Text, sink: &mut BitSink)
+fn write_wording(version: Version, flags: u8, text: &Text, sink: &mut BitSink)
     requires value { (text_wording flags).IsValue (wording_of text.now) }
     requires room { length ((text_wording flags).short (wording_of text.now)) ≤ sink.old.spare }
     ensures { Extends sink.old sink.new ((text_wording flags).short (wording_of text.now)) }
 {
-    write_tv(text.text.as_slice(), sink);
-    write_when::<CodeBS>(&(), !has(flags, NO_GENERATION), &text.generation, sink);
-    write_when::<CodeBS>(&(), !has(flags, NO_HORIZONTAL), &text.horizontal, sink);
-    write_when::<CodeBS>(&(), !has(flags, NO_VERTICAL), &text.vertical, sink);
+    wording_row!(write text, version, flags, sink);
 }
 
 impl BodyCode for Text {
-    ghost grammar = { text_body };
+    ghost grammar = { λ layout. text_body layout.version };
 
     #[tactic(auto, unfolding(crate::specs::TextBody::text_body, crate::specs::TextBody::text_main))]
     fn parse(
         alloc: Global,
+        layout: Layout,
         main: &mut BitCursor<'_>,
         refs: &mut BitCursor<'_>,
         base: Handle,
     ) -> Result<Option<Text>, NoMemory> {
-        let Some(flags) = parse_code::<CodeRC>(&(), main) else {
+        let version = layout.version;
+        let Some(flags) = parse_given::<CodeRC>(&(), version.is_newer(), 0, main) else {
             return Ok(None);
         };
-        let Some(placing) = read_placing(flags, main) else {
+        let Some(placing) = read_placing(alloc, version, flags, main)? else {
             return Ok(None);
         };
-        let Some(lettering) = read_lettering(flags, main) else {
+        let Some(lettering) = read_lettering(alloc, version, flags, main)? else {
             return Ok(None);
         };
-        let Some(wording) = read_wording(alloc, flags, main)? else {
+        let Some(wording) = read_wording(alloc, version, flags, main)? else {
             return Ok(None);
         };
         let Some(style) = parse_ref(refs, base) else {
@@ -297,83 +380,51 @@ impl BodyCode for Text {
     }
 
     #[tactic(auto, unfolding(crate::specs::TextBody::text_body, crate::specs::TextBody::text_main, dwg_grammar::specs::ReferenceCodes::reference))]
-    fn fits(&self, base: Handle) -> bool {
-        // Their codes tell every number of their types.
-        let _x = self.insertion.x;
-        let _y = self.insertion.y;
-        known_point(&self.extrusion);
-        let _thickness = self.thickness;
-        let _height = self.height;
+    fn fits_in(&self, layout: Layout, base: Handle) -> bool {
+        let version = layout.version;
         let flags = flags_of(self);
-        if !word_fits(flags, NO_ELEVATION, self.elevation) {
+        if !flags_fit(version, flags) {
             return false;
         }
-        if !alignment_fits(flags, self.insertion, self.alignment) {
-            return false;
-        }
-        if !word_fits(flags, NO_OBLIQUE, self.oblique) {
-            return false;
-        }
-        if !word_fits(flags, NO_ROTATION, self.rotation) {
-            return false;
-        }
-        if !word_fits(flags, NO_WIDTH, self.width) {
-            return false;
-        }
-        if !tv_fits(self.text.as_slice()) {
-            return false;
-        }
-        if !number_fits(flags, NO_GENERATION, self.generation) {
-            return false;
-        }
-        if !number_fits(flags, NO_HORIZONTAL, self.horizontal) {
-            return false;
-        }
-        if !number_fits(flags, NO_VERTICAL, self.vertical) {
-            return false;
-        }
+        placing_row!(fits self, version, flags);
+        lettering_row!(fits self, version, flags);
+        wording_row!(fits self, version, flags);
         self.style.fits(base)
     }
 
     #[tactic(auto, unfolding(crate::specs::TextBody::text_body, crate::specs::TextBody::text_main, dwg_grammar::specs::ReferenceCodes::reference))]
-    fn lengths(&self, base: Handle) -> Lengths {
+    fn lengths_in(&self, layout: Layout, base: Handle) -> Lengths {
+        let version = layout.version;
         let flags = flags_of(self);
         Lengths {
-            main: CodeRC::length(&(), &flags)
-                + length_when::<CodeRD>(&(), !has(flags, NO_ELEVATION), &self.elevation)
-                + Code2RD::length(&(), &self.insertion)
-                + length_when::<Code2DD>(
-                    &self.insertion,
-                    !has(flags, NO_ALIGNMENT),
-                    &self.alignment,
-                )
-                + CodeBE::length(&(), &self.extrusion)
-                + CodeBT::length(&(), &self.thickness)
-                + length_when::<CodeRD>(&(), !has(flags, NO_OBLIQUE), &self.oblique)
-                + length_when::<CodeRD>(&(), !has(flags, NO_ROTATION), &self.rotation)
-                + CodeRD::length(&(), &self.height)
-                + length_when::<CodeRD>(&(), !has(flags, NO_WIDTH), &self.width)
-                + tv_bits(self.text.as_slice())
-                + length_when::<CodeBS>(&(), !has(flags, NO_GENERATION), &self.generation)
-                + length_when::<CodeBS>(&(), !has(flags, NO_HORIZONTAL), &self.horizontal)
-                + length_when::<CodeBS>(&(), !has(flags, NO_VERTICAL), &self.vertical),
+            main: length_given::<CodeRC>(&(), version.is_newer(), 0, &flags)
+                + placing_row!(bits self, version, flags)
+                + lettering_row!(bits self, version, flags)
+                + wording_row!(bits self, version, flags),
             refs: ref_bits(self.style, base),
         }
     }
 
     #[tactic(auto, unfolding(crate::specs::TextBody::text_body, crate::specs::TextBody::text_main))]
-    fn write_main(&self, _base: Handle, sink: &mut BitSink) {
+    fn write_main_in(&self, layout: Layout, _base: Handle, sink: &mut BitSink) {
+        let version = layout.version;
         let flags = flags_of(self);
-        CodeRC::write(&(), &flags, sink);
-        write_placing(flags, self, sink);
-        write_lettering(flags, self, sink);
-        write_wording(flags, self, sink);
+        write_given::<CodeRC>(&(), version.is_newer(), 0, &flags, sink);
+        write_placing(version, flags, self, sink);
+        write_lettering(version, flags, self, sink);
+        write_wording(version, flags, self, sink);
     }
 
     #[tactic(auto, unfolding(crate::specs::TextBody::text_body, dwg_grammar::specs::ReferenceCodes::reference))]
-    fn write_refs(&self, base: Handle, sink: &mut BitSink) {
+    fn write_refs_in(&self, _layout: Layout, base: Handle, sink: &mut BitSink) {
         write_ref(self.style, base, sink);
     }
 
-    ghost laws = { λ base small. text_is_body base small };
+    ghost laws = { λ layout base few small. text_is_body layout.version base small };
+}
+
+impl BodyCode14 for Text {
+    ghost narrower = { text_narrower };
+
+    ghost sizes_alike = { λ size base value. same_alike (text_body Ac1014 base) value };
 }

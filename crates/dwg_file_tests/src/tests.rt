@@ -8,6 +8,7 @@ mod inputs;
 mod kinds;
 mod objects;
 mod objmap;
+mod sizes;
 mod slots;
 mod table;
 mod told;

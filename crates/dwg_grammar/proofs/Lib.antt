@@ -23,3 +23,4 @@ pub mod ToEndBodies
 pub mod ToEndDecided
 pub mod ToEndLemmas
 pub mod TruthCode
+pub mod VersionLemmas

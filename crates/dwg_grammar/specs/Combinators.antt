@@ -52,6 +52,11 @@ seq {A} {V} {W} first second = record {
   short = λ both. first.short both.0 ++ (second both.0).short both.1;
 }
 
+-- one code and then another, whatever the first value is
+infixr 20 ◌⋄◌
+abbrev pub ◌⋄◌ : {A V W : Type 0} → Grammar A V → Grammar A W → Grammar A (V × W)
+◌⋄◌ {A} {V} {W} first second = seq first (λ one. second)
+
 -- one of two codes, by a test
 abbrev pub choose : {A V : Type 0} → Bool → Grammar A V → Grammar A V → Grammar A V
 choose {A} {V} true chosen otherwise = chosen

@@ -24,3 +24,5 @@ pub mod References
 pub mod Bodies
 -- Bodies made of codes: each says what it spells of what its main bits and its references spell.
 pub mod MakingBodies
+-- What the versions of the format spell otherwise.
+pub mod Versions

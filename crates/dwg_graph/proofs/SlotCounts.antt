@@ -2,6 +2,7 @@
 use Rattle.std.proofs.Common.{◌≡◌, refl, ap, ℕ, ◌+◌, ◌*◌, ◌<◌, ◌≤◌, ◌^◌, Bool, true, false, List, [], ◌∷◌, ◌++◌, length, Option, Some, None, arith, length-append}
 use Rattle.std.proofs.lemmas.List.{length-map}
 use Rattle.std.specs.Option.{option_map, option_map_or}
+use Rattle.dwg_common.specs.Layouts.{NEWER}
 use Rattle.dwg_grammar.specs.Codes.{bs}
 use Rattle.dwg_grammar.specs.Combinators.{until, SpellsUntil}
 use Rattle.dwg_grammar.specs.ToEnd.{SpellsAll}
@@ -89,7 +90,7 @@ unfolding app_list until
 apps_least base listed letters spelled = until_least base listed letters spelled
 
 -- the application data of an entity stand in its main bits
-entity_apps : (base : ℕ) (common : EntityCommon) (main references : List Bool) (over : ℕ) → (entity_common base).Spells common main references over
+entity_apps : (base : ℕ) (common : EntityCommon) (main references : List Bool) (over : ℕ) → (entity_common NEWER base).Spells common main references over
     → 8 * length common.app ≤ length main
 unfolding entity_common
 entity_apps base common main references over (told, named, is, (front, back, (first, behind, apps, others, cut), look, same), names) =
@@ -104,7 +105,7 @@ entity_apps base common main references over (told, named, is, (front, back, (fi
     )
 
 -- and of any other object
-object_apps : (base : ℕ) (common : ObjectCommon) (main references : List Bool) (over : ℕ) → (object_common base).Spells common main references over
+object_apps : (base : ℕ) (common : ObjectCommon) (main references : List Bool) (over : ℕ) → (object_common NEWER base).Spells common main references over
     → 8 * length common.app ≤ length main
 unfolding object_common
 object_apps base common main references over (told, named, is, (front, back, apps, count, same), names) =

@@ -10,6 +10,7 @@ use Rattle.dwg_common.specs.NonEntities.{object_common}
 use Rattle.dwg_grammar.specs.Reference.{Reference}
 use Rattle.std.specs.Prelude.{[], ◌∷◌}
 use Rattle.std.specs.Option.{option_map_or}
+use Rattle.dwg_common.specs.Layouts.{NEWER}
 use Rattle.dwg_object.specs.declared.common.Common.TheVariants as commons
 use Rattle.dwg_object.specs.OwnBodies.{body_kind, own_body}
 use Rattle.dwg_object.specs.declared.body.Body.{Body}
@@ -37,8 +38,8 @@ SlotsAreFew = (classes : List Class) (x : ObjectValue) → IsValidObject classes
 
 -- how many items of application data and references a common part has, that to the owner included
 abbrev pub count_of_common : ℕ → Common → ℕ
-count_of_common handle (commons.Entity common) = length common.app + length ((entity_common handle).references common)
-count_of_common handle (commons.Object common) = length common.app + length ((object_common handle).references common)
+count_of_common handle (commons.Entity common) = length common.app + length ((entity_common NEWER handle).references common)
+count_of_common handle (commons.Object common) = length common.app + length ((object_common NEWER handle).references common)
 
 -- how many owners a common part names
 abbrev pub owners_of_common : Common → ℕ

@@ -1,5 +1,6 @@
 -- Controls, dictionaries and records fit and are written by few bits.
 use Rattle.std.proofs.Common.{refl, ℕ, ◌^◌, ◌≤◌, ◌<◌, List, [], ◌∷◌, length, arith}
+use Rattle.dwg_base.specs.declared.version.Version.TheVariants.{Ac1015}
 use Rattle.dwg_grammar.specs.Combinators.{chain}
 use Rattle.dwg_grammar.specs.ToEnd.{AreValues}
 use Rattle.dwg_grammar.specs.Reference.{Reference}
@@ -73,7 +74,7 @@ ltype_control_made base entries first second are one two = record {
 
 -- a dictionary of one item
 pub dictionary_made : (base : ℕ) (name : List ℕ) (item : ℕ) → IsWord name → item < 2 ^ 63
-    → IsMade (dictionary_body base) (record { cloning = 0; hard_owner = 0; items = record { name = name; target = soft_owner item } ∷ [] })
+    → IsMade (dictionary_body Ac1015 base) (record { cloning = 0; hard_owner = 0; items = record { name = name; target = soft_owner item } ∷ [] })
 unfolding dictionary_body chain
 dictionary_made base name item word small = record {
   fits = (((omega arith, (omega arith, omega arith)), (refl, (word_fits name word, tt))), (refl, (ref_fits base 2 item (omega arith) small, tt)));
@@ -82,7 +83,7 @@ dictionary_made base name item word small = record {
 }
 
 -- a record of three bytes that names one object
-pub xrecord_made : (base target : ℕ) → target < 2 ^ 63 → IsMade (xrecord_body base) (record { bytes = 1 ∷ 2 ∷ 3 ∷ []; cloning = 0; targets = soft_pointer target ∷ [] })
+pub xrecord_made : (base target : ℕ) → target < 2 ^ 63 → IsMade (xrecord_body Ac1015 base) (record { bytes = 1 ∷ 2 ∷ 3 ∷ []; cloning = 0; targets = soft_pointer target ∷ [] })
 unfolding xrecord_body chain
 xrecord_made base target small = record {
   fits = (((omega arith, (omega arith, (omega arith, (omega arith, tt)))), omega arith), (ref_fits base 4 target (omega arith) small, tt));

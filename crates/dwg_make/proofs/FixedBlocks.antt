@@ -2,6 +2,7 @@
 use Rattle.std.proofs.Common.{refl, ℕ, ◌+◌, ◌^◌, ◌<◌, Bool, true, false, List, [], ◌∷◌, length, arith}
 use Rattle.std.specs.Prelude.{codes, map}
 use Rattle.std.specs.List.{AllByRecursion}
+use Rattle.dwg_base.specs.declared.version.Version.TheVariants.{Ac1015}
 use Rattle.dwg_base.specs.Devices.{MOST_BYTES}
 use Rattle.dwg_grammar.specs.Codes.{ONE, UPWARD}
 use Rattle.dwg_grammar.specs.Combinators.{items}
@@ -52,7 +53,7 @@ header_small handle name has_attributes inserts block first last endblk some sma
   small = small;
   kind = refl;
   entity = refl;
-  made = variant_made bodies.BlockHeader _ (block_header_body handle) _ refl
+  made = variant_made bodies.BlockHeader _ (block_header_body Ac1015 handle) _ refl
       (header_made handle name has_attributes inserts block first last endblk word are.counts are.counts_few are.targets are.targets_few
       (omega (arith, a)) (omega (arith, b)) (omega (arith, c)) (omega (arith, d)));
 })
@@ -123,7 +124,7 @@ definition_small = owned_small 3 0x22 0x20 0 0x23 _ (omega arith) (omega arith) 
   small = omega arith;
   kind = refl;
   entity = refl;
-  made = variant_made bodies.Attdef _ (attdef_body 0x22) _ refl
+  made = variant_made bodies.Attdef _ (attdef_body Ac1015 0x22) _ refl
       (attdef_made 0x22 (flat_point 0 0) ONE [] (codes "NO") (codes "Number") (record { x = omega arith; y = omega arith }) (omega arith)
       no_word (word_passed (codes "NO") refl refl) (word_passed (codes "Number") refl refl));
 })
@@ -136,7 +137,7 @@ line_small = owned_small 19 0x23 0x20 0x22 0 _ (omega arith) (omega arith) (omeg
   small = omega arith;
   kind = refl;
   entity = refl;
-  made = variant_made bodies.Line _ (line_body 0x23) _ refl
+  made = variant_made bodies.Line _ (line_body Ac1015 0x23) _ refl
       (line_made 0x23 (record { start = ORIGIN; end = point ONE 0 0; thickness = 0; extrusion = UPWARD })
       (point_fits 0 0 0 (omega arith) (omega arith) (omega arith)) (point_fits ONE 0 0 (omega arith) (omega arith) (omega arith)) (omega arith)
       (point_fits 0 0 ONE (omega arith) (omega arith) (omega arith)));
@@ -169,7 +170,7 @@ attribute_small = owned_small 2 0x2E 0x30 0 0 _ (omega arith) (omega arith) (ome
   small = omega arith;
   kind = refl;
   entity = refl;
-  made = variant_made bodies.Attrib _ (attrib_body 0x2E) _ refl
+  made = variant_made bodies.Attrib _ (attrib_body Ac1015 0x2E) _ refl
       (attrib_made 0x2E (flat_point 0 0) ONE (codes "A1") (codes "NO") (record { x = omega arith; y = omega arith }) (omega arith)
       (word_passed (codes "A1") refl refl) (word_passed (codes "NO") refl refl));
 })
@@ -182,7 +183,7 @@ insert_small = linked_small 7 0x30 0 0x31 0x10 _ (omega arith) (omega arith) (om
   small = omega arith;
   kind = refl;
   entity = refl;
-  made = variant_made bodies.Insert _ (insert_body 0x30) _ refl (insert_made 0x30 0x20 0x2E 0x2F (omega arith) (omega arith) (omega arith));
+  made = variant_made bodies.Insert _ (insert_body Ac1015 0x30) _ refl (insert_made 0x30 0x20 0x2E 0x2F (omega arith) (omega arith) (omega arith));
 })
 
 pub tag_insert_small : AllByRecursion (IsSmall [] MOST_BYTES) tag_insert

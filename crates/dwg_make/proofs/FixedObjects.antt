@@ -2,6 +2,7 @@
 use Rattle.std.proofs.Common.{refl, ℕ, ◌^◌, ◌<◌, List, [], ◌∷◌, arith}
 use Rattle.std.specs.Prelude.{codes}
 use Rattle.std.specs.List.{AllByRecursion}
+use Rattle.dwg_base.specs.declared.version.Version.TheVariants.{Ac1015}
 use Rattle.dwg_base.specs.Devices.{MOST_BYTES}
 use Rattle.dwg_dicts.specs.Dictionaries.{dictionary_body}
 use Rattle.dwg_dicts.specs.Entries.{layer_control_body, style_control_body, appid_control_body}
@@ -91,7 +92,7 @@ dictionary_small handle owner name item some small near far word = other_small 4
   small = small;
   kind = refl;
   entity = refl;
-  made = variant_made bodies.Dictionary _ (dictionary_body handle) _ refl (dictionary_made handle name item word (omega (arith, far)));
+  made = variant_made bodies.Dictionary _ (dictionary_body Ac1015 handle) _ refl (dictionary_made handle name item word (omega (arith, far)));
 })
 
 xrecord_small : IsSmall [] MOST_BYTES xrecord
@@ -102,7 +103,7 @@ xrecord_small = other_small 79 0xE 0xD _ (omega arith) (record {
   small = omega arith;
   kind = refl;
   entity = refl;
-  made = variant_made bodies.XRecord _ (xrecord_body 0xE) _ refl (xrecord_made 0xE 0x10 (omega arith));
+  made = variant_made bodies.XRecord _ (xrecord_body Ac1015 0xE) _ refl (xrecord_made 0xE 0x10 (omega arith));
 })
 
 pub dictionaries_small : AllByRecursion (IsSmall [] MOST_BYTES) dictionaries
@@ -124,7 +125,7 @@ layer_small handle name colour some small range word = other_small 51 handle 0x2
   small = small;
   kind = refl;
   entity = refl;
-  made = variant_made bodies.Layer _ (layer_body handle) _ refl (layer_made handle name colour word range);
+  made = variant_made bodies.Layer _ (layer_body Ac1015 handle) _ refl (layer_made handle name colour word range);
 })
 
 style_small : IsSmall [] MOST_BYTES style

@@ -2,6 +2,7 @@
 use Rattle.std.proofs.Common.{refl, ℕ, zero, suc, ◌+◌, ◌-◌, ◌*◌, ◌^◌, ◌<◌, Bool, true, false, [], ◌++◌, Some, None, arith}
 use Rattle.std.specs.Prelude.{◌==◌, ◌%◌, codes, decimal, map, if◌then◌else◌}
 use Rattle.std.specs.List.{AllByRecursion, range_with_len}
+use Rattle.dwg_base.specs.declared.version.Version.TheVariants.{Ac1015}
 use Rattle.dwg_base.specs.Devices.{MOST_BYTES}
 use Rattle.dwg_grammar.specs.Codes.{UPWARD, ONE}
 use Rattle.dwg_entities.specs.TextBody.{text_body}
@@ -44,7 +45,7 @@ further_own zero number word few small = record {
   small = omega arith;
   kind = refl;
   entity = refl;
-  made = variant_made bodies.Line _ (line_body (further_handle number)) _ refl
+  made = variant_made bodies.Line _ (line_body Ac1015 (further_handle number)) _ refl
       (line_made (further_handle number) (record { start = point (word 2) (word 3) 0; end = point (word 4) (word 5) 0; thickness = 0; extrusion = UPWARD })
       (point_fits (word 2) (word 3) 0 (small 2) (small 3) (omega arith)) (point_fits (word 4) (word 5) 0 (small 4) (small 5) (omega arith)) (omega arith)
       (point_fits 0 0 ONE (omega arith) (omega arith) (omega arith)));
@@ -55,7 +56,7 @@ further_own (suc zero) number word few small = record {
   small = omega arith;
   kind = refl;
   entity = refl;
-  made = variant_made bodies.Point _ (point_body (further_handle number)) _ refl
+  made = variant_made bodies.Point _ (point_body Ac1015 (further_handle number)) _ refl
       (point_made (further_handle number) (record { place = point (word 2) (word 3) 0; thickness = 0; extrusion = UPWARD; angle = 0 })
       (point_fits (word 2) (word 3) 0 (small 2) (small 3) (omega arith)) (omega arith) (point_fits 0 0 ONE (omega arith) (omega arith) (omega arith)) (omega arith));
 }
@@ -65,7 +66,7 @@ further_own (suc (suc zero)) number word few small = record {
   small = omega arith;
   kind = refl;
   entity = refl;
-  made = variant_made bodies.Circle _ (circle_body (further_handle number)) _ refl
+  made = variant_made bodies.Circle _ (circle_body Ac1015 (further_handle number)) _ refl
       (circle_made (further_handle number) (record { centre = point (word 2) (word 3) 0; radius = word 4; thickness = 0; extrusion = UPWARD })
       (point_fits (word 2) (word 3) 0 (small 2) (small 3) (omega arith)) (small 4) (omega arith) (point_fits 0 0 ONE (omega arith) (omega arith) (omega arith)));
 }
@@ -75,7 +76,7 @@ further_own (suc (suc (suc zero))) number word few small = record {
   small = omega arith;
   kind = refl;
   entity = refl;
-  made = variant_made bodies.Arc _ (arc_body (further_handle number)) _ refl
+  made = variant_made bodies.Arc _ (arc_body Ac1015 (further_handle number)) _ refl
       (arc_made (further_handle number)
       (record { centre = point (word 2) (word 3) 0; radius = word 4; thickness = 0; extrusion = UPWARD; start_angle = word 5; end_angle = word 6 })
       (point_fits (word 2) (word 3) 0 (small 2) (small 3) (omega arith)) (small 4) (omega arith) (point_fits 0 0 ONE (omega arith) (omega arith) (omega arith)) (small 5) (small 6));
@@ -86,7 +87,7 @@ further_own (suc (suc (suc (suc zero)))) number word few small = record {
   small = omega arith;
   kind = refl;
   entity = refl;
-  made = variant_made bodies.Text _ (text_body (further_handle number)) _ refl
+  made = variant_made bodies.Text _ (text_body Ac1015 (further_handle number)) _ refl
       (text_made (further_handle number) (flat_point (word 2) (word 3)) (word 4) (codes "T" ++ decimal number) (record { x = small 2; y = small 3 }) (small 4) (numbered_word number few));
 }
 further_own (suc (suc (suc (suc (suc choice))))) number word few small = record {
@@ -95,7 +96,7 @@ further_own (suc (suc (suc (suc (suc choice))))) number word few small = record 
   small = omega arith;
   kind = refl;
   entity = refl;
-  made = variant_made bodies.LwPolyline _ (lwpolyline_body (further_handle number)) _ refl
+  made = variant_made bodies.LwPolyline _ (lwpolyline_body Ac1015 (further_handle number)) _ refl
       (lwpolyline_made (further_handle number) (flat_point (word 2) (word 3)) (flat_point (word 4) (word 5)) (flat_point (word 6) (word 7)) (flat_point (word 8) (word 9))
       (record { x = small 2; y = small 3 }) (record { x = small 4; y = small 5 }) (record { x = small 6; y = small 7 }) (record { x = small 8; y = small 9 }));
 }

@@ -1,6 +1,7 @@
 -- Entries of tables fit and are written by few bits.
 use Rattle.std.proofs.Common.{refl, ℕ, zero, suc, ◌^◌, ◌<◌, Bool, false, List, [], ◌∷◌, length, arith}
 use Rattle.std.specs.Prelude.{map, replicate}
+use Rattle.dwg_base.specs.declared.version.Version.TheVariants.{Ac1015}
 use Rattle.dwg_base.specs.Bytes.{AreBytes}
 use Rattle.dwg_grammar.specs.Codes.{ONE, rc}
 use Rattle.dwg_grammar.specs.Combinators.{items, until, chain}
@@ -8,7 +9,7 @@ use Rattle.dwg_grammar.proofs.ByteRunLemmas.{values_of_bytes}
 use Rattle.dwg_grammar.specs.ReferenceCodes.{reference}
 use Rattle.dwg_tables.specs.declared.block_header.InsertMark.{InsertMark}
 use Rattle.dwg_tables.specs.AppIdBody.{app_id_body}
-use Rattle.dwg_tables.specs.BlockHeaderBody.{block_flags, block_content, count_of, target_of, block_header_body}
+use Rattle.dwg_tables.specs.BlockHeaderBody.{block_flags, block_content, newer_extras, count_of, target_of, block_header_body}
 use Rattle.dwg_tables.specs.Entries.{entry_main, title_of}
 use Rattle.dwg_tables.specs.InsertMarks.{mark_counts}
 use Rattle.dwg_tables.specs.LayerBody.{layer_body}
@@ -30,7 +31,7 @@ entry_few name word = both (word_few name word) (both (b_few false) (both (bs_fe
 
 -- a layer
 pub layer_made : (base : ℕ) (name : List ℕ) (colour : ℕ) → IsWord name → colour < 2 ^ 16
-    → IsMade (layer_body base) (record { entry = entry name; values = 0; colour = colour; plotstyle = hard_pointer 0; linetype = hard_pointer 0x16 })
+    → IsMade (layer_body Ac1015 base) (record { entry = entry name; values = 0; colour = colour; plotstyle = hard_pointer 0; linetype = hard_pointer 0x16 })
 unfolding layer_body
 layer_made base name colour word small = record {
   fits = (
@@ -99,13 +100,13 @@ ltype_made base name word = record {
 }
 
 -- the content of a block without path, description and preview, by the counts of its marks
-content_told : (counts : List ℕ) → mark_counts.IsValue counts → block_content.IsValue (ORIGIN, ([], (counts, ([], []))))
-unfolding block_content
+content_told : (counts : List ℕ) → mark_counts.IsValue counts → (block_content Ac1015).IsValue (ORIGIN, ([], (counts, ([], []))))
+unfolding block_content newer_extras
 content_told counts are =
     (record { x = omega arith; y = omega arith; z = omega arith }, (word_fits [] no_word, (are, (word_fits [] no_word, (omega arith, tt)))))
 
-content_few : (counts : List ℕ) → Few 100 (mark_counts.short counts) → Few 880 (block_content.short (ORIGIN, ([], (counts, ([], [])))))
-unfolding block_content chain
+content_few : (counts : List ℕ) → Few 100 (mark_counts.short counts) → Few 880 ((block_content Ac1015).short (ORIGIN, ([], (counts, ([], [])))))
+unfolding block_content newer_extras chain
 content_few counts few = both (bd3_few ORIGIN) (both (word_few [] no_word) (both few (both (word_few [] no_word) (both (bl_few 0) no_letters))))
 
 -- the header of a block whose marks fit and are written by few bits
@@ -114,7 +115,7 @@ pub header_made : (base : ℕ) (name : List ℕ) (has_attributes : Bool) (insert
     → (items (reference base) (length (map count_of inserts))).IsValue (map target_of inserts)
     → Few 100 ((items (reference base) (length (map count_of inserts))).short (map target_of inserts))
     → block < 2 ^ 63 → first < 2 ^ 63 → last < 2 ^ 63 → endblk < 2 ^ 63
-    → IsMade (block_header_body base) (header_of name has_attributes inserts block first last endblk)
+    → IsMade (block_header_body Ac1015 base) (header_of name has_attributes inserts block first last endblk)
 unfolding block_header_body block_flags
 header_made base name has_attributes inserts block first last endblk word are few named named_few a b c d = record {
   fits = (

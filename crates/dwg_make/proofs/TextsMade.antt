@@ -1,5 +1,6 @@
 -- Texts, attributes, blocks and inserts fit and are written by few bits.
 use Rattle.std.proofs.Common.{refl, ℕ, zero, suc, ◌^◌, ◌<◌, true, List, Some, arith}
+use Rattle.dwg_base.specs.declared.version.Version.TheVariants.{Ac1015}
 use Rattle.dwg_grammar.specs.Codes.{IsPoint3, UPWARD, ONE}
 use Rattle.dwg_grammar.specs.declared.points.Point2.{Point2}
 use Rattle.dwg_grammar.specs.declared.points.Point3.{Point3}
@@ -10,14 +11,14 @@ use Rattle.dwg_entities.specs.AttribBody.{attrib_main, label_of, attrib_body}
 use Rattle.dwg_entities.specs.BlockBody.{block_body}
 use Rattle.dwg_entities.specs.Closing.{endblk_body, seqend_body}
 use Rattle.dwg_entities.specs.InsertBody.{insert_body}
-use Rattle.dwg_entities.specs.Scale.{scale_by, scale}
+use Rattle.dwg_entities.specs.Scale.{newer_scale, scale_by}
 use Rattle.dwg_entities.specs.TextBody.{flags_of, text_main, inscription_of, text_body}
 use Rattle.dwg_make.specs.Parts.{soft_pointer, hard_owner, hard_pointer, plain_text, point, ORIGIN}
 use Rattle.dwg_make.proofs.CodeSizes.{Few, no_letters, both, loosely, low_few, rc_few, bs_few, b_few, rd_few, dd_few, bd_few, bt_few, bd3_few, be_few, ref_few}
 use Rattle.dwg_make.proofs.PartsMade.{IsMade, IsWord, word_fits, word_few, ref_fits}
 
 -- the main bits of a text in a style
-text_told : (insertion : Point2) (height : ℕ) (text : List ℕ) → IsPoint2 insertion → height < 2 ^ 64 → IsWord text → text_main.IsValue (inscription_of (plain_text insertion height text))
+text_told : (insertion : Point2) (height : ℕ) (text : List ℕ) → IsPoint2 insertion → height < 2 ^ 64 → IsWord text → (text_main Ac1015).IsValue (inscription_of (plain_text insertion height text))
 unfolding text_main flags_of
 text_told insertion height text is high word = (
   omega arith,
@@ -28,7 +29,7 @@ text_told insertion height text is high word = (
 )
 
 -- and they are few
-text_few : (insertion : Point2) (height : ℕ) (text : List ℕ) → IsWord text → Few 740 (text_main.short (inscription_of (plain_text insertion height text)))
+text_few : (insertion : Point2) (height : ℕ) (text : List ℕ) → IsWord text → Few 740 ((text_main Ac1015).short (inscription_of (plain_text insertion height text)))
 unfolding text_main flags_of
 text_few insertion height text word =
     loosely 740 (omega arith)
@@ -38,7 +39,7 @@ text_few insertion height text word =
     (both (word_few text word) (both no_letters (both no_letters no_letters))))))
 
 -- a text
-pub text_made : (base : ℕ) (insertion : Point2) (height : ℕ) (text : List ℕ) → IsPoint2 insertion → height < 2 ^ 64 → IsWord text → IsMade (text_body base) (plain_text insertion height text)
+pub text_made : (base : ℕ) (insertion : Point2) (height : ℕ) (text : List ℕ) → IsPoint2 insertion → height < 2 ^ 64 → IsWord text → IsMade (text_body Ac1015 base) (plain_text insertion height text)
 unfolding text_body
 text_made base insertion height text is high word = record {
   fits = (text_told insertion height text is high word, ref_fits base 5 0x11 (omega arith) (omega arith));
@@ -52,18 +53,18 @@ attribute_of insertion height text tag = record { text = plain_text insertion he
 
 -- its main bits
 attrib_told : (insertion : Point2) (height : ℕ) (text tag : List ℕ) → IsPoint2 insertion → height < 2 ^ 64 → IsWord text → IsWord tag
-    → attrib_main.IsValue (label_of (attribute_of insertion height text tag))
+    → (attrib_main Ac1015).IsValue (label_of (attribute_of insertion height text tag))
 unfolding attrib_main
 attrib_told insertion height text tag is high word named = (text_told insertion height text is high word, (word_fits tag named, (omega arith, omega arith)))
 
 -- and they are few
-attrib_few : (insertion : Point2) (height : ℕ) (text tag : List ℕ) → IsWord text → IsWord tag → Few 1040 (attrib_main.short (label_of (attribute_of insertion height text tag)))
+attrib_few : (insertion : Point2) (height : ℕ) (text tag : List ℕ) → IsWord text → IsWord tag → Few 1040 ((attrib_main Ac1015).short (label_of (attribute_of insertion height text tag)))
 unfolding attrib_main
 attrib_few insertion height text tag word named = both (text_few insertion height text word) (both (word_few tag named) (both (bs_few 0) (rc_few 0)))
 
 -- an attribute
 pub attrib_made : (base : ℕ) (insertion : Point2) (height : ℕ) (text tag : List ℕ) → IsPoint2 insertion → height < 2 ^ 64 → IsWord text → IsWord tag
-    → IsMade (attrib_body base) (record { text = plain_text insertion height text; tag = tag; length = 0; flags = 0 })
+    → IsMade (attrib_body Ac1015 base) (record { text = plain_text insertion height text; tag = tag; length = 0; flags = 0 })
 unfolding attrib_body
 attrib_made base insertion height text tag is high word named = record {
   fits = (attrib_told insertion height text tag is high word named, ref_fits base 5 0x11 (omega arith) (omega arith));
@@ -73,7 +74,7 @@ attrib_made base insertion height text tag is high word named = record {
 
 -- the definition of an attribute
 pub attdef_made : (base : ℕ) (insertion : Point2) (height : ℕ) (text tag prompt : List ℕ) → IsPoint2 insertion → height < 2 ^ 64 → IsWord text → IsWord tag → IsWord prompt
-    → IsMade (attdef_body base) (record { attrib = record { text = plain_text insertion height text; tag = tag; length = 0; flags = 0 }; prompt = prompt })
+    → IsMade (attdef_body Ac1015 base) (record { attrib = record { text = plain_text insertion height text; tag = tag; length = 0; flags = 0 }; prompt = prompt })
 unfolding attdef_body
 attdef_made base insertion height text tag prompt is high word named asked = record {
   fits = ((attrib_told insertion height text tag is high word named, word_fits prompt asked), ref_fits base 5 0x11 (omega arith) (omega arith));
@@ -107,8 +108,8 @@ scale_line (suc (suc zero)) point = loosely 196 (omega arith) (rd_few point.x)
 scale_line (suc (suc (suc zero))) point = loosely 196 (omega arith) no_letters
 scale_line (suc (suc (suc (suc tag)))) point = loosely 196 (omega arith) no_letters
 
-scale_few : (point : Point3) → Few 198 (scale.short point)
-unfolding scale
+scale_few : (point : Point3) → Few 198 (newer_scale.short point)
+unfolding newer_scale
 scale_few point = both (low_few 2 _) (scale_line _ point)
 
 -- points have a spelling
@@ -116,13 +117,13 @@ pub point_fits : (x y z : ℕ) → x < 2 ^ 64 → y < 2 ^ 64 → z < 2 ^ 64 → 
 point_fits x y z a b c = record { x = a; y = b; z = c }
 
 -- so has a scale
-scale_fits : (point : Point3) → IsPoint3 point → scale.IsValue point
-unfolding scale
+scale_fits : (point : Point3) → IsPoint3 point → newer_scale.IsValue point
+unfolding newer_scale
 scale_fits point is = is
 
 -- the insert of a block with one attribute
 pub insert_made : (base block first seqend : ℕ) → block < 2 ^ 63 → first < 2 ^ 63 → seqend < 2 ^ 63
-    → IsMade (insert_body base) (record {
+    → IsMade (insert_body Ac1015 base) (record {
       place = ORIGIN;
       scale = point ONE ONE ONE;
       rotation = 0;

@@ -1,7 +1,7 @@
 -- 3DFACE (Open Design Specification, "3DFACE"). That z-zero is written where the z word of the first corner is 0, and only there, is a rule of this project.
 use Rattle.std.specs.Prelude.{◌==◌, ℕ, Bool, true, false, not, Option, is_none}
 use Rattle.dwg_grammar.specs.Codes.{b, bs, rd, dd, IsPoint3}
-use Rattle.dwg_grammar.specs.Combinators.{always, seq, tagged, when, shaped}
+use Rattle.dwg_grammar.specs.Combinators.{◌⋄◌, always, seq, tagged, when, shaped}
 use Rattle.dwg_grammar.specs.Grammar.{Grammar}
 use Rattle.dwg_grammar.specs.declared.points.Point3.{Point3}
 use Rattle.dwg_grammar.specs.Bodies.{BodyGrammar}
@@ -16,8 +16,7 @@ height false = rd
 -- RD x; RD y; the z word
 abbrev pub corner_by : Bool → Grammar Bool Point3
 corner_by z_zero =
-    shaped (λ words. record { x = words.0; y = words.1.0; z = words.1.1 }) (λ corner. (corner.x, (corner.y, corner.z)))
-    (seq rd (λ x. seq rd (λ y. height z_zero)))
+    shaped (λ (x, (y, z)). record { x = x; y = y; z = z }) (λ corner. (corner.x, (corner.y, corner.z))) (rd ⋄ rd ⋄ height z_zero)
 
 -- B z-zero; the corner
 abbrev pub first_corner : Grammar Bool Point3
@@ -26,8 +25,7 @@ first_corner = tagged b corner_by IsPoint3 (λ corner. corner.z == 0)
 -- 3DD: x against the x of a default, y against its y, z against its z
 abbrev pub dd3 : Point3 → Grammar Bool Point3
 dd3 default =
-    shaped (λ words. record { x = words.0; y = words.1.0; z = words.1.1 }) (λ point. (point.x, (point.y, point.z)))
-    (seq (dd default.x) (λ x. seq (dd default.y) (λ y. dd default.z)))
+    shaped (λ (x, (y, z)). record { x = x; y = y; z = z }) (λ point. (point.x, (point.y, point.z))) (dd default.x ⋄ dd default.y ⋄ dd default.z)
 
 -- 3DD for each corner but the first, whose default is the corner before; BS where no-flags is 0
 abbrev pub behind_first : Bool → Point3 → Grammar Bool (Point3 × (Point3 × (Point3 × Option ℕ)))
@@ -46,13 +44,7 @@ face_parts =
 -- the main bits of a face
 unfoldable pub face_main : Grammar Bool Face3d
 face_main =
-    shaped (λ parts. record {
-      first = parts.1.0;
-      second = parts.1.1.0;
-      third = parts.1.1.1.0;
-      fourth = parts.1.1.1.1.0;
-      invisible = parts.1.1.1.1.1;
-    })
+    shaped (λ (no_flags, (first, (second, (third, (fourth, invisible))))). record { first = first; second = second; third = third; fourth = fourth; invisible = invisible })
     (λ face. (is_none face.invisible, (face.first, behind_first_of face))) face_parts
 
 -- a face: no references

@@ -1,7 +1,7 @@
 -- GROUP (Open Design Specification, "GROUP").
 use Rattle.std.specs.Prelude.{ℕ, Bool, List, length}
 use Rattle.dwg_grammar.specs.Codes.{bs, bl, tv}
-use Rattle.dwg_grammar.specs.Combinators.{seq}
+use Rattle.dwg_grammar.specs.Combinators.{◌⋄◌}
 use Rattle.dwg_grammar.specs.Grammar.{Grammar}
 use Rattle.dwg_grammar.specs.Bodies.{BodyGrammar}
 use Rattle.dwg_grammar.specs.MakingBodies.{body}
@@ -10,11 +10,11 @@ use Rattle.dwg_more.specs.declared.group.Group.{Group}
 
 -- TV name; BS unnamed; BS selectable; BL count of entries
 abbrev pub group_main : Grammar Bool (List ℕ × (ℕ × (ℕ × ℕ)))
-group_main = seq tv (λ name. seq bs (λ unnamed. seq bs (λ selectable. bl)))
+group_main = tv ⋄ bs ⋄ bs ⋄ bl
 
 -- a group: its entries
 unfoldable pub group_body : ℕ → BodyGrammar Group
 group_body base =
     body group_main (λ told. some_refs base told.1.1.1)
-    (λ told entries. record { name = told.0; unnamed = told.1.0; selectable = told.1.1.0; entries = entries })
+    (λ (name, (unnamed, (selectable, count))) entries. record { name = name; unnamed = unnamed; selectable = selectable; entries = entries })
     (λ group. (group.name, (group.unnamed, (group.selectable, length group.entries)))) (λ group. group.entries)

@@ -17,7 +17,7 @@ use Rattle.dwg_more.specs.Faces.{face_parts, face_main, face_body}
 use Rattle.dwg_more.specs.Groups.{group_main, group_body}
 use Rattle.dwg_more.specs.Polylines.{polyline_body, vertex_main, vertex_body}
 use Rattle.dwg_more.specs.Rays.{ray_main, ray_body, xline_main, xline_body}
-use Rattle.dwg_more.specs.Solids.{solid_main, solid_body, trace_main, trace_body}
+use Rattle.dwg_more.specs.Solids.{solid_parts, solid_main, solid_body, trace_main, trace_body}
 
 -- an ellipse
 pub ellipse_is_body : (base : ℕ) → IsBody base (ellipse_body base)
@@ -27,14 +27,10 @@ ellipse_is_body base = search bodies depth 12
 pub ellipse_is_free : (base : ℕ) → base < 2 ^ 63 → IsFreeBody base (ellipse_body base)
 ellipse_is_free base small = free_of_body base _ (ellipse_is_body base) (λ over. tt)
 
--- the main bits of a ray are a code
-ray_is_code : IsCode AnyLetters ray_main
-unfolding ray_main
-ray_is_code = search codes depth 12
-
 -- a ray
 pub ray_is_body : (base : ℕ) → IsBody base (ray_body base)
-ray_is_body base = main_is_body base ray_main ray_is_code
+unfolding ray_main
+ray_is_body base = search bodies depth 12
 
 pub ray_is_free : (base : ℕ) → base < 2 ^ 63 → IsFreeBody base (ray_body base)
 ray_is_free base small = free_of_body base _ (ray_is_body base) (λ over. tt)
@@ -42,19 +38,19 @@ ray_is_free base small = free_of_body base _ (ray_is_body base) (λ over. tt)
 -- a line without ends
 pub xline_is_body : (base : ℕ) → IsBody base (xline_body base)
 unfolding xline_main
-xline_is_body base = search (bodies, ray_is_code) depth 12
+xline_is_body base = search bodies depth 12
 
 pub xline_is_free : (base : ℕ) → base < 2 ^ 63 → IsFreeBody base (xline_body base)
 xline_is_free base small = free_of_body base _ (xline_is_body base) (λ over. tt)
 
--- the main bits of a solid are a code
-solid_is_code : IsCode AnyLetters solid_main
-unfolding solid_main
-solid_is_code = search codes depth 20
+-- the parts of a solid are a code
+solid_parts_is_code : IsCode AnyLetters solid_parts
+solid_parts_is_code = search codes depth 20
 
 -- a solid
 pub solid_is_body : (base : ℕ) → IsBody base (solid_body base)
-solid_is_body base = main_is_body base solid_main solid_is_code
+unfolding solid_main
+solid_is_body base = search (bodies, solid_parts_is_code) depth 12
 
 pub solid_is_free : (base : ℕ) → base < 2 ^ 63 → IsFreeBody base (solid_body base)
 solid_is_free base small = free_of_body base _ (solid_is_body base) (λ over. tt)
@@ -62,7 +58,7 @@ solid_is_free base small = free_of_body base _ (solid_is_body base) (λ over. tt
 -- a trace
 pub trace_is_body : (base : ℕ) → IsBody base (trace_body base)
 unfolding trace_main
-trace_is_body base = search (bodies, solid_is_code) depth 12
+trace_is_body base = search (bodies, solid_parts_is_code) depth 12
 
 pub trace_is_free : (base : ℕ) → base < 2 ^ 63 → IsFreeBody base (trace_body base)
 trace_is_free base small = free_of_body base _ (trace_is_body base) (λ over. tt)

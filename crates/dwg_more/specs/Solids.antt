@@ -1,56 +1,47 @@
 -- SOLID and TRACE (Open Design Specification, "SOLID" and "TRACE").
 use Rattle.std.specs.Prelude.{ℕ, Bool}
 use Rattle.dwg_grammar.specs.Codes.{bd, bt, be}
-use Rattle.dwg_grammar.specs.Combinators.{seq, shaped}
+use Rattle.dwg_grammar.specs.Combinators.{◌⋄◌, shaped}
 use Rattle.dwg_grammar.specs.Grammar.{Grammar}
 use Rattle.dwg_grammar.specs.Points.{rd2}
+use Rattle.dwg_grammar.specs.declared.points.Point2.{Point2}
+use Rattle.dwg_grammar.specs.declared.points.Point3.{Point3}
 use Rattle.dwg_grammar.specs.Bodies.{BodyGrammar}
 use Rattle.dwg_grammar.specs.MakingBodies.{main_body}
 use Rattle.dwg_more.specs.declared.solid.Solid.{Solid}
 use Rattle.dwg_more.specs.declared.trace.Trace.{Trace}
 
 -- BT thickness; BD elevation; 2RD for each of four corners; BE extrusion
+abbrev pub solid_parts : Grammar Bool (ℕ × (ℕ × (Point2 × (Point2 × (Point2 × (Point2 × Point3))))))
+solid_parts = bt ⋄ bd ⋄ rd2 ⋄ rd2 ⋄ rd2 ⋄ rd2 ⋄ be
+
+-- the parts of a solid
 unfoldable pub solid_main : Grammar Bool Solid
 solid_main =
-    shaped (λ parts. record {
-      thickness = parts.0;
-      elevation = parts.1.0;
-      first = parts.1.1.0;
-      second = parts.1.1.1.0;
-      third = parts.1.1.1.1.0;
-      fourth = parts.1.1.1.1.1.0;
-      extrusion = parts.1.1.1.1.1.1;
+    shaped (λ (thickness, (elevation, (first, (second, (third, (fourth, extrusion)))))). record {
+      thickness = thickness;
+      elevation = elevation;
+      first = first;
+      second = second;
+      third = third;
+      fourth = fourth;
+      extrusion = extrusion;
     })
-    (λ solid. (solid.thickness, (solid.elevation, (solid.first, (solid.second, (solid.third, (solid.fourth, solid.extrusion)))))))
-    (seq bt (λ thickness. seq bd (λ elevation. seq rd2 (λ first. seq rd2 (λ second. seq rd2 (λ third. seq rd2 (λ fourth. be)))))))
+    (λ solid. (solid.thickness, (solid.elevation, (solid.first, (solid.second, (solid.third, (solid.fourth, solid.extrusion))))))) solid_parts
 
--- the solid with the fields of a trace
-abbrev pub solid_of : Trace → Solid
-solid_of trace = record {
-  thickness = trace.thickness;
-  elevation = trace.elevation;
-  first = trace.first;
-  second = trace.second;
-  third = trace.third;
-  fourth = trace.fourth;
-  extrusion = trace.extrusion;
-}
-
--- the trace with the fields of a solid
-abbrev pub trace_of : Solid → Trace
-trace_of solid = record {
-  thickness = solid.thickness;
-  elevation = solid.elevation;
-  first = solid.first;
-  second = solid.second;
-  third = solid.third;
-  fourth = solid.fourth;
-  extrusion = solid.extrusion;
-}
-
--- as a solid
+-- the parts of a trace, which are the same
 unfoldable pub trace_main : Grammar Bool Trace
-trace_main = shaped trace_of solid_of solid_main
+trace_main =
+    shaped (λ (thickness, (elevation, (first, (second, (third, (fourth, extrusion)))))). record {
+      thickness = thickness;
+      elevation = elevation;
+      first = first;
+      second = second;
+      third = third;
+      fourth = fourth;
+      extrusion = extrusion;
+    })
+    (λ trace. (trace.thickness, (trace.elevation, (trace.first, (trace.second, (trace.third, (trace.fourth, trace.extrusion))))))) solid_parts
 
 -- a solid: no references
 abbrev pub solid_body : ℕ → BodyGrammar Solid

@@ -5,10 +5,10 @@ ghost use Rattle.dwg_common.specs.Parsing.{Keeps, Parses};
 ghost use Rattle.dwg_more.specs.Ellipses.{ellipse_body, ellipse_main};
 ghost use Rattle.dwg_more.specs.MoreLaws.{ellipse_is_body};
 
-use dwg_base::{Handle, NoMemory};
+use dwg_base::{Handle, NoMemory, Version};
 use dwg_bits::{BitCursor, BitSink};
-use dwg_codes::{BitCode, Code3BD, CodeBD, Point3};
-use dwg_common::{BodyCode, Lengths, known_point, parse_code};
+use dwg_codes::{Code3BD, CodeBD, Point3};
+use dwg_common::{BodyCode, Layout, Lengths, field, row};
 use std::alloc::Global;
 
 /// An ellipse, or an arc of one (Open Design Specification, "ELLIPSE").
@@ -28,33 +28,35 @@ pub struct Ellipse {
     pub end_angle: u64,
 }
 
+/// What is done with the fields of an ellipse.
+macro_rules! ellipse_row {
+    ($($done:tt)*) => {
+        row!([Ellipse {
+            centre: Code3BD,
+            axis: Code3BD,
+            extrusion: Code3BD,
+            ratio: CodeBD,
+            start_angle: CodeBD,
+            end_angle: CodeBD,
+        }] $($done)*)
+    };
+}
+
 /// Reads an ellipse, as it is parsed.
 #[tactic(auto, unfolding(crate::specs::Ellipses::ellipse_main))]
 fn read_ellipse(cursor: &mut BitCursor<'_>) -> Option<Ellipse>
     ensures parsed { Parses ellipse_main result cursor.old cursor.new }
     ensures kept { Keeps cursor.old cursor.new }
 {
-    let centre = parse_code::<Code3BD>(&(), cursor)?;
-    let axis = parse_code::<Code3BD>(&(), cursor)?;
-    let extrusion = parse_code::<Code3BD>(&(), cursor)?;
-    let ratio = parse_code::<CodeBD>(&(), cursor)?;
-    let start_angle = parse_code::<CodeBD>(&(), cursor)?;
-    let end_angle = parse_code::<CodeBD>(&(), cursor)?;
-    Some(Ellipse {
-        centre,
-        axis,
-        extrusion,
-        ratio,
-        start_angle,
-        end_angle,
-    })
+    ellipse_row!(read Version::Ac1015, cursor)
 }
 
 impl BodyCode for Ellipse {
-    ghost grammar = { ellipse_body };
+    ghost grammar = { λ layout. ellipse_body };
 
     fn parse(
         _alloc: Global,
+        _layout: Layout,
         main: &mut BitCursor<'_>,
         _refs: &mut BitCursor<'_>,
         _base: Handle,
@@ -63,40 +65,25 @@ impl BodyCode for Ellipse {
     }
 
     #[tactic(auto, unfolding(crate::specs::Ellipses::ellipse_main))]
-    fn fits(&self, _base: Handle) -> bool {
-        known_point(&self.centre);
-        known_point(&self.axis);
-        known_point(&self.extrusion);
-        let _ratio = self.ratio;
-        let _start_angle = self.start_angle;
-        let _end_angle = self.end_angle;
+    fn fits_in(&self, _layout: Layout, _base: Handle) -> bool {
+        ellipse_row!(known self, Version::Ac1015);
         true
     }
 
     #[tactic(auto, unfolding(crate::specs::Ellipses::ellipse_main))]
-    fn lengths(&self, _base: Handle) -> Lengths {
+    fn lengths_in(&self, _layout: Layout, _base: Handle) -> Lengths {
         Lengths {
-            main: Code3BD::length(&(), &self.centre)
-                + Code3BD::length(&(), &self.axis)
-                + Code3BD::length(&(), &self.extrusion)
-                + CodeBD::length(&(), &self.ratio)
-                + CodeBD::length(&(), &self.start_angle)
-                + CodeBD::length(&(), &self.end_angle),
+            main: ellipse_row!(bits self, Version::Ac1015),
             refs: 0,
         }
     }
 
     #[tactic(auto, unfolding(crate::specs::Ellipses::ellipse_main))]
-    fn write_main(&self, _base: Handle, sink: &mut BitSink) {
-        Code3BD::write(&(), &self.centre, sink);
-        Code3BD::write(&(), &self.axis, sink);
-        Code3BD::write(&(), &self.extrusion, sink);
-        CodeBD::write(&(), &self.ratio, sink);
-        CodeBD::write(&(), &self.start_angle, sink);
-        CodeBD::write(&(), &self.end_angle, sink);
+    fn write_main_in(&self, _layout: Layout, _base: Handle, sink: &mut BitSink) {
+        ellipse_row!(write self, Version::Ac1015, sink);
     }
 
-    fn write_refs(&self, _base: Handle, _sink: &mut BitSink) {}
+    fn write_refs_in(&self, _layout: Layout, _base: Handle, _sink: &mut BitSink) {}
 
-    ghost laws = { λ base small. ellipse_is_body base };
+    ghost laws = { λ layout base few small. ellipse_is_body base };
 }

@@ -12,7 +12,7 @@ use crate::corners::{Code3DD, CodeFirstCorner};
 use dwg_base::{Handle, NoMemory};
 use dwg_bits::{BitCursor, BitSink};
 use dwg_codes::{BitCode, CodeB, CodeBS, Point3, length_when, write_when};
-use dwg_common::{BodyCode, Lengths, known_point, parse_code, parse_when};
+use dwg_common::{BodyCode, Layout, Lengths, known_point, parse_code, parse_when};
 use std::alloc::Global;
 
 /// A face with four corners in space (Open Design Specification, "3DFACE").
@@ -88,10 +88,11 @@ fn write_behind_first(no_flags: bool, face: &Face3d, sink: &mut BitSink)
 }
 
 impl BodyCode for Face3d {
-    ghost grammar = { face_body };
+    ghost grammar = { λ layout. face_body };
 
     fn parse(
         _alloc: Global,
+        _layout: Layout,
         main: &mut BitCursor<'_>,
         _refs: &mut BitCursor<'_>,
         _base: Handle,
@@ -100,7 +101,7 @@ impl BodyCode for Face3d {
     }
 
     #[tactic(auto, unfolding(crate::specs::Faces::face_main))]
-    fn fits(&self, _base: Handle) -> bool {
+    fn fits_in(&self, _layout: Layout, _base: Handle) -> bool {
         known_point(&self.first);
         known_point(&self.second);
         known_point(&self.third);
@@ -110,7 +111,7 @@ impl BodyCode for Face3d {
     }
 
     #[tactic(auto, unfolding(crate::specs::Faces::face_main))]
-    fn lengths(&self, _base: Handle) -> Lengths {
+    fn lengths_in(&self, _layout: Layout, _base: Handle) -> Lengths {
         let no_flags = has_no_flags(self.invisible);
         Lengths {
             main: CodeB::length(&(), &no_flags)
@@ -124,14 +125,14 @@ impl BodyCode for Face3d {
     }
 
     #[tactic(auto, unfolding(crate::specs::Faces::face_main))]
-    fn write_main(&self, _base: Handle, sink: &mut BitSink) {
+    fn write_main_in(&self, _layout: Layout, _base: Handle, sink: &mut BitSink) {
         let no_flags = has_no_flags(self.invisible);
         CodeB::write(&(), &no_flags, sink);
         CodeFirstCorner::write(&(), &self.first, sink);
         write_behind_first(no_flags, self, sink);
     }
 
-    fn write_refs(&self, _base: Handle, _sink: &mut BitSink) {}
+    fn write_refs_in(&self, _layout: Layout, _base: Handle, _sink: &mut BitSink) {}
 
-    ghost laws = { λ base small. face_is_body base };
+    ghost laws = { λ layout base few small. face_is_body base };
 }

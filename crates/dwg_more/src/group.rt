@@ -9,8 +9,8 @@ use dwg_base::{ByteRun, Handle, Items, NoMemory};
 use dwg_bits::{BitCursor, BitSink};
 use dwg_codes::{BitCode, CodeBL, CodeBS};
 use dwg_common::{
-    BodyCode, Lengths, count_bits, count_fits, parse_code, parse_refs, parse_tv, tv_bits, tv_fits,
-    write_count, write_tv,
+    BodyCode, Layout, Lengths, count_bits, count_fits, parse_code, parse_refs, parse_tv, tv_bits,
+    tv_fits, write_count, write_tv,
 };
 use dwg_handles::{Ref, refs_bits, refs_fit, write_refs};
 use std::alloc::Global;
@@ -53,11 +53,12 @@ fn read_told(alloc: Global, cursor: &mut BitCursor<'_>) -> Result<Option<Told>, 
 }
 
 impl BodyCode for Group {
-    ghost grammar = { group_body };
+    ghost grammar = { λ layout. group_body };
 
     #[tactic(auto, unfolding(crate::specs::Groups::group_body))]
     fn parse(
         alloc: Global,
+        _layout: Layout,
         main: &mut BitCursor<'_>,
         refs: &mut BitCursor<'_>,
         base: Handle,
@@ -77,7 +78,7 @@ impl BodyCode for Group {
     }
 
     #[tactic(auto, unfolding(crate::specs::Groups::group_body, dwg_grammar::specs::Combinators::chain))]
-    fn fits(&self, base: Handle) -> bool {
+    fn fits_in(&self, _layout: Layout, base: Handle) -> bool {
         let _unnamed = self.unnamed;
         let _selectable = self.selectable;
         if !tv_fits(self.name.as_slice()) {
@@ -90,7 +91,7 @@ impl BodyCode for Group {
     }
 
     #[tactic(auto, unfolding(crate::specs::Groups::group_body, dwg_grammar::specs::Combinators::chain))]
-    fn lengths(&self, base: Handle) -> Lengths {
+    fn lengths_in(&self, _layout: Layout, base: Handle) -> Lengths {
         Lengths {
             main: tv_bits(self.name.as_slice())
                 + CodeBS::length(&(), &self.unnamed)
@@ -101,7 +102,7 @@ impl BodyCode for Group {
     }
 
     #[tactic(auto, unfolding(crate::specs::Groups::group_body))]
-    fn write_main(&self, _base: Handle, sink: &mut BitSink) {
+    fn write_main_in(&self, _layout: Layout, _base: Handle, sink: &mut BitSink) {
         write_tv(self.name.as_slice(), sink);
         CodeBS::write(&(), &self.unnamed, sink);
         CodeBS::write(&(), &self.selectable, sink);
@@ -109,9 +110,9 @@ impl BodyCode for Group {
     }
 
     #[tactic(auto, unfolding(crate::specs::Groups::group_body, dwg_grammar::specs::Combinators::chain))]
-    fn write_refs(&self, base: Handle, sink: &mut BitSink) {
+    fn write_refs_in(&self, _layout: Layout, base: Handle, sink: &mut BitSink) {
         write_refs(self.entries.as_slice(), base, sink);
     }
 
-    ghost laws = { λ base small. group_is_body base small };
+    ghost laws = { λ layout base few small. group_is_body base small };
 }

@@ -1,15 +1,14 @@
 //! Solids.
 
-ghost use Rattle.std.specs.Prelude.{◌≡◌, ◌^◌, ◌<◌, ◌≤◌, length};
-ghost use Rattle.dwg_bits.specs.Sink.{Extends};
+ghost use Rattle.std.specs.Prelude.{◌≡◌, ◌<◌, length};
 ghost use Rattle.dwg_common.specs.Parsing.{Keeps, Parses};
 ghost use Rattle.dwg_more.specs.MoreLaws.{solid_is_body};
 ghost use Rattle.dwg_more.specs.Solids.{solid_body, solid_main};
 
-use dwg_base::{Handle, NoMemory};
+use dwg_base::{Handle, NoMemory, Version};
 use dwg_bits::{BitCursor, BitSink};
-use dwg_codes::{BitCode, CodeBD, CodeBE, CodeBT, Point2, Point3};
-use dwg_common::{BodyCode, Code2RD, Lengths, known_place, known_point, parse_code};
+use dwg_codes::{CodeBD, CodeBE, CodeBT, Point2, Point3};
+use dwg_common::{BodyCode, Code2RD, Layout, Lengths, field, known_place, known_point, row};
 use std::alloc::Global;
 
 /// A filled area with four corners (Open Design Specification, "SOLID").
@@ -31,81 +30,52 @@ pub struct Solid {
     pub extrusion: Point3,
 }
 
-/// The words of a solid lie in the range of their type.
-#[tactic(auto, unfolding(crate::specs::Solids::solid_main))]
-pub(crate) fn known_solid(solid: &Solid)
-    ensures { solid_main.IsValue solid.now }
-{
-    let _thickness = solid.thickness;
-    let _elevation = solid.elevation;
-    known_place(&solid.first);
-    known_place(&solid.second);
-    known_place(&solid.third);
-    known_place(&solid.fourth);
-    known_point(&solid.extrusion);
+/// What is done with the fields of a solid or of a trace, which has the same.
+macro_rules! solid_row {
+    ($name:ident $($done:tt)*) => {
+        row!(solid_field [$name { thickness, elevation, first, second, third, fourth, extrusion };
+            thickness: CodeBT,
+            elevation: CodeBD,
+            first: Code2RD,
+            second: Code2RD,
+            third: Code2RD,
+            fourth: Code2RD,
+            extrusion: CodeBE
+        ] $($done)*)
+    };
 }
 
-/// How many bits a solid is written by.
-#[tactic(auto, unfolding(crate::specs::Solids::solid_main))]
-pub(crate) fn solid_bits(solid: &Solid) -> u64
-    requires { solid_main.IsValue solid.now }
-    ensures length { result ≡ length (solid_main.short solid.now) }
-    ensures few { result < 2 ^ 36 }
-{
-    CodeBT::length(&(), &solid.thickness)
-        + CodeBD::length(&(), &solid.elevation)
-        + Code2RD::length(&(), &solid.first)
-        + Code2RD::length(&(), &solid.second)
-        + Code2RD::length(&(), &solid.third)
-        + Code2RD::length(&(), &solid.fourth)
-        + CodeBE::length(&(), &solid.extrusion)
+/// What is done with one of them.
+macro_rules! solid_field {
+    (fits Code2RD, $of:expr, $field:ident, $version:expr) => {
+        known_place(&$of.$field);
+    };
+    (fits CodeBE, $of:expr, $field:ident, $version:expr) => {
+        known_point(&$of.$field);
+    };
+    ($($done:tt)*) => {
+        field!($($done)*)
+    };
 }
 
-/// Writes a solid.
-#[tactic(auto, unfolding(crate::specs::Solids::solid_main))]
-pub(crate) fn write_solid(solid: &Solid, sink: &mut BitSink)
-    requires value { solid_main.IsValue solid.now }
-    requires room { length (solid_main.short solid.now) ≤ sink.old.spare }
-    ensures { Extends sink.old sink.new (solid_main.short solid.now) }
-{
-    CodeBT::write(&(), &solid.thickness, sink);
-    CodeBD::write(&(), &solid.elevation, sink);
-    Code2RD::write(&(), &solid.first, sink);
-    Code2RD::write(&(), &solid.second, sink);
-    Code2RD::write(&(), &solid.third, sink);
-    Code2RD::write(&(), &solid.fourth, sink);
-    CodeBE::write(&(), &solid.extrusion, sink);
-}
+pub(crate) use solid_field;
+pub(crate) use solid_row;
 
 /// Reads a solid, as it is parsed.
 #[tactic(auto, unfolding(crate::specs::Solids::solid_main))]
-pub(crate) fn read_solid(cursor: &mut BitCursor<'_>) -> Option<Solid>
+fn read_solid(cursor: &mut BitCursor<'_>) -> Option<Solid>
     ensures parsed { Parses solid_main result cursor.old cursor.new }
     ensures kept { Keeps cursor.old cursor.new }
 {
-    let thickness = parse_code::<CodeBT>(&(), cursor)?;
-    let elevation = parse_code::<CodeBD>(&(), cursor)?;
-    let first = parse_code::<Code2RD>(&(), cursor)?;
-    let second = parse_code::<Code2RD>(&(), cursor)?;
-    let third = parse_code::<Code2RD>(&(), cursor)?;
-    let fourth = parse_code::<Code2RD>(&(), cursor)?;
-    let extrusion = parse_code::<CodeBE>(&(), cursor)?;
-    Some(Solid {
-        thickness,
-        elevation,
-        first,
-        second,
-        third,
-        fourth,
-        extrusion,
-    })
+    solid_row!(Solid read Version::Ac1015, cursor)
 }
 
 impl BodyCode for Solid {
-    ghost grammar = { solid_body };
+    ghost grammar = { λ layout. solid_body };
 
     fn parse(
         _alloc: Global,
+        _layout: Layout,
         main: &mut BitCursor<'_>,
         _refs: &mut BitCursor<'_>,
         _base: Handle,
@@ -113,23 +83,26 @@ impl BodyCode for Solid {
         Ok(read_solid(main))
     }
 
-    fn fits(&self, _base: Handle) -> bool {
-        known_solid(self);
+    #[tactic(auto, unfolding(crate::specs::Solids::solid_main))]
+    fn fits_in(&self, _layout: Layout, _base: Handle) -> bool {
+        solid_row!(Solid known self, Version::Ac1015);
         true
     }
 
-    fn lengths(&self, _base: Handle) -> Lengths {
+    #[tactic(auto, unfolding(crate::specs::Solids::solid_main))]
+    fn lengths_in(&self, _layout: Layout, _base: Handle) -> Lengths {
         Lengths {
-            main: solid_bits(self),
+            main: solid_row!(Solid bits self, Version::Ac1015),
             refs: 0,
         }
     }
 
-    fn write_main(&self, _base: Handle, sink: &mut BitSink) {
-        write_solid(self, sink);
+    #[tactic(auto, unfolding(crate::specs::Solids::solid_main))]
+    fn write_main_in(&self, _layout: Layout, _base: Handle, sink: &mut BitSink) {
+        solid_row!(Solid write self, Version::Ac1015, sink);
     }
 
-    fn write_refs(&self, _base: Handle, _sink: &mut BitSink) {}
+    fn write_refs_in(&self, _layout: Layout, _base: Handle, _sink: &mut BitSink) {}
 
-    ghost laws = { λ base small. solid_is_body base };
+    ghost laws = { λ layout base few small. solid_is_body base };
 }

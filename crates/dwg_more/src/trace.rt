@@ -1,15 +1,15 @@
 //! Traces.
 
-ghost use Rattle.std.specs.Prelude.{◌≡◌};
+ghost use Rattle.std.specs.Prelude.{◌≡◌, ◌<◌, length};
 ghost use Rattle.dwg_common.specs.Parsing.{Keeps, Parses};
 ghost use Rattle.dwg_more.specs.MoreLaws.{trace_is_body};
-ghost use Rattle.dwg_more.specs.Solids.{solid_of, trace_body, trace_main};
+ghost use Rattle.dwg_more.specs.Solids.{trace_body, trace_main};
 
-use crate::solid::{Solid, known_solid, read_solid, solid_bits, write_solid};
-use dwg_base::{Handle, NoMemory};
+use crate::solid::{solid_field, solid_row};
+use dwg_base::{Handle, NoMemory, Version};
 use dwg_bits::{BitCursor, BitSink};
-use dwg_codes::{Point2, Point3};
-use dwg_common::{BodyCode, Lengths};
+use dwg_codes::{CodeBD, CodeBE, CodeBT, Point2, Point3};
+use dwg_common::{BodyCode, Code2RD, Layout, Lengths, field, known_place, known_point, row};
 use std::alloc::Global;
 
 /// A filled line that has a width (Open Design Specification, "TRACE").
@@ -31,44 +31,21 @@ pub struct Trace {
     pub extrusion: Point3,
 }
 
-/// The solid with the fields of a trace.
-fn solid_of(trace: &Trace) -> Solid
-    ensures { result ≡ solid_of trace.now }
-{
-    Solid {
-        thickness: trace.thickness,
-        elevation: trace.elevation,
-        first: trace.first,
-        second: trace.second,
-        third: trace.third,
-        fourth: trace.fourth,
-        extrusion: trace.extrusion,
-    }
-}
-
 /// Reads a trace, as it is parsed.
 #[tactic(auto, unfolding(crate::specs::Solids::trace_main))]
 fn read_trace(cursor: &mut BitCursor<'_>) -> Option<Trace>
     ensures parsed { Parses trace_main result cursor.old cursor.new }
     ensures kept { Keeps cursor.old cursor.new }
 {
-    let solid = read_solid(cursor)?;
-    Some(Trace {
-        thickness: solid.thickness,
-        elevation: solid.elevation,
-        first: solid.first,
-        second: solid.second,
-        third: solid.third,
-        fourth: solid.fourth,
-        extrusion: solid.extrusion,
-    })
+    solid_row!(Trace read Version::Ac1015, cursor)
 }
 
 impl BodyCode for Trace {
-    ghost grammar = { trace_body };
+    ghost grammar = { λ layout. trace_body };
 
     fn parse(
         _alloc: Global,
+        _layout: Layout,
         main: &mut BitCursor<'_>,
         _refs: &mut BitCursor<'_>,
         _base: Handle,
@@ -77,25 +54,25 @@ impl BodyCode for Trace {
     }
 
     #[tactic(auto, unfolding(crate::specs::Solids::trace_main))]
-    fn fits(&self, _base: Handle) -> bool {
-        known_solid(&solid_of(self));
+    fn fits_in(&self, _layout: Layout, _base: Handle) -> bool {
+        solid_row!(Trace known self, Version::Ac1015);
         true
     }
 
     #[tactic(auto, unfolding(crate::specs::Solids::trace_main))]
-    fn lengths(&self, _base: Handle) -> Lengths {
+    fn lengths_in(&self, _layout: Layout, _base: Handle) -> Lengths {
         Lengths {
-            main: solid_bits(&solid_of(self)),
+            main: solid_row!(Trace bits self, Version::Ac1015),
             refs: 0,
         }
     }
 
     #[tactic(auto, unfolding(crate::specs::Solids::trace_main))]
-    fn write_main(&self, _base: Handle, sink: &mut BitSink) {
-        write_solid(&solid_of(self), sink);
+    fn write_main_in(&self, _layout: Layout, _base: Handle, sink: &mut BitSink) {
+        solid_row!(Trace write self, Version::Ac1015, sink);
     }
 
-    fn write_refs(&self, _base: Handle, _sink: &mut BitSink) {}
+    fn write_refs_in(&self, _layout: Layout, _base: Handle, _sink: &mut BitSink) {}
 
-    ghost laws = { λ base small. trace_is_body base };
+    ghost laws = { λ layout base few small. trace_is_body base };
 }

@@ -5,10 +5,10 @@ ghost use Rattle.dwg_common.specs.Parsing.{Keeps, Parses};
 ghost use Rattle.dwg_more.specs.MoreLaws.{vertex_is_body};
 ghost use Rattle.dwg_more.specs.Polylines.{vertex_body, vertex_main};
 
-use dwg_base::{Handle, NoMemory};
+use dwg_base::{Handle, NoMemory, Version};
 use dwg_bits::{BitCursor, BitSink};
-use dwg_codes::{BitCode, Code3BD, CodeRC, Point3};
-use dwg_common::{BodyCode, Lengths, known_point, parse_code};
+use dwg_codes::{Code3BD, CodeRC, Point3};
+use dwg_common::{BodyCode, Layout, Lengths, field, row};
 use std::alloc::Global;
 
 /// A vertex of a polyline in space (Open Design Specification, "VERTEX (3D)").
@@ -20,22 +20,31 @@ pub struct Vertex3d {
     pub place: Point3,
 }
 
+/// What is done with the fields of a vertex.
+macro_rules! vertex_row {
+    ($($done:tt)*) => {
+        row!([Vertex3d {
+            flags: CodeRC,
+            place: Code3BD,
+        }] $($done)*)
+    };
+}
+
 /// Reads a vertex, as it is parsed.
 #[tactic(auto, unfolding(crate::specs::Polylines::vertex_main))]
 fn read_vertex(cursor: &mut BitCursor<'_>) -> Option<Vertex3d>
     ensures parsed { Parses vertex_main result cursor.old cursor.new }
     ensures kept { Keeps cursor.old cursor.new }
 {
-    let flags = parse_code::<CodeRC>(&(), cursor)?;
-    let place = parse_code::<Code3BD>(&(), cursor)?;
-    Some(Vertex3d { flags, place })
+    vertex_row!(read Version::Ac1015, cursor)
 }
 
 impl BodyCode for Vertex3d {
-    ghost grammar = { vertex_body };
+    ghost grammar = { λ layout. vertex_body };
 
     fn parse(
         _alloc: Global,
+        _layout: Layout,
         main: &mut BitCursor<'_>,
         _refs: &mut BitCursor<'_>,
         _base: Handle,
@@ -44,27 +53,25 @@ impl BodyCode for Vertex3d {
     }
 
     #[tactic(auto, unfolding(crate::specs::Polylines::vertex_main))]
-    fn fits(&self, _base: Handle) -> bool {
-        let _flags = self.flags;
-        known_point(&self.place);
+    fn fits_in(&self, _layout: Layout, _base: Handle) -> bool {
+        vertex_row!(known self, Version::Ac1015);
         true
     }
 
     #[tactic(auto, unfolding(crate::specs::Polylines::vertex_main))]
-    fn lengths(&self, _base: Handle) -> Lengths {
+    fn lengths_in(&self, _layout: Layout, _base: Handle) -> Lengths {
         Lengths {
-            main: CodeRC::length(&(), &self.flags) + Code3BD::length(&(), &self.place),
+            main: vertex_row!(bits self, Version::Ac1015),
             refs: 0,
         }
     }
 
     #[tactic(auto, unfolding(crate::specs::Polylines::vertex_main))]
-    fn write_main(&self, _base: Handle, sink: &mut BitSink) {
-        CodeRC::write(&(), &self.flags, sink);
-        Code3BD::write(&(), &self.place, sink);
+    fn write_main_in(&self, _layout: Layout, _base: Handle, sink: &mut BitSink) {
+        vertex_row!(write self, Version::Ac1015, sink);
     }
 
-    fn write_refs(&self, _base: Handle, _sink: &mut BitSink) {}
+    fn write_refs_in(&self, _layout: Layout, _base: Handle, _sink: &mut BitSink) {}
 
-    ghost laws = { λ base small. vertex_is_body base };
+    ghost laws = { λ layout base few small. vertex_is_body base };
 }

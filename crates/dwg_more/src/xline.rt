@@ -1,15 +1,14 @@
 //! Lines without ends.
 
-ghost use Rattle.std.specs.Prelude.{◌≡◌};
+ghost use Rattle.std.specs.Prelude.{◌≡◌, ◌<◌, length};
 ghost use Rattle.dwg_common.specs.Parsing.{Keeps, Parses};
 ghost use Rattle.dwg_more.specs.MoreLaws.{xline_is_body};
 ghost use Rattle.dwg_more.specs.Rays.{xline_body, xline_main};
 
-use crate::ray::{Ray, known_ray, ray_bits, read_ray, write_ray};
-use dwg_base::{Handle, NoMemory};
+use dwg_base::{Handle, NoMemory, Version};
 use dwg_bits::{BitCursor, BitSink};
-use dwg_codes::Point3;
-use dwg_common::{BodyCode, Lengths};
+use dwg_codes::{Code3BD, Point3};
+use dwg_common::{BodyCode, Layout, Lengths, field, row};
 use std::alloc::Global;
 
 /// A line that has no ends (Open Design Specification, "XLINE").
@@ -21,14 +20,14 @@ pub struct XLine {
     pub vector: Point3,
 }
 
-/// The ray of the same point and direction.
-fn ray_of(xline: &XLine) -> Ray
-    ensures { result ≡ record { point = xline.now.point; vector = xline.now.vector } }
-{
-    Ray {
-        point: xline.point,
-        vector: xline.vector,
-    }
+/// What is done with the fields of a line without ends.
+macro_rules! xline_row {
+    ($($done:tt)*) => {
+        row!([XLine {
+            point: Code3BD,
+            vector: Code3BD,
+        }] $($done)*)
+    };
 }
 
 /// Reads a line without ends, as it is parsed.
@@ -37,18 +36,15 @@ fn read_xline(cursor: &mut BitCursor<'_>) -> Option<XLine>
     ensures parsed { Parses xline_main result cursor.old cursor.new }
     ensures kept { Keeps cursor.old cursor.new }
 {
-    let ray = read_ray(cursor)?;
-    Some(XLine {
-        point: ray.point,
-        vector: ray.vector,
-    })
+    xline_row!(read Version::Ac1015, cursor)
 }
 
 impl BodyCode for XLine {
-    ghost grammar = { xline_body };
+    ghost grammar = { λ layout. xline_body };
 
     fn parse(
         _alloc: Global,
+        _layout: Layout,
         main: &mut BitCursor<'_>,
         _refs: &mut BitCursor<'_>,
         _base: Handle,
@@ -57,25 +53,25 @@ impl BodyCode for XLine {
     }
 
     #[tactic(auto, unfolding(crate::specs::Rays::xline_main))]
-    fn fits(&self, _base: Handle) -> bool {
-        known_ray(&ray_of(self));
+    fn fits_in(&self, _layout: Layout, _base: Handle) -> bool {
+        xline_row!(known self, Version::Ac1015);
         true
     }
 
     #[tactic(auto, unfolding(crate::specs::Rays::xline_main))]
-    fn lengths(&self, _base: Handle) -> Lengths {
+    fn lengths_in(&self, _layout: Layout, _base: Handle) -> Lengths {
         Lengths {
-            main: ray_bits(&ray_of(self)),
+            main: xline_row!(bits self, Version::Ac1015),
             refs: 0,
         }
     }
 
     #[tactic(auto, unfolding(crate::specs::Rays::xline_main))]
-    fn write_main(&self, _base: Handle, sink: &mut BitSink) {
-        write_ray(&ray_of(self), sink);
+    fn write_main_in(&self, _layout: Layout, _base: Handle, sink: &mut BitSink) {
+        xline_row!(write self, Version::Ac1015, sink);
     }
 
-    fn write_refs(&self, _base: Handle, _sink: &mut BitSink) {}
+    fn write_refs_in(&self, _layout: Layout, _base: Handle, _sink: &mut BitSink) {}
 
-    ghost laws = { λ base small. xline_is_body base };
+    ghost laws = { λ layout base few small. xline_is_body base };
 }

@@ -4,6 +4,7 @@ use Rattle.std.specs.Prelude.{◌⊎◌, nat_lt}
 use Rattle.std.proofs.lemmas.Bool.Decides.{nat_tests}
 use Rattle.std.proofs.lemmas.List.{append_assoc, append_cancel_left, length-append, take_at}
 use Rattle.std.proofs.lemmas.Option.{none-some}
+use Rattle.dwg_common.specs.Layouts.{NEWER}
 use Rattle.dwg_bits.specs.Bits.{bits}
 use Rattle.dwg_bits.specs.Cursor.{bits_between}
 use Rattle.dwg_bits.proofs.BitLaws.{bits_between_all, bits_between_joined, length_of_bits, length_of_bits_between}
@@ -32,8 +33,8 @@ none_begins {V} base body main references is none value main_behind references_b
 
 -- the common part of an object is a body
 pub common_is_body : (entity : Bool) (base : ℕ) → base < 2 ^ 63 → IsBody base (common_part entity base)
-common_is_body true base small = variant_is_body base _ _ _ (entity_is_body base small) (λ common. refl)
-common_is_body false base small = variant_is_body base _ _ _ (object_is_body base small) (λ common. refl)
+common_is_body true base small = variant_is_body base _ _ _ (entity_is_body NEWER base (omega arith) small) (λ common. refl)
+common_is_body false base small = variant_is_body base _ _ _ (object_is_body NEWER base (omega arith) small) (λ common. refl)
 
 -- what is spelled of an entity is an entity's
 pub common_of_entity : (entity : Bool) (base : ℕ) (common : Common) (main references : List Bool) (over : ℕ) → (common_part entity base).Spells common main references over → is_of_entity common ≡ entity

@@ -1,5 +1,5 @@
 -- Kind by kind: what it has of its own is a body, and is of that kind.
-use Rattle.std.proofs.Common.{◌≡◌, refl, ℕ, ◌^◌, ◌<◌, Bool, List, rules}
+use Rattle.std.proofs.Common.{◌≡◌, ℕ, ◌^◌, ◌<◌, Bool, List, rules}
 use Rattle.dwg_grammar.specs.Bodies.{IsBody}
 use Rattle.dwg_grammar.proofs.BodyLemmas.{lawful_of_body}
 use Rattle.dwg_grammar.proofs.MadeBodies.{variant_is_body}

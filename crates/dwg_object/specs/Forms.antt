@@ -1,5 +1,6 @@
 -- The forms in which the body of an object is read (Open Design Specification, "R13 to R2000 file layout, object data"). Which form an object has is a rule of this project.
 use Rattle.std.specs.Prelude.{◌≡◌, ◌≢◌, ℕ, ◌<◌, Bool, true, false, List, ◌++◌, length, Option, Some, None}
+use Rattle.dwg_common.specs.Layouts.{NEWER}
 use Rattle.dwg_bits.specs.Bits.{bits}
 use Rattle.dwg_classes.specs.declared.class.Class.{Class}
 use Rattle.dwg_classes.specs.Hints.{hint_at}
@@ -37,8 +38,8 @@ object_inside (Object common) = Some common
 
 -- the common part of the object of a handle, which is an entity or isn't
 abbrev pub common_part : Bool → ℕ → BodyGrammar Common
-common_part true base = variant Entity entity_inside (entity_common base)
-common_part false base = variant Object object_inside (object_common base)
+common_part true base = variant Entity entity_inside (entity_common NEWER base)
+common_part false base = variant Object object_inside (object_common NEWER base)
 
 -- what the forms that read a common part have in common: the head, the common part and the own bits before the references, together as many as the bit size says; the references of the common part, and the bits behind them
 pub record CommonForm (classes : List Class) (body : List ℕ) (number handle : ℕ) (common : Common) (own behind : List Bool) : Type 0 where

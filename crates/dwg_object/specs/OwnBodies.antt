@@ -1,5 +1,6 @@
 -- What the kinds of objects have of their own behind their common part (Open Design Specification, the sections named by the kinds). Which kinds have a body is a rule of this project.
 use Rattle.std.specs.Prelude.{⊤, ℕ, [], Some, None}
+use Rattle.dwg_base.specs.declared.version.Version.TheVariants.{Ac1015}
 use Rattle.dwg_grammar.specs.Bodies.{BodyGrammar}
 use Rattle.dwg_grammar.specs.MakingBodies.{variant}
 use Rattle.dwg_dicts.specs.Dictionaries.{dictionary_body}
@@ -91,19 +92,19 @@ no_body {V} = record {
 
 -- what a kind has of its own, in the object of a handle; a kind without a body has nothing that could be read
 unfoldable pub own_body : Kind → ℕ → BodyGrammar Body
-own_body kinds.Text base = variant bodies.Text (elim [ bodies.Text body ↦ Some body | other ↦ None ]) (text_body base)
-own_body kinds.Attrib base = variant bodies.Attrib (elim [ bodies.Attrib body ↦ Some body | other ↦ None ]) (attrib_body base)
-own_body kinds.Attdef base = variant bodies.Attdef (elim [ bodies.Attdef body ↦ Some body | other ↦ None ]) (attdef_body base)
+own_body kinds.Text base = variant bodies.Text (elim [ bodies.Text body ↦ Some body | other ↦ None ]) (text_body Ac1015 base)
+own_body kinds.Attrib base = variant bodies.Attrib (elim [ bodies.Attrib body ↦ Some body | other ↦ None ]) (attrib_body Ac1015 base)
+own_body kinds.Attdef base = variant bodies.Attdef (elim [ bodies.Attdef body ↦ Some body | other ↦ None ]) (attdef_body Ac1015 base)
 own_body kinds.Block base = variant bodies.Block (elim [ bodies.Block body ↦ Some body | other ↦ None ]) (block_body base)
 own_body kinds.EndBlk base = variant bodies.EndBlk (elim [ bodies.EndBlk body ↦ Some body | other ↦ None ]) (endblk_body base)
 own_body kinds.SeqEnd base = variant bodies.SeqEnd (elim [ bodies.SeqEnd body ↦ Some body | other ↦ None ]) (seqend_body base)
-own_body kinds.Insert base = variant bodies.Insert (elim [ bodies.Insert body ↦ Some body | other ↦ None ]) (insert_body base)
+own_body kinds.Insert base = variant bodies.Insert (elim [ bodies.Insert body ↦ Some body | other ↦ None ]) (insert_body Ac1015 base)
 own_body kinds.MInsert base = variant bodies.MInsert (elim [ bodies.MInsert body ↦ Some body | other ↦ None ]) (minsert_body base)
-own_body kinds.Arc base = variant bodies.Arc (elim [ bodies.Arc body ↦ Some body | other ↦ None ]) (arc_body base)
-own_body kinds.Circle base = variant bodies.Circle (elim [ bodies.Circle body ↦ Some body | other ↦ None ]) (circle_body base)
-own_body kinds.Line base = variant bodies.Line (elim [ bodies.Line body ↦ Some body | other ↦ None ]) (line_body base)
-own_body kinds.Point base = variant bodies.Point (elim [ bodies.Point body ↦ Some body | other ↦ None ]) (point_body base)
-own_body kinds.LwPolyline base = variant bodies.LwPolyline (elim [ bodies.LwPolyline body ↦ Some body | other ↦ None ]) (lwpolyline_body base)
+own_body kinds.Arc base = variant bodies.Arc (elim [ bodies.Arc body ↦ Some body | other ↦ None ]) (arc_body Ac1015 base)
+own_body kinds.Circle base = variant bodies.Circle (elim [ bodies.Circle body ↦ Some body | other ↦ None ]) (circle_body Ac1015 base)
+own_body kinds.Line base = variant bodies.Line (elim [ bodies.Line body ↦ Some body | other ↦ None ]) (line_body Ac1015 base)
+own_body kinds.Point base = variant bodies.Point (elim [ bodies.Point body ↦ Some body | other ↦ None ]) (point_body Ac1015 base)
+own_body kinds.LwPolyline base = variant bodies.LwPolyline (elim [ bodies.LwPolyline body ↦ Some body | other ↦ None ]) (lwpolyline_body Ac1015 base)
 own_body kinds.Vertex3d base = variant bodies.Vertex3d (elim [ bodies.Vertex3d body ↦ Some body | other ↦ None ]) (vertex_body base)
 own_body kinds.Polyline3d base = variant bodies.Polyline3d (elim [ bodies.Polyline3d body ↦ Some body | other ↦ None ]) (polyline_body base)
 own_body kinds.Face3d base = variant bodies.Face3d (elim [ bodies.Face3d body ↦ Some body | other ↦ None ]) (face_body base)
@@ -112,18 +113,18 @@ own_body kinds.Trace base = variant bodies.Trace (elim [ bodies.Trace body ↦ S
 own_body kinds.Ellipse base = variant bodies.Ellipse (elim [ bodies.Ellipse body ↦ Some body | other ↦ None ]) (ellipse_body base)
 own_body kinds.Ray base = variant bodies.Ray (elim [ bodies.Ray body ↦ Some body | other ↦ None ]) (ray_body base)
 own_body kinds.XLine base = variant bodies.XLine (elim [ bodies.XLine body ↦ Some body | other ↦ None ]) (xline_body base)
-own_body kinds.Dictionary base = variant bodies.Dictionary (elim [ bodies.Dictionary body ↦ Some body | other ↦ None ]) (dictionary_body base)
+own_body kinds.Dictionary base = variant bodies.Dictionary (elim [ bodies.Dictionary body ↦ Some body | other ↦ None ]) (dictionary_body Ac1015 base)
 own_body kinds.BlockControl base = variant bodies.BlockControl (elim [ bodies.BlockControl body ↦ Some body | other ↦ None ]) (block_control_body base)
-own_body kinds.BlockHeader base = variant bodies.BlockHeader (elim [ bodies.BlockHeader body ↦ Some body | other ↦ None ]) (block_header_body base)
+own_body kinds.BlockHeader base = variant bodies.BlockHeader (elim [ bodies.BlockHeader body ↦ Some body | other ↦ None ]) (block_header_body Ac1015 base)
 own_body kinds.LayerControl base = variant bodies.LayerControl (elim [ bodies.LayerControl body ↦ Some body | other ↦ None ]) (layer_control_body base)
-own_body kinds.Layer base = variant bodies.Layer (elim [ bodies.Layer body ↦ Some body | other ↦ None ]) (layer_body base)
+own_body kinds.Layer base = variant bodies.Layer (elim [ bodies.Layer body ↦ Some body | other ↦ None ]) (layer_body Ac1015 base)
 own_body kinds.StyleControl base = variant bodies.StyleControl (elim [ bodies.StyleControl body ↦ Some body | other ↦ None ]) (style_control_body base)
 own_body kinds.Style base = variant bodies.Style (elim [ bodies.Style body ↦ Some body | other ↦ None ]) (style_body base)
 own_body kinds.LtypeControl base = variant bodies.LtypeControl (elim [ bodies.LtypeControl body ↦ Some body | other ↦ None ]) (ltype_control_body base)
 own_body kinds.Ltype base = variant bodies.Ltype (elim [ bodies.Ltype body ↦ Some body | other ↦ None ]) (ltype_body base)
 own_body kinds.AppIdControl base = variant bodies.AppIdControl (elim [ bodies.AppIdControl body ↦ Some body | other ↦ None ]) (appid_control_body base)
 own_body kinds.AppId base = variant bodies.AppId (elim [ bodies.AppId body ↦ Some body | other ↦ None ]) (app_id_body base)
-own_body kinds.XRecord base = variant bodies.XRecord (elim [ bodies.XRecord body ↦ Some body | other ↦ None ]) (xrecord_body base)
+own_body kinds.XRecord base = variant bodies.XRecord (elim [ bodies.XRecord body ↦ Some body | other ↦ None ]) (xrecord_body Ac1015 base)
 own_body kinds.Group base = variant bodies.Group (elim [ bodies.Group body ↦ Some body | other ↦ None ]) (group_body base)
 own_body kind base = no_body
 

@@ -2,11 +2,12 @@
 
 ghost use Rattle.std.specs.Prelude.{◌≡◌, Bool, List, Some, None, IfOk};
 ghost use Rattle.dwg_common.specs.Parsing.{ParsesBody};
+ghost use Rattle.dwg_common.specs.Layouts.{NEWER};
 ghost use Rattle.dwg_object.specs.OwnBodies.{body_kind, own_body};
 
 use dwg_base::{Handle, NoMemory};
 use dwg_bits::BitCursor;
-use dwg_common::BodyCode;
+use dwg_common::{BodyCode, Layout};
 use dwg_dicts::{
     AppIdControl, BlockControl, Dictionary, LayerControl, LtypeControl, StyleControl, XRecord,
 };
@@ -142,12 +143,12 @@ fn parse_held<B: BodyCode, H: FnOnce(B) -> Body>(
 ) -> Result<Option<Body>, NoMemory>
     requires callable { H.IsAlwaysCallable held }
     requires some { (body : B) (one : Body) → H.post held body one → (bits references : List Bool) (left : List Bool × List Bool) →
-        (B.grammar base).parse bits references ≡ Some (body, left) → (own_body kind base).parse bits references ≡ Some (one, left) }
-    requires none { (bits references : List Bool) → (B.grammar base).parse bits references ≡ None → (own_body kind base).parse bits references ≡ None }
+        (B.grammar NEWER base).parse bits references ≡ Some (body, left) → (own_body kind base).parse bits references ≡ Some (one, left) }
+    requires none { (bits references : List Bool) → (B.grammar NEWER base).parse bits references ≡ None → (own_body kind base).parse bits references ≡ None }
     ensures parsed { IfOk result (λ found. ParsesBody (own_body kind base) found main.old main.new refs.old refs.new) }
 {
     // In a function of its own, since the prover goes through a call for each kind much sooner than through a match for each.
-    match B::parse(alloc, main, refs, base)? {
+    match B::parse(alloc, Layout::newer(), main, refs, base)? {
         Some(body) => Ok(Some(held(body))),
         None => Ok(None),
     }

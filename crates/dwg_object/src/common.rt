@@ -6,7 +6,7 @@ ghost use Rattle.dwg_object.specs.Forms.{common_part};
 
 use dwg_base::{Handle, NoMemory};
 use dwg_bits::BitCursor;
-use dwg_common::{BodyCode, EntityCommon, ObjectCommon};
+use dwg_common::{BodyCode, EntityCommon, Layout, ObjectCommon};
 use std::alloc::Global;
 
 /// What all entities have, or what all other objects have (Open Design Specification, "Common entity data" and "Common
@@ -42,12 +42,12 @@ impl Common {
         ensures parsed { IfOk result (λ found. ParsesBody (common_part entity base) found main.old main.new refs.old refs.new) }
     {
         if entity {
-            match EntityCommon::parse(alloc, main, refs, base)? {
+            match EntityCommon::parse(alloc, Layout::newer(), main, refs, base)? {
                 Some(common) => Ok(Some(Common::Entity(common))),
                 None => Ok(None),
             }
         } else {
-            match ObjectCommon::parse(alloc, main, refs, base)? {
+            match ObjectCommon::parse(alloc, Layout::newer(), main, refs, base)? {
                 Some(common) => Ok(Some(Common::Object(common))),
                 None => Ok(None),
             }

@@ -9,7 +9,11 @@ use Rattle.dwg_grammar.proofs.CombinatorLemmas.{any_letters_closed, always_is_co
 use Rattle.dwg_common.specs.LawSets.{codes, default_codes}
 use Rattle.dwg_grammar.specs.Grammar.{IsCode, AnyLetters}
 use Rattle.dwg_grammar.proofs.TruthCode.{b_is_code}
-use Rattle.dwg_shapes.specs.Lines.{LineEnds, heights, ends_by, AreEnds, is_flat, line_ends}
+use Rattle.dwg_shapes.specs.Lines.{LineEnds, heights, ends_by, AreEnds, is_flat, newer_ends, older_ends, line_ends}
+use Rattle.dwg_base.specs.declared.version.Version.{Version}
+use Rattle.dwg_base.specs.declared.version.Version.TheVariants.{Ac1014, Ac1015}
+use Rattle.dwg_grammar.specs.Codes.{IsPoint3}
+use Rattle.dwg_grammar.proofs.VersionLemmas.{in_version_is_code}
 
 -- the z words are a code by each z-zero
 heights_is_code : (z_zero : Bool) → IsCode AnyLetters (heights z_zero)
@@ -73,9 +77,9 @@ length_of_ends z_zero ends =
       length-append end_y z,
     )
 
--- the ends of a line are a code
-pub line_ends_is_code : IsCode AnyLetters line_ends
-line_ends_is_code =
+-- behind z-zero they are a code
+newer_ends_is_code : IsCode AnyLetters newer_ends
+newer_ends_is_code =
     tagged_is_code AnyLetters b ends_by AreEnds is_flat any_letters_closed b_is_code (λ z_zero any. ends_by_is_code z_zero) (λ z_zero ends any fits. ends_by_value z_zero ends fits)
     (λ ends are. (
       tt,
@@ -89,3 +93,12 @@ line_ends_is_code =
       length_of_low_bits 1 (if is_flat ends then 1 else 0),
       length_of_low_bits 1 (if z_zero then 1 else 0),
     ))
+
+-- and so they are in each version
+pub line_ends_is_code : (version : Version) → IsCode AnyLetters (line_ends version)
+line_ends_is_code version = in_version_is_code AnyLetters version older_ends newer_ends (search codes) newer_ends_is_code
+
+-- any points are ends
+pub ends_value : (version : Version) (ends : LineEnds) → IsPoint3 ends.start → IsPoint3 ends.end → (line_ends version).IsValue ends
+ends_value Ac1014 ends start end = (start, end)
+ends_value Ac1015 ends start end = record { start = start; end = end }

@@ -1,19 +1,21 @@
 -- POINT (Open Design Specification, "POINT").
 use Rattle.std.specs.Prelude.{ℕ, Bool}
-use Rattle.dwg_grammar.specs.Codes.{bd, bt, bd3, be}
-use Rattle.dwg_grammar.specs.Combinators.{seq, shaped}
+use Rattle.dwg_base.specs.declared.version.Version.{Version}
+use Rattle.dwg_grammar.specs.Codes.{bd, bd3}
+use Rattle.dwg_grammar.specs.Versions.{thickness, extrusion}
+use Rattle.dwg_grammar.specs.Combinators.{◌⋄◌, shaped}
 use Rattle.dwg_grammar.specs.Grammar.{Grammar}
 use Rattle.dwg_grammar.specs.Bodies.{BodyGrammar}
 use Rattle.dwg_grammar.specs.MakingBodies.{main_body}
 use Rattle.dwg_shapes.specs.declared.point.Point.{Point}
 
--- 3BD place; BT thickness; BE extrusion; BD angle
-unfoldable pub point_main : Grammar Bool Point
-point_main =
-    shaped (λ parts. record { place = parts.0; thickness = parts.1.0; extrusion = parts.1.1.0; angle = parts.1.1.1 })
+-- 3BD place; thickness; extrusion; BD angle
+unfoldable pub point_main : Version → Grammar Bool Point
+point_main version =
+    shaped (λ (place, (thickness, (extrusion, angle))). record { place = place; thickness = thickness; extrusion = extrusion; angle = angle })
     (λ point. (point.place, (point.thickness, (point.extrusion, point.angle))))
-    (seq bd3 (λ place. seq bt (λ thickness. seq be (λ extrusion. bd))))
+    (bd3 ⋄ thickness version ⋄ extrusion version ⋄ bd)
 
 -- a point: no references
-abbrev pub point_body : ℕ → BodyGrammar Point
-point_body base = main_body point_main
+abbrev pub point_body : Version → ℕ → BodyGrammar Point
+point_body version base = main_body (point_main version)

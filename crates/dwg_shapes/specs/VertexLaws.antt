@@ -1,14 +1,16 @@
 -- The points of a lightweight polyline are a code, and lists that are there by their counts tell these.
-use Rattle.std.proofs.Common.{◌≡◌, ◌∙◌, ap, ℕ, Bool, List, Option, Some, None}
+use Rattle.std.proofs.Common.{◌≡◌, ◌∙◌, ap, ℕ, Bool, List, [], ◌∷◌, Option, Some, None}
 use Rattle.std.specs.Prelude.{⊤}
-use Rattle.dwg_grammar.specs.Combinators.{chain}
+use Rattle.dwg_base.specs.declared.version.Version.{Version}
+use Rattle.dwg_base.specs.declared.version.Version.TheVariants.{Ac1014, Ac1015}
+use Rattle.dwg_grammar.specs.Combinators.{chain, IsChain}
 use Rattle.dwg_grammar.proofs.CombinatorLemmas.{any_letters_closed}
 use Rattle.dwg_grammar.specs.Grammar.{Grammar, IsCode, AnyLetters}
 use Rattle.dwg_grammar.proofs.ListLemmas.{chain_is_code}
 use Rattle.dwg_common.specs.LawSets.{codes}
 use Rattle.dwg_grammar.specs.declared.points.Point2.{Point2}
-use Rattle.dwg_shapes.specs.LwPolylines.{vertex, vertices, width_pair, items_where, count_of}
-use Rattle.dwg_grammar.specs.Points.{IsPoint2}
+use Rattle.dwg_shapes.specs.LwPolylines.{vertex, before_next, vertices, width_pair, items_where, count_of}
+use Rattle.dwg_grammar.specs.Points.{IsPoint2, rd2}
 use Rattle.dwg_grammar.proofs.PointLemmas.{rd2_is_code, dd2_is_code}
 
 -- the point before lies in the range of its type, where there is one
@@ -26,11 +28,15 @@ vertex_value : (before : Option Point2) (point : Point2) → (vertex before).IsV
 vertex_value None point fits = record { x = fits.0; y = fits.1 }
 vertex_value (Some before) point fits = record { x = fits.0; y = fits.1 }
 
+next_value : (version : Version) (point : Point2) → IsPoint2 point → IsBefore (before_next version point)
+next_value Ac1014 point is = tt
+next_value Ac1015 point is = is
+
 -- so many points are a code
-pub vertices_is_code : (count : ℕ) → IsCode AnyLetters (vertices count)
-vertices_is_code count =
-    chain_is_code AnyLetters vertex (λ point. Some point) IsBefore None count any_letters_closed
-    record { state_is_code = λ before is. vertex_is_code before is; next_is_state = λ before point is fits. vertex_value before point fits } tt
+pub vertices_is_code : (version : Version) (count : ℕ) → IsCode AnyLetters (vertices version count)
+vertices_is_code version count =
+    chain_is_code AnyLetters vertex (before_next version) IsBefore None count any_letters_closed
+    record { state_is_code = λ before is. vertex_is_code before is; next_is_state = λ before point is fits. next_value version point (vertex_value before point fits) } tt
 
 -- a width is a code
 pub width_pair_is_code : IsCode AnyLetters width_pair
@@ -42,3 +48,13 @@ pub count_told : {V : Type 0} (code : Grammar Bool V) (count : Option ℕ) (valu
 unfolding chain
 count_told code (Some count) values (inner, same, fits) = ap count_of same ∙ ap (λ (many : ℕ). Some many) fits.0
 count_told code None values none = ap count_of none
+
+-- a point that is told against none is told against any
+vertex_narrower : (before : Option Point2) (point : Point2) → rd2.IsValue point → (vertex before).IsValue point
+vertex_narrower None point fits = fits
+vertex_narrower (Some last) point fits = fits
+
+-- and so are many
+pub vertices_narrower : (before : Option Point2) (points : List Point2) → IsChain vertex (before_next Ac1014) None points → IsChain vertex (before_next Ac1015) before points
+vertices_narrower before [] fits = tt
+vertices_narrower before (point ∷ points) fits = (vertex_narrower before point fits.0, vertices_narrower (Some point) points fits.1)

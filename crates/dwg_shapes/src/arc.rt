@@ -1,14 +1,16 @@
 //! Arcs of circles.
 
 ghost use Rattle.std.specs.Prelude.{◌≡◌, ◌<◌, length};
+ghost use Rattle.dwg_base.specs.declared.version.Version.TheVariants.{Ac1014};
+ghost use Rattle.dwg_common.proofs.LayoutLemmas.{same_alike};
 ghost use Rattle.dwg_common.specs.Parsing.{Keeps, Parses};
 ghost use Rattle.dwg_shapes.specs.Arcs.{arc_body, arc_main};
-ghost use Rattle.dwg_shapes.specs.ShapeLaws.{arc_is_body};
+ghost use Rattle.dwg_shapes.specs.ShapeLaws.{arc_is_body, arc_narrower};
 
-use dwg_base::{Handle, NoMemory};
+use dwg_base::{Handle, NoMemory, Version};
 use dwg_bits::{BitCursor, BitSink};
-use dwg_codes::{BitCode, Code3BD, CodeBD, CodeBE, CodeBT, Point3};
-use dwg_common::{BodyCode, Lengths, known_point, parse_code};
+use dwg_codes::{Code3BD, CodeBD, CodeExtrusion, CodeThickness, Point3};
+use dwg_common::{BodyCode, BodyCode14, Layout, Lengths, field, row};
 use std::alloc::Global;
 
 /// An arc of a circle (Open Design Specification, "ARC").
@@ -28,75 +30,68 @@ pub struct Arc {
     pub end_angle: u64,
 }
 
+/// What is done with the fields of an arc.
+macro_rules! arc_row {
+    ($($done:tt)*) => {
+        row!([Arc {
+            centre: Code3BD,
+            radius: CodeBD,
+            thickness: CodeThickness,
+            extrusion: CodeExtrusion,
+            start_angle: CodeBD,
+            end_angle: CodeBD,
+        }] $($done)*)
+    };
+}
+
 /// Reads an arc, as it is parsed.
 #[tactic(auto, unfolding(crate::specs::Arcs::arc_main))]
-fn read_arc(cursor: &mut BitCursor<'_>) -> Option<Arc>
-    ensures parsed { Parses arc_main result cursor.old cursor.new }
+fn read_arc(version: Version, cursor: &mut BitCursor<'_>) -> Option<Arc>
+    ensures parsed { Parses (arc_main version) result cursor.old cursor.new }
     ensures kept { Keeps cursor.old cursor.new }
 {
-    let centre = parse_code::<Code3BD>(&(), cursor)?;
-    let radius = parse_code::<CodeBD>(&(), cursor)?;
-    let thickness = parse_code::<CodeBT>(&(), cursor)?;
-    let extrusion = parse_code::<CodeBE>(&(), cursor)?;
-    let start_angle = parse_code::<CodeBD>(&(), cursor)?;
-    let end_angle = parse_code::<CodeBD>(&(), cursor)?;
-    Some(Arc {
-        centre,
-        radius,
-        thickness,
-        extrusion,
-        start_angle,
-        end_angle,
-    })
+    arc_row!(read version, cursor)
 }
 
 impl BodyCode for Arc {
-    ghost grammar = { arc_body };
+    ghost grammar = { λ layout. arc_body layout.version };
 
     fn parse(
         _alloc: Global,
+        layout: Layout,
         main: &mut BitCursor<'_>,
         _refs: &mut BitCursor<'_>,
         _base: Handle,
     ) -> Result<Option<Arc>, NoMemory> {
-        Ok(read_arc(main))
+        Ok(read_arc(layout.version, main))
     }
 
     #[tactic(auto, unfolding(crate::specs::Arcs::arc_main))]
-    fn fits(&self, _base: Handle) -> bool {
-        known_point(&self.centre);
-        let _radius = self.radius;
-        let _thickness = self.thickness;
-        known_point(&self.extrusion);
-        let _start_angle = self.start_angle;
-        let _end_angle = self.end_angle;
+    fn fits_in(&self, layout: Layout, _base: Handle) -> bool {
+        arc_row!(known self, layout.version);
         true
     }
 
     #[tactic(auto, unfolding(crate::specs::Arcs::arc_main))]
-    fn lengths(&self, _base: Handle) -> Lengths {
+    fn lengths_in(&self, layout: Layout, _base: Handle) -> Lengths {
         Lengths {
-            main: Code3BD::length(&(), &self.centre)
-                + CodeBD::length(&(), &self.radius)
-                + CodeBT::length(&(), &self.thickness)
-                + CodeBE::length(&(), &self.extrusion)
-                + CodeBD::length(&(), &self.start_angle)
-                + CodeBD::length(&(), &self.end_angle),
+            main: arc_row!(bits self, layout.version),
             refs: 0,
         }
     }
 
     #[tactic(auto, unfolding(crate::specs::Arcs::arc_main))]
-    fn write_main(&self, _base: Handle, sink: &mut BitSink) {
-        Code3BD::write(&(), &self.centre, sink);
-        CodeBD::write(&(), &self.radius, sink);
-        CodeBT::write(&(), &self.thickness, sink);
-        CodeBE::write(&(), &self.extrusion, sink);
-        CodeBD::write(&(), &self.start_angle, sink);
-        CodeBD::write(&(), &self.end_angle, sink);
+    fn write_main_in(&self, layout: Layout, _base: Handle, sink: &mut BitSink) {
+        arc_row!(write self, layout.version, sink);
     }
 
-    fn write_refs(&self, _base: Handle, _sink: &mut BitSink) {}
+    fn write_refs_in(&self, _layout: Layout, _base: Handle, _sink: &mut BitSink) {}
 
-    ghost laws = { λ base small. arc_is_body base };
+    ghost laws = { λ layout base few small. arc_is_body layout.version base };
+}
+
+impl BodyCode14 for Arc {
+    ghost narrower = { arc_narrower };
+
+    ghost sizes_alike = { λ size base value. same_alike (arc_body Ac1014 base) value };
 }

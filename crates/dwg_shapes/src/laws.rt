@@ -1,6 +1,7 @@
 //! Laws of the bodies of shapes, as the contract of a function without code.
 
 ghost use Rattle.std.specs.Prelude.{◌^◌, ◌<◌, ℕ};
+ghost use Rattle.dwg_base.specs.declared.version.Version.{Version};
 ghost use Rattle.dwg_grammar.specs.Bodies.{IsFreeBody};
 ghost use Rattle.dwg_shapes.specs.Arcs.{arc_body};
 ghost use Rattle.dwg_shapes.specs.Circles.{circle_body};
@@ -12,9 +13,9 @@ ghost use Rattle.dwg_shapes.specs.Points.{point_body};
 /// spell at most one by their fronts; just those that fit are spelled, each by what is written of it, and none by fewer main
 /// bits; and any bits may follow.
 pub fn shape_laws()
-    ensures line { (base : ℕ) → base < 2 ^ 63 → IsFreeBody base (line_body base) }
-    ensures point { (base : ℕ) → base < 2 ^ 63 → IsFreeBody base (point_body base) }
-    ensures circle { (base : ℕ) → base < 2 ^ 63 → IsFreeBody base (circle_body base) }
-    ensures arc { (base : ℕ) → base < 2 ^ 63 → IsFreeBody base (arc_body base) }
-    ensures lwpolyline { (base : ℕ) → base < 2 ^ 63 → IsFreeBody base (lwpolyline_body base) }
+    ensures line { (version : Version) (base : ℕ) → base < 2 ^ 63 → IsFreeBody base (line_body version base) }
+    ensures point { (version : Version) (base : ℕ) → base < 2 ^ 63 → IsFreeBody base (point_body version base) }
+    ensures circle { (version : Version) (base : ℕ) → base < 2 ^ 63 → IsFreeBody base (circle_body version base) }
+    ensures arc { (version : Version) (base : ℕ) → base < 2 ^ 63 → IsFreeBody base (arc_body version base) }
+    ensures lwpolyline { (version : Version) (base : ℕ) → base < 2 ^ 63 → IsFreeBody base (lwpolyline_body version base) }
 {}

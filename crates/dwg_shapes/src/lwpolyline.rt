@@ -6,22 +6,26 @@ ghost use Rattle.dwg_bits.specs.Sink.{Extends};
 ghost use Rattle.dwg_grammar.specs.Codes.{bd, bd3};
 ghost use Rattle.dwg_grammar.specs.Combinators.{when};
 ghost use Rattle.dwg_grammar.specs.Flags.{has};
+ghost use Rattle.dwg_base.specs.declared.version.Version.TheVariants.{Ac1014};
+ghost use Rattle.dwg_common.proofs.LayoutLemmas.{same_alike};
 ghost use Rattle.dwg_common.specs.Parsing.{Keeps, Parses};
-ghost use Rattle.dwg_shapes.specs.LwPolylines.{counts_of, items_where, lists_of, lwpolyline_body, polyline_counts, polyline_start, start_of, width_pair};
+ghost use Rattle.dwg_shapes.specs.LwPolylines.{counts_of, items_where, lists_of, lwpolyline_body, polyline_counts, polyline_lists, polyline_start, start_of, width_pair};
 ghost use Rattle.dwg_shapes.specs.PolylineReading.{start_read};
-ghost use Rattle.dwg_shapes.specs.ShapeLaws.{lwpolyline_is_body};
+ghost use Rattle.dwg_shapes.specs.ShapeLaws.{lwpolyline_is_body, lwpolyline_narrower};
 
 use crate::lists::{
     count_fits_when, count_when, list_bits_where, parse_list_where, write_list_where,
 };
 use crate::vertices::{known_vertices, read_vertices, vertices_bits, write_vertices};
 use crate::width::{CodeWidth, known_widths};
-use dwg_base::{Handle, Items, NoMemory};
+use dwg_base::{Handle, Items, NoMemory, Version};
 use dwg_bits::{BitCursor, BitSink};
 use dwg_codes::{
     BitCode, Code3BD, CodeBD, CodeBL, CodeBS, Point2, Point3, length_when, write_when,
 };
-use dwg_common::{BodyCode, Lengths, TOO_MANY, known_point, parse_code, parse_when};
+use dwg_common::{
+    BodyCode, BodyCode14, Layout, Lengths, TOO_MANY, known_point, parse_code, parse_when,
+};
 use std::alloc::Global;
 
 /// How wide a lightweight polyline is from one point to the next (Open Design Specification, "LWPOLYLINE").
@@ -199,12 +203,24 @@ fn write_counts(polyline: &LwPolyline, sink: &mut BitSink)
     write_when::<CodeBL>(&(), has(polyline.flag, WIDTHS), &widths, sink);
 }
 
+/// Writes its lists.
+fn write_lists(polyline: &LwPolyline, version: Version, sink: &mut BitSink)
+    requires value { (polyline_lists version (counts_of (lists_of polyline.now))).IsValue (lists_of polyline.now) }
+    requires room { length ((polyline_lists version (counts_of (lists_of polyline.now))).short (lists_of polyline.now)) ≤ sink.old.spare }
+    ensures { Extends sink.old sink.new ((polyline_lists version (counts_of (lists_of polyline.now))).short (lists_of polyline.now)) }
+{
+    write_vertices(version, polyline.points.as_slice(), sink);
+    write_list_where::<CodeBD>(&(), &polyline.bulges, sink);
+    write_list_where::<CodeWidth>(&(), &polyline.widths, sink);
+}
+
 impl BodyCode for LwPolyline {
-    ghost grammar = { lwpolyline_body };
+    ghost grammar = { λ layout. lwpolyline_body layout.version };
 
     #[tactic(auto, unfolding(crate::specs::LwPolylines::lwpolyline_main))]
     fn parse(
         alloc: Global,
+        layout: Layout,
         main: &mut BitCursor<'_>,
         _refs: &mut BitCursor<'_>,
         _base: Handle,
@@ -221,7 +237,7 @@ impl BodyCode for LwPolyline {
         let Some(widths_count) = parse_when::<CodeBL>(&(), has(start.flag, WIDTHS), main) else {
             return Ok(None);
         };
-        let Some(points) = read_vertices(alloc, points_count, main)? else {
+        let Some(points) = read_vertices(alloc, layout.version, points_count, main)? else {
             return Ok(None);
         };
         let Some(bulges) = parse_list_where::<CodeBD>(alloc, &(), bulges_count, main)? else {
@@ -243,7 +259,7 @@ impl BodyCode for LwPolyline {
     }
 
     #[tactic(auto, unfolding(crate::specs::LwPolylines::lwpolyline_main))]
-    fn fits(&self, _base: Handle) -> bool {
+    fn fits_in(&self, layout: Layout, _base: Handle) -> bool {
         if !word_fits_when(has(self.flag, WIDTH), self.width) {
             return false;
         }
@@ -265,14 +281,14 @@ impl BodyCode for LwPolyline {
         if !count_fits_when(has(self.flag, WIDTHS), &self.widths) {
             return false;
         }
-        known_vertices(self.points.as_slice());
+        known_vertices(layout.version, self.points.as_slice());
         known_bulges(&self.bulges);
         known_widths_where(&self.widths);
         true
     }
 
     #[tactic(auto, unfolding(crate::specs::LwPolylines::lwpolyline_main))]
-    fn lengths(&self, _base: Handle) -> Lengths {
+    fn lengths_in(&self, layout: Layout, _base: Handle) -> Lengths {
         let points = self.points.as_slice().len() as u32;
         let bulges = count_when(has(self.flag, BULGES), &self.bulges);
         let widths = count_when(has(self.flag, WIDTHS), &self.widths);
@@ -285,7 +301,7 @@ impl BodyCode for LwPolyline {
                 + CodeBL::length(&(), &points)
                 + length_when::<CodeBL>(&(), has(self.flag, BULGES), &bulges)
                 + length_when::<CodeBL>(&(), has(self.flag, WIDTHS), &widths)
-                + vertices_bits(self.points.as_slice())
+                + vertices_bits(layout.version, self.points.as_slice())
                 + list_bits_where::<CodeBD>(&(), &self.bulges)
                 + list_bits_where::<CodeWidth>(&(), &self.widths),
             refs: 0,
@@ -293,15 +309,19 @@ impl BodyCode for LwPolyline {
     }
 
     #[tactic(auto, unfolding(crate::specs::LwPolylines::lwpolyline_main))]
-    fn write_main(&self, _base: Handle, sink: &mut BitSink) {
+    fn write_main_in(&self, layout: Layout, _base: Handle, sink: &mut BitSink) {
         write_start(self, sink);
         write_counts(self, sink);
-        write_vertices(self.points.as_slice(), sink);
-        write_list_where::<CodeBD>(&(), &self.bulges, sink);
-        write_list_where::<CodeWidth>(&(), &self.widths, sink);
+        write_lists(self, layout.version, sink);
     }
 
-    fn write_refs(&self, _base: Handle, _sink: &mut BitSink) {}
+    fn write_refs_in(&self, _layout: Layout, _base: Handle, _sink: &mut BitSink) {}
 
-    ghost laws = { λ base small. lwpolyline_is_body base };
+    ghost laws = { λ layout base few small. lwpolyline_is_body layout.version base };
+}
+
+impl BodyCode14 for LwPolyline {
+    ghost narrower = { lwpolyline_narrower };
+
+    ghost sizes_alike = { λ size base value. same_alike (lwpolyline_body Ac1014 base) value };
 }

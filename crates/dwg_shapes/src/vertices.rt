@@ -2,14 +2,24 @@
 
 ghost use Rattle.std.specs.Prelude.{◌≡◌, ◌^◌, ◌<◌, ◌≤◌, length, IfOk};
 ghost use Rattle.dwg_bits.specs.Sink.{Extends};
-ghost use Rattle.dwg_shapes.specs.LwPolylines.{vertex, vertices};
+ghost use Rattle.dwg_shapes.specs.LwPolylines.{before_next, vertex, vertices};
 ghost use Rattle.dwg_common.specs.Parsing.{Keeps, Parses};
 
-use dwg_base::{Items, NoMemory};
+use dwg_base::{Items, NoMemory, Version};
 use dwg_bits::{BitCursor, BitSink};
 use dwg_codes::{BitCode, Point2};
 use dwg_common::{Code2DD, Code2RD, known_place, parse_code};
 use std::alloc::Global;
+
+/// The point against which the one behind a point is told.
+fn before_next(version: Version, point: Point2) -> Option<Point2>
+    ensures { result ≡ before_next version point }
+{
+    match version {
+        Version::Ac1014 => None,
+        Version::Ac1015 => Some(point),
+    }
+}
 
 /// Reads a point behind the one before it, as it is parsed.
 fn read_vertex(before: Option<Point2>, cursor: &mut BitCursor<'_>) -> Option<Point2>
@@ -29,10 +39,11 @@ fn read_vertex(before: Option<Point2>, cursor: &mut BitCursor<'_>) -> Option<Poi
 #[tactic(auto, using(dwg_common::proofs::ChainReading::none_begun, dwg_common::proofs::ChainReading::all_begun), unfolding(dwg_grammar::specs::Combinators::chain))]
 pub(crate) fn read_vertices(
     alloc: Global,
+    version: Version,
     count: u32,
     cursor: &mut BitCursor<'_>,
 ) -> Result<Option<Items<Point2>>, NoMemory>
-    ensures parsed { IfOk result (λ found. Parses (vertices count) found cursor.old cursor.new) }
+    ensures parsed { IfOk result (λ found. Parses (vertices version count) found cursor.old cursor.new) }
     ensures kept { Keeps cursor.old cursor.new }
 {
     let mut before = None;
@@ -45,16 +56,17 @@ pub(crate) fn read_vertices(
             Ok(()) => {}
             Err(_) => return Err(NoMemory),
         }
-        before = Some(point);
+        before = before_next(version, point);
     }
     Ok(Some(found))
 }
 
 /// The words of points lie in the range of their type.
 #[tactic(auto, using(crate::proofs::Known::none_known, crate::proofs::VertexLoops::vertices_known))]
-pub(crate) fn known_vertices(points: &[Point2])
-    ensures { (vertices (length points.now)).IsValue points.now }
+pub(crate) fn known_vertices(version: Version, points: &[Point2])
+    ensures { (vertices version (length points.now)).IsValue points.now }
 {
+    let _newer = version.is_newer();
     // It finds nothing out: a turn tells the proof of one point what holds of every value of its type.
     'along: for point in points {
         known_place(point);
@@ -78,16 +90,16 @@ fn vertex_bits(before: Option<Point2>, point: &Point2) -> u64
 
 /// How many bits points are written by.
 #[tactic(auto, unfolding(dwg_grammar::specs::Combinators::chain))]
-pub(crate) fn vertices_bits(points: &[Point2]) -> u64
-    requires value { (vertices (length points.now)).IsValue points.now }
-    requires few { length ((vertices (length points.now)).short points.now) < 2 ^ 62 }
-    ensures { result ≡ length ((vertices (length points.now)).short points.now) }
+pub(crate) fn vertices_bits(version: Version, points: &[Point2]) -> u64
+    requires value { (vertices version (length points.now)).IsValue points.now }
+    requires few { length ((vertices version (length points.now)).short points.now) < 2 ^ 62 }
+    ensures { result ≡ length ((vertices version (length points.now)).short points.now) }
 {
     let mut bits = 0;
     let mut before = None;
     'along: for point in points {
         bits += vertex_bits(before, point);
-        before = Some(*point);
+        before = before_next(version, *point);
     }
     bits
 }
@@ -109,14 +121,14 @@ fn write_vertex(before: Option<Point2>, point: &Point2, sink: &mut BitSink)
 
 /// Writes points, each behind the one before it.
 #[tactic(auto, unfolding(dwg_grammar::specs::Combinators::chain))]
-pub(crate) fn write_vertices(points: &[Point2], sink: &mut BitSink)
-    requires value { (vertices (length points.now)).IsValue points.now }
-    requires room { length ((vertices (length points.now)).short points.now) ≤ sink.old.spare }
-    ensures { Extends sink.old sink.new ((vertices (length points.now)).short points.now) }
+pub(crate) fn write_vertices(version: Version, points: &[Point2], sink: &mut BitSink)
+    requires value { (vertices version (length points.now)).IsValue points.now }
+    requires room { length ((vertices version (length points.now)).short points.now) ≤ sink.old.spare }
+    ensures { Extends sink.old sink.new ((vertices version (length points.now)).short points.now) }
 {
     let mut before = None;
     'along: for point in points {
         write_vertex(before, point, sink);
-        before = Some(*point);
+        before = before_next(version, *point);
     }
 }

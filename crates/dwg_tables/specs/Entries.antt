@@ -1,7 +1,7 @@
 -- What every entry of a table begins with (Open Design Specification, "LAYER", "SHAPEFILE", "LTYPE", "APPID" and "BLOCK HEADER").
 use Rattle.std.specs.Prelude.{ℕ, Bool, List}
 use Rattle.dwg_grammar.specs.Codes.{bs, tv, b}
-use Rattle.dwg_grammar.specs.Combinators.{seq}
+use Rattle.dwg_grammar.specs.Combinators.{◌⋄◌}
 use Rattle.dwg_grammar.specs.Grammar.{Grammar}
 use Rattle.dwg_grammar.specs.Reference.{Reference}
 use Rattle.dwg_tables.specs.declared.entry.Entry.{Entry}
@@ -12,7 +12,7 @@ TitleParts = List ℕ × (Bool × (ℕ × Bool))
 
 -- TV name; B flag64; BS xref_index; B xref_dependent
 unfoldable pub entry_main : Grammar Bool TitleParts
-entry_main = seq tv (λ name. seq b (λ flag64. seq bs (λ xref_index. b)))
+entry_main = tv ⋄ b ⋄ bs ⋄ b
 
 -- what the main bits of an entry tell
 abbrev pub title_of : Entry → TitleParts

@@ -1,7 +1,7 @@
 -- A linetype (Open Design Specification, "LTYPE").
 use Rattle.std.specs.Prelude.{ℕ, Bool, List, length, map}
 use Rattle.dwg_grammar.specs.Codes.{rc, rd, bs, bd, tv}
-use Rattle.dwg_grammar.specs.Combinators.{seq, items, counted}
+use Rattle.dwg_grammar.specs.Combinators.{◌⋄◌, items, counted}
 use Rattle.dwg_grammar.specs.Grammar.{Grammar}
 use Rattle.dwg_grammar.specs.Bodies.{BodyGrammar}
 use Rattle.dwg_grammar.specs.MakingBodies.{body}
@@ -18,7 +18,7 @@ StrokeParts = ℕ × (ℕ × (ℕ × (ℕ × (ℕ × (ℕ × ℕ)))))
 
 -- BD length; BS code; RD x; RD y; BD scale; BD rotation; BS flag
 unfoldable pub stroke : Grammar Bool StrokeParts
-stroke = seq bd (λ length. seq bs (λ code. seq rd (λ x. seq rd (λ y. seq bd (λ scale. seq bd (λ rotation. bs))))))
+stroke = bd ⋄ bs ⋄ rd ⋄ rd ⋄ bd ⋄ bd ⋄ bs
 
 -- what the main bits of a dash tell, and the dash of these and of its style
 abbrev pub stroke_of : Dash → StrokeParts
@@ -46,7 +46,7 @@ PatternParts = TitleParts × (List ℕ × (ℕ × (ℕ × (List StrokeParts × L
 
 -- the entry's; TV description; BD length; RC alignment; RC count of dashes; what the main bits of each tell; 256 bytes
 unfoldable pub ltype_main : Grammar Bool PatternParts
-ltype_main = seq entry_main (λ title. seq tv (λ description. seq bd (λ length. seq rc (λ alignment. seq (counted rc stroke) (λ strokes. items rc 256)))))
+ltype_main = entry_main ⋄ tv ⋄ bd ⋄ rc ⋄ counted rc stroke ⋄ items rc 256
 
 -- xref; the style of each dash
 abbrev pub ltype_refs : ℕ → PatternParts → ReferencePart (Reference × List Reference)

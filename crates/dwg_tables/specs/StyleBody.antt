@@ -1,7 +1,7 @@
 -- A text style (Open Design Specification, "SHAPEFILE").
 use Rattle.std.specs.Prelude.{ℕ, Bool, List}
 use Rattle.dwg_grammar.specs.Codes.{rc, bd, tv, b}
-use Rattle.dwg_grammar.specs.Combinators.{seq}
+use Rattle.dwg_grammar.specs.Combinators.{◌⋄◌}
 use Rattle.dwg_grammar.specs.Grammar.{Grammar}
 use Rattle.dwg_grammar.specs.Bodies.{BodyGrammar}
 use Rattle.dwg_grammar.specs.MakingBodies.{body}
@@ -16,7 +16,7 @@ FormParts = Bool × (Bool × (ℕ × (ℕ × (ℕ × (ℕ × ℕ)))))
 
 -- B flag_a; B flag_b; BD height; BD width; BD oblique; RC generation; BD last_height
 unfoldable pub style_form : Grammar Bool FormParts
-style_form = seq b (λ flag_a. seq b (λ flag_b. seq bd (λ height. seq bd (λ width. seq bd (λ oblique. seq rc (λ generation. bd))))))
+style_form = b ⋄ b ⋄ bd ⋄ bd ⋄ bd ⋄ rc ⋄ bd
 
 -- the form of the letters of a text style
 abbrev pub form_of : Style → FormParts
@@ -40,5 +40,5 @@ text_style_of (title, ((flag_a, (flag_b, (height, (width, (oblique, (generation,
 -- the entry's; the form of its letters; TV font; TV big_font; and among the references xref
 unfoldable pub style_body : ℕ → BodyGrammar Style
 style_body base =
-    body (seq entry_main (λ title. seq style_form (λ form. seq tv (λ font. tv)))) (λ told. one_ref base) text_style_of
+    body (entry_main ⋄ style_form ⋄ tv ⋄ tv) (λ told. one_ref base) text_style_of
     (λ style. (title_of style.entry, (form_of style, (style.font, style.big_font)))) (λ style. style.entry.xref)

@@ -1,13 +1,21 @@
 -- The entries of tables meet the laws of bodies.
-use Rattle.std.proofs.Common.{◌≡◌, refl, ℕ, ◌^◌, ◌<◌, List}
-use Rattle.dwg_grammar.specs.Combinators.{chain}
+use Rattle.std.proofs.Common.{◌≡◌, refl, ap, arith, ℕ, zero, suc, ◌*◌, ◌/◌, ◌%◌, ◌^◌, ◌<◌, true, false, List}
+use Rattle.std.specs.Prelude.{◌==◌}
+use Rattle.dwg_base.specs.declared.version.Version.{Version}
+use Rattle.dwg_base.specs.declared.version.Version.TheVariants.{Ac1014, Ac1015}
+use Rattle.dwg_grammar.specs.Codes.{b, bs}
+use Rattle.dwg_grammar.proofs.VersionLemmas.{in_version_is_code}
+use Rattle.dwg_grammar.specs.ReferenceCodes.{reference}
+use Rattle.dwg_grammar.proofs.CombinatorLemmas.{struct_is_code}
+use Rattle.dwg_tables.specs.declared.layer.Layer.{Layer}
+use Rattle.dwg_grammar.specs.Combinators.{◌⋄◌, chain}
 use Rattle.dwg_grammar.specs.Grammar.{IsCode, AnyLetters}
 use Rattle.dwg_grammar.specs.Bodies.{IsBody}
-use Rattle.dwg_grammar.specs.Reference.{Reference}
+use Rattle.dwg_grammar.specs.Reference.{Reference, reaches}
 use Rattle.dwg_tables.specs.declared.ltype.Ltype.{Ltype}
 use Rattle.dwg_tables.specs.AppIdBody.{app_id_body}
 use Rattle.dwg_tables.specs.Entries.{entry_main}
-use Rattle.dwg_tables.specs.LayerBody.{layer_body}
+use Rattle.dwg_tables.specs.LayerBody.{FourFlags, worth, all_worth, flags_in, layer_flags, layer_values, layer_body}
 use Rattle.dwg_tables.specs.LtypeBody.{PatternParts, stroke, stroke_of, dash_of, style_of, ltype_main, ltype_refs, pattern_of, named_of_ltype, ltype_of, ltype_body}
 use Rattle.dwg_common.specs.LawSets.{codes, bodies}
 use Rattle.dwg_common.proofs.MemberLemmas.{told_of_joined, names_of_joined, joined_again}
@@ -18,10 +26,62 @@ pub app_id_is_body : (base : ℕ) → base < 2 ^ 63 → IsBody base (app_id_body
 unfolding app_id_body entry_main
 app_id_is_body base small = search bodies depth 12
 
--- so is a layer
-pub layer_is_body : (base : ℕ) → base < 2 ^ 63 → IsBody base (layer_body base)
+-- flags are told by what they are worth together, which is below 16
+worth_told : (flags : FourFlags) → (all_worth flags < 16) × (flags_in (all_worth flags) ≡ flags)
+worth_told (true, (true, (true, true))) = (omega arith, refl)
+worth_told (true, (true, (true, false))) = (omega arith, refl)
+worth_told (true, (true, (false, true))) = (omega arith, refl)
+worth_told (true, (true, (false, false))) = (omega arith, refl)
+worth_told (true, (false, (true, true))) = (omega arith, refl)
+worth_told (true, (false, (true, false))) = (omega arith, refl)
+worth_told (true, (false, (false, true))) = (omega arith, refl)
+worth_told (true, (false, (false, false))) = (omega arith, refl)
+worth_told (false, (true, (true, true))) = (omega arith, refl)
+worth_told (false, (true, (true, false))) = (omega arith, refl)
+worth_told (false, (true, (false, true))) = (omega arith, refl)
+worth_told (false, (true, (false, false))) = (omega arith, refl)
+worth_told (false, (false, (true, true))) = (omega arith, refl)
+worth_told (false, (false, (true, false))) = (omega arith, refl)
+worth_told (false, (false, (false, true))) = (omega arith, refl)
+worth_told (false, (false, (false, false))) = (omega arith, refl)
+
+-- what a bit of a number is worth
+bit_worth : (bit one : ℕ) → bit < 2 → worth (bit == 1) one ≡ bit * one
+bit_worth zero one small = omega arith
+bit_worth (suc zero) one small = omega arith
+bit_worth (suc (suc more)) one small = absurd (omega arith)
+
+-- a number below 16 is what its bits are worth
+worth_again : (values : ℕ) → values < 16 → all_worth (flags_in values) ≡ values
+worth_again values small = omega (
+  arith,
+  small,
+  bit_worth (values / 1 % 2) 1 (omega arith),
+  bit_worth (values / 2 % 2) 2 (omega arith),
+  bit_worth (values / 4 % 2) 4 (omega arith),
+  bit_worth (values / 8 % 2) 8 (omega arith),
+)
+
+-- the values of a layer are a code
+layer_flags_is_code : IsCode AnyLetters layer_flags
+unfolding layer_flags
+layer_flags_is_code =
+    struct_is_code AnyLetters _ _ _ (b ⋄ b ⋄ b ⋄ b) (search codes depth 8) (λ flags any. (worth_told flags).0) (λ values small. (search, worth_again values small))
+    (λ flags any. (worth_told flags).1)
+
+layer_values_is_code : (version : Version) → IsCode AnyLetters (layer_values version)
+layer_values_is_code version = in_version_is_code AnyLetters version layer_flags bs layer_flags_is_code (search codes)
+
+-- a layer is a body
+pub layer_is_body : (version : Version) (base : ℕ) → base < 2 ^ 63 → IsBody base (layer_body version base)
 unfolding layer_body entry_main
-layer_is_body base small = search bodies depth 12
+layer_is_body version base small = search (bodies, layer_values_is_code) depth 12
+
+-- what AC1014 can spell of one, AC1015 can
+pub layer_narrower : (base : ℕ) (layer : Layer) → (layer_body Ac1014 base).Fits layer → (layer_body Ac1015 base).Fits layer
+unfolding layer_body layer_flags reference
+layer_narrower base layer fits =
+    ((fits.0.0, (omega (arith, fits.0.1.0), fits.0.1.1)), (fits.1.0, (ap (reaches base) fits.1.1.0, fits.1.1.1)))
 
 -- and a text style
 pub style_is_body : (base : ℕ) → base < 2 ^ 63 → IsBody base (style_body base)

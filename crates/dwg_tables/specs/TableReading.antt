@@ -1,11 +1,12 @@
 -- What the readers of entries of tables have read, as the parts that the grammar tells.
 use Rattle.dwg_tables.specs.declared.block_header.BlockContent.{BlockContent}
+use Rattle.dwg_tables.specs.declared.block_header.BlockExtras.{BlockExtras}
 use Rattle.dwg_tables.specs.declared.block_header.BlockFlags.{BlockFlags}
 use Rattle.dwg_tables.specs.declared.block_header.BlockNames.{BlockNames}
 use Rattle.dwg_tables.specs.declared.entry.Title.{Title}
 use Rattle.dwg_tables.specs.declared.ltype.Pattern.{Pattern}
 use Rattle.dwg_tables.specs.declared.style.Form.{Form}
-use Rattle.dwg_tables.specs.BlockHeaderBody.{FlagParts, ContentParts, NameParts}
+use Rattle.dwg_tables.specs.BlockHeaderBody.{FlagParts, ExtraParts, ContentParts, NameParts}
 use Rattle.dwg_tables.specs.Entries.{TitleParts}
 use Rattle.dwg_tables.specs.LtypeBody.{PatternParts}
 use Rattle.dwg_tables.specs.StyleBody.{FormParts}
@@ -26,9 +27,13 @@ pattern_read pattern = (title_read pattern.title, (pattern.description, (pattern
 abbrev pub flags_read : BlockFlags → FlagParts
 flags_read flags = (flags.anonymous, (flags.has_attributes, (flags.is_xref, (flags.overlaid, flags.loaded))))
 
+-- what AC1015 alone tells of its content
+abbrev pub extras_read : BlockExtras → ExtraParts
+extras_read extras = (extras.counts, (extras.description, extras.preview))
+
 -- its content
 abbrev pub content_read : BlockContent → ContentParts
-content_read content = (content.base, (content.path, (content.counts, (content.description, content.preview))))
+content_read content = (content.base, (content.path, extras_read content.extras))
 
 -- what it names
 abbrev pub names_read : BlockNames → NameParts

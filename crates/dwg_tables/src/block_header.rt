@@ -1,10 +1,12 @@
 //! Headers of blocks.
 
+ghost use Rattle.dwg_base.specs.declared.version.Version.TheVariants.{Ac1014};
+ghost use Rattle.dwg_common.proofs.LayoutLemmas.{same_alike};
 ghost use Rattle.dwg_tables.specs.BlockHeaderBody.{block_header_body};
-ghost use Rattle.dwg_tables.specs.BlockHeaderLaws.{block_header_is_body};
+ghost use Rattle.dwg_tables.specs.BlockHeaderLaws.{block_header_is_body, block_header_narrower};
 
 use crate::block_content::{content_bits, content_fits, read_content, write_content};
-use crate::block_flags::{flags_bits, read_flags, write_flags};
+use crate::block_flags::{flags_bits, flags_fit, read_flags, write_flags};
 use crate::block_names::{block_names_bits, block_names_fit, read_block_names, write_block_names};
 use crate::entry::{Entry, entry_of};
 use crate::members::join_all;
@@ -12,7 +14,7 @@ use crate::title::{read_title, title_bits, title_fits, write_title};
 use dwg_base::{ByteRun, Handle, Items, NoMemory};
 use dwg_bits::{BitCursor, BitSink};
 use dwg_codes::Point3;
-use dwg_common::{BodyCode, Lengths};
+use dwg_common::{BodyCode, BodyCode14, Layout, Lengths};
 use dwg_handles::Ref;
 use std::alloc::Global;
 
@@ -84,13 +86,20 @@ pub(crate) struct BlockFlags {
     pub(crate) loaded: bool,
 }
 
-/// What the main bits of a header tell behind these.
+/// What the main bits of a header tell after these.
 #[derive(Drop)]
 pub(crate) struct BlockContent {
     /// The point of it that stands at the place of an insert.
     pub(crate) base: Point3,
     /// The path of the other drawing.
     pub(crate) path: ByteRun,
+    /// What AC1015 alone tells.
+    pub(crate) extras: BlockExtras,
+}
+
+/// What AC1015 alone tells of the content of a header: in AC1014 all three are empty.
+#[derive(Drop)]
+pub(crate) struct BlockExtras {
     /// The count of each of its marks.
     pub(crate) counts: Items<u8>,
     /// What it is, in words.
@@ -118,10 +127,11 @@ pub(crate) struct BlockNames {
 
 #[tactic(auto, unfolding(crate::specs::BlockHeaderBody::block_header_body))]
 impl BodyCode for BlockHeader {
-    ghost grammar = { block_header_body };
+    ghost grammar = { λ layout. block_header_body layout.version };
 
     fn parse(
         alloc: Global,
+        layout: Layout,
         main: &mut BitCursor<'_>,
         refs: &mut BitCursor<'_>,
         base: Handle,
@@ -129,16 +139,21 @@ impl BodyCode for BlockHeader {
         let Some(title) = read_title(alloc, main)? else {
             return Ok(None);
         };
-        let Some(flags) = read_flags(main) else {
+        let Some(flags) = read_flags(layout.version, main) else {
             return Ok(None);
         };
-        let Some(content) = read_content(alloc, main)? else {
+        let Some(content) = read_content(alloc, layout.version, main)? else {
             return Ok(None);
         };
-        let Some(names) = read_block_names(alloc, flags, &content, refs, base)? else {
+        let Some(names) = read_block_names(alloc, layout.version, flags, &content, refs, base)?
+        else {
             return Ok(None);
         };
-        let inserts = join_all(alloc, content.counts.as_slice(), names.targets.as_slice())?;
+        let inserts = join_all(
+            alloc,
+            content.extras.counts.as_slice(),
+            names.targets.as_slice(),
+        )?;
         Ok(Some(BlockHeader {
             entry: entry_of(title, names.xref),
             anonymous: flags.anonymous,
@@ -149,8 +164,8 @@ impl BodyCode for BlockHeader {
             base: content.base,
             path: content.path,
             inserts,
-            description: content.description,
-            preview: content.preview,
+            description: content.extras.description,
+            preview: content.extras.preview,
             block: names.block,
             ends: names.ends,
             endblk: names.endblk,
@@ -158,34 +173,43 @@ impl BodyCode for BlockHeader {
         }))
     }
 
-    #[tactic(auto, unfolding(crate::specs::BlockHeaderBody::block_header_body, crate::specs::BlockHeaderBody::block_flags))]
-    fn fits(&self, base: Handle) -> bool {
-        // Its flags can be told: each is of one bit.
+    fn fits_in(&self, layout: Layout, base: Handle) -> bool {
         if !title_fits(&self.entry) {
             return false;
         }
-        if !content_fits(self) {
+        if !flags_fit(layout.version, self) {
             return false;
         }
-        block_names_fit(self, base)
+        if !content_fits(layout.version, self) {
+            return false;
+        }
+        block_names_fit(layout.version, self, base)
     }
 
-    fn lengths(&self, base: Handle) -> Lengths {
+    fn lengths_in(&self, layout: Layout, base: Handle) -> Lengths {
         Lengths {
-            main: title_bits(&self.entry) + flags_bits(self) + content_bits(self),
-            refs: block_names_bits(self, base),
+            main: title_bits(&self.entry)
+                + flags_bits(layout.version, self)
+                + content_bits(layout.version, self),
+            refs: block_names_bits(layout.version, self, base),
         }
     }
 
-    fn write_main(&self, _base: Handle, sink: &mut BitSink) {
+    fn write_main_in(&self, layout: Layout, _base: Handle, sink: &mut BitSink) {
         write_title(&self.entry, sink);
-        write_flags(self, sink);
-        write_content(self, sink);
+        write_flags(layout.version, self, sink);
+        write_content(layout.version, self, sink);
     }
 
-    fn write_refs(&self, base: Handle, sink: &mut BitSink) {
-        write_block_names(self, base, sink);
+    fn write_refs_in(&self, layout: Layout, base: Handle, sink: &mut BitSink) {
+        write_block_names(layout.version, self, base, sink);
     }
 
-    ghost laws = { λ base small. block_header_is_body base small };
+    ghost laws = { λ layout base few small. block_header_is_body layout.version base small };
+}
+
+impl BodyCode14 for BlockHeader {
+    ghost narrower = { block_header_narrower };
+
+    ghost sizes_alike = { λ size base value. same_alike (block_header_body Ac1014 base) value };
 }

@@ -10,7 +10,7 @@ use crate::ltype::{Dash, Stroke};
 use crate::members::{Joined, Part};
 use dwg_bits::{BitCursor, BitSink};
 use dwg_codes::{BitCode, CodeBD, CodeBS, CodeRD};
-use dwg_common::parse_code;
+use dwg_common::{field, row};
 use dwg_handles::Ref;
 
 impl Part<Stroke> for Dash {
@@ -54,28 +54,24 @@ impl Joined<Stroke> for Dash {
     }
 }
 
+/// What is done with what the main bits of a dash tell.
+macro_rules! stroke_row {
+    ($($done:tt)*) => {
+        row!([Stroke {
+            length: CodeBD, code: CodeBS,
+            x: CodeRD, y: CodeRD, scale: CodeBD, rotation: CodeBD,
+            flag: CodeBS,
+        }] $($done)*)
+    };
+}
+
 /// Reads what the main bits of a dash tell, as it is parsed.
 #[tactic(auto, unfolding(crate::specs::LtypeBody::stroke))]
 fn read_stroke(cursor: &mut BitCursor<'_>) -> Option<Stroke>
     ensures parsed { Parses stroke result cursor.old cursor.new }
     ensures kept { Keeps cursor.old cursor.new }
 {
-    let length = parse_code::<CodeBD>(&(), cursor)?;
-    let code = parse_code::<CodeBS>(&(), cursor)?;
-    let x = parse_code::<CodeRD>(&(), cursor)?;
-    let y = parse_code::<CodeRD>(&(), cursor)?;
-    let scale = parse_code::<CodeBD>(&(), cursor)?;
-    let rotation = parse_code::<CodeBD>(&(), cursor)?;
-    let flag = parse_code::<CodeBS>(&(), cursor)?;
-    Some(Stroke {
-        length,
-        code,
-        x,
-        y,
-        scale,
-        rotation,
-        flag,
-    })
+    stroke_row!(read(), cursor)
 }
 
 /// What the main bits of a dash tell lies in the ranges of its types.
@@ -83,13 +79,7 @@ fn read_stroke(cursor: &mut BitCursor<'_>) -> Option<Stroke>
 fn known_stroke(dash: &Dash)
     ensures { stroke.IsValue (stroke_of dash.now) }
 {
-    let _length = dash.length;
-    let _code = dash.code;
-    let _x = dash.x;
-    let _y = dash.y;
-    let _scale = dash.scale;
-    let _rotation = dash.rotation;
-    let _flag = dash.flag;
+    stroke_row!(known dash, ());
 }
 
 /// So it is with those of many dashes.
@@ -124,24 +114,12 @@ impl BitCode for CodeStroke {
 
     #[tactic(auto, unfolding(crate::specs::LtypeBody::stroke), using(dwg_grammar::proofs::Bounds::bd_at_most, dwg_grammar::proofs::Bounds::bs_at_most, dwg_grammar::proofs::NumberLemmas::length_of_rd))]
     fn length(_context: &(), value: &Stroke) -> u64 {
-        CodeBD::length(&(), &value.length)
-            + CodeBS::length(&(), &value.code)
-            + CodeRD::length(&(), &value.x)
-            + CodeRD::length(&(), &value.y)
-            + CodeBD::length(&(), &value.scale)
-            + CodeBD::length(&(), &value.rotation)
-            + CodeBS::length(&(), &value.flag)
+        stroke_row!(bits value, ())
     }
 
     #[tactic(auto, unfolding(crate::specs::LtypeBody::stroke))]
     fn write(_context: &(), value: &Stroke, sink: &mut BitSink) {
-        CodeBD::write(&(), &value.length, sink);
-        CodeBS::write(&(), &value.code, sink);
-        CodeRD::write(&(), &value.x, sink);
-        CodeRD::write(&(), &value.y, sink);
-        CodeBD::write(&(), &value.scale, sink);
-        CodeBD::write(&(), &value.rotation, sink);
-        CodeBS::write(&(), &value.flag, sink);
+        stroke_row!(write value, (), sink);
     }
 
     ghost laws = { λ context is. stroke_is_code };

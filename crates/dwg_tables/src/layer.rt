@@ -1,15 +1,17 @@
 //! Layers.
 
+ghost use Rattle.dwg_base.specs.declared.version.Version.TheVariants.{Ac1014};
+ghost use Rattle.dwg_common.proofs.LayoutLemmas.{same_alike};
 ghost use Rattle.dwg_tables.specs.LayerBody.{layer_body};
-ghost use Rattle.dwg_tables.specs.TableLaws.{layer_is_body};
+ghost use Rattle.dwg_tables.specs.TableLaws.{layer_is_body, layer_narrower};
 
 use crate::entry::{Entry, entry_of};
-use crate::title::{read_title, title_bits, title_fits, write_title};
+use crate::table_field;
 use dwg_base::{Handle, NoMemory};
 use dwg_bits::{BitCursor, BitSink};
-use dwg_codes::{BitCode, CodeBS};
-use dwg_common::{BodyCode, Lengths, parse_code, parse_ref};
-use dwg_handles::{Ref, ref_bits, write_ref};
+use dwg_codes::CodeBS;
+use dwg_common::{BodyCode, BodyCode14, Layout, Lengths, field, reference, row};
+use dwg_handles::Ref;
 use std::alloc::Global;
 
 /// A layer (Open Design Specification, "LAYER").
@@ -28,81 +30,58 @@ pub struct Layer {
     pub linetype: Ref,
 }
 
+/// What is done with the fields of a layer.
+macro_rules! layer_row {
+    ($($done:tt)*) => {
+        row!(table_field [Layer { entry: entry_of(entry, xref), values, colour, plotstyle, linetype };
+            entry: Title,
+            values: Values,
+            colour: CodeBS;
+            xref = entry.xref,
+            plotstyle = plotstyle since AC1015,
+            linetype = linetype
+        ] $($done)*)
+    };
+}
+
 #[tactic(auto, unfolding(crate::specs::LayerBody::layer_body, dwg_grammar::specs::ReferenceCodes::reference))]
 impl BodyCode for Layer {
-    ghost grammar = { layer_body };
+    ghost grammar = { λ layout. layer_body layout.version };
 
     fn parse(
         alloc: Global,
+        layout: Layout,
         main: &mut BitCursor<'_>,
         refs: &mut BitCursor<'_>,
         base: Handle,
     ) -> Result<Option<Layer>, NoMemory> {
-        let Some(title) = read_title(alloc, main)? else {
-            return Ok(None);
-        };
-        let Some(values) = parse_code::<CodeBS>(&(), main) else {
-            return Ok(None);
-        };
-        let Some(colour) = parse_code::<CodeBS>(&(), main) else {
-            return Ok(None);
-        };
-        let Some(xref) = parse_ref(refs, base) else {
-            return Ok(None);
-        };
-        let Some(plotstyle) = parse_ref(refs, base) else {
-            return Ok(None);
-        };
-        let Some(linetype) = parse_ref(refs, base) else {
-            return Ok(None);
-        };
-        Ok(Some(Layer {
-            entry: entry_of(title, xref),
-            values,
-            colour,
-            plotstyle,
-            linetype,
-        }))
+        layer_row!(parse alloc, layout.version, main, refs, base)
     }
 
-    fn fits(&self, base: Handle) -> bool {
-        // Their codes tell every number of their types.
-        let _values = self.values;
-        let _colour = self.colour;
-        if !title_fits(&self.entry) {
-            return false;
-        }
-        if !self.entry.xref.fits(base) {
-            return false;
-        }
-        if !self.plotstyle.fits(base) {
-            return false;
-        }
-        self.linetype.fits(base)
+    fn fits_in(&self, layout: Layout, base: Handle) -> bool {
+        layer_row!(fits self, layout.version, base)
     }
 
-    fn lengths(&self, base: Handle) -> Lengths {
+    fn lengths_in(&self, layout: Layout, base: Handle) -> Lengths {
         Lengths {
-            main: title_bits(&self.entry)
-                + CodeBS::length(&(), &self.values)
-                + CodeBS::length(&(), &self.colour),
-            refs: ref_bits(self.entry.xref, base)
-                + ref_bits(self.plotstyle, base)
-                + ref_bits(self.linetype, base),
+            main: layer_row!(bits self, layout.version),
+            refs: layer_row!(refs_bits self, layout.version, base),
         }
     }
 
-    fn write_main(&self, _base: Handle, sink: &mut BitSink) {
-        write_title(&self.entry, sink);
-        CodeBS::write(&(), &self.values, sink);
-        CodeBS::write(&(), &self.colour, sink);
+    fn write_main_in(&self, layout: Layout, _base: Handle, sink: &mut BitSink) {
+        layer_row!(write self, layout.version, sink);
     }
 
-    fn write_refs(&self, base: Handle, sink: &mut BitSink) {
-        write_ref(self.entry.xref, base, sink);
-        write_ref(self.plotstyle, base, sink);
-        write_ref(self.linetype, base, sink);
+    fn write_refs_in(&self, layout: Layout, base: Handle, sink: &mut BitSink) {
+        layer_row!(write_refs self, layout.version, base, sink);
     }
 
-    ghost laws = { λ base small. layer_is_body base small };
+    ghost laws = { λ layout base few small. layer_is_body layout.version base small };
+}
+
+impl BodyCode14 for Layer {
+    ghost narrower = { layer_narrower };
+
+    ghost sizes_alike = { λ size base value. same_alike (layer_body Ac1014 base) value };
 }

@@ -17,8 +17,10 @@ mod ltype;
 mod marks;
 mod members;
 mod pattern;
+mod rows;
 mod style;
 mod title;
+mod values;
 
 pub use app_id::AppId;
 pub use block_header::{BlockHeader, Ends, InsertMark};

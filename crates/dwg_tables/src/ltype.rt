@@ -1,6 +1,7 @@
 //! Linetypes.
 
 ghost use Rattle.std.specs.Prelude.{◌≡◌, length, IfOk, IfSome};
+ghost use Rattle.dwg_common.proofs.LayoutLemmas.{same_alike};
 ghost use Rattle.dwg_common.specs.Parsing.{Keeps, Parses};
 ghost use Rattle.dwg_tables.specs.LtypeBody.{ltype_body, ltype_refs};
 ghost use Rattle.dwg_tables.specs.TableLaws.{ltype_is_body};
@@ -11,7 +12,7 @@ use crate::members::{join_all, names_fit, parts_bits, read_names, write_parts};
 use crate::pattern::{pattern_bits, pattern_fits, read_pattern, write_pattern};
 use dwg_base::{ByteRun, Handle, Items, NoMemory};
 use dwg_bits::{BitCursor, BitSink};
-use dwg_common::{BodyCode, Lengths, parse_ref};
+use dwg_common::{BodyCode, BodyCode14, Layout, Lengths, parse_ref};
 use dwg_handles::{CodeH, Ref, ref_bits, write_ref};
 use std::alloc::Global;
 use std::marker::Model;
@@ -121,10 +122,11 @@ fn read_named(
 
 #[tactic(auto, unfolding(crate::specs::LtypeBody::ltype_body, dwg_grammar::specs::ReferenceCodes::reference, dwg_grammar::specs::Combinators::chain), using(dwg_common::proofs::MemberLemmas::parts_counted))]
 impl BodyCode for Ltype {
-    ghost grammar = { ltype_body };
+    ghost grammar = { λ layout. ltype_body };
 
     fn parse(
         alloc: Global,
+        _layout: Layout,
         main: &mut BitCursor<'_>,
         refs: &mut BitCursor<'_>,
         base: Handle,
@@ -146,7 +148,7 @@ impl BodyCode for Ltype {
         }))
     }
 
-    fn fits(&self, base: Handle) -> bool {
+    fn fits_in(&self, _layout: Layout, base: Handle) -> bool {
         if !pattern_fits(self) {
             return false;
         }
@@ -156,7 +158,7 @@ impl BodyCode for Ltype {
         names_fit(self.dashes.as_slice(), base)
     }
 
-    fn lengths(&self, base: Handle) -> Lengths {
+    fn lengths_in(&self, _layout: Layout, base: Handle) -> Lengths {
         Lengths {
             main: pattern_bits(self),
             refs: ref_bits(self.entry.xref, base)
@@ -164,14 +166,20 @@ impl BodyCode for Ltype {
         }
     }
 
-    fn write_main(&self, _base: Handle, sink: &mut BitSink) {
+    fn write_main_in(&self, _layout: Layout, _base: Handle, sink: &mut BitSink) {
         write_pattern(self, sink);
     }
 
-    fn write_refs(&self, base: Handle, sink: &mut BitSink) {
+    fn write_refs_in(&self, _layout: Layout, base: Handle, sink: &mut BitSink) {
         write_ref(self.entry.xref, base, sink);
         write_parts::<CodeH, Dash>(&base, self.dashes.as_slice(), sink);
     }
 
-    ghost laws = { λ base small. ltype_is_body base small };
+    ghost laws = { λ layout base few small. ltype_is_body base small };
+}
+
+impl BodyCode14 for Ltype {
+    ghost narrower = { λ base value fits. fits };
+
+    ghost sizes_alike = { λ size base value. same_alike (ltype_body base) value };
 }

@@ -1,15 +1,14 @@
 //! Text styles.
 
+ghost use Rattle.dwg_common.proofs.LayoutLemmas.{same_alike};
 ghost use Rattle.dwg_tables.specs.StyleBody.{style_body};
 ghost use Rattle.dwg_tables.specs.TableLaws.{style_is_body};
 
 use crate::entry::{Entry, entry_of};
-use crate::form::{form_bits, known_form, read_form, write_form};
-use crate::title::{read_title, title_bits, title_fits, write_title};
+use crate::table_field;
 use dwg_base::{ByteRun, Handle, NoMemory};
 use dwg_bits::{BitCursor, BitSink};
-use dwg_common::{BodyCode, Lengths, parse_ref, parse_tv, tv_bits, tv_fits, write_tv};
-use dwg_handles::{Ref, ref_bits, write_ref};
+use dwg_common::{BodyCode, BodyCode14, Layout, Lengths, field, reference, row};
 use std::alloc::Global;
 
 /// A text style (Open Design Specification, "SHAPEFILE").
@@ -56,33 +55,11 @@ pub(crate) struct Form {
     pub(crate) last_height: u64,
 }
 
-#[tactic(auto, unfolding(crate::specs::StyleBody::style_body, dwg_grammar::specs::ReferenceCodes::reference))]
-impl BodyCode for Style {
-    ghost grammar = { style_body };
-
-    fn parse(
-        alloc: Global,
-        main: &mut BitCursor<'_>,
-        refs: &mut BitCursor<'_>,
-        base: Handle,
-    ) -> Result<Option<Style>, NoMemory> {
-        let Some(title) = read_title(alloc, main)? else {
-            return Ok(None);
-        };
-        let Some(form) = read_form(main) else {
-            return Ok(None);
-        };
-        let Some(font) = parse_tv(alloc, main)? else {
-            return Ok(None);
-        };
-        let Some(big_font) = parse_tv(alloc, main)? else {
-            return Ok(None);
-        };
-        let Some(xref) = parse_ref(refs, base) else {
-            return Ok(None);
-        };
-        Ok(Some(Style {
-            entry: entry_of(title, xref),
+/// What is done with the fields of a text style.
+macro_rules! style_row {
+    ($($done:tt)*) => {
+        row!(table_field [Style {
+            entry: entry_of(entry, xref),
             flag_a: form.flag_a,
             flag_b: form.flag_b,
             height: form.height,
@@ -92,43 +69,54 @@ impl BodyCode for Style {
             last_height: form.last_height,
             font,
             big_font,
-        }))
+        };
+            entry: Title,
+            form: Form,
+            font: Tv,
+            big_font: Tv;
+            xref = entry.xref
+        ] $($done)*)
+    };
+}
+
+#[tactic(auto, unfolding(crate::specs::StyleBody::style_body, dwg_grammar::specs::ReferenceCodes::reference))]
+impl BodyCode for Style {
+    ghost grammar = { λ layout. style_body };
+
+    fn parse(
+        alloc: Global,
+        layout: Layout,
+        main: &mut BitCursor<'_>,
+        refs: &mut BitCursor<'_>,
+        base: Handle,
+    ) -> Result<Option<Style>, NoMemory> {
+        style_row!(parse alloc, layout.version, main, refs, base)
     }
 
-    fn fits(&self, base: Handle) -> bool {
-        known_form(self);
-        if !title_fits(&self.entry) {
-            return false;
-        }
-        if !tv_fits(self.font.as_slice()) {
-            return false;
-        }
-        if !tv_fits(self.big_font.as_slice()) {
-            return false;
-        }
-        self.entry.xref.fits(base)
+    fn fits_in(&self, layout: Layout, base: Handle) -> bool {
+        style_row!(fits self, layout.version, base)
     }
 
-    fn lengths(&self, base: Handle) -> Lengths {
+    fn lengths_in(&self, layout: Layout, base: Handle) -> Lengths {
         Lengths {
-            main: title_bits(&self.entry)
-                + form_bits(self)
-                + tv_bits(self.font.as_slice())
-                + tv_bits(self.big_font.as_slice()),
-            refs: ref_bits(self.entry.xref, base),
+            main: style_row!(bits self, layout.version),
+            refs: style_row!(refs_bits self, layout.version, base),
         }
     }
 
-    fn write_main(&self, _base: Handle, sink: &mut BitSink) {
-        write_title(&self.entry, sink);
-        write_form(self, sink);
-        write_tv(self.font.as_slice(), sink);
-        write_tv(self.big_font.as_slice(), sink);
+    fn write_main_in(&self, layout: Layout, _base: Handle, sink: &mut BitSink) {
+        style_row!(write self, layout.version, sink);
     }
 
-    fn write_refs(&self, base: Handle, sink: &mut BitSink) {
-        write_ref(self.entry.xref, base, sink);
+    fn write_refs_in(&self, layout: Layout, base: Handle, sink: &mut BitSink) {
+        style_row!(write_refs self, layout.version, base, sink);
     }
 
-    ghost laws = { λ base small. style_is_body base small };
+    ghost laws = { λ layout base few small. style_is_body base small };
+}
+
+impl BodyCode14 for Style {
+    ghost narrower = { λ base value fits. fits };
+
+    ghost sizes_alike = { λ size base value. same_alike (style_body base) value };
 }

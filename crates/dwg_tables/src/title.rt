@@ -11,12 +11,18 @@ ghost use Rattle.dwg_tables.specs.TableReading.{title_read};
 use crate::entry::{Entry, Title};
 use dwg_base::NoMemory;
 use dwg_bits::{BitCursor, BitSink};
-use dwg_codes::{BitCode, CodeB, CodeBS};
-use dwg_common::{parse_code, parse_tv, tv_bits, tv_fits, write_tv};
+use dwg_codes::{CodeB, CodeBS};
+use dwg_common::{field, row};
 use std::alloc::Global;
 
-/// Reads what the main bits of an entry tell, as it is parsed. The only refusal is want of memory, which is taken only for
-/// bytes that are there.
+/// What is done with the fields that every entry begins with.
+macro_rules! title_row {
+    ($($done:tt)*) => {
+        row!([Title { name: Tv, flag64: CodeB, xref_index: CodeBS, xref_dependent: CodeB }] $($done)*)
+    };
+}
+
+/// Reads what the main bits of an entry tell, as it is parsed. Err: out of memory, which is taken only for bytes that are there.
 pub(crate) fn read_title(
     alloc: Global,
     cursor: &mut BitCursor<'_>,
@@ -24,33 +30,14 @@ pub(crate) fn read_title(
     ensures parsed { IfOk result (λ found. Parses entry_main (option_map title_read found) cursor.old cursor.new) }
     ensures kept { Keeps cursor.old cursor.new }
 {
-    let Some(name) = parse_tv(alloc, cursor)? else {
-        return Ok(None);
-    };
-    let Some(flag64) = parse_code::<CodeB>(&(), cursor) else {
-        return Ok(None);
-    };
-    let Some(xref_index) = parse_code::<CodeBS>(&(), cursor) else {
-        return Ok(None);
-    };
-    let Some(xref_dependent) = parse_code::<CodeB>(&(), cursor) else {
-        return Ok(None);
-    };
-    Ok(Some(Title {
-        name,
-        flag64,
-        xref_index,
-        xref_dependent,
-    }))
+    title_row!(parse alloc, (), cursor, (), ())
 }
 
 /// Whether the main bits of an entry can be told: its name has at most 65,535 bytes.
 pub(crate) fn title_fits(entry: &Entry) -> bool
     ensures { IsTrue result ↔ entry_main.IsValue (title_of entry.now) }
 {
-    // Its code tells every number of its type.
-    let _index = entry.xref_index;
-    tv_fits(entry.name.as_slice())
+    title_row!(fits entry, (), ())
 }
 
 /// How many bits the main bits of an entry are.
@@ -59,10 +46,7 @@ pub(crate) fn title_bits(entry: &Entry) -> u64
     ensures length { result ≡ length (entry_main.short (title_of entry.now)) }
     ensures few { result < 2 ^ 36 }
 {
-    tv_bits(entry.name.as_slice())
-        + CodeB::length(&(), &entry.flag64)
-        + CodeBS::length(&(), &entry.xref_index)
-        + CodeB::length(&(), &entry.xref_dependent)
+    title_row!(bits entry, ())
 }
 
 /// Writes the main bits of an entry.
@@ -71,8 +55,5 @@ pub(crate) fn write_title(entry: &Entry, sink: &mut BitSink)
     requires room { length (entry_main.short (title_of entry.now)) ≤ sink.old.spare }
     ensures { Extends sink.old sink.new (entry_main.short (title_of entry.now)) }
 {
-    write_tv(entry.name.as_slice(), sink);
-    CodeB::write(&(), &entry.flag64, sink);
-    CodeBS::write(&(), &entry.xref_index, sink);
-    CodeB::write(&(), &entry.xref_dependent, sink);
+    title_row!(write entry, (), sink);
 }

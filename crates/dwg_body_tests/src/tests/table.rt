@@ -1,12 +1,13 @@
 //! Tables of bodies.
 
 ghost use Rattle.std.specs.Prelude.{◌*◌, ◌^◌, ◌<◌, length};
+ghost use Rattle.dwg_common.specs.Layouts.{NEWER, older};
 
-use crate::reading::read_body;
+use crate::reading::{read_body, read_body14};
 use crate::tests::fields::Fields;
 use dwg_base::Handle;
 use dwg_bits::{BitCursor, BitSink};
-use dwg_common::BodyCode;
+use dwg_common::{BodyCode, BodyCode14};
 use dwg_samples::{Bits, Case, first_failing};
 use std::alloc::Global;
 use std::marker::PhantomData;
@@ -98,7 +99,7 @@ fn put_places(alloc: Global, text: &mut String, of: &str) -> Option<()> {
     put_bits_of(alloc, text, refs)
 }
 
-/// The bits that a body is written by, where `=` stands for those that it is read of.
+/// The bits that a body is written by, where `=` stands for those that it is read of; likewise the bits of another version.
 fn written_of<'t>(bits: &'t str, written: &'t str) -> &'t str {
     if written == "=" { bits } else { written }
 }
@@ -135,9 +136,9 @@ fn put_sink(text: &mut String, sink: BitSink) -> Option<()>
 
 /// Adds the main bits that a body is written by.
 fn put_main<B: BodyCode>(alloc: Global, text: &mut String, base: Handle, body: &B) -> Option<()>
-    requires fits { (B.grammar base).Fits body.now }
-    requires few { length ((B.grammar base).short_main body.now) < 2 ^ 20 }
-    requires refs_few { length ((B.grammar base).short_references body.now) < 2 ^ 20 }
+    requires fits { (B.grammar NEWER base).Fits body.now }
+    requires few { length ((B.grammar NEWER base).short_main body.now) < 2 ^ 20 }
+    requires refs_few { length ((B.grammar NEWER base).short_references body.now) < 2 ^ 20 }
 {
     let lengths = body.lengths(base);
     if lengths.main > MOST {
@@ -153,9 +154,9 @@ fn put_main<B: BodyCode>(alloc: Global, text: &mut String, base: Handle, body: &
 
 /// Adds the reference bits that a body is written by.
 fn put_refs<B: BodyCode>(alloc: Global, text: &mut String, base: Handle, body: &B) -> Option<()>
-    requires fits { (B.grammar base).Fits body.now }
-    requires few { length ((B.grammar base).short_main body.now) < 2 ^ 20 }
-    requires refs_few { length ((B.grammar base).short_references body.now) < 2 ^ 20 }
+    requires fits { (B.grammar NEWER base).Fits body.now }
+    requires few { length ((B.grammar NEWER base).short_main body.now) < 2 ^ 20 }
+    requires refs_few { length ((B.grammar NEWER base).short_references body.now) < 2 ^ 20 }
 {
     let lengths = body.lengths(base);
     if lengths.refs > MOST {
@@ -176,9 +177,9 @@ fn put_body<B: BodyCode + Fields>(
     base: Handle,
     body: &B,
 ) -> Option<()>
-    requires fits { (B.grammar base).Fits body.now }
-    requires few { length ((B.grammar base).short_main body.now) < 2 ^ 20 }
-    requires refs_few { length ((B.grammar base).short_references body.now) < 2 ^ 20 }
+    requires fits { (B.grammar NEWER base).Fits body.now }
+    requires few { length ((B.grammar NEWER base).short_main body.now) < 2 ^ 20 }
+    requires refs_few { length ((B.grammar NEWER base).short_references body.now) < 2 ^ 20 }
 {
     put_main(alloc, text, base, body)?;
     put_refs(alloc, text, base, body)?;
@@ -199,9 +200,9 @@ fn told_of<B: BodyCode + Fields>(
     main: &BitCursor<'_>,
     refs: &BitCursor<'_>,
 ) -> Option<String>
-    requires fits { (B.grammar base).Fits body.now }
-    requires few { length ((B.grammar base).short_main body.now) < 2 ^ 20 }
-    requires refs_few { length ((B.grammar base).short_references body.now) < 2 ^ 20 }
+    requires fits { (B.grammar NEWER base).Fits body.now }
+    requires few { length ((B.grammar NEWER base).short_main body.now) < 2 ^ 20 }
+    requires refs_few { length ((B.grammar NEWER base).short_references body.now) < 2 ^ 20 }
 {
     let mut text = String::new(alloc);
     put_read(&mut text, main, refs)?;
@@ -269,4 +270,155 @@ fn main_bits_in<B: BodyCode + Drop>(alloc: Global, main: &[u8]) -> Option<u64> {
 pub(crate) fn main_bits_of<B: BodyCode + Drop>(alloc: Global, bits: &str) -> Option<u64> {
     let main = padded(alloc, bits)?;
     main_bits_in::<B>(alloc, &main)
+}
+
+/// Bodies of one type in both versions, in the object 80. A line `MAIN / REFERENCES | MAIN / REFERENCES | FIELDS` has the bits of a body in
+/// AC1015, its bits in AC1014 (`=`: the same), and its fields: of each it is read, and by each it is written. `MAIN / REFERENCES | unfit` has
+/// the bits in AC1015 of one that AC1014 can't spell, `none | MAIN / REFERENCES` bits that begin with none in AC1014.
+///
+/// Nothing is asked of the type but the bound [`BodyCode14`]: bodies are read, told to fit, and written in both versions by it alone.
+pub(crate) struct BothVersions<B> {
+    /// The type.
+    of: PhantomData<B>,
+}
+
+impl<B: BodyCode14 + Fields + Drop> Case for BothVersions<B> {
+    fn holds(alloc: Global, line: &str) -> bool {
+        holds_in_both::<B>(alloc, line) == Some(true)
+    }
+}
+
+/// The bit size of the object in AC1014, which the common parts alone spell: four bytes that differ.
+const SIZE: u32 = 0x0403_0201;
+
+/// Whether a line tells the truth in both versions. None for want of memory, and for another text.
+fn holds_in_both<B: BodyCode14 + Fields + Drop>(alloc: Global, line: &str) -> Option<bool> {
+    let (newer, rest) = line.split_once(" | ")?;
+    if newer == "none" {
+        return Some(found14_in::<B>(alloc, rest)?.as_str() == "none");
+    }
+    if rest == "unfit" {
+        return Some(!fits14_in::<B>(alloc, newer)?);
+    }
+    let (older, fields) = rest.split_once(" | ")?;
+    let older = written_of(newer, older);
+    let found = found_in::<B>(alloc, newer, 0)?;
+    let wanted = wanted_body(alloc, newer, newer, fields)?;
+    let older_found = found14_in::<B>(alloc, older)?;
+    let older_wanted = wanted_body(alloc, older, older, fields)?;
+    Some(found.as_str() == wanted.as_str() && older_found.as_str() == older_wanted.as_str())
+}
+
+/// Adds the main bits that a body is written by in AC1014. None where they aren't as many as they are told to be.
+fn put_main14<B: BodyCode14>(alloc: Global, text: &mut String, base: Handle, body: &B) -> Option<()>
+    requires fits { (B.grammar (older 0) base).Fits body.now }
+    requires few { length ((B.grammar (older 0) base).short_main body.now) < 2 ^ 20 }
+    requires refs_few { length ((B.grammar (older 0) base).short_references body.now) < 2 ^ 20 }
+{
+    let lengths = body.lengths14(base);
+    if lengths.main > MOST {
+        return None;
+    }
+    let mut sink = BitSink::new(alloc);
+    if !sink.reserve(lengths.main) {
+        return None;
+    }
+    body.write_main14(SIZE, base, &mut sink);
+    if sink.length() != lengths.main {
+        return None;
+    }
+    put_sink(text, sink)
+}
+
+/// Adds the reference bits that a body is written by in AC1014. None where they aren't as many as they are told to be.
+fn put_refs14<B: BodyCode14>(alloc: Global, text: &mut String, base: Handle, body: &B) -> Option<()>
+    requires fits { (B.grammar (older 0) base).Fits body.now }
+    requires few { length ((B.grammar (older 0) base).short_main body.now) < 2 ^ 20 }
+    requires refs_few { length ((B.grammar (older 0) base).short_references body.now) < 2 ^ 20 }
+{
+    let lengths = body.lengths14(base);
+    if lengths.refs > MOST {
+        return None;
+    }
+    let mut sink = BitSink::new(alloc);
+    if !sink.reserve(lengths.refs) {
+        return None;
+    }
+    body.write_refs14(base, &mut sink);
+    if sink.length() != lengths.refs {
+        return None;
+    }
+    put_sink(text, sink)
+}
+
+/// What is told of a body of AC1014: the bits that it is read of, those that it is written by, and its fields. None where it doesn't fit.
+fn told14_of<B: BodyCode14 + Fields>(
+    alloc: Global,
+    base: Handle,
+    body: &B,
+    main: &BitCursor<'_>,
+    refs: &BitCursor<'_>,
+) -> Option<String>
+    requires fits { (B.grammar (older 0) base).Fits body.now }
+    requires few { length ((B.grammar (older 0) base).short_main body.now) < 2 ^ 20 }
+    requires refs_few { length ((B.grammar (older 0) base).short_references body.now) < 2 ^ 20 }
+{
+    if !body.fits14(base) {
+        return None;
+    }
+    let mut text = String::new(alloc);
+    put_read(&mut text, main, refs)?;
+    put_main14(alloc, &mut text, base, body)?;
+    put_refs14(alloc, &mut text, base, body)?;
+    body.put(&mut text)?;
+    Some(text)
+}
+
+/// What is told of the body of AC1014 that the bits begin with.
+fn told14<B: BodyCode14 + Fields + Drop>(
+    alloc: Global,
+    base: Handle,
+    main: BitCursor<'_>,
+    refs: BitCursor<'_>,
+) -> Option<String>
+    requires main { length main.bytes.now < 2 ^ 16 }
+    requires refs { length refs.bytes.now < 2 ^ 16 }
+{
+    let (mut main, mut refs) = (main, refs);
+    match read_body14::<B>(alloc, SIZE, base, &mut main, &mut refs)? {
+        Some(body) => told14_of(alloc, base, &body, &main, &refs),
+        None => format!(in alloc; "none").ok(),
+    }
+}
+
+/// What is told of the body of AC1014 in the bits of a text `MAIN / REFERENCES`.
+fn found14_in<B: BodyCode14 + Fields + Drop>(alloc: Global, bits: &str) -> Option<String> {
+    let (main, refs) = bits.split_once(" / ")?;
+    let main = padded(alloc, main)?;
+    let refs = padded(alloc, refs)?;
+    if main.len() > 1_000 || refs.len() > 1_000 {
+        return None;
+    }
+    let main = BitCursor::new(&main, 0, 8 * main.len() as u64);
+    let refs = BitCursor::new(&refs, 0, 8 * refs.len() as u64);
+    told14::<B>(alloc, Handle::new(OWN)?, main, refs)
+}
+
+/// Whether AC1014 can spell the body in the bits of a text `MAIN / REFERENCES` of AC1015. None as well where they have a byte or more that
+/// isn't the body's.
+fn fits14_in<B: BodyCode14 + Drop>(alloc: Global, bits: &str) -> Option<bool> {
+    let (main, refs) = bits.split_once(" / ")?;
+    let main = padded(alloc, main)?;
+    let refs = padded(alloc, refs)?;
+    if main.len() > 1_000 || refs.len() > 1_000 {
+        return None;
+    }
+    let mut main = BitCursor::new(&main, 0, 8 * main.len() as u64);
+    let mut refs = BitCursor::new(&refs, 0, 8 * refs.len() as u64);
+    let base = Handle::new(OWN)?;
+    let body = read_body::<B>(alloc, base, &mut main, &mut refs)??;
+    if main.left() >= 8 || refs.left() >= 8 {
+        return None;
+    }
+    Some(body.fits14(base))
 }

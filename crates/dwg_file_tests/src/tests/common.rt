@@ -88,7 +88,7 @@ fn tell_numbers(told: &mut String, part: &EntityCommon) -> Option<()> {
 }
 
 /// The handle of the object that has the common part.
-fn own() -> Option<Handle> {
+pub(crate) fn own() -> Option<Handle> {
     Handle::new(0x80)
 }
 

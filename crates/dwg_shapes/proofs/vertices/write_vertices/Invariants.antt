@@ -4,4 +4,4 @@ use Rattle.dwg_shapes.proofs.vertices.write_vertices.Given as goal
 
 -- what is written so far and the points that are left give the whole
 abbrev pub invariant-along : goal.invariant-along
-invariant-along l = AreWrittenSoFar l.points l.before (drop l.point-index l.points) l.fn.sink l.sink
+invariant-along l = AreWrittenSoFar l.version l.points l.before (drop l.point-index l.points) l.fn.sink l.sink

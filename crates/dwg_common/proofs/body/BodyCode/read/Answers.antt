@@ -1,7 +1,0 @@
-use Rattle.dwg_grammar.proofs.BodyReading.{body_value}
-use Rattle.dwg_common.proofs.body.BodyCode.read.Goals as goal
-
-pub returns-clause-value : goal.returns-clause-value
-returns-clause-value g c =
-    body_value c.args.base (g.Self.BodyCode.grammar c.args.base) c.in_ok-value.field-0 c.in-Some.value _ _ _ _
-    (g.met.Self.BodyCode.laws c.args.base (search)) c.in-Some.is c.in_ok-value.ensures.parsed

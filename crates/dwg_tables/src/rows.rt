@@ -1,0 +1,56 @@
+//! What is done with the fields of an entry whose codes this crate alone knows.
+
+/// What is done with one field of an entry: `Title` and `Form` are what an entry begins with and the form of letters, `Values` are
+/// those of a layer, all others are words of `field`.
+#[macro_export]
+macro_rules! table_field {
+    (parse Title, $field:ident, $alloc:expr, $version:expr, $main:expr) => {
+        let Some($field) = crate::title::read_title($alloc, $main)? else {
+            return Ok(None);
+        };
+    };
+    (parse Form, $field:ident, $alloc:expr, $version:expr, $main:expr) => {
+        let Some($field) = crate::form::read_form($main) else {
+            return Ok(None);
+        };
+    };
+    (parse Values, $field:ident, $alloc:expr, $version:expr, $main:expr) => {
+        let Some($field) = crate::values::read_values($version, $main) else {
+            return Ok(None);
+        };
+    };
+    (fits Title, $of:expr, $field:ident, $version:expr) => {
+        if !crate::title::title_fits(&$of.$field) {
+            return false;
+        }
+    };
+    (fits Form, $of:expr, $field:ident, $version:expr) => {
+        crate::form::known_form($of);
+    };
+    (fits Values, $of:expr, $field:ident, $version:expr) => {
+        if !crate::values::values_fit($version, $of.$field) {
+            return false;
+        }
+    };
+    (bits Title, $of:expr, $field:ident, $version:expr) => {
+        crate::title::title_bits(&$of.$field)
+    };
+    (bits Form, $of:expr, $field:ident, $version:expr) => {
+        crate::form::form_bits($of)
+    };
+    (bits Values, $of:expr, $field:ident, $version:expr) => {
+        crate::values::values_bits($version, $of.$field)
+    };
+    (write Title, $of:expr, $field:ident, $version:expr, $sink:expr) => {
+        crate::title::write_title(&$of.$field, $sink);
+    };
+    (write Form, $of:expr, $field:ident, $version:expr, $sink:expr) => {
+        crate::form::write_form($of, $sink);
+    };
+    (write Values, $of:expr, $field:ident, $version:expr, $sink:expr) => {
+        crate::values::write_values($version, $of.$field, $sink);
+    };
+    ($($done:tt)*) => {
+        field!($($done)*)
+    };
+}
