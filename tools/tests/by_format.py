@@ -39,7 +39,7 @@ def handle_code(code: int, value: int) -> str:
 
 
 def dictionary(handle: int) -> str:
-    """The bits of a DICTIONARY without items whose owner and extension dictionary are null, with their padding (Objects, Common parts)."""
+    """The bits of a DICTIONARY without items whose owner and extension dictionary are null, with their padding (Objects, Common parts and bodies)."""
     number, own = short(42), handle_code(0, handle)
     no_applications, no_reactors, no_items, cloning, hard_owner = "10", "10", "10", short(0), bits(little(0, 1))
     main = own + no_applications + no_reactors + no_items + cloning + hard_owner

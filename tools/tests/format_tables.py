@@ -369,7 +369,7 @@ def page_items(page: str) -> Dict[int, Tuple[str, str]]:
 
 Members = Dict[Tuple[str, str], Tuple[bool, Tuple[str, ...]]]
 
-ENTITY, OTHER = "an entity", "another object"
+ENTITY, OTHER = "common part of an entity", "common part of another object"
 
 
 class DefinedFields:
@@ -412,7 +412,7 @@ class PageFields:
         """The fields of each body and each common part, in their order."""
         found: Dict[str, Tuple[str, ...]] = {}
         for table in tables(self.page):
-            if table[0][:2] in (["body", "fields"], ["common part of", "fields in their order"]):
+            if table[0][:2] == ["part", "fields"]:
                 found.update({holder: names(row[1]) for row in table[1:] for holder in row[0].split(", ")})
         return found
 

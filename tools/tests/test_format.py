@@ -6,6 +6,7 @@ import unittest
 from typing import Callable, Dict, List, NamedTuple
 
 import by_format
+import format_parts as parts
 import format_tables as tables
 
 
@@ -23,6 +24,14 @@ class Sources(NamedTuple):
     commons: str
     statuses: str
     notes: str
+    objects: str
+    grammar: str
+    common: str
+    shapes: str
+    entities: str
+    entries: str
+    dicts: str
+    code: str
 
 
 SOURCES = Sources(
@@ -37,6 +46,14 @@ SOURCES = Sources(
     commons=tables.definitions("dwg_show", "CommonFields"),
     statuses=tables.definitions("dwg_answers", "Status"),
     notes=tables.definitions("dwg_text", "Notes"),
+    objects=tables.definitions("dwg_object", "OwnBodies"),
+    grammar=parts.crate_definitions("dwg_grammar"),
+    common=parts.crate_definitions("dwg_common"),
+    shapes=parts.crate_definitions("dwg_shapes"),
+    entities=parts.crate_definitions("dwg_entities"),
+    entries=parts.crate_definitions("dwg_tables"),
+    dicts=parts.crate_definitions("dwg_dicts"),
+    code="".join(parts.crate_code(crate) for crate in parts.CRATES),
 )
 
 
@@ -80,6 +97,16 @@ def statuses(given: Sources) -> List[str]:
     return tables.differences(tables.page_statuses(given.page), tables.defined_statuses(given.statuses, given.notes))
 
 
+def versions(given: Sources) -> List[str]:
+    """What differs in the codes and references of common parts and bodies in each version, in which kinds AC1014 has, and in what is fixed there."""
+    texts = (given.dicts, given.entries, given.entities, given.shapes, given.common, given.grammar)
+    defined, page = parts.Definitions(dict(zip(parts.CRATES, texts))), parts.PageParts(given.page)
+    bits = tables.differences(page.parts(), parts.defined_parts(defined, given.kinds, given.objects, given.code))
+    same = tables.differences(page.same(), parts.defined_same(defined, given.kinds, given.objects))
+    fixed = tables.differences(parts.page_fixed(given.page), parts.defined_fixed(defined, given.kinds, given.objects, given.code))
+    return bits + same + page.out_of_order() + page.told_otherwise() + fixed + tables.differences(parts.page_weights(given.page), parts.defined_weights(defined))
+
+
 CHECKS: Dict[str, Callable[[Sources], List[str]]] = {
     "kinds": kinds,
     "fields": fields,
@@ -88,6 +115,7 @@ CHECKS: Dict[str, Callable[[Sources], List[str]]] = {
     "items": items,
     "bodies": bodies,
     "statuses": statuses,
+    "versions": versions,
 }
 
 
@@ -135,6 +163,28 @@ PLANTED = [
     Planted("statuses", "page", "| 7 | the input", "| 9 | the input"),
     Planted("statuses", "page", "`dwg: read fault`", "`dwg: fault`"),
     Planted("statuses", "notes", 'codes "dwg: drawing too large: "', 'codes "dwg: too large: "'),
+    Planted("versions", "page", "three BDs; BD; three BDs; BD |", "three BDs; three BDs; BD; BD |"),
+    Planted("versions", "page", "RL bit size; BB mode", "BB mode; RL bit size"),
+    Planted("versions", "page", "layer; linetype where it isn't by layer; previous and next where it has links |", "previous and next where it has links; layer; linetype where it isn't by layer |"),
+    Planted("versions", "page", "BD height; BD width; TV text", "BD width; BD height; TV text"),
+    Planted("versions", "page", "| owner; reactors; xdict | the same |", "| owner; xdict; reactors | the same |"),
+    Planted("versions", "page", "| xref; a style for each dash |", "| a style for each dash; xref |"),
+    Planted("versions", "page", "two RDs for each point;", "two RDs for the first point; two DDs for each next;"),
+    Planted("versions", "page", "| xref, linetype |", "| the same |"),
+    Planted("versions", "page", "| INSERT's; BS; BS; BD; BD | no body | INSERT's | no body |", "| INSERT's; BS; BS; BD; BD | INSERT's; BS; BS; BD; BD | INSERT's | the same |"),
+    Planted("versions", "page", "| TEXT's; TV; BS; RC | TEXT's; TV; BS; RC |", "| TEXT's; TV; BS; RC | the same |"),
+    Planted("versions", "page", "worth 1, 2, 4 and 8 in", "worth 1, 4, 2 and 8 in"),
+    Planted("versions", "page", "| DICTIONARY, XRECORD | cloning is 0 |", "| DICTIONARY | cloning is 0 |"),
+    Planted("versions", "page", "plotstyle is 5.0 |", "plotstyle is 4.0 |"),
+    Planted("versions", "page", "values is at most 15", "values is at most 16"),
+    Planted("versions", "grammar", "thickness version = in_version version bd bt", "thickness version = in_version version bt bd"),
+    Planted("versions", "grammar", "NOWHERE = record { code = 5; target = 0 }", "NOWHERE = record { code = 4; target = 0 }"),
+    Planted("versions", "common", "since_1015 version 0 rc)", "since_1015 version 29 rc)"),
+    Planted("versions", "shapes", "before_next Ac1014 point = None", "before_next Ac1014 point = Some point"),
+    Planted("versions", "entities", "in_version version bd3 newer_scale", "newer_scale"),
+    Planted("versions", "entries", "in_version version layer_flags bs", "bs"),
+    Planted("versions", "entries", "worth two 2 + worth four 4", "worth two 4 + worth four 2"),
+    Planted("versions", "code", "impl BodyCode14 for Circle ", "impl BodyCode15 for Circle "),
 ]
 
 
@@ -153,6 +203,7 @@ class Tables(unittest.TestCase):
         self.assertEqual(sorted(tables.page_refusals(page)), list(range(1, 38)))
         self.assertEqual(sorted(tables.page_items(page)), [0, 2, 3, 4, 5, 10, 11, 12, 13, 40, 41, 42, 70, 71])
         self.assertEqual(len(tables.PageFields(page).table()), 36)
+        self.assertEqual(parts.PageParts(page).codes("three BDs; a BD; four Bs of x; so many bytes", parts.OLDER), ["three BD", "BD", "B", "B", "B", "B", "bytes"])
         self.assertEqual(sorted(tables.page_statuses(page)), list(range(9)))
 
     def test_changes_are_seen(self) -> None:
