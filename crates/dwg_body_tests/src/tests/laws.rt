@@ -3,6 +3,10 @@
 use dwg_dicts::dict_laws;
 use dwg_entities::entity_laws;
 use dwg_more::more_laws;
+use dwg_part_laws::{
+    commons_as_defined, dicts_as_defined, entities_as_defined, more_as_defined, shapes_as_defined,
+    size_laws, tables_as_defined,
+};
 use dwg_shapes::shape_laws;
 use dwg_tables::table_laws;
 
@@ -14,4 +18,16 @@ fn the_laws_of_bodies_hold(_rt: HostRuntime) {
     table_laws();
     dict_laws();
     more_laws();
+}
+
+/// So can those on which definition each part goes by, and on the bit size.
+#[test]
+fn each_part_goes_by_its_definition(_rt: HostRuntime) {
+    commons_as_defined();
+    shapes_as_defined();
+    entities_as_defined();
+    tables_as_defined();
+    dicts_as_defined();
+    more_as_defined();
+    size_laws();
 }

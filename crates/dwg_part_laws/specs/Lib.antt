@@ -1,0 +1,2 @@
+-- A grammar that is, in each of its parts, the one that a definition gives.
+pub mod AsDefined
