@@ -264,6 +264,10 @@ class ProgramFailed(ToolError):
         self.why = why
 
 
+class TookTooLong(ProgramFailed):
+    """The program gave no answer in the time that it had, which it would take again for the same bytes."""
+
+
 class NotBuilt(ToolError):
     """The launcher has no program that is built, or one that is older than its sources; it says itself what to do."""
 
@@ -300,7 +304,7 @@ class Program:
             try:
                 out, notes = ran.communicate(given, seconds)
             except subprocess.TimeoutExpired:
-                raise ProgramFailed(f"`{words[0]}` takes more than {seconds} seconds") from None
+                raise TookTooLong(f"`{words[0]}` takes more than {seconds} seconds") from None
         return Answer(_status_of(ran.returncode, notes), out or b"", notes)
 
     def tally(self, words: Sequence[str], source: Union[int, IO[bytes]]) -> Tally:
