@@ -628,7 +628,7 @@ def _status_at(path: Optional[str], stream: int) -> Optional[os.stat_result]:
     """What stands at a name, links followed, or is the standard stream; None where nothing does."""
     try:
         return os.fstat(stream) if path is None or path == "-" else os.stat(path)
-    except OSError:
+    except (OSError, ValueError):
         return None
 
 
@@ -637,8 +637,51 @@ def is_one_file(one: Optional[os.stat_result], other: Optional[os.stat_result]) 
     return one is not None and other is not None and stat.S_ISREG(one.st_mode) and os.path.samestat(one, other)
 
 
-def refuse_output(path: Optional[str], force: bool, sources: Iterable[Optional[str]]) -> None:
+def _stream_file(stream: int) -> Optional[os.stat_result]:
+    """The regular file that a standard stream is; None where it is none."""
+    there = _status_at(None, stream)
+    return there if there is not None and stat.S_ISREG(there.st_mode) else None
+
+
+def is_new_output(path: str) -> bool:
+    """Whether a file has nothing yet, and is where standard output or error goes."""
+    return any(own is not None and not own.st_size and is_one_file(own, _status_at(path, 0)) for own in map(_stream_file, (1, 2)))
+
+
+def refuse_streams(sources: Sequence[Optional[str]]) -> None:
+    """Refuses a file to read that is standard output or error too, before anything is written there.
+
+    Where it is standard error the refusal isn't said, since it would stand in the file: the status alone tells.
+    """
+    for stream, called in ((2, "error"), (1, "output")):
+        own = _stream_file(stream)
+        for source in sources if own else ():
+            if is_one_file(own, _status_at(source, 0)):
+                if stream == 2:
+                    _hush()
+                raise ToolError(f"{input_name(source)} is standard {called} too; nothing is written into what is read", Exit.EXISTS)
+
+
+def _hush() -> None:
+    """Lets all that is said on standard error from now on get lost."""
+    nowhere = os.open(os.devnull, os.O_WRONLY)
+    os.dup2(nowhere, 2)
+    os.close(nowhere)
+
+
+def _hush_where_named(words: Sequence[str]) -> None:
+    """Says nothing more where standard error is a file that the words may name, or a drawing in a folder that they name."""
+    own, path = _stream_file(2), os.path.realpath("/dev/fd/2")
+    for word in ("-", *words, *(word.partition("=")[2] for word in words)) if own else ():
+        is_inside = path.lower().endswith(".dwg") and os.path.isdir(word) and path.startswith(os.path.join(os.path.realpath(word), ""))
+        if is_inside or is_one_file(own, _status_at(word, 0)):
+            _hush()
+            return
+
+
+def refuse_output(path: Optional[str], force: bool, sources: Sequence[Optional[str]]) -> None:
     """Refuses an output before any work: one that is an input by any name, one that is there, and what `force` doesn't replace."""
+    refuse_streams(sources)
     name = "standard output" if path is None or path == "-" else one_line(path)
     there = _status_at(path, 1)
     if any(is_one_file(there, _status_at(source, 0)) for source in sources):
@@ -1092,7 +1135,7 @@ ONE_DRAWING: List[Tuple[int, str]] = [
     (Exit.USAGE, "the words aren't understood, or name what isn't there"),
     (Exit.NO_PROGRAM, "the program dwg isn't found or gives no answer"),
     (Exit.FAILURE, "failure of the tool itself"),
-    (Exit.EXISTS, "the output is the input, or is there already"),
+    (Exit.EXISTS, "the output is the input, or is there already; or standard error is the input, and nothing is said"),
     (Exit.INTERRUPTED, "interrupted"),
     (Exit.CLOSED_PIPE, "nobody reads the output any more"),
 ]
@@ -1116,6 +1159,7 @@ class Parser(argparse.ArgumentParser):
         self.add_argument("--program", metavar="PATH", help="the program dwg (else the one that DWG names, else dwg beside tools/, else dwg on the PATH)")
 
     def error(self, message: str) -> NoReturn:
+        _hush_where_named(sys.argv[1:])
         with contextlib.suppress(OSError):
             self.print_usage(sys.stderr)
         raise ToolError(message, Exit.USAGE)

@@ -8,7 +8,7 @@ import subprocess
 import sys
 import unittest
 from pathlib import Path
-from typing import List
+from typing import List, Tuple
 
 import common
 import made
@@ -127,6 +127,72 @@ class Threads(Checked):
         slow = self.refusing('kill -INT "$PPID"; exec sleep 30')
         ran = otherwise("dwg-check", FEW_THREADS.format(count=0), "--quiet", "--program", slow, self.folder / "d")
         self.assertEqual((ran.returncode, ran.stderr), (130, b""))
+
+
+class Streams(Checked):
+    """Nothing is written into what is read, not even by standard error."""
+
+    def setUp(self) -> None:
+        super().setUp()
+        self.path, self.other = self.drawings(2)
+        os.link(self.path, self.folder / "link")
+        self.program = self.refusing()
+        (self.folder / "list").write_text(f"{self.path}\n")
+
+    def answer(self, script: str) -> Tuple[int, bytes]:
+        """The status of a script in which the tools are on the path, and what it prints; no file that is read is another then."""
+        before = {path: path.read_bytes() for path in (self.path, self.other, self.folder / "list")}
+        environment = {**os.environ, "DWG": str(self.program), "PATH": f"{TOOLS}:{os.environ['PATH']}"}
+        ran = subprocess.run(["bash", "-c", script], cwd=self.folder, stdin=subprocess.DEVNULL, capture_output=True, check=False, env=environment, timeout=100)
+        self.assertEqual({path: path.read_bytes() for path in before}, before, script)
+        return ran.returncode, ran.stdout
+
+    def test_standard_error_that_is_the_input(self) -> None:
+        scripts = {
+            "dwg-json d/00.dwg 2>>d/00.dwg": 73,
+            "dwg-json --output out d/00.dwg 2>>link": 73,
+            "dwg-json <d/00.dwg 2>>d/00.dwg": 73,
+            "dwg-picture d/00.dwg >>link 2>&1": 73,
+            "dwg-diff d/01.dwg d/00.dwg 2>>d/00.dwg": 2,
+            "dwg-recover d/00.dwg out 2>>d/00.dwg": 73,
+            "dwg-recover --before d/00.dwg d/01.dwg out 2>>d/00.dwg": 73,
+            "dwg-recover - out <d/00.dwg 2>>link": 73,
+            "dwg-check d/00.dwg 2>>d/00.dwg": 73,
+            "dwg-check d 2>>link": 73,
+            "dwg-check - <list 2>>d/00.dwg": 73,
+            "dwg-check - <list 2>>list": 73,
+            "dwg-check --resume log d >>d/01.dwg 2>>d/00.dwg": 73,
+            # Words that aren't understood, and a program that isn't there.
+            "dwg-json --nothing d/00.dwg 2>>d/00.dwg": 64,
+            "dwg-picture --width x <d/00.dwg 2>>d/00.dwg": 64,
+            "dwg-recover d/00.dwg 2>>d/00.dwg": 64,
+            "dwg-recover --before=d/00.dwg 2>>d/00.dwg": 64,
+            "dwg-check --nothing d 2>>d/00.dwg": 64,
+            "dwg-check --program /nowhere d 2>>d/00.dwg": 73,
+            "dwg-check --resume d/00.dwg d/01.dwg 2>>d/00.dwg": 73,
+        }
+        for script, status in scripts.items():
+            self.assertEqual(self.answer(script), (status, b""), script)
+        self.assertFalse((self.folder / "out").exists() or (self.folder / "log").exists())
+
+    def test_standard_output_that_is_the_input(self) -> None:
+        for script, status in (("dwg-json d/00.dwg >>link", 73), ("dwg-json d/00.dwg -o out >>d/00.dwg", 73), ("dwg-diff d/00.dwg d/01.dwg >>d/01.dwg", 2), ("dwg-check - <list >>list", 73)):
+            self.assertEqual(self.answer(script), (status, b""), script)
+
+    def test_log_that_is_a_stream_stays_as_it_is(self) -> None:
+        self.assertEqual(self.answer("dwg-check --quiet --resume log d")[0], 1)
+        kept = (self.folder / "log").read_bytes()
+        for script in ("dwg-check --resume log d 2>>log", "dwg-check --resume log d >>log 2>>d/00.dwg", "dwg-check --resume log d >>d/00.dwg 2>>log"):
+            self.assertEqual(self.answer(script), (73, b""), script)
+            self.assertEqual((self.folder / "log").read_bytes(), kept)
+
+    def test_what_is_new_isnt_checked(self) -> None:
+        for script in ("dwg-check --all d 2>d/errors", "dwg-check --all d 2>&1 >d/table", "dwg-check --all d >d/table 2>d/errors"):
+            self.assertEqual(self.answer(f"{script}; exit $?")[0], 1)
+            said = b"".join(path.read_bytes() for path in (self.folder / "d").glob("[et]*"))
+            self.assertEqual((b"d/errors" in said, b"d/table" in said), (False, False), said)
+            for path in (self.folder / "d").glob("[et]*"):
+                path.unlink()
 
 
 if __name__ == "__main__":
