@@ -63,7 +63,7 @@ class Drawn:
         """How much it draws."""
         return 1
 
-    def around(self, frame: Frame) -> List[Point]:
+    def around(self, frame: Frame) -> Iterable[Point]:
         """Points around it."""
         return self.figure.around(frame)
 

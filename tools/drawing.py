@@ -9,6 +9,7 @@ import argparse
 import contextlib
 import enum
 import errno
+import io
 import itertools
 import math
 import os
@@ -68,6 +69,7 @@ class Exit(enum.IntEnum):
     USAGE = 64
     NOTHING_KEPT = 65
     NOTHING_FOUND = 66
+    TOO_MUCH_TEXT = 67
     NO_PROGRAM = 69
     FAILURE = 70
     EXISTS = 73
@@ -728,11 +730,23 @@ def output(path: Optional[str], force: bool) -> Iterator[IO[bytes]]:
 # Reading the text of `show`
 # ---------------------------------------------------------------------------------------------------------------------
 #
-# docs/FORMAT.md has the text, under "Texts". It is read line by line, and one object is held at a time.
+# docs/FORMAT.md has the text, under "Texts". It is read line by line, and one object is held at a time, as it came: a vertex of four bits takes fifty
+# bytes so, and ten times as much by its values.
+
+# How much text of one object is taken. What is spelled in full has at most seven times as much text as bytes, so that an object that fills a file of
+# 32 MiB stays below; one of repeated points or widths, of which a byte can have 152 bytes of text, passes it from 1.8 MB on.
+MOST_TEXT = 1 << 28
 
 
 class BadText(Exception):
     """A line that the text of `show` doesn't have, or a text that ends too early."""
+
+
+class TooMuchText(ToolError):
+    """An object has more text than is taken."""
+
+    def __init__(self, one: "Object") -> None:
+        super().__init__(f"object {one.handle:X} {one.kind} has more than {MOST_TEXT} bytes of text, which is more than the tools take", Exit.TOO_MUCH_TEXT)
 
 
 @dataclass(frozen=True)
@@ -828,7 +842,7 @@ def read_line(line: bytes) -> Tuple[str, Value]:
 
 
 # Many lines of a drawing are the same, so short ones are kept for a while.
-_read_short = lru_cache(maxsize=1 << 16)(read_line)
+_read_short = lru_cache(maxsize=1 << 13)(read_line)
 
 
 def read_field(line: bytes) -> Tuple[str, Value]:
@@ -836,7 +850,7 @@ def read_field(line: bytes) -> Tuple[str, Value]:
     return _read_short(line) if len(line) < 100 else read_line(line)
 
 
-@lru_cache(maxsize=1 << 16)
+@lru_cache(maxsize=1 << 13)
 def steps(path: str) -> Tuple[Union[str, int], ...]:
     """The steps of a path: `items[0].name` is `items`, 0, `name`."""
     found: List[Union[str, int]] = []
@@ -847,28 +861,50 @@ def steps(path: str) -> Tuple[Union[str, int], ...]:
     return tuple(found)
 
 
+# How much of a text is split into lines at once.
+PIECE = 1 << 16
+
+
 @dataclass
 class Object:
-    """An object of a drawing: handle, kind, form (`typed`, `plain`, `raw`), type number, and its fields as they are printed."""
+    """An object of a drawing: handle, kind, form (`typed`, `plain`, `raw`), type number, and its fields as they are printed.
+
+    A line feed stands in front of the first line too. No line begins with spaces.
+    """
 
     handle: int
     kind: str
     form: str
     number: int
-    lines: List[bytes] = field(default_factory=list)
+    text: bytes = b"\n"
 
     @property
-    def fields(self) -> List[Tuple[str, Value]]:
+    def lines(self) -> Iterator[bytes]:
+        """The lines of the fields."""
+        return self.lines_from(1)
+
+    def lines_from(self, at: int) -> Iterator[bytes]:
+        """The lines of the fields from a place on, where one begins."""
+        while at < len(self.text):
+            end = self.text.find(b"\n", at + PIECE)
+            piece = self.text[at : end if end >= 0 else -1]
+            at += len(piece) + 1
+            yield from piece.split(b"\n")
+
+    def elements(self, name: bytes) -> Iterator[bytes]:
+        """The lines of the elements of a list, which stand one behind the other."""
+        front = name + b"["
+        return itertools.takewhile(lambda line: line.startswith(front), self.lines_from(self.text.find(b"\n" + front) + 1))
+
+    @property
+    def fields(self) -> Iterator[Tuple[str, Value]]:
         """The fields in their order, each with its path and its value."""
-        return [read_field(line) for line in self.lines]
+        return map(read_field, self.lines)
 
     def value(self, path: str) -> Optional[Value]:
         """The value at a path, or None where the object has no such field."""
-        front = path.encode("ascii") + b" "
-        for line in self.lines:
-            if line.startswith(front):
-                return read_field(line)[1]
-        return None
+        at = self.text.find(b"\n" + path.encode("ascii") + b" ")
+        return None if at < 0 else read_field(self.text[at + 1 : self.text.index(b"\n", at + 1)])[1]
 
     @property
     def is_entity(self) -> bool:
@@ -969,30 +1005,44 @@ def _head(line: bytes) -> Object:
     return Object(int(parts[1], 16), " ".join(parts[2:-2]), parts[-2], int(parts[-1]))
 
 
-def _told_apart(one: Object) -> Object:
-    """The object itself. In a face `show` has `invisible` twice, for the face and then for its edges; the second is `invisible_edges` here."""
+def _told_apart(one: Object, text: bytes) -> Object:
+    """The object with its text. In a face `show` has `invisible` twice, for the face and then for its edges; the second is `invisible_edges` here."""
     if one.kind == "3DFACE":
-        _, *edges = [index for index, line in enumerate(one.lines) if line.startswith(b"invisible ")] or [0]
-        for index in edges:
-            one.lines[index] = one.lines[index].replace(b"invisible", b"invisible_edges", 1)
+        edges = text.find(b"\ninvisible ", text.find(b"\ninvisible ") + 1)
+        text = text if edges <= 0 else text[:edges] + text[edges:].replace(b"\ninvisible ", b"\ninvisible_edges ")
+    one.text = text
     return one
 
 
-def read_objects(lines: Iterator[bytes], count: Optional[int] = None) -> Iterator[Object]:
-    """The objects behind the front, one at a time; BadText where there are fewer or more than are said."""
-    found, current = 0, None
+def _is_element(line: bytes) -> bool:
+    """Whether a line has an element of a list."""
+    bracket = line.find(b"[")
+    return bracket >= 0 and line.find(b" ", 2, bracket) < 0
+
+
+def read_objects(lines: Iterator[bytes], count: Optional[int] = None, brief: bool = False) -> Iterator[Object]:
+    """The objects behind the front, one at a time, where it is brief without their lists; BadText where there are fewer or more than are said,
+    TooMuchText where one has more than is taken."""
+    found, current, text, size = 0, None, io.BytesIO(), 0
     for line in lines:
         if line[:2] == b"  " and current is not None:
             if line[-1:] != b"\n":
                 raise BadText("the text ends too early")
-            current.lines.append(line[2:-1])
+            if brief and _is_element(line):
+                continue
+            size += len(line)
+            if size > MOST_TEXT:
+                raise TooMuchText(current)
+            text.write(line[2:])
             continue
         if current is not None:
-            yield _told_apart(current)
-        current = _head(line)
+            # (what is written is handed on as it is, and not copied)
+            yield _told_apart(current, text.getvalue())
+        current, text, size = _head(line), io.BytesIO(), 0
+        text.write(b"\n")
         found += 1
     if current is not None:
-        yield _told_apart(current)
+        yield _told_apart(current, text.getvalue())
     if count is not None and found != count:
         raise BadText("%d objects where %d are said" % (found, count))
 
@@ -1086,16 +1136,16 @@ class Drawing:
         self._state = _state_of(self.file)
 
     @contextlib.contextmanager
-    def show(self) -> Iterator[Tuple[Front, Iterator[Object]]]:
+    def show(self, brief: bool = False) -> Iterator[Tuple[Front, Iterator[Object]]]:
         """What the text of `show` says before the objects, and these, one by one; ToolError with the program's status where it refuses."""
         try:
             os.lseek(self.file.fileno(), 0, os.SEEK_SET)
-            yield from self._shown()
+            yield from self._shown(brief)
         except ToolError as fault:
             message = str(fault)
             raise ToolError(f"{self.name}: {message[5:] if message.startswith('dwg: ') else message}", fault.status) from None
 
-    def _shown(self) -> Iterator[Tuple[Front, Iterator[Object]]]:
+    def _shown(self, brief: bool) -> Iterator[Tuple[Front, Iterator[Object]]]:
         """Yields once, and reads on behind that to the end, so that the program's status is told before any fault of the text."""
         bad: Optional[BadText] = None
         with self.program.lines(["show"], self.file) as lines:
@@ -1104,7 +1154,7 @@ class Drawing:
             if first:
                 try:
                     front = read_front(taken)
-                    yield front, read_objects(taken, front.count)
+                    yield front, read_objects(taken, front.count, brief)
                 except BadText as fault:
                     bad = fault
             for _ in lines:
@@ -1133,6 +1183,7 @@ ONE_DRAWING: List[Tuple[int, str]] = [
     (Status.NO_MEMORY, "the program had no memory"),
     (Status.TOO_LONG, "the file has more than 33,554,432 bytes"),
     (Exit.USAGE, "the words aren't understood, or name what isn't there"),
+    (Exit.TOO_MUCH_TEXT, "an object has more than 268,435,456 bytes of text by `dwg show`, or all entities of blocks have four times as much"),
     (Exit.NO_PROGRAM, "the program dwg isn't found or gives no answer"),
     (Exit.FAILURE, "failure of the tool itself"),
     (Exit.EXISTS, "the output is the input, or is there already; or standard error is the input, and nothing is said"),

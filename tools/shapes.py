@@ -2,9 +2,11 @@
 
 from __future__ import annotations
 
+import itertools
 import math
+from array import array
 from dataclasses import dataclass
-from typing import Dict, Iterator, List, NamedTuple, Optional, Sequence, Tuple, Union
+from typing import Dict, Iterable, Iterator, List, NamedTuple, Optional, Sequence, Set, Tuple, Union
 
 from drawing import Object, Reference, Text, Value, Words, read_field, read_value
 from plane import SAME, TURN, Affine, Arc, Endless, Point, circular, pair, plain, seen, unit
@@ -22,12 +24,12 @@ class Undrawable(Exception):
 class Fields:
     """The fields of an object by name; where what holds a text stands in front of them, as with attributes, its names are left out.
 
-    The elements of a list stand under its name without brackets, in their order.
+    The elements of a list stand under its name without brackets, in their order, the numbers of each behind those of the one before.
     """
 
     def __init__(self, one: Object, front: str = "") -> None:
         self.values: Dict[str, Value] = {}
-        self.lists: Dict[str, List[Tuple[float, ...]]] = {}
+        self.lists: Dict[str, "array[float]"] = {}
         for printed in one.lines:
             name = printed[: printed.index(b" ")]
             if b"[" in name:
@@ -41,7 +43,7 @@ class Fields:
         listed = name[: name.index(b"[")] + name[name.index(b"]") + 1 :]
         value = read_value(listed, printed)
         if isinstance(value, Words):
-            self.lists.setdefault(listed.decode("ascii"), []).append(value.doubles())
+            self.lists.setdefault(listed.decode("ascii"), array("d")).extend(value.doubles())
 
     def point(self, name: str) -> Tuple[float, ...]:
         """The coordinates of a point, which must be there."""
@@ -75,20 +77,23 @@ class Fields:
         value = self.values.get(name)
         return value.handle if isinstance(value, Reference) else 0
 
-    def rows(self, name: str) -> List[Tuple[float, ...]]:
-        """A list of points or numbers."""
-        return [checked(row) for row in self.lists.get(name, [])]
+    def numbers(self, name: str) -> "array[float]":
+        """The numbers of a list of numbers or points."""
+        found = self.lists.get(name, array("d"))
+        check(found)
+        return found
 
-    def reals(self, name: str) -> List[float]:
-        """A list of numbers."""
-        return [row[0] for row in self.rows(name)]
+
+def check(values: Iterable[float]) -> None:
+    """Undrawable where a number can't be drawn."""
+    for value in values:
+        if not abs(value) <= FARTHEST:
+            raise Undrawable("a number that is none or too large")
 
 
 def checked(values: Tuple[float, ...]) -> Tuple[float, ...]:
     """The numbers themselves, where they can be drawn."""
-    for value in values:
-        if not abs(value) <= FARTHEST:
-            raise Undrawable("a number that is none or too large")
+    check(values)
     return values
 
 
@@ -133,7 +138,11 @@ class Figure:
         """The element of SVG; empty where nothing can be seen of it."""
         raise NotImplementedError
 
-    def around(self, frame: Frame) -> List[Point]:
+    def pieces(self, frame: Frame) -> Iterator[str]:
+        """The element in pieces, so that a long one is never held as a whole."""
+        yield self.element(frame)
+
+    def around(self, frame: Frame) -> Iterable[Point]:
         """Points between whose least and greatest coordinates it lies; none where nothing can be seen of it."""
         raise NotImplementedError
 
@@ -142,30 +151,41 @@ class Figure:
 FILLED = ' fill="currentColor" stroke="none"'
 
 
+# How many steps of a way are told at once.
+AT_ONCE = 1 << 10
+
+
 @dataclass
 class Way:
     """Points and arcs, one behind the other."""
 
     begin: Point
-    steps: Sequence[Union[Point, Arc]]
+    steps: Iterable[Union[Point, Arc]]
     closed: bool = False
 
-    def said(self, frame: Frame) -> str:
-        """The way in a path."""
-        steps = [frame.put_arc(step).said() if isinstance(step, Arc) else "L" + pair(frame.put(step)) for step in self.steps]
-        return f"M{pair(frame.put(self.begin))}{''.join(steps)}{'z' if self.closed else ''}"
+    def said(self, frame: Frame) -> Iterator[str]:
+        """The way in a path, in pieces."""
+        yield f"M{pair(frame.put(self.begin))}"
+        steps = iter(self.steps)
+        while True:
+            said = [frame.put_arc(step).said() if isinstance(step, Arc) else "L" + pair(frame.put(step)) for step in itertools.islice(steps, AT_ONCE)]
+            if not said:
+                break
+            yield "".join(said)
+        yield "z" if self.closed else ""
 
-    def around(self, frame: Frame) -> List[Point]:
+    def around(self, frame: Frame) -> Iterator[Point]:
         """Points around it."""
-        return [frame.put(self.begin), *around(self.steps, frame)]
+        return itertools.chain([frame.put(self.begin)], around(self.steps, frame))
 
 
-def around(steps: Sequence[Union[Point, Arc]], frame: Frame) -> List[Point]:
+def around(steps: Iterable[Union[Point, Arc]], frame: Frame) -> Iterator[Point]:
     """Points around points and arcs."""
-    found: List[Point] = []
     for step in steps:
-        found += frame.put_arc(step).around() if isinstance(step, Arc) else [frame.put(step)]
-    return found
+        if isinstance(step, Arc):
+            yield from frame.put_arc(step).around()
+        else:
+            yield frame.put(step)
 
 
 @dataclass
@@ -176,10 +196,20 @@ class Trail(Figure):
     filled: bool = False
 
     def element(self, frame: Frame) -> str:
-        return f'<path d="{"".join(way.said(frame) for way in self.ways)}"{FILLED if self.filled else ""}/>'
+        return "".join(self.all_pieces(frame))
 
-    def around(self, frame: Frame) -> List[Point]:
-        return [point for way in self.ways for point in way.around(frame)]
+    def pieces(self, frame: Frame) -> Iterator[str]:
+        return self.all_pieces(frame) if any(isinstance(way.steps, Steps) for way in self.ways) else super().pieces(frame)
+
+    def all_pieces(self, frame: Frame) -> Iterator[str]:
+        """The element in pieces, however short it is."""
+        yield '<path d="'
+        for way in self.ways:
+            yield from way.said(frame)
+        yield f'"{FILLED if self.filled else ""}/>'
+
+    def around(self, frame: Frame) -> Iterable[Point]:
+        return itertools.chain.from_iterable(way.around(frame) for way in self.ways)
 
 
 def outlined(corners: Sequence[Point]) -> Trail:
@@ -224,22 +254,27 @@ class Band(Figure):
     way: Way
     plane: Affine
     width: float
-    edges: List[Union[Point, Arc]]
+    edges: Iterable[Union[Point, Arc]]
 
     def seat(self, frame: Frame) -> Affine:
         """Where a frame puts the plane, told from the begin of the way."""
         return frame.seat(self.plane.moved_to(self.plane.at(*self.way.begin)))
 
     def element(self, frame: Frame) -> str:
+        return "".join(self.pieces(frame))
+
+    def pieces(self, frame: Frame) -> Iterator[str]:
         seat = self.seat(frame)
         if seat.is_flat():
-            return ""
+            return
         is_plain = self.plane == SAME == frame.linear
         path = self.way.said(frame if is_plain else Frame(*self.way.begin))
-        return f'<path class="wide"{"" if is_plain else seat.attribute()} stroke-width="{plain(self.width)}" d="{path}"/>'
+        yield f'<path class="wide"{"" if is_plain else seat.attribute()} stroke-width="{plain(self.width)}" d="'
+        yield from path
+        yield '"/>'
 
-    def around(self, frame: Frame) -> List[Point]:
-        return [] if self.seat(frame).is_flat() else around(self.edges, frame)
+    def around(self, frame: Frame) -> Iterable[Point]:
+        return () if self.seat(frame).is_flat() else around(self.edges, frame)
 
 
 @dataclass
@@ -256,7 +291,10 @@ class Moved(Figure):
     def element(self, frame: Frame) -> str:
         return self.figure.element(self.within(frame))
 
-    def around(self, frame: Frame) -> List[Point]:
+    def pieces(self, frame: Frame) -> Iterator[str]:
+        return self.figure.pieces(self.within(frame))
+
+    def around(self, frame: Frame) -> Iterable[Point]:
         return self.figure.around(self.within(frame))
 
 
@@ -362,7 +400,8 @@ CLOSED_IN_SPACE = 1
 
 def polyline_in_space(fields: Fields, _: Context) -> Iterator[Figure]:
     """A polyline in space, whose vertices are listed among its fields."""
-    corners = [(x, y) for x, y, _z in fields.rows("vertices")]
+    numbers = fields.numbers("vertices")
+    corners = list(zip(numbers[::3], numbers[1::3]))
     if len(corners) < 2:
         raise Undrawable("fewer than two points")
     yield Trail([Way(corners[0], corners[1:], closed=bool(fields.number("flags_b") & CLOSED_IN_SPACE))])
@@ -390,6 +429,10 @@ class Segment:
     end: Point
     widths: Tuple[float, float]
     arc: Optional[Arc]
+
+    def is_long(self) -> bool:
+        """Whether it leads elsewhere."""
+        return self.arc is not None or self.begin != self.end
 
     def at(self, part: float) -> Point:
         """A point of it: the begin at 0, the end at 1."""
@@ -440,52 +483,113 @@ PARTS = 256
 CLOSED = 512
 
 
-def segments_of(fields: Fields) -> List[Segment]:
-    """The segments of a lightweight polyline."""
-    points = [(row[0], row[1]) for row in fields.rows("points")]
-    bulges, width = fields.reals("bulges"), abs(fields.real("width"))
-    widths = list(zip(fields.reals("widths.start"), fields.reals("widths.end")))
-    closed = bool(fields.number("flag") & CLOSED)
-    ends = points[1:] + (points[:1] if closed else [])
-    return [
-        Segment(begin, end, widths[at] if at < len(widths) else (width, width), bulged(begin, end, bulges[at] if at < len(bulges) else 0.0))
-        for at, (begin, end) in enumerate(zip(points, ends))
-    ]
+class Segments:
+    """The segments of a lightweight polyline, at least one. Their numbers are kept as they come, and a segment is told when it is asked for."""
+
+    def __init__(self, fields: Fields) -> None:
+        self.points, self.bulges = fields.numbers("points"), fields.numbers("bulges")
+        self.starts, self.ends = fields.numbers("widths.start"), fields.numbers("widths.end")
+        self.width, self.closed = abs(fields.real("width")), bool(fields.number("flag") & CLOSED)
+        self.corners = len(self.points) // 2
+        self.count = self.corners if self.closed else self.corners - 1
+        if self.count < 1:
+            raise Undrawable("fewer than two points")
+
+    def corner(self, at: int) -> Point:
+        """The corner of a number; behind the last stands the first."""
+        at = at % self.corners * 2
+        return self.points[at], self.points[at + 1]
+
+    def segment(self, at: int) -> Segment:
+        """The segment of a number."""
+        begin, end = self.corner(at), self.corner(at + 1)
+        widths = (self.starts[at], self.ends[at]) if at < min(len(self.starts), len(self.ends)) else (self.width, self.width)
+        return Segment(begin, end, widths, bulged(begin, end, self.bulges[at] if at < len(self.bulges) else 0.0))
+
+    def __iter__(self) -> Iterator[Segment]:
+        return map(self.segment, range(self.count))
+
+    def led(self) -> Iterator[Union[Point, Arc]]:
+        """Where each segment leads: to its end, or along its arc."""
+        if self.bulges:
+            return (one.arc or one.end for one in self)
+        return (self.corner(at) for at in range(1, self.count + 1))
+
+    def widths(self) -> Set[float]:
+        """The widths that there are."""
+        told = min(len(self.starts), len(self.ends), self.count)
+        found = {abs(width) for some in (self.starts, self.ends) for width in itertools.islice(some, told)}
+        return found if told == self.count else found | {self.width}
+
+
+# From how many segments on what they become is told when it is asked for, each time anew. A list of it takes ten times as much as the numbers.
+MANY = 1000
+
+
+@dataclass
+class Steps:
+    """Where many segments lead, in their plane or as it is seen."""
+
+    segments: Segments
+    plane: Optional[Affine]
+
+    def __iter__(self) -> Iterator[Union[Point, Arc]]:
+        return self.segments.led() if self.plane is None else seen_steps(self.segments.led(), self.plane)
+
+
+@dataclass
+class Edges:
+    """The edges of segments of one width and the corners where they meet, as they are seen."""
+
+    segments: Segments
+    plane: Affine
+    half: float
+
+    def __iter__(self) -> Iterator[Union[Point, Arc]]:
+        return seen_steps(self.flat(), self.plane)
+
+    def flat(self) -> Iterator[Union[Point, Arc]]:
+        """The same in their plane."""
+        yield self.segments.corner(0)
+        first: Optional[Segment] = None
+        last: Optional[Segment] = None
+        for one in self.segments:
+            if one.is_long():
+                yield from one.edges(self.half)
+                yield from mitred(last, one, self.half) if last else ()
+                first, last = first or one, one
+        if first and last and self.segments.closed:
+            yield from mitred(last, first, self.half)
 
 
 def polyline(fields: Fields, _: Context) -> Iterator[Figure]:
     """A lightweight polyline: a thin line, and its widths as they are."""
-    segments, closed = segments_of(fields), bool(fields.number("flag") & CLOSED)
-    if not segments:
-        raise Undrawable("fewer than two points")
+    segments = Segments(fields)
     normal = fields.point("normal") if "normal" in fields.values else (0.0, 0.0, 1.0)
     plane = seen(normal, fields.real("elevation"))
-    way = Way(segments[0].begin, [one.arc or one.end for one in segments], closed)
-    yield Trail([under(way, plane)])
-    widths = {abs(width) for one in segments for width in one.widths}
+    yield Trail([way_of(segments, plane)])
+    widths = segments.widths()
     if len(widths) > 1:
-        yield from uneven(plane, segments, closed)
+        yield from uneven(plane, segments)
     elif any(widths):
-        yield even(plane, way, segments, widths.pop())
+        yield even(plane, segments, widths.pop())
 
 
-def under(way: Way, plane: Affine) -> Way:
-    """A way of a plane as it is seen."""
-    return Way(plane.at(*way.begin), seen_steps(way.steps, plane), way.closed)
+def way_of(segments: Segments, plane: Optional[Affine]) -> Way:
+    """The way along segments, in their plane or as it is seen."""
+    begin, steps = segments.corner(0), Steps(segments, plane)
+    return Way(begin if plane is None else plane.at(*begin), steps if segments.count > MANY else list(steps), segments.closed)
 
 
-def seen_steps(steps: Sequence[Union[Point, Arc]], plane: Affine) -> List[Union[Point, Arc]]:
+def seen_steps(steps: Iterable[Union[Point, Arc]], plane: Affine) -> Iterator[Union[Point, Arc]]:
     """Points and arcs of a plane as they are seen."""
-    return [step.under(plane) if isinstance(step, Arc) else plane.at(*step) for step in steps]
+    return (step.under(plane) if isinstance(step, Arc) else plane.at(*step) for step in steps)
 
 
-def even(plane: Affine, way: Way, segments: List[Segment], width: float) -> Band:
+def even(plane: Affine, segments: Segments, width: float) -> Band:
     """The width of a polyline that has one."""
-    long = [one for one in segments if one.arc or one.begin != one.end]
-    edges = [edge for one in long for edge in one.edges(width / 2)]
-    joined = zip(long, long[1:] + (long[:1] if way.closed else []))
-    corners = [corner for one, other in joined for corner in mitred(one, other, width / 2)]
-    return Band(way, plane, width, seen_steps([way.begin, *edges, *corners], plane))
+    edges = Edges(segments, plane, width / 2)
+    return Band(way_of(segments, None), plane, width, edges if segments.count > MANY else list(edges))
 
 
 # How many times longer than the half width a corner is at the most before it is cut off, in SVG.
@@ -516,17 +620,17 @@ class Tapered(Figure):
     def element(self, frame: Frame) -> str:
         return self.outline().element(frame)
 
-    def around(self, frame: Frame) -> List[Point]:
+    def around(self, frame: Frame) -> Iterable[Point]:
         return self.outline().around(frame)
 
 
-def uneven(plane: Affine, segments: List[Segment], closed: bool) -> Iterator[Figure]:
-    """The widths of a polyline, segment by segment, and the gaps where two wide ones meet."""
+def uneven(plane: Affine, segments: Segments) -> Iterator[Figure]:
+    """The widths of a polyline, segment by segment, and the gaps where two wide ones meet. A segment between two equal points has none to be seen."""
     for one in segments:
-        if any(one.widths):
+        if any(one.widths) and one.is_long():
             yield Tapered(one, plane)
-    for at, one in enumerate(segments):
-        after = segments[at + 1] if at + 1 < len(segments) else segments[0] if closed else one
-        if after is not one and one.widths[1] and after.widths[0]:
+    for at in range(segments.count if segments.closed else segments.count - 1):
+        one, after = segments.segment(at), segments.segment((at + 1) % segments.count)
+        if at != (at + 1) % segments.count and one.widths[1] and after.widths[0] and one.is_long() and after.is_long():
             for side in (1, -1):
                 yield outlined([plane.at(*corner) for corner in (one.end, one.corner(1.0, side), after.corner(0.0, side))])

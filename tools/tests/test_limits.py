@@ -4,15 +4,21 @@ from __future__ import annotations
 
 import json
 import os
+import struct
 import subprocess
 import sys
 import unittest
+import unittest.mock
 from pathlib import Path
-from typing import List, Tuple
+from typing import List, Sequence, Tuple
 
 import common
 import made
 from made import TOOLS, program_that
+
+import drawing
+import plane
+import shapes
 
 # A tool in a Python in which something is otherwise: the lines run first, and its module is `tool`.
 OTHERWISE = """
@@ -34,6 +40,17 @@ def start(thread):
         raise RuntimeError("can't start new thread")
     begin(thread)
 threading.Thread.start = start
+"""
+
+# Notes what is known of the process at its end, where the most memory that it had is too.
+MEASURED = """
+main = tool.main
+def measured():
+    status = main()
+    with open("/proc/self/status") as told, open({peak!r}, "w") as peak:
+        peak.write(told.read())
+    return status
+tool.main = measured
 """
 
 
@@ -193,6 +210,128 @@ class Streams(Checked):
             self.assertEqual((b"d/errors" in said, b"d/table" in said), (False, False), said)
             for path in (self.folder / "d").glob("[et]*"):
                 path.unlink()
+
+
+FRONT = "drawing AC1015 codepage 30 lead 00000000000000 mark 0000\nvariables -\nclasses 0\nobjects {count}\n"
+COMMON = "  owner 4.18\n  mode {mode}\n  colour 256\n  lineweight 29\n  layer 5.10\n"
+
+
+def word(value: float) -> str:
+    """A number as `show` prints it."""
+    return struct.pack(">d", value).hex().upper()
+
+
+def polyline_text(count: int, flag: int = 0, bulges: Sequence[float] = (), widths: Sequence[Tuple[float, float]] = (), width: float = 0.0, equal: bool = True, mode: int = 2) -> str:
+    """The text of a polyline of so many points, which are equal or go up and down."""
+    lines = [f"object 31 LWPOLYLINE typed 77\n{COMMON.format(mode=mode)}  flag {flag}\n  width {word(width)}\n  normal {word(0.0)} {word(0.6)} {word(0.8)}\n"]
+    lines += [f"  points[{at}] {word(64.5 if equal else at * 0.37)} {word(-3.25 if equal else at % 5)}\n" for at in range(count)]
+    lines += [f"  bulges[{at}] {word(bulge)}\n" for at, bulge in enumerate(bulges)]
+    lines += [f"  widths[{at}].start {word(start)}\n  widths[{at}].end {word(end)}\n" for at, (start, end) in enumerate(widths)]
+    return "".join(lines)
+
+
+def first_object(text: str) -> drawing.Object:
+    """The object of a text."""
+    return next(drawing.read_objects(iter(text.encode().splitlines(keepends=True))))
+
+
+# An object with lists of each form: of references with names and without, of texts, of structs and of lists in these.
+LISTS = """object 20 DICTIONARY plain 42
+  owner 4.18
+  colour 256
+  reactors[0] 4.10
+  reactors[1] 4.11
+  reactors[2] 4.0
+  links.previous 4.0
+  links.next 4.1
+  items[0].name "\\fcber\\00 \\5c"
+  items[0].target 2.10
+  items[0].deep[0] 1
+  items[0].deep[1] 2
+  items[1].name "\\81"
+  items[2].target 2.0
+  point 3FF0000000000000 7FF0000000000000 8000000000000000
+  rest -
+  inner.list[0] 1
+  inner.list[1].a "x"
+  refs[0] 5.10
+"""
+
+
+class Memory(common.InFolder):
+    """An object of many elements takes no more than some times its own bytes, and one of too many is refused."""
+
+    def showing(self, text: str) -> Path:
+        """A program that shows a text of each drawing, and recovers it as it is."""
+        (self.folder / "text").write_text(text)
+        lines = {"show": f'exec cat "{self.folder}/text"', "audit": "echo audit yes; exit 0", "recover": "exec cat"}
+        return program_that(self.folder, "showing", [f'[ "$1" != {command} ] || {{ {line}; }}' for command, line in lines.items()])
+
+    def most(self, name: str, text: str) -> int:
+        """The most memory that a tool has at once, in bytes; its output is `out`."""
+        peak, out = self.folder / "peak", self.folder / "out"
+        ran = otherwise(name, MEASURED.format(peak=str(peak)), "--program", self.showing(text), self.file("a.dwg", b"AC1015"), "--output", out, "--force")
+        self.assertEqual((ran.returncode, ran.stderr), (0, b""))
+        return 1024 * int(peak.read_text().partition("VmHWM:")[2].split()[0])
+
+    @unittest.skipUnless(os.path.exists("/proc/self/status"), "memory, as there is no /proc/self/status")
+    def test_an_object_of_very_many_elements(self) -> None:
+        front, count = FRONT.format(count=1), 200_000
+        # A vertex has four bits.
+        size = count // 2
+        for name in ("dwg-json", "dwg-picture"):
+            least = self.most(name, front + polyline_text(2))
+            self.assertLess(self.most(name, front + polyline_text(count)) - least, 200 * size, name)
+            self.assertGreater((self.folder / "out").stat().st_size, 4 * count)
+
+    def test_a_long_object_is_told_as_a_short_one(self) -> None:
+        tool = made.module(TOOLS / "dwg-json", "dwg_json")
+        texts = [LISTS, polyline_text(9, widths=[(1.0, 0.5)] * 8, bulges=[1.0, 0.1]), "object 1 UNKNOWN raw 9\n  bytes 00ff\n", "object 1 SEQEND typed 6\n"]
+        for text in texts:
+            for form in ({"indent": 2}, {"separators": (", ", ": ")}):
+                encoder, one = json.JSONEncoder(allow_nan=False, **form), first_object(text)
+                short, long = (tool.Speaker({0x10: drawing.Text(b"WALLS")}, "cp1252") for _ in range(2))
+                self.assertEqual("".join(encoder.iterencode(long.long_object(one))), encoder.encode(short.object(one)))
+                self.assertEqual(long.undecoded, short.undecoded)
+        self.assertEqual(json.loads(encoder.encode(tool.Speaker({}, "cp1252").object(first_object(LISTS))))["items"][0], {"name": "über\0 \\", "target": {"code": 2, "handle": "10"}, "deep": [1, 2]})
+        for text in ("  a[1] 1\n", "  a[0] 1\n  a[0] 1\n", "  a[0] 1\n  a[2] 1\n", "  a[0] 1\n  b 1\n  a[1] 1\n"):
+            with self.assertRaises(drawing.BadText, msg=text):
+                list(json.JSONEncoder().iterencode(tool.Speaker({}, "cp1252").long_object(first_object("object 1 X typed 6\n" + text))))
+
+    def test_a_long_polyline_is_drawn_as_a_short_one(self) -> None:
+        frames = [shapes.Frame(), shapes.Frame(3.0, 4.0, plane.Affine(0.5, 0.25, -1.0, 2.0))]
+        for more in ({}, {"bulges": [0.5, 0.0, -1.0]}, {"width": 0.5}, {"width": 0.5, "bulges": [0.5, 0.0, -1.0]}, {"widths": [(1.0, 0.5), (0.0, 0.0), (0.5, 0.5)]}):
+            for flag in (0, 512):
+                said = []
+                for many in (1000, 1):
+                    with unittest.mock.patch.object(shapes, "MANY", many, create=True):
+                        figures = list(shapes.polyline(shapes.Fields(first_object(polyline_text(7, flag, equal=False, **more))), shapes.Context("cp1252", False)))
+                    said.append([("".join(one.pieces(frame)), one.element(frame), list(one.around(frame))) for one in figures for frame in frames])
+                self.assertEqual(said[0], said[1], (more, flag))
+                self.assertTrue(all(pieces == element for pieces, element, _ in said[1]))
+
+    def test_an_object_of_too_much_text(self) -> None:
+        text = FRONT.format(count=2) + "object 30 SEQEND typed 6\n" + polyline_text(300)
+        program, path, out = self.showing(text), self.file("a.dwg", b"AC1015"), self.folder / "made"
+        statuses = {"dwg-json": ([], 67), "dwg-picture": ([], 67), "dwg-diff": ([path], 2)}
+        for name, (more, status) in statuses.items():
+            for words in [more] if name == "dwg-diff" else [more, ["--output", out]]:
+                ran = otherwise(name, "drawing.MOST_TEXT = 10_000", "--program", program, path, *words)
+                said = f"{name}: {path}: object 31 LWPOLYLINE has more than 10000 bytes of text, which is more than the tools take\n"
+                self.assertEqual((ran.returncode, ran.stdout, ran.stderr.decode()), (status, b"", said))
+                self.assertFalse(out.exists())
+        # What needs no list takes any.
+        for words in ([], ["--before", self.folder / "text"]):
+            ran = otherwise("dwg-recover", "drawing.MOST_TEXT = 10_000", "--program", program, "--force", *words, path, out)
+            self.assertEqual((ran.returncode, ran.stderr, out.read_bytes()), (0, b"", b"AC1015"))
+        ran = otherwise("dwg-json", "drawing.MOST_TEXT = 100_000", "--program", program, path, "--output", out, "--force")
+        self.assertEqual((ran.returncode, ran.stderr, len(out.read_bytes().splitlines())), (0, b"", 3))
+
+    def test_blocks_of_too_much_text(self) -> None:
+        program, path = self.showing(FRONT.format(count=2) + polyline_text(300, mode=0).replace("object 31", "object 30") + polyline_text(300, mode=0)), self.file("a.dwg", b"AC1015")
+        ran = otherwise("dwg-picture", "tool.MOST_KEPT = 20_000", "--program", program, path, "--output", self.folder / "made")
+        self.assertEqual((ran.returncode, ran.stderr.decode()), (67, f"dwg-picture: {path}: the entities of blocks have more than 20000 bytes of text, which is more than is kept\n"))
+        self.assertFalse((self.folder / "made").exists())
 
 
 if __name__ == "__main__":

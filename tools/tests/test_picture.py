@@ -738,14 +738,14 @@ class Pictures(common.InFolder):
         one = spelled.Drawing()
         handle = one.polyline([(k, k % 2) for k in range(200)], [1.0] * 200, [(1.0, 0.0)] * 200)
         (lines,) = [lines for found, _, lines in shown(one.file()) if found == handle]
-        fields = shapes.Fields(drawing.Object(handle, "LWPOLYLINE", "typed", 77, [line.encode() for line in lines]))
+        fields = shapes.Fields(drawing.Object(handle, "LWPOLYLINE", "typed", 77, "".join(f"{line}\n" for line in ["", *lines]).encode()))
         tracemalloc.start()
         figures = list(shapes.polyline(fields, shapes.Context("cp1252", False)))
         size, _ = tracemalloc.get_traced_memory()
         tracemalloc.stop()
         self.assertEqual(len(figures), 1 + 199)
         self.assertLess(size, 199 * 2000)
-        self.assertGreater(len(figures[1].around(shapes.Frame())), 250)
+        self.assertGreater(len(list(figures[1].around(shapes.Frame()))), 250)
 
     def test_copies_through_nesting(self) -> None:
         one = spelled.Drawing()

@@ -72,7 +72,7 @@ class ShowText(unittest.TestCase):
         typed, plain, raw = drawing.read_objects(iter(text.splitlines(keepends=True)))
         self.assertEqual((typed.value("invisible"), typed.value("invisible_edges")), (0, 5))
         self.assertEqual([path for path, _ in typed.fields], ["mode", "invisible", "fourth", "invisible_edges"])
-        self.assertEqual((plain.value("invisible"), plain.value("invisible_edges"), raw.lines), (0, None, [b"bytes -"]))
+        self.assertEqual((plain.value("invisible"), plain.value("invisible_edges"), list(raw.lines)), (0, None, [b"bytes -"]))
 
     def test_steps(self) -> None:
         self.assertEqual(drawing.steps("items[12].name"), ("items", 12, "name"))
