@@ -284,6 +284,27 @@ class Memory(common.InFolder):
             self.assertLess(self.most(name, front + polyline_text(count)) - least, 200 * size, name)
             self.assertGreater((self.folder / "out").stat().st_size, 4 * count)
 
+    def differing(self, count: int) -> Tuple[int, bytes]:
+        """The most memory that dwg-diff has at once over two polylines of so many points, all unlike, and what it says."""
+        peak, files = self.folder / "peak", []
+        for name, text in (("old", polyline_text(count)), ("new", polyline_text(count).replace(word(64.5), word(65.5)))):
+            shown = self.file(f"{name}.txt", (FRONT.format(count=1) + text).encode())
+            files.append(self.file(f"{name}.dwg", f"{shown}\n".encode()))
+        program = program_that(self.folder, "showing", ['[ "$1" != show ] || { read -r name; exec cat "$name"; }'])
+        ran = otherwise("dwg-diff", MEASURED.format(peak=str(peak)), "--program", program, *files)
+        self.assertEqual((ran.returncode, ran.stderr), (1, b""))
+        return 1024 * int(peak.read_text().partition("VmHWM:")[2].split()[0]), ran.stdout
+
+    @unittest.skipUnless(os.path.exists("/proc/self/status"), "memory, as there is no /proc/self/status")
+    def test_a_difference_of_very_many_elements(self) -> None:
+        count = 100_000
+        (least, _), (most, said) = self.differing(2), self.differing(count)
+        # Of both drawings, a vertex of which has four bits.
+        self.assertLess(most - least, 200 * count)
+        lines = said.splitlines()
+        self.assertEqual((len(lines), lines[0]), (count + 2, b"changed object 31 LWPOLYLINE"))
+        self.assertEqual(lines[-2], b"  points[99999]: 64.5 -3.25 -> 65.5 -3.25")
+
     def test_a_long_object_is_told_as_a_short_one(self) -> None:
         tool = made.module(TOOLS / "dwg-json", "dwg_json")
         texts = [LISTS, polyline_text(9, widths=[(1.0, 0.5)] * 8, bulges=[1.0, 0.1]), "object 1 UNKNOWN raw 9\n  bytes 00ff\n", "object 1 SEQEND typed 6\n"]
