@@ -733,8 +733,9 @@ def output(path: Optional[str], force: bool) -> Iterator[IO[bytes]]:
 # docs/FORMAT.md has the text, under "Texts". It is read line by line, and one object is held at a time, as it came: a vertex of four bits takes fifty
 # bytes so, and ten times as much by its values.
 
-# How much text of one object is taken. What is spelled in full has at most seven times as much text as bytes, so that an object that fills a file of
-# 32 MiB stays below; one of repeated points or widths, of which a byte can have 152 bytes of text, passes it from 1.8 MB on.
+# How much text of one object is taken. Coordinates that are spelled in full have three times as much text as bytes, references to handles of three
+# bytes six times, so that an object of these may fill a file of 32 MiB. One of repeated points or widths, which have up to 160 bytes of text to a
+# byte, passes it from 1.7 MB on, where its text alone would become 5 GB.
 MOST_TEXT = 1 << 28
 
 
