@@ -217,6 +217,8 @@ def read_recovery(notes: bytes) -> Recovery:
 
 # How much is read of notes and of a line, whatever the program writes.
 MOST_NOTES = 1 << 16
+# How many seconds a run waits at the most until there is room for it.
+MOST_WAITING = 30
 
 
 @dataclass(frozen=True)
@@ -339,14 +341,7 @@ class Program:
 
     @contextlib.contextmanager
     def _started(self, words: Sequence[str], stdin: Any, stdout: Any, stderr: Any = subprocess.PIPE) -> Iterator["subprocess.Popen[bytes]"]:
-        with self._lock:
-            if self._stopped:
-                raise ProgramFailed("stopped")
-            try:
-                ran = subprocess.Popen([self.path, *words], stdin=stdin, stdout=stdout, stderr=stderr)
-            except OSError as fault:
-                raise ProgramFailed(str(fault.strerror)) from None
-            self._running.add(ran)
+        ran = self._begun(words, stdin, stdout, stderr)
         try:
             with ran:
                 try:
@@ -357,6 +352,23 @@ class Program:
         finally:
             with self._lock:
                 self._running.discard(ran)
+
+    def _begun(self, words: Sequence[str], stdin: Any, stdout: Any, stderr: Any) -> "subprocess.Popen[bytes]":
+        """A run that has begun. Where there is no room for another process it waits for the other runs, though not for ever."""
+        end = time.monotonic() + MOST_WAITING
+        while True:
+            with self._lock:
+                if self._stopped:
+                    raise ProgramFailed("stopped")
+                try:
+                    ran = subprocess.Popen([self.path, *words], stdin=stdin, stdout=stdout, stderr=stderr)
+                except OSError as fault:
+                    if fault.errno != errno.EAGAIN or not self._running or time.monotonic() > end:
+                        raise ProgramFailed(str(fault.strerror)) from None
+                else:
+                    self._running.add(ran)
+                    return ran
+            time.sleep(0.02)
 
     @property
     def is_stopped(self) -> bool:

@@ -53,6 +53,17 @@ def measured():
 tool.main = measured
 """
 
+# Lets one process run at a time.
+ONE_PROCESS = """
+begun, popen = [], drawing.subprocess.Popen
+def start(*words, **more):
+    if any(one.poll() is None for one in begun):
+        raise BlockingIOError(11, "Resource temporarily unavailable")
+    begun.append(popen(*words, **more))
+    return begun[-1]
+drawing.subprocess.Popen = start
+"""
+
 
 def otherwise(name: str, lines: str, *words: object) -> "subprocess.CompletedProcess[bytes]":
     """What a tool answers in such a Python."""
@@ -138,6 +149,11 @@ class Threads(Checked):
             ran = otherwise("dwg-check", FEW_THREADS.format(count=count), "--quiet", "--jobs", "20", "--program", program, *log, self.folder / "d")
             self.assertEqual((ran.returncode, ran.stderr), (1, b""), count)
             self.assertEqual(rows(ran.stdout), [[str(path), *self.REFUSED] for path in paths])
+
+    def test_no_room_for_another_process(self) -> None:
+        paths, slow = self.drawings(6), self.refusing("sleep 0.2")
+        ran = otherwise("dwg-check", ONE_PROCESS, "--quiet", "--jobs", "3", "--program", slow, self.folder / "d")
+        self.assertEqual((ran.returncode, ran.stderr, rows(ran.stdout)), (1, b"", [[str(path), *self.REFUSED] for path in paths]))
 
     def test_an_interrupt_without_threads(self) -> None:
         self.drawings(3)
