@@ -1274,6 +1274,17 @@ def open_missing_streams() -> None:
             setattr(sys, name, open(number, mode, encoding="utf-8", errors="backslashreplace", closefd=False))
 
 
+def buffer_streams() -> None:
+    """Has standard output and standard error write all that they are given. Where Python was told not to buffer them
+    (PYTHONUNBUFFERED), a write may take a part of it, as on a disk that gets full, and nobody hears of that."""
+    for name in ("stdout", "stderr"):
+        stream = getattr(sys, name)
+        if isinstance(getattr(stream, "buffer", None), io.RawIOBase):
+            encoding, errors = stream.encoding, stream.errors
+            whole = io.BufferedWriter(stream.detach())
+            setattr(sys, name, io.TextIOWrapper(whole, encoding=encoding, errors=errors, line_buffering=name == "stderr"))
+
+
 _ENDING = (signal.SIGINT, signal.SIGTERM, signal.SIGHUP)
 
 # Whether this process was interrupted.
@@ -1355,6 +1366,7 @@ def _ran(main: Callable[[], int]) -> int:
 def run_tool(main: Callable[[], int]) -> NoReturn:
     """Runs a tool and ends with its status, and never by a traceback. Its scripts begin with interrupts blocked, which this lets in."""
     open_missing_streams()
+    buffer_streams()
     try:
         status = _ran(main)
         _ignore_signals()

@@ -668,6 +668,19 @@ class Logs(Base):
         """The lines of LOG."""
         return [json.loads(line) for line in self.log.read_bytes().splitlines()]
 
+    def test_a_file_beyond_a_link_is_another_one(self) -> None:
+        here, there = self.folder / "here", self.folder / "there"
+        here.mkdir()
+        (there / "deep").mkdir(parents=True)
+        (here / "link").symlink_to(there / "deep")
+        sound = made.made(5)
+        for folder, data in ((here, sound), (there, flipped(sound, len(sound) // 2))):
+            (folder / "plan.dwg").write_bytes(data)
+            os.utime(folder / "plan.dwg", ns=(1, 1))
+        first = tool("dwg-check", "--resume", self.log, here / "plan.dwg")
+        other = tool("dwg-check", "--resume", self.log, here / "link" / ".." / "plan.dwg")
+        self.assertEqual([read_table(ran.stdout)[0][1] for ran in (first, other)], ["sound", "damaged"])
+
     def test_a_forgotten_log_writes_into_nothing(self) -> None:
         plan, other = self.some(["plan.dwg", "other.dwg"])
         (self.folder / "link").symlink_to("plan.dwg")

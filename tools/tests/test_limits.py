@@ -2,11 +2,14 @@
 
 from __future__ import annotations
 
+import fcntl
 import json
 import os
+import signal
 import struct
 import subprocess
 import sys
+import termios
 import unittest
 import unittest.mock
 from pathlib import Path
@@ -369,6 +372,26 @@ class Memory(common.InFolder):
         ran = otherwise("dwg-picture", "tool.MOST_KEPT = 20_000", "--program", program, path, "--output", self.folder / "made")
         self.assertEqual((ran.returncode, ran.stderr.decode()), (67, f"dwg-picture: {path}: the entities of blocks have more than 20000 bytes of text, which is more than is kept\n"))
         self.assertFalse((self.folder / "made").exists())
+
+
+class Unbuffered(unittest.TestCase):
+    """What a tool writes where Python was told not to buffer."""
+
+    def test_all_is_written_where_a_write_stops_in_the_middle(self) -> None:
+        script = f"import sys; sys.path.insert(0, {str(TOOLS)!r}); import drawing; drawing.run_tool(lambda: sys.stdout.buffer.write(bytes(1_000_000)) * 0)"
+        with subprocess.Popen([sys.executable, "-c", script], stdout=subprocess.PIPE, env={**os.environ, "PYTHONUNBUFFERED": "1"}) as ran:
+            assert ran.stdout is not None
+            waiting = b"\0" * 4
+            while struct.unpack("i", waiting)[0] < 65_536:
+                waiting = fcntl.ioctl(ran.stdout, termios.FIONREAD, b"\0" * 4)
+            ran.send_signal(signal.SIGSTOP)
+            while Path(f"/proc/{ran.pid}/stat").read_text(encoding="ascii").rsplit(") ", 1)[1][0] != "T":
+                pass
+            ran.send_signal(signal.SIGCONT)
+            # A write that ends early is heard of before more is read.
+            os.sched_yield()
+            written = ran.stdout.read()
+        self.assertEqual((ran.returncode, len(written)), (0, 1_000_000))
 
 
 if __name__ == "__main__":
