@@ -681,6 +681,19 @@ class Logs(Base):
         other = tool("dwg-check", "--resume", self.log, here / "link" / ".." / "plan.dwg")
         self.assertEqual([read_table(ran.stdout)[0][1] for ran in (first, other)], ["sound", "damaged"])
 
+    def test_what_was_changed_and_is_put_right_is_sound_again(self) -> None:
+        path, sound = self.folder / "d" / "plan.dwg", made.made(5)
+
+        def verdict(data: bytes, *words: str) -> str:
+            path.write_bytes(data)
+            os.utime(path, ns=(1, 1))
+            return read_table(tool("dwg-check", "--all", "--resume", self.log, *words, path).stdout)[0][1]
+
+        broken = flipped(sound, len(sound) // 2)
+        self.assertEqual([verdict(sound), verdict(broken, "--verify"), verdict(broken)], ["sound", "changed", "changed"])
+        self.assertEqual([verdict(sound), verdict(sound), verdict(sound, "--verify")], ["sound"] * 3)
+        self.assertEqual([verdict(broken, "--verify"), verdict(sound, "--verify")], ["changed", "sound"])
+
     def test_a_forgotten_log_writes_into_nothing(self) -> None:
         plan, other = self.some(["plan.dwg", "other.dwg"])
         (self.folder / "link").symlink_to("plan.dwg")
@@ -755,8 +768,8 @@ class Logs(Base):
         for words in (["--verify"], ["--verify"], []):
             ran = self.resume("--program", program, *words)
             self.assertEqual((ran.returncode, self.verdicts(ran)), (1, expected))
-        # What is changed is looked at again by each of the two that verify.
-        self.assertEqual(self.audits(), 4)
+        # What is changed is looked at again each time: it may have been put right.
+        self.assertEqual(self.audits(), 6)
         changed = tool("dwg-check", "--quiet", "--program", program, "--resume", self.log, "--verify", "--print0", "changed", self.folder / "d")
         self.assertEqual(changed.stdout, b"".join(os.fsencode(path) + b"\0" for path in (a, b)))
         # Another program sees it too; what comes back from a copy is a new state.
