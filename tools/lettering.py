@@ -108,9 +108,10 @@ def written(fields: Fields, content: str) -> Iterator[Figure]:
     height = abs(fields.real("height"))
     if not content.strip():
         return
-    if not height:
+    size = height / CAPITAL
+    if not size:
         raise Undrawable("no height")
-    stands, generation, size = standing(fields, height), fields.number("generation"), height / CAPITAL
+    stands, generation = standing(fields, height), fields.number("generation")
     across = stands.length / breadth(content) if stands.length else size * (abs(fields.real("width", 1.0)) or 1.0)
     scale = Affine(-across if generation & BACKWARD else across, 0.0, 0.0, -size if generation & UPSIDE_DOWN else size)
     slant = Affine(1.0, 0.0, math.tan(fields.real("oblique")), 1.0)

@@ -618,6 +618,13 @@ class Pictures(common.InFolder):
         self.near(outer.points, [(4, 0), (4, -1), (5, 0), (4, 0)])
         self.assertEqual(len(closed), 1 + 3 + 3 * 2)
 
+    def test_texts_too_low_to_be_drawn(self) -> None:
+        one = spelled.Drawing()
+        one.line((0, 0, 0), (4, 1, 0))
+        one.text(b"low", (0, 0), 5e-324)
+        answer = tool("dwg-picture", given=one.file())
+        self.assertEqual((answer.returncode, answer.stderr), (0, b"dwg-picture: not drawn: 1 TEXT (no height)\n"))
+
     def test_texts(self) -> None:
         one = spelled.Drawing()
         one.text(b"plain", (1, 2), 0.72)

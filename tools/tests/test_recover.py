@@ -115,6 +115,15 @@ class Recover(unittest.TestCase):
                         RECOVER.place_both(notes, whole)
                 self.assertEqual({name: pathlib.Path(folder, name).read_bytes() for name in os.listdir(folder)}, {} if old is None else {"out.notes": old})
 
+    def test_an_older_state_that_is_no_text_is_refused_by_its_first_bytes(self) -> None:
+        self.source.write_bytes(DATA)
+        before = self.folder / "zeros"
+        before.touch()
+        os.truncate(before, 100_000_000)
+        ran = tool("dwg-recover", "--before", before, self.source, self.out)
+        self.assertEqual((ran.returncode, ran.stdout, self.out.exists()), (64, b"", False))
+        self.assertIn(b"is no text of `dwg show`: it doesn't begin as one", ran.stderr)
+
     def test_lost_objects(self) -> None:
         lost = [0x40, 0x41, 0x60]
         (self.folder / "more before.txt").write_bytes(dwg("show", given=DATA).stdout)
