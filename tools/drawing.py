@@ -600,36 +600,39 @@ def input_name(path: Optional[str]) -> str:
     return "standard input" if path is None or path == "-" else one_line(path)
 
 
-def open_input(path: Optional[str], limit: Optional[int] = LIMIT + 1) -> IO[bytes]:
-    """An input that can be read again and again: a regular file, or what a pipe gives, kept in a file without a name.
-
-    Of a pipe so many bytes are kept at the most, one more than the program takes. ToolError with status 4 where the input can't be read.
-    """
+@contextlib.contextmanager
+def opened(path: Optional[str]) -> Iterator[IO[bytes]]:
+    """An input as it comes, which isn't a terminal. ToolError with status 4 where it can't be read."""
     try:
-        file = open(0, "rb", closefd=False) if is_standard(path) else open(str(path), "rb")
-        if not is_standard(path) and stat.S_ISREG(os.fstat(file.fileno()).st_mode):
-            return file
-        with file:
-            return _kept(file, input_name(path), limit)
+        with open(0, "rb", closefd=False) if is_standard(path) else open(str(path), "rb") as file:
+            if file.isatty():
+                raise ToolError(f"{input_name(path)} is a terminal, and no drawing comes from there; name a file", Exit.USAGE)
+            yield file
     except OSError as fault:
         raise ToolError(f"{input_name(path)}: {fault.strerror}", Status.READ_FAULT) from None
 
 
-def _kept(file: IO[bytes], name: str, limit: Optional[int]) -> IO[bytes]:
-    """What a pipe gives, as a file that can be read again."""
-    if file.isatty():
-        raise ToolError(f"{name} is a terminal, and no drawing comes from there; name a file", Exit.USAGE)
-    kept = tempfile.TemporaryFile()
-    left = limit
-    while left is None or left:
-        piece = file.read(1 << 20 if left is None else min(left, 1 << 20))
-        if not piece:
-            break
-        kept.write(piece)
-        left = None if left is None else left - len(piece)
-    kept.flush()
-    kept.seek(0)
-    return kept
+def open_input(path: Optional[str]) -> IO[bytes]:
+    """An input that can be read again and again."""
+    with opened(path) as file:
+        return kept(file)
+
+
+def kept(file: IO[bytes], begin: bytes = b"") -> IO[bytes]:
+    """An input, of which the begin is read, as a file that can be read again and again: a regular file, or what a pipe gives, in a file without
+    a name. Of a pipe no more is kept than one byte more than the program takes."""
+    if file.fileno() and stat.S_ISREG(os.fstat(file.fileno()).st_mode):
+        os.lseek(file.fileno(), 0, os.SEEK_SET)
+        return os.fdopen(os.dup(file.fileno()), "rb")
+    found = tempfile.TemporaryFile()
+    left, piece = LIMIT + 1, begin or file.read(1 << 20)
+    while piece:
+        found.write(piece)
+        left -= len(piece)
+        piece = file.read(min(left, 1 << 20))
+    found.flush()
+    found.seek(0)
+    return found
 
 
 def _state_of(file: IO[bytes]) -> Tuple[int, int]:
@@ -750,6 +753,15 @@ def output(path: Optional[str], force: bool) -> Iterator[IO[bytes]]:
 # byte, passes it from 1.7 MB on, where its text alone would become 5 GB.
 MOST_TEXT = 1 << 28
 
+# What the text of a drawing has at the most, by which one that nobody vouches for ends. A byte has three letters on its line. The densest fields are
+# the widths of a polyline, of which four bits have two lines of 41 letters. An object has two bytes of length, one of a body, two of a check word
+# and two in the map; a class has 29 bits. Three sections are unknown.
+MOST_LINE = 3 * LIMIT + 1000
+MOST_SHOWN = 164 * LIMIT
+MOST_OBJECTS, MOST_CLASSES, MOST_SECTIONS = LIMIT // 7, LIMIT * 8 // 29, 3
+# The line that an object begins with.
+MOST_HEAD = 100
+
 
 class BadText(Exception):
     """A line that the text of `show` doesn't have, or a text that ends too early."""
@@ -796,8 +808,9 @@ Value = Union[int, Reference, Words, Text, Bytes]
 BYTES = {b"bytes", b"graphic", b"preview", b"texts", b"rest"}
 
 _ESCAPE = re.compile(rb"\\([0-9a-f]{2})")
-_CLASS = re.compile(rb'class (\d+) version (\d+) proxy ([01]) item (\d+) app ("[^"]*") cpp ("[^"]*") dxf ("[^"]*")')
-_DRAWING = re.compile(rb"drawing (\S+) codepage (\d+) lead (\S+) mark (\S+)")
+_CLASS = re.compile(rb'class (\d{1,10}) version (\d{1,10}) proxy ([01]) item (\d{1,10}) app ("[^"]*") cpp ("[^"]*") dxf ("[^"]*")')
+_DRAWING = re.compile(rb"drawing (\S+) codepage (\d{1,10}) lead (\S+) mark (\S+)")
+_SECTION = re.compile(rb"section (\d{1,10}) (\S+)")
 
 
 def double(word: int) -> float:
@@ -817,7 +830,7 @@ def number(word: int) -> Union[float, str]:
 def read_text(printed: bytes) -> Text:
     """A text as it is printed, between quotation marks: a backslash and two digits are a byte."""
     if len(printed) < 2 or printed[:1] != b'"' or printed[-1:] != b'"':
-        raise BadText("no text: %r" % printed)
+        raise BadText("no text: %r" % printed[:80])
     inner = printed[1:-1]
     if b"\\" in inner:
         inner = _ESCAPE.sub(lambda found: bytes([int(found.group(1), 16)]), inner)
@@ -836,7 +849,7 @@ def read_value(name: bytes, printed: bytes) -> Value:
             return read_text(printed)
         if name[name.rfind(b".") + 1 :] in BYTES:
             return read_bytes(printed)
-        if b"." in printed:
+        if b"." in printed and len(printed) <= 18:
             code, _, handle = printed.partition(b".")
             return Reference(int(code, 16), int(handle, 16))
         if len(printed) in (16, 33, 50):
@@ -845,7 +858,7 @@ def read_value(name: bytes, printed: bytes) -> Value:
             return int(printed)
     except ValueError:
         pass
-    raise BadText("no value of %s: %r" % (name.decode("ascii", "replace"), printed[:80]))
+    raise BadText("no value of %s: %r" % (name[:80].decode("ascii", "replace"), printed[:80]))
 
 
 def read_line(line: bytes) -> Tuple[str, Value]:
@@ -982,6 +995,14 @@ def _after(word: bytes, line: bytes) -> bytes:
     return line[len(word) + 1 :]
 
 
+def _count(word: bytes, line: bytes, most: int) -> int:
+    """The number behind a word, of things of which a drawing has so many at the most."""
+    printed = _after(word, line)
+    if not printed.isdigit() or len(printed) > 10 or int(printed) > most:
+        raise BadText("%r %s, which no drawing has" % (printed[:40], word.decode("ascii")))
+    return int(printed)
+
+
 def _read_class(line: bytes) -> Class:
     """A line of a class."""
     found = _CLASS.fullmatch(line)
@@ -999,19 +1020,22 @@ def read_front(lines: Iterator[bytes]) -> Front:
         raise BadText("this is no text of show")
     version, codepage, lead, mark = found.groups()
     variables = read_bytes(_after(b"variables", _next(lines)))
-    classes = [_read_class(_next(lines)) for _ in range(int(_after(b"classes", _next(lines))))]
+    classes = [_read_class(_next(lines)) for _ in range(_count(b"classes", _next(lines), MOST_CLASSES))]
     sections: List[Tuple[int, Bytes]] = []
     line = _next(lines)
-    while line.startswith(b"section "):
-        _, number, data = line.split(b" ")
-        sections.append((int(number), read_bytes(data)))
+    section = _SECTION.fullmatch(line)
+    while section and len(sections) < MOST_SECTIONS:
+        sections.append((int(section[1]), read_bytes(section[2])))
         line = _next(lines)
-    count = int(_after(b"objects", line))
+        section = _SECTION.fullmatch(line)
+    count = _count(b"objects", line, MOST_OBJECTS)
     return Front(version.decode("ascii"), int(codepage), read_bytes(lead), read_bytes(mark), variables, classes, sections, count)
 
 
 def _head(line: bytes) -> Object:
     """The line that an object begins with."""
+    if len(line) > MOST_HEAD:
+        raise BadText("%r where an object should begin" % line[:80])
     parts = line.decode("ascii", "replace").split()
     if len(parts) < 5 or parts[0] != "object":
         raise BadText("%r where an object should begin" % line[:80])
@@ -1051,6 +1075,8 @@ def read_objects(lines: Iterator[bytes], count: Optional[int] = None, brief: boo
         if current is not None:
             # (what is written is handed on as it is, and not copied)
             yield _told_apart(current, text.getvalue())
+        if found == count:
+            raise BadText("more than the %d objects that are said" % found)
         current, text, size = _head(line), io.BytesIO(), 0
         text.write(b"\n")
         found += 1
@@ -1058,6 +1084,22 @@ def read_objects(lines: Iterator[bytes], count: Optional[int] = None, brief: boo
         yield _told_apart(current, text.getvalue())
     if count is not None and found != count:
         raise BadText("%d objects where %d are said" % (found, count))
+
+
+def shown_lines(file: IO[bytes], begin: bytes) -> Iterator[bytes]:
+    """The lines of a text of `show` whose begin is read, from wherever it comes; BadText where no drawing has so much text."""
+    left, front = MOST_SHOWN, MOST_SHOWN - MOST_TEXT
+    line = begin + file.readline(MOST_LINE)
+    while line:
+        left -= len(line)
+        if line.startswith(b"object "):
+            front = 0
+        if len(line) >= MOST_LINE and not line.endswith(b"\n"):
+            raise BadText("a line has more than %d bytes" % MOST_LINE)
+        if left < front:
+            raise BadText("it has more than %d bytes before its objects" % MOST_TEXT if front else "it has more than %d bytes" % MOST_SHOWN)
+        yield line
+        line = file.readline(MOST_LINE)
 
 
 def objects(lines: Iterable[bytes]) -> Iterator[Object]:

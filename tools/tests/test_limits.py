@@ -367,6 +367,39 @@ class Memory(common.InFolder):
         ran = otherwise("dwg-json", "drawing.MOST_TEXT = 100_000", "--program", program, path, "--output", out, "--force")
         self.assertEqual((ran.returncode, ran.stderr, len(out.read_bytes().splitlines())), (0, b"", 3))
 
+    def test_an_older_state_without_an_end(self) -> None:
+        front, name = FRONT.format(count=2), self.folder / "fifo"
+        program, path, out = self.showing(front + polyline_text(2)), self.file("a.dwg", b"AC1015"), self.folder / "made"
+        os.mkfifo(name)
+        # What comes, how often, and why that is no text.
+        endless = {
+            ("", "y\n"): "it doesn't begin as one",
+            ("drawing ", "x" * 999): "a line has more than 100000 bytes",
+            (front.split("variables")[0] + "variables ", "00"): "a line has more than 100000 bytes",
+            (front.replace("classes 0\nobjects 2\n", "classes 999999\n"), 'class 500 version 0 proxy 0 item 498 app "" cpp "" dxf ""\n'): "it has more than 300000 bytes before its objects",
+            (front.replace("classes 0\nobjects 2\n", "classes 9999999999\n"), "x\n"): "b'9999999999' classes, which no drawing has",
+            (front.replace("objects 2\n", ""), "section 7 00\n"): "b'section 7 00' where objects should stand",
+            (front.replace("objects 2\n", "objects 9999999\n"), "object 1 X typed 9\n"): "b'9999999' objects, which no drawing has",
+            (front, "object 1 LINE typed 19\n"): "more than the 2 objects that are said",
+            (front, f"object 1 {'X' * 100} typed 19\n"): f"b'object 1 {'X' * 71}' where an object should begin",
+            (front + polyline_text(2), "  points[2] 0\n"): "it has more than 900000 bytes",
+            (front + polyline_text(2), "  x 0\n"): "object 31 LWPOLYLINE has more than 300000 bytes of text, which is more than the tools take",
+            (front + "object 10 LAYER typed 51\n  entry.name ", '"' + "x" * 999): "a line has more than 100000 bytes",
+        }
+        few = "drawing.MOST_LINE, drawing.MOST_TEXT, drawing.MOST_SHOWN = 100_000, 300_000, 900_000\n"
+        small = "import resource; resource.setrlimit(resource.RLIMIT_FSIZE, (50_000_000, 50_000_000))\n"
+        for (begin, rest), why in endless.items():
+            writer = "import sys\nwith open(sys.argv[1], 'w') as file:\n    file.write(sys.argv[2])\n    while True: file.write(sys.argv[3] * 999)"
+            with subprocess.Popen([sys.executable, "-c", writer, str(name), begin, rest], stderr=subprocess.DEVNULL):
+                ran = otherwise("dwg-recover", few + small, "--program", program, "--before", name, path, out)
+            self.assertEqual((ran.returncode, ran.stdout, ran.stderr.decode(), out.exists()), (64, b"", f"dwg-recover: {name} is no text of `dwg show`: {why}\n", False))
+
+    def test_what_an_older_state_is_known_by(self) -> None:
+        layers = "".join(f'object {at:X} LAYER typed 51\n  entry.name "{at:0>500}"\n' for at in range(1, 30))
+        program, path, text = self.showing(FRONT.format(count=1) + polyline_text(2)), self.file("a.dwg", b"AC1015"), self.file("before", (FRONT.format(count=29) + layers).encode())
+        ran = otherwise("dwg-recover", "drawing.LIMIT = 10_000", "--program", program, "--before", text, path, self.folder / "made")
+        self.assertEqual((ran.returncode, ran.stderr.decode()), (64, f"dwg-recover: {text} is no text of `dwg show`: its names have more than 10000 bytes\n"))
+
     def test_blocks_of_too_much_text(self) -> None:
         program, path = self.showing(FRONT.format(count=2) + polyline_text(300, mode=0).replace("object 31", "object 30") + polyline_text(300, mode=0)), self.file("a.dwg", b"AC1015")
         ran = otherwise("dwg-picture", "tool.MOST_KEPT = 20_000", "--program", program, path, "--output", self.folder / "made")
