@@ -143,6 +143,21 @@ class Time(Checked):
         self.assertEqual(len(self.log.read_bytes().splitlines()), 1)
 
 
+class Zeros(Checked):
+    """Of a file that is too long no more is said than what was looked at."""
+
+    def test_zeros_and_what_is_behind_them(self) -> None:
+        program, path = self.refusing(), self.folder / "d/zeros.dwg"
+        looked_at = 65_536 + drawing.LIMIT
+        for end, detail in ((b"", "zero bytes"), (b"\0", f"the first {looked_at} bytes are zero"), (b"precious", f"the first {looked_at} bytes are zero")):
+            with open(path, "wb") as file:
+                file.seek(looked_at)
+                file.write(end)
+                file.truncate()
+            ran = otherwise("dwg-check", "", "--quiet", "--program", program, path)
+            self.assertEqual((ran.returncode, ran.stderr, rows(ran.stdout)), (1, b"", [[str(path), "no drawing", detail]]))
+
+
 class Threads(Checked):
     """Where there are no more threads, those that there are check, or none."""
 
