@@ -11,13 +11,24 @@ PROGRAM = crates/dwg_cli/out/dwg_cli
 TOOLS = $(notdir $(wildcard tools/dwg-*))
 MODULES = $(wildcard tools/*.py)
 
-# A name as a word of the shell, whatever is in it.
+# A name as a word of the shell, whatever is in it but a line end, at which make would part the command.
 quoted = '$(subst ','\'',$(1))'
 
-bin = $(call quoted,$(DESTDIR)$(PREFIX)/bin)
-lib = $(call quoted,$(DESTDIR)$(PREFIX)/lib/dwg)
-man = $(call quoted,$(DESTDIR)$(PREFIX)/share/man)
-completions = $(call quoted,$(DESTDIR)$(PREFIX)/share/bash-completion/completions)
+define line_end
+
+
+endef
+
+# (a dollar sign in a name is one, and begins no variable of make)
+top = $(value DESTDIR)$(value PREFIX)
+ifneq ($(findstring $(line_end),$(top)),)
+$(error DESTDIR and PREFIX may not have line ends)
+endif
+
+bin = $(call quoted,$(top)/bin)
+lib = $(call quoted,$(top)/lib/dwg)
+man = $(call quoted,$(top)/share/man)
+completions = $(call quoted,$(top)/share/bash-completion/completions)
 
 .PHONY: build test check-tools bench install uninstall
 
@@ -38,7 +49,7 @@ install: build
 	rm -f $(lib)/COMMIT
 	{ [ -e .git ] && unset GIT_DIR GIT_WORK_TREE GIT_COMMON_DIR GIT_INDEX_FILE && git describe --always --dirty=' and changes' --exclude='*' --abbrev=40 2>/dev/null || echo; } > $(lib)/COMMIT
 	chmod 644 $(lib)/COMMIT
-	install -m 755 $(call quoted,$(PROGRAM)) $(bin)/dwg
+	install -m 755 $(call quoted,$(value PROGRAM)) $(bin)/dwg
 	ln -sfn ../../bin/dwg $(lib)/dwg
 	install -m 644 $(MODULES) $(lib)/tools
 	install -m 755 $(addprefix tools/,$(TOOLS)) $(lib)/tools

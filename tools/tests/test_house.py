@@ -100,10 +100,10 @@ class House(unittest.TestCase):
         program = self.folder / "the program"
         shutil.copy(pathlib.Path(made.PROGRAM).resolve(), program)
         is_launcher = pathlib.Path(made.PROGRAM).resolve() == TOP / "dwg"
-        destination = self.folder / "it's root"
-        words = ["make", "-s", f"DESTDIR={destination}", "PREFIX=/usr/my tools", "DWG=true", f"PROGRAM={program}"]
+        destination = self.folder / "it's $root"
+        words = ["make", "-s", f"DESTDIR={destination}", "PREFIX=/usr/my $tools $(HOME)", "DWG=true", f"PROGRAM={program}"]
         # What wasn't installed isn't taken away.
-        foreign = destination / "usr" / "my tools" / "bin" / "dwg"
+        foreign = destination / "usr" / "my $tools $(HOME)" / "bin" / "dwg"
         foreign.parent.mkdir(parents=True)
         foreign.write_bytes(b"own")
         subprocess.run([*words, "uninstall"], cwd=TOP, check=True, stderr=subprocess.DEVNULL)
@@ -112,14 +112,14 @@ class House(unittest.TestCase):
         elsewhere = self.folder / "elsewhere"
         elsewhere.write_bytes(b"own")
         for link in ("lib/dwg/COMMIT", *(f"share/man/man1/{name}.1" for name in NAMES)):
-            path = destination / "usr" / "my tools" / link
+            path = destination / "usr" / "my $tools $(HOME)" / link
             path.parent.mkdir(parents=True, exist_ok=True)
             path.symlink_to(elsewhere)
         # git has this variable set where it runs a hook, in another checkout perhaps.
         subprocess.run([*words, "install"], cwd=TOP, check=True, env={**os.environ, "GIT_DIR": str(self.folder)})
         self.assertEqual(elsewhere.read_bytes(), b"own")
-        top = destination / "usr" / "my tools"
-        self.assertEqual([path.name for path in self.folder.iterdir() if path.is_dir()], ["it's root"])
+        top = destination / "usr" / "my $tools $(HOME)"
+        self.assertEqual([path.name for path in self.folder.iterdir() if path.is_dir()], ["it's $root"])
         installed = top / "bin"
         self.assertEqual(sorted(path.name for path in installed.iterdir()), ["dwg", *NAMES])
         self.installed_pages(top / "share" / "man")
@@ -133,6 +133,15 @@ class House(unittest.TestCase):
             ran = subprocess.run([str(installed / "dwg-check"), str(self.folder / "a.dwg")], capture_output=True, check=False, env=environment)
             self.assertEqual(ran.returncode, 0, ran.stderr)
         self.uninstalled(words, top)
+
+    def test_a_folder_with_a_line_end_is_refused(self) -> None:
+        if not shutil.which("make"):
+            self.skipTest("make install, as make isn't installed")
+        for word in (f"DESTDIR={self.folder}/a\nb", f"PREFIX={self.folder}/a\nb"):
+            for goal in ("install", "uninstall"):
+                ran = subprocess.run(["make", "-s", word, "DWG=true", "PROGRAM=/bin/sh", goal], cwd=TOP, capture_output=True, check=False)
+                self.assertEqual((ran.returncode, ran.stdout, ran.stderr.count(b"DESTDIR and PREFIX may not have line ends")), (2, b"", 1))
+        self.assertEqual(list(self.folder.iterdir()), [])
 
     def installed_pages(self, pages: pathlib.Path) -> None:
         """Each name has a page, and `man` finds it."""
@@ -151,7 +160,7 @@ class House(unittest.TestCase):
         for path in own:
             path.write_bytes(b"own")
         subprocess.run([*words, "uninstall"], cwd=TOP, check=True, stderr=subprocess.DEVNULL)
-        left = {path for path in (self.folder / "it's root").rglob("*") if not path.is_dir()}
+        left = {path for path in (self.folder / "it's $root").rglob("*") if not path.is_dir()}
         self.assertEqual(left, {own[0], own[2]})
         self.assertTrue(all(path.read_bytes() == b"own" for path in own))
 
