@@ -143,6 +143,21 @@ class Time(Checked):
         self.assertEqual(len(self.log.read_bytes().splitlines()), 1)
 
 
+class NoLog(Checked):
+    """Where there is no program LOG isn't made, and one that is there stays as it is."""
+
+    def test_a_program_that_is_missing(self) -> None:
+        log = self.folder / "log"
+        self.drawings(1)
+        for program in ("/nowhere", self.folder, program_that(self.folder, "broken", ["exit 9"])):
+            ran = otherwise("dwg-check", "", "--resume", log, "--program", program, self.folder / "d")
+            self.assertEqual((ran.returncode, ran.stdout, log.exists()), (69, b"", False), program)
+        self.assertEqual(otherwise("dwg-check", "", "--resume", log, "--program", self.refusing(), self.folder / "d").returncode, 1)
+        told = log.read_bytes()
+        self.assertEqual(otherwise("dwg-check", "", "--resume", log, "--program", "/nowhere", self.folder / "d").returncode, 69)
+        self.assertEqual(log.read_bytes(), told)
+
+
 class Zeros(Checked):
     """Of a file that is too long no more is said than what was looked at."""
 
