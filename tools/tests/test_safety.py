@@ -226,10 +226,15 @@ class Ends(common.InFolder):
             self.assertEqual((in_bash(f'dwg-picture "$1" -o "$2" 2> {closed}', nothing, out).returncode, out.exists()), (0, True))
             out.unlink()
 
-    def test_a_python_that_looks_for_no_modules_beside_a_script(self) -> None:
+    def test_variables_of_python_are_not_heeded(self) -> None:
         path = self.file("a.dwg", drawn(3, 1))
+        variables = {"PYTHONSAFEPATH": "1", "PYTHONHOME": "/nowhere", "PYTHONPATH": str(self.folder), "PYTHONIOENCODING": "none", "PYTHONHASHSEED": "none"}
+        (self.folder / "argparse.py").write_text("1 / 0\n")
         for name, words in ALL.items():
-            self.assertEqual(tool(name, *words(path), PYTHONSAFEPATH="1").returncode, 0, name)
+            expected = tool(name, *words(path))
+            for variable, value in variables.items():
+                ran = tool(name, *words(path), **{variable: value})
+                self.assertEqual((ran.returncode, ran.stdout, ran.stderr), (0, expected.stdout, expected.stderr), (name, variable))
 
     def end_of(self, name: str, words: Sequence[object], wait: float, to_all: bool) -> int:
         """The status of a tool that is interrupted after a time."""
