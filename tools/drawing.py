@@ -24,6 +24,7 @@ import tempfile
 import threading
 import time
 import unicodedata
+from array import array
 from dataclasses import dataclass, field
 from functools import lru_cache
 from typing import IO, Any, Callable, Dict, Iterable, Iterator, List, NoReturn, Optional, Sequence, Set, Tuple, Union
@@ -903,6 +904,19 @@ class Object:
     form: str
     number: int
     text: bytes = b"\n"
+    # The numbers of lists of numbers or points, by name without brackets, where these aren't in the text; and how much text there was in all.
+    lists: Dict[str, "array[float]"] = field(default_factory=dict)
+    size: int = 0
+
+    def take(self, printed: bytes) -> bool:
+        """Takes the numbers of an element of a list, each behind those of the one before; False where it has none."""
+        name, _, value = printed.partition(b" ")
+        listed = name[: name.index(b"[")] + name[name.index(b"]") + 1 :]
+        words = read_value(listed, value)
+        if not isinstance(words, Words):
+            return False
+        self.lists.setdefault(listed.decode("ascii", "replace"), array("d")).extend(words.doubles())
+        return True
 
     @property
     def lines(self) -> Iterator[bytes]:
@@ -1057,27 +1071,37 @@ def _is_element(line: bytes) -> bool:
     return bracket >= 0 and line.find(b" ", 2, bracket) < 0
 
 
-def read_objects(lines: Iterator[bytes], count: Optional[int] = None, brief: bool = False) -> Iterator[Object]:
-    """The objects behind the front, one at a time, where it is brief without their lists; BadText where there are fewer or more than are said,
-    TooMuchText where one has more than is taken."""
-    found, current, text, size = 0, None, io.BytesIO(), 0
+class Lists(enum.Enum):
+    """What becomes of the elements of lists: they stay in the text, are left out, or where they are numbers or points become numbers, which take
+    a fifth of the memory."""
+
+    TEXT = 0
+    NONE = 1
+    NUMBERS = 2
+
+
+def read_objects(lines: Iterator[bytes], count: Optional[int] = None, lists: Lists = Lists.TEXT) -> Iterator[Object]:
+    """The objects behind the front, one at a time; BadText where there are fewer or more than are said, TooMuchText where one has more than is taken."""
+    found, current, text = 0, None, io.BytesIO()
     for line in lines:
         if line[:2] == b"  " and current is not None:
             if line[-1:] != b"\n":
                 raise BadText("the text ends too early")
-            if brief and _is_element(line):
+            is_element = lists is not Lists.TEXT and _is_element(line)
+            if is_element and lists is Lists.NONE:
                 continue
-            size += len(line)
-            if size > MOST_TEXT:
+            current.size += len(line)
+            if current.size > MOST_TEXT:
                 raise TooMuchText(current)
-            text.write(line[2:])
+            if not (is_element and current.take(line[2:-1])):
+                text.write(line[2:])
             continue
         if current is not None:
             # (what is written is handed on as it is, and not copied)
             yield _told_apart(current, text.getvalue())
         if found == count:
             raise BadText("more than the %d objects that are said" % found)
-        current, text, size = _head(line), io.BytesIO(), 0
+        current, text = _head(line), io.BytesIO()
         text.write(b"\n")
         found += 1
     if current is not None:
@@ -1191,16 +1215,16 @@ class Drawing:
         self._state = _state_of(self.file)
 
     @contextlib.contextmanager
-    def show(self, brief: bool = False) -> Iterator[Tuple[Front, Iterator[Object]]]:
+    def show(self, lists: Lists = Lists.TEXT) -> Iterator[Tuple[Front, Iterator[Object]]]:
         """What the text of `show` says before the objects, and these, one by one; ToolError with the program's status where it refuses."""
         try:
             os.lseek(self.file.fileno(), 0, os.SEEK_SET)
-            yield from self._shown(brief)
+            yield from self._shown(lists)
         except ToolError as fault:
             message = str(fault)
             raise ToolError(f"{self.name}: {message[5:] if message.startswith('dwg: ') else message}", fault.status) from None
 
-    def _shown(self, brief: bool) -> Iterator[Tuple[Front, Iterator[Object]]]:
+    def _shown(self, lists: Lists) -> Iterator[Tuple[Front, Iterator[Object]]]:
         """Yields once, and reads on behind that to the end, so that the program's status is told before any fault of the text."""
         bad: Optional[BadText] = None
         with self.program.lines(["show"], self.file) as lines:
@@ -1209,7 +1233,7 @@ class Drawing:
             if first:
                 try:
                     front = read_front(taken)
-                    yield front, read_objects(taken, front.count, brief)
+                    yield front, read_objects(taken, front.count, lists)
                 except BadText as fault:
                     bad = fault
             for _ in lines:

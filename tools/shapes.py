@@ -8,7 +8,7 @@ from array import array
 from dataclasses import dataclass
 from typing import Dict, Iterable, Iterator, List, NamedTuple, Optional, Sequence, Set, Tuple, Union
 
-from drawing import Object, Reference, Text, Value, Words, read_field, read_value
+from drawing import Object, Reference, Text, Value, Words, read_field
 from plane import SAME, TURN, Affine, Arc, Endless, Point, circular, pair, plain, seen, unit
 
 FARTHEST = 1e15
@@ -24,26 +24,16 @@ class Undrawable(Exception):
 class Fields:
     """The fields of an object by name; where what holds a text stands in front of them, as with attributes, its names are left out.
 
-    The elements of a list stand under its name without brackets, in their order, the numbers of each behind those of the one before.
+    Of lists those of numbers and points alone are drawn, which the object has as numbers.
     """
 
     def __init__(self, one: Object, front: str = "") -> None:
         self.values: Dict[str, Value] = {}
-        self.lists: Dict[str, "array[float]"] = {}
+        self.lists = one.lists
         for printed in one.lines:
-            name = printed[: printed.index(b" ")]
-            if b"[" in name:
-                self.element(name, printed[len(name) + 1 :])
-            else:
+            if b"[" not in printed[: printed.index(b" ")]:
                 path, value = read_field(printed)
                 self.values[path[len(front) :] if path.startswith(front) else path] = value
-
-    def element(self, name: bytes, printed: bytes) -> None:
-        """Takes an element of a list of numbers or points; no others are drawn."""
-        listed = name[: name.index(b"[")] + name[name.index(b"]") + 1 :]
-        value = read_value(listed, printed)
-        if isinstance(value, Words):
-            self.lists.setdefault(listed.decode("ascii"), array("d")).extend(value.doubles())
 
     def point(self, name: str) -> Tuple[float, ...]:
         """The coordinates of a point, which must be there."""

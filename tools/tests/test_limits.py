@@ -279,9 +279,9 @@ def polyline_text(count: int, flag: int = 0, bulges: Sequence[float] = (), width
     return "".join(lines)
 
 
-def first_object(text: str) -> drawing.Object:
+def first_object(text: str, lists: drawing.Lists = drawing.Lists.TEXT) -> drawing.Object:
     """The object of a text."""
-    return next(drawing.read_objects(iter(text.encode().splitlines(keepends=True))))
+    return next(drawing.read_objects(iter(text.encode().splitlines(keepends=True)), lists=lists))
 
 
 # An object with lists of each form: of references with names and without, of texts, of structs and of lists in these.
@@ -326,12 +326,20 @@ class Memory(common.InFolder):
     @unittest.skipUnless(os.path.exists("/proc/self/status"), "memory, as there is no /proc/self/status")
     def test_an_object_of_very_many_elements(self) -> None:
         front, count = FRONT.format(count=1), 200_000
-        # A vertex has four bits.
+        # A vertex has four bits, and so have two widths.
         size = count // 2
-        for name in ("dwg-json", "dwg-picture"):
+        for name, most in (("dwg-json", 200), ("dwg-picture", 70)):
             least = self.most(name, front + polyline_text(2))
-            self.assertLess(self.most(name, front + polyline_text(count)) - least, 200 * size, name)
+            self.assertLess(self.most(name, front + polyline_text(count)) - least, most * size, name)
             self.assertGreater((self.folder / "out").stat().st_size, 4 * count)
+        self.assertLess(self.most("dwg-picture", front + polyline_text(2, widths=[(1.0, 1.0)] * count)) - least, 70 * size)
+
+    @unittest.skipUnless(os.path.exists("/proc/self/status"), "memory, as there is no /proc/self/status")
+    def test_very_many_widths_that_differ(self) -> None:
+        front, count = FRONT.format(count=1), 20_000
+        least = self.most("dwg-picture", front + polyline_text(2))
+        # A vertex has at least eight bytes here, its widths four bits.
+        self.assertLess(self.most("dwg-picture", front + polyline_text(count, widths=[(1.0, 0.5)] * count, equal=False)) - least, 20 * 8 * count)
 
     def differing(self, count: int) -> Tuple[int, bytes]:
         """The most memory that dwg-diff has at once over two polylines of so many points, all unlike, and what it says."""
@@ -375,7 +383,7 @@ class Memory(common.InFolder):
                 said = []
                 for many in (1000, 1):
                     with unittest.mock.patch.object(shapes, "MANY", many, create=True):
-                        figures = list(shapes.polyline(shapes.Fields(first_object(polyline_text(7, flag, equal=False, **more))), shapes.Context("cp1252", False)))
+                        figures = list(shapes.polyline(shapes.Fields(first_object(polyline_text(7, flag, equal=False, **more), drawing.Lists.NUMBERS)), shapes.Context("cp1252", False)))
                     said.append([("".join(one.pieces(frame)), one.element(frame), list(one.around(frame))) for one in figures for frame in frames])
                 self.assertEqual(said[0], said[1], (more, flag))
                 self.assertTrue(all(pieces == element for pieces, element, _ in said[1]))

@@ -745,7 +745,8 @@ class Pictures(common.InFolder):
         one = spelled.Drawing()
         handle = one.polyline([(k, k % 2) for k in range(200)], [1.0] * 200, [(1.0, 0.0)] * 200)
         (lines,) = [lines for found, _, lines in shown(one.file()) if found == handle]
-        fields = shapes.Fields(drawing.Object(handle, "LWPOLYLINE", "typed", 77, "".join(f"{line}\n" for line in ["", *lines]).encode()))
+        text = "".join(f"{line}\n" for line in [f"object {handle:X} LWPOLYLINE typed 77", *(f"  {line}" for line in lines)]).encode()
+        fields = shapes.Fields(next(drawing.read_objects(iter(text.splitlines(keepends=True)), lists=drawing.Lists.NUMBERS)))
         tracemalloc.start()
         figures = list(shapes.polyline(fields, shapes.Context("cp1252", False)))
         size, _ = tracemalloc.get_traced_memory()
