@@ -747,7 +747,7 @@ def output(path: Optional[str], force: bool) -> Iterator[IO[bytes]]:
 # ---------------------------------------------------------------------------------------------------------------------
 #
 # docs/FORMAT.md has the text, under "Texts". It is read line by line, and one object is held at a time, as it came: a vertex of four bits takes fifty
-# bytes so, and ten times as much by its values.
+# bytes so, ten times as much by its values, and sixteen bytes as numbers alone (`Lists`).
 
 # How much text of one object is taken. Coordinates that are spelled in full have three times as much text as bytes, references to handles of three
 # bytes six times, so that an object of these may fill a file of 32 MiB. One of repeated points or widths, which have up to 160 bytes of text to a
@@ -756,7 +756,7 @@ MOST_TEXT = 1 << 28
 
 # What the text of a drawing has at the most, by which one that nobody vouches for ends. A byte has three letters on its line. The densest fields are
 # the widths of a polyline, of which four bits have two lines of 41 letters. An object has two bytes of length, one of a body, two of a check word
-# and two in the map; a class has 29 bits. Three sections are unknown.
+# and two in the map; a class has 29 bits. Three sections are unknown. Before its objects no more text is taken than of one of them.
 MOST_LINE = 3 * LIMIT + 1000
 MOST_SHOWN = 164 * LIMIT
 MOST_OBJECTS, MOST_CLASSES, MOST_SECTIONS = LIMIT // 7, LIMIT * 8 // 29, 3
@@ -1111,7 +1111,7 @@ def read_objects(lines: Iterator[bytes], count: Optional[int] = None, lists: Lis
 
 
 def shown_lines(file: IO[bytes], begin: bytes) -> Iterator[bytes]:
-    """The lines of a text of `show` whose begin is read, from wherever it comes; BadText where no drawing has so much text."""
+    """The lines of a text of `show` whose begin is read, from wherever it comes; BadText where no drawing has so much text, or too much is to be held."""
     left, front = MOST_SHOWN, MOST_SHOWN - MOST_TEXT
     line = begin + file.readline(MOST_LINE)
     while line:
@@ -1121,7 +1121,7 @@ def shown_lines(file: IO[bytes], begin: bytes) -> Iterator[bytes]:
         if len(line) >= MOST_LINE and not line.endswith(b"\n"):
             raise BadText("a line has more than %d bytes" % MOST_LINE)
         if left < front:
-            raise BadText("it has more than %d bytes before its objects" % MOST_TEXT if front else "it has more than %d bytes" % MOST_SHOWN)
+            raise BadText("it has more than %d bytes%s" % ((MOST_TEXT, " before its objects") if front else (MOST_SHOWN, "")))
         yield line
         line = file.readline(MOST_LINE)
 
