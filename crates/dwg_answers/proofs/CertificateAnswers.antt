@@ -172,7 +172,7 @@ begins_with_own accepting auditable drawing bytes valid sound =
     let can = auditable drawing valid in
     record {
       certificate = own_is_certificate drawing.objects can.ascending (omega (arith, can.few)) (accepting.accepted drawing.objects can.ascending sound).handles;
-      handles = own_has_handles drawing.classes drawing.objects valid.objects;
+      handles = own_has_handles drawing.version drawing.classes drawing.objects valid.objects;
       whole = refl;
     }
 

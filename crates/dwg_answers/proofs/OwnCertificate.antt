@@ -1,5 +1,6 @@
 -- The certificate of a sound drawing's own objects can be written and is read again.
 use Rattle.std.proofs.Common.{◌≡◌, sym, ap, subst, ℕ, zero, suc, ◌-◌, ◌^◌, ◌<◌, ◌≤◌, List, [], ◌∷◌, length, get_or, Option, Some, None, true, false, arith}
+use Rattle.dwg_base.specs.declared.version.Version.{Version}
 use Rattle.std.proofs.lemmas.List.{length-map, get_or-map}
 use Rattle.std.specs.Prelude.{◌==◌, Bool, map, IfSome, if◌then◌else◌}
 use Rattle.std.specs.List.{AllByRecursion}
@@ -116,13 +117,13 @@ own_is_certificate objects ascend few handles = record {
 }
 
 -- and that of objects that a drawing can have has handles
-handles_in_range : (classes : List Class) (objects those : List ObjectValue) → AllByRecursion (IsValidObject classes) those → HaveHandles (map (entry_of objects) those)
-handles_in_range classes objects [] valid = tt
-handles_in_range classes objects (x ∷ more) valid = ((valid_handle classes x valid.0).1, handles_in_range classes objects more valid.1)
+handles_in_range : (version : Version) (classes : List Class) (objects those : List ObjectValue) → AllByRecursion (IsValidObject version classes) those → HaveHandles (map (entry_of objects) those)
+handles_in_range version classes objects [] valid = tt
+handles_in_range version classes objects (x ∷ more) valid = ((valid_handle version classes x valid.0).1, handles_in_range version classes objects more valid.1)
 
-pub own_has_handles : (classes : List Class) (objects : List ObjectValue) → AllByRecursion (IsValidObject classes) objects → HaveHandles (certificate_of objects)
+pub own_has_handles : (version : Version) (classes : List Class) (objects : List ObjectValue) → AllByRecursion (IsValidObject version classes) objects → HaveHandles (certificate_of objects)
 unfolding certificate_of
-own_has_handles classes objects valid = handles_in_range classes objects objects valid
+own_has_handles version classes objects valid = handles_in_range version classes objects objects valid
 
 -- it has an entry for each object
 pub own_is_few : (objects : List ObjectValue) (cert : List Entry) (most : ℕ) → length objects ≤ most → cert ≡ certificate_of objects → length cert ≤ most

@@ -31,13 +31,13 @@ handles_ascend (x ∷ xs) ascending i j d before within =
     )
 
 -- an object that a drawing can have is whole
-object_is_whole : (drawing : Contents) (object : ObjectValue) → IsValidObject drawing.classes object → IsWhole object
+object_is_whole : (drawing : Contents) (object : ObjectValue) → IsValidObject drawing.version drawing.classes object → IsWhole object
 object_is_whole drawing (TypedValue number handle common body) is = is.0.whole
 object_is_whole drawing (PlainValue number handle common rest refs) is = is.0.whole
 object_is_whole drawing (RawValue number handle bytes) is = is.0.whole
 
 -- and so are all of them
-objects_are_whole : (drawing : Contents) (objects : List ObjectValue) → AllByRecursion (IsValidObject drawing.classes) objects → AllByRecursion IsWhole objects
+objects_are_whole : (drawing : Contents) (objects : List ObjectValue) → AllByRecursion (IsValidObject drawing.version drawing.classes) objects → AllByRecursion IsWhole objects
 objects_are_whole drawing [] are = tt
 objects_are_whole drawing (object ∷ objects) are = (object_is_whole drawing object are.0, objects_are_whole drawing objects are.1)
 
@@ -47,17 +47,17 @@ unfolding reference_count
 count_more object objects = sum_by-cons (λ x. length (slots x)) object objects
 
 -- objects and their references are no more than the bytes of their frames
-references_few : SlotsAreFew → (drawing : Contents) (objects : List ObjectValue) → AllByRecursion (IsValidObject drawing.classes) objects
-    → length objects + reference_count objects ≤ length (frames_bytes objects)
+references_few : SlotsAreFew → (drawing : Contents) (objects : List ObjectValue) → AllByRecursion (IsValidObject drawing.version drawing.classes) objects
+    → length objects + reference_count objects ≤ length (frames_bytes drawing.version objects)
 unfolding reference_count
 references_few few drawing [] are = omega arith
 references_few few drawing (object ∷ objects) are =
     omega (
       arith,
-      few drawing.classes object are.0,
+      few drawing.version drawing.classes object are.0,
       references_few few drawing objects are.1,
       count_more object objects,
-      length-append (frame_bytes object) (frames_bytes objects),
+      length-append (frame_bytes drawing.version object) (frames_bytes drawing.version objects),
     )
 
 -- the objects of a valid drawing can be audited, since their slots are few

@@ -7,6 +7,7 @@ mod commands;
 mod drill;
 mod hostile;
 mod inputs;
+mod older;
 mod recover;
 mod references;
 mod runs;

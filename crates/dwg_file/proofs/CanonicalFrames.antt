@@ -1,11 +1,14 @@
 -- The frames, the map and the unknown sections of the canonical file: each stands at its place.
-use Rattle.std.proofs.Common.{◌≡◌, refl, ap, inl, inr, ℕ, ◌+◌, ◌^◌, ◌<◌, ◌≤◌, List, [], ◌∷◌, length, length-append, arith}
+use Rattle.std.proofs.Common.{◌≡◌, refl, ap, subst, inl, inr, ℕ, ◌+◌, ◌^◌, ◌<◌, ◌≤◌, List, [], ◌∷◌, length, length-append, arith}
+use Rattle.dwg_base.specs.declared.version.Version.{Version}
 use Rattle.std.specs.Prelude.{map, AllPairs}
 use Rattle.std.specs.List.{AllByRecursion}
 use Rattle.std.proofs.lemmas.List.Elements.{All-from_recursion}
 use Rattle.std.proofs.lemmas.List.Kept.{AllPairs-cons}
 use Rattle.dwg_base.specs.Bytes.{AreBytes, StandsAt}
+use Rattle.dwg_base.specs.Versions.{version_at}
 use Rattle.dwg_classes.specs.declared.class.Class.{Class}
+use Rattle.dwg_object.specs.Forms.{FormOf}
 use Rattle.dwg_object.specs.Written.{IsValidObject, body_bytes}
 use Rattle.dwg_object.proofs.FormLaws.{valid_handle, valid_is_form, valid_fits, written_frame, frame_is_bytes}
 use Rattle.dwg_object.specs.Frames.{frame_bytes}
@@ -22,33 +25,33 @@ use Rattle.dwg_file.specs.Valid.{IsOther}
 use Rattle.dwg_file.specs.CanonicalFrames.{frames_from}
 
 -- their pairs are those that are written
-pub pairs_of_frames : (objects : List ObjectValue) (place : ℕ) → placed place objects ≡ map (λ (frame : PairFrame). frame.pair) (frames_from place objects)
-pairs_of_frames [] place = refl
-pairs_of_frames (object ∷ objects) place =
-    ap (λ (pairs : List Pair). record { handle = handle_of object; place = place } ∷ pairs) (pairs_of_frames objects (place + length (frame_bytes object)))
+pub pairs_of_frames : (version : Version) (objects : List ObjectValue) (place : ℕ) → placed version place objects ≡ map (λ (frame : PairFrame). frame.pair) (frames_from version place objects)
+pairs_of_frames version [] place = refl
+pairs_of_frames version (object ∷ objects) place =
+    ap (λ (pairs : List Pair). record { handle = handle_of object; place = place } ∷ pairs) (pairs_of_frames version objects (place + length (frame_bytes version object)))
 
 -- and their objects are the objects
-pub objects_of_frames : (objects : List ObjectValue) (place : ℕ) → map (λ (frame : PairFrame). frame.object) (frames_from place objects) ≡ objects
-objects_of_frames [] place = refl
-objects_of_frames (object ∷ objects) place = ap (λ others. object ∷ others) (objects_of_frames objects (place + length (frame_bytes object)))
+pub objects_of_frames : (version : Version) (objects : List ObjectValue) (place : ℕ) → map (λ (frame : PairFrame). frame.object) (frames_from version place objects) ≡ objects
+objects_of_frames version [] place = refl
+objects_of_frames version (object ∷ objects) place = ap (λ others. object ∷ others) (objects_of_frames version objects (place + length (frame_bytes version object)))
 
--- each stands at its place
-pub frames_stand : (classes : List Class) (bytes : List ℕ) (objects : List ObjectValue) (place : ℕ) → AllByRecursion (IsValidObject classes) objects
-    → StandsAt bytes place (frames_bytes objects) → AllByRecursion (IsFrameOfPair classes bytes) (frames_from place objects)
-frames_stand classes bytes [] place are stands = tt
-frames_stand classes bytes (object ∷ objects) place are stands = (
+-- each stands at its place, in bytes that are read by their version
+pub frames_stand : (version : Version) (classes : List Class) (bytes : List ℕ) (objects : List ObjectValue) (place : ℕ) → version ≡ version_at bytes → AllByRecursion (IsValidObject version classes) objects
+    → StandsAt bytes place (frames_bytes version objects) → AllByRecursion (IsFrameOfPair classes bytes) (frames_from version place objects)
+frames_stand version classes bytes [] place same are stands = tt
+frames_stand version classes bytes (object ∷ objects) place same are stands = (
   record {
-    stands = written_frame bytes place object (valid_fits classes object are.0).2 (stands_first bytes place (frame_bytes object) (frames_bytes objects) stands);
-    form = valid_is_form classes object are.0;
+    stands = written_frame version bytes place object (valid_fits version classes object are.0).2 (stands_first bytes place (frame_bytes version object) (frames_bytes version objects) stands);
+    form = subst (λ (v : Version). FormOf v classes (body_bytes version object) object) same (valid_is_form version classes object are.0);
     own = refl;
   },
-  frames_stand classes bytes objects (place + length (frame_bytes object)) are.1 (stands_next bytes place (frame_bytes object) (frames_bytes objects) stands),
+  frames_stand version classes bytes objects (place + length (frame_bytes version object)) same are.1 (stands_next bytes place (frame_bytes version object) (frames_bytes version objects) stands),
 )
 
 -- each begins at the first place or behind it
-pub frames_behind : (objects : List ObjectValue) (end place : ℕ) → end ≤ place → AllByRecursion (λ (frame : PairFrame). end ≤ frame.pair.place) (frames_from place objects)
-frames_behind [] end place before = tt
-frames_behind (object ∷ objects) end place before = (before, frames_behind objects end (place + length (frame_bytes object)) (omega arith))
+pub frames_behind : (version : Version) (objects : List ObjectValue) (end place : ℕ) → end ≤ place → AllByRecursion (λ (frame : PairFrame). end ≤ frame.pair.place) (frames_from version place objects)
+frames_behind version [] end place before = tt
+frames_behind version (object ∷ objects) end place before = (before, frames_behind version objects end (place + length (frame_bytes version object)) (omega arith))
 
 -- a frame is apart from those that begin behind its end
 apart_behind : (one : PairFrame) (frames : List PairFrame) → AllByRecursion (λ (frame : PairFrame). one.end ≤ frame.pair.place) frames → AllByRecursion (AreApart one) frames
@@ -56,45 +59,45 @@ apart_behind one [] behind = tt
 apart_behind one (frame ∷ frames) behind = (inl behind.0, apart_behind one frames behind.1)
 
 -- so no two share a byte
-pub frames_apart : (objects : List ObjectValue) (place : ℕ) → AllPairs AreApart (frames_from place objects)
-frames_apart [] place = λ i j d before inside. absurd (omega arith)
-frames_apart (object ∷ objects) place =
-    let end : ℕ = place + length (frame_bytes object) in
-    let one : PairFrame = record { pair = record { handle = handle_of object; place = place }; body = body_bytes object; end = end; object = object } in
-    AllPairs-cons AreApart one (frames_from end objects)
-    (All-from_recursion (AreApart one) (frames_from end objects) (apart_behind one (frames_from end objects) (frames_behind objects end end (omega arith))))
-    (frames_apart objects end)
+pub frames_apart : (version : Version) (objects : List ObjectValue) (place : ℕ) → AllPairs AreApart (frames_from version place objects)
+frames_apart version [] place = λ i j d before inside. absurd (omega arith)
+frames_apart version (object ∷ objects) place =
+    let end : ℕ = place + length (frame_bytes version object) in
+    let one : PairFrame = record { pair = record { handle = handle_of object; place = place }; body = body_bytes version object; end = end; object = object } in
+    AllPairs-cons AreApart one (frames_from version end objects)
+    (All-from_recursion (AreApart one) (frames_from version end objects) (apart_behind one (frames_from version end objects) (frames_behind version objects end end (omega arith))))
+    (frames_apart version objects end)
 
 -- pairs of ascending objects ascend, where the frames end in range
-placed_ascend : (classes : List Class) (objects : List ObjectValue) (place handle : ℕ) → AllByRecursion (IsValidObject classes) objects → AreAscending objects
-    → AllByRecursion (λ (object : ObjectValue). handle < handle_of object) objects → place + length (frames_bytes objects) < 2 ^ 63 → Ascend handle (placed place objects)
-placed_ascend classes [] place handle are ascending above below = tt
-placed_ascend classes (object ∷ objects) place handle are ascending above below =
-    let long : length (frames_bytes (object ∷ objects)) ≡ length (frame_bytes object) + length (frames_bytes objects) = length-append (frame_bytes object) (frames_bytes objects) in (
+placed_ascend : (version : Version) (classes : List Class) (objects : List ObjectValue) (place handle : ℕ) → AllByRecursion (IsValidObject version classes) objects → AreAscending objects
+    → AllByRecursion (λ (object : ObjectValue). handle < handle_of object) objects → place + length (frames_bytes version objects) < 2 ^ 63 → Ascend handle (placed version place objects)
+placed_ascend version classes [] place handle are ascending above below = tt
+placed_ascend version classes (object ∷ objects) place handle are ascending above below =
+    let long : length (frames_bytes version (object ∷ objects)) ≡ length (frame_bytes version object) + length (frames_bytes version objects) = length-append (frame_bytes version object) (frames_bytes version objects) in (
       above.0,
-      (valid_handle classes object are.0).1,
+      (valid_handle version classes object are.0).1,
       omega arith,
-      placed_ascend classes objects (place + length (frame_bytes object)) (handle_of object) are.1
+      placed_ascend version classes objects (place + length (frame_bytes version object)) (handle_of object) are.1
           (pairs_tail (λ one other. handle_of one < handle_of other) object objects ascending)
           (pairs_head (λ one other. handle_of one < handle_of other) object objects ascending) (omega (arith, long)),
     )
 
 -- all handles are above 0
-handles_positive : (classes : List Class) (objects : List ObjectValue) → AllByRecursion (IsValidObject classes) objects → AllByRecursion (λ (object : ObjectValue). 0 < handle_of object) objects
-handles_positive classes [] are = tt
-handles_positive classes (object ∷ objects) are = ((valid_handle classes object are.0).0, handles_positive classes objects are.1)
+handles_positive : (version : Version) (classes : List Class) (objects : List ObjectValue) → AllByRecursion (IsValidObject version classes) objects → AllByRecursion (λ (object : ObjectValue). 0 < handle_of object) objects
+handles_positive version classes [] are = tt
+handles_positive version classes (object ∷ objects) are = ((valid_handle version classes object are.0).0, handles_positive version classes objects are.1)
 
 -- so a map is written of them
-pub pairs_ascend : (classes : List Class) (objects : List ObjectValue) (place : ℕ) → AllByRecursion (IsValidObject classes) objects → AreAscending objects
-    → place + length (frames_bytes objects) < 2 ^ 63 → Ascend 0 (placed place objects)
-pairs_ascend classes objects place are ascending below = placed_ascend classes objects place 0 are ascending (handles_positive classes objects are) below
+pub pairs_ascend : (version : Version) (classes : List Class) (objects : List ObjectValue) (place : ℕ) → AllByRecursion (IsValidObject version classes) objects → AreAscending objects
+    → place + length (frames_bytes version objects) < 2 ^ 63 → Ascend 0 (placed version place objects)
+pairs_ascend version classes objects place are ascending below = placed_ascend version classes objects place 0 are ascending (handles_positive version classes objects are) below
 
 -- frames are written in bytes
-pub frames_are_bytes : (classes : List Class) (objects : List ObjectValue) → AllByRecursion (IsValidObject classes) objects → AreBytes (frames_bytes objects)
-frames_are_bytes classes [] are = tt
-frames_are_bytes classes (object ∷ objects) are =
-    let whole = valid_fits classes object are.0 in
-    bytes_joined (frame_bytes object) (frames_bytes objects) (frame_is_bytes object whole.1 whole.2) (frames_are_bytes classes objects are.1)
+pub frames_are_bytes : (version : Version) (classes : List Class) (objects : List ObjectValue) → AllByRecursion (IsValidObject version classes) objects → AreBytes (frames_bytes version objects)
+frames_are_bytes version classes [] are = tt
+frames_are_bytes version classes (object ∷ objects) are =
+    let whole = valid_fits version classes object are.0 in
+    bytes_joined (frame_bytes version object) (frames_bytes version objects) (frame_is_bytes version object whole.1 whole.2) (frames_are_bytes version classes objects are.1)
 
 -- unknown sections are written in bytes
 pub others_are_bytes : (others : List OtherValue) → AllByRecursion IsOther others → AreBytes (others_bytes others)

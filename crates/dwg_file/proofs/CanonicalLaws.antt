@@ -6,11 +6,13 @@ use Rattle.std.proofs.lemmas.List.Sorted.{IsPermutation-refl}
 use Rattle.dwg_base.specs.Bytes.{AreBytes, StandsAt}
 use Rattle.dwg_base.specs.Devices.{MOST_BYTES}
 use Rattle.dwg_base.specs.Refusals.{first_fault}
+use Rattle.dwg_base.specs.Versions.{version_at}
 use Rattle.dwg_object.specs.Objects.{ObjectValue}
 use Rattle.dwg_objmap.proofs.FillingLemmas.{map_is_written}
 use Rattle.dwg_objmap.specs.Writing.{Ascend}
 use Rattle.dwg_sections.specs.declared.framed.Framed.TheVariants.{Variables, Classes}
-use Rattle.dwg_sections.specs.FileHeader.{header_bytes, IsFileHeader}
+use Rattle.dwg_sections.specs.FileHeader.{BeginsWithHeader, header_bytes, IsFileHeader}
+use Rattle.dwg_sections.proofs.HeaderComplete.{header_tells_version}
 use Rattle.dwg_sections.specs.Framed.{framed_bytes}
 use Rattle.dwg_file.specs.Contents.{Contents}
 use Rattle.dwg_file.specs.Canonical.{PREVIEW, class_content, frames_bytes, placed, others_bytes, variables_place, classes_place, objects_place, map_place, map_of, others_place, size_of, header_of, canonical}
@@ -37,7 +39,7 @@ length_of_canonical drawing is =
     omega (
       arith,
       length_of_seven (header_bytes (header_of drawing)) (framed_bytes Variables drawing.variables) (framed_bytes Classes (class_content drawing.classes)) PREVIEW
-          (frames_bytes drawing.objects) (map_of drawing) (others_bytes drawing.others),
+          (frames_bytes drawing.version drawing.objects) (map_of drawing) (others_bytes drawing.others),
       header_reaches drawing is,
       length_of_framed Variables drawing.variables,
       length_of_framed Classes (class_content drawing.classes),
@@ -45,21 +47,21 @@ length_of_canonical drawing is =
     )
 
 -- the pairs of its map ascend
-pub canonical_ascends : (drawing : Contents) → IsValid drawing → Ascend 0 (placed (objects_place drawing) drawing.objects)
-canonical_ascends drawing is = pairs_ascend drawing.classes drawing.objects (objects_place drawing) is.objects is.ascending (let small = is.size in omega arith)
+pub canonical_ascends : (drawing : Contents) → IsValid drawing → Ascend 0 (placed drawing.version (objects_place drawing) drawing.objects)
+canonical_ascends drawing is = pairs_ascend drawing.version drawing.classes drawing.objects (objects_place drawing) is.objects is.ascending (let small = is.size in omega arith)
 
 -- it is bytes
 pub canonical_is_bytes : (drawing : Contents) → IsValid drawing → IsFileHeader (header_of drawing) → AreBytes (canonical drawing)
 unfolding canonical
 canonical_is_bytes drawing is fits =
     seven_are_bytes (header_bytes (header_of drawing)) (framed_bytes Variables drawing.variables) (framed_bytes Classes (class_content drawing.classes)) PREVIEW
-    (frames_bytes drawing.objects) (map_of drawing) (others_bytes drawing.others)
+    (frames_bytes drawing.version drawing.objects) (map_of drawing) (others_bytes drawing.others)
     (header_is_bytes (header_of drawing) fits)
     (framed_is_bytes Variables drawing.variables is.variables)
     (framed_is_bytes Classes (class_content drawing.classes) (content_is_bytes drawing.classes))
     preview_is_bytes
-    (frames_are_bytes drawing.classes drawing.objects is.objects)
-    (map_is_bytes (placed (objects_place drawing) drawing.objects) (canonical_ascends drawing is))
+    (frames_are_bytes drawing.version drawing.classes drawing.objects is.objects)
+    (map_is_bytes (placed drawing.version (objects_place drawing) drawing.objects) (canonical_ascends drawing is))
     (others_are_bytes drawing.others is.others)
 
 -- each part of the canonical file stands at its place
@@ -67,7 +69,7 @@ pub record PartsStand (drawing : Contents) : Type 0 where
   pub begins : (rest : List ℕ) × (canonical drawing ≡ header_bytes (header_of drawing) ++ rest)
   pub variables : StandsAt (canonical drawing) (variables_place drawing) (framed_bytes Variables drawing.variables)
   pub classes : StandsAt (canonical drawing) (classes_place drawing) (framed_bytes Classes (class_content drawing.classes))
-  pub frames : StandsAt (canonical drawing) (objects_place drawing) (frames_bytes drawing.objects)
+  pub frames : StandsAt (canonical drawing) (objects_place drawing) (frames_bytes drawing.version drawing.objects)
   pub mapped : StandsAt (canonical drawing) (map_place drawing) (map_of drawing)
   pub others : StandsAt (canonical drawing) (others_place drawing) (others_bytes drawing.others)
 
@@ -82,7 +84,7 @@ parts_stand drawing fits =
     let header : List ℕ = header_bytes (header_of drawing) in
     let variables : List ℕ = framed_bytes Variables drawing.variables in
     let classes : List ℕ = framed_bytes Classes (class_content drawing.classes) in
-    let frames : List ℕ = frames_bytes drawing.objects in
+    let frames : List ℕ = frames_bytes drawing.version drawing.objects in
     let stand = seven_stand (canonical drawing) header variables classes PREVIEW frames (map_of drawing) (others_bytes drawing.others) refl in
     let one : length header ≡ variables_place drawing = header_reaches drawing fits in
     let two : length header + length variables ≡ classes_place drawing = omega (arith, one, length_of_framed Variables drawing.variables) in
@@ -103,14 +105,23 @@ parts_stand drawing fits =
           (length header + length variables + length classes + length PREVIEW + length frames + length (map_of drawing)) (others_place drawing) five stand.last;
     }
 
--- so it does
+-- it begins with its header
+pub canonical_begins : (drawing : Contents) → IsFileHeader (header_of drawing) → BeginsWithHeader (canonical drawing) (header_of drawing)
+canonical_begins drawing fits = record { in_range = fits; stands = (parts_stand drawing fits).begins }
+
+-- so it is read by the version of its drawing
+pub canonical_version : (drawing : Contents) → IsFileHeader (header_of drawing) → drawing.version ≡ version_at (canonical drawing)
+canonical_version drawing fits = header_tells_version (canonical drawing) (header_of drawing) (canonical_begins drawing fits)
+
+-- so it spells its drawing
 pub canonical_spells : CanonicalSpells
 canonical_spells drawing is small =
     let fits = header_fits drawing is small in
     let stand = parts_stand drawing fits in
     record {
       header = header_of drawing;
-      begins = record { in_range = fits; stands = stand.begins };
+      begins = canonical_begins drawing fits;
+      version = refl;
       lead = refl;
       mark = refl;
       code_page = refl;
@@ -124,15 +135,15 @@ canonical_spells drawing is small =
       class_content = class_content drawing.classes;
       classes_framed = record { size = omega arith; stands = stand.classes };
       classes = content_is_classes drawing.classes is.classes;
-      pairs = placed (objects_place drawing) drawing.objects;
-      mapped = map_is_written (map_place drawing) (canonical drawing) (placed (objects_place drawing) drawing.objects) (canonical_ascends drawing is) stand.mapped;
+      pairs = placed drawing.version (objects_place drawing) drawing.objects;
+      mapped = map_is_written (map_place drawing) (canonical drawing) (placed drawing.version (objects_place drawing) drawing.objects) (canonical_ascends drawing is) stand.mapped;
       frames = canonical_frames drawing;
-      framed = pairs_of_frames drawing.objects (objects_place drawing);
-      stand = frames_stand drawing.classes (canonical drawing) drawing.objects (objects_place drawing) is.objects stand.frames;
-      apart = frames_apart drawing.objects (objects_place drawing);
+      framed = pairs_of_frames drawing.version drawing.objects (objects_place drawing);
+      stand = frames_stand drawing.version drawing.classes (canonical drawing) drawing.objects (objects_place drawing) (canonical_version drawing fits) is.objects stand.frames;
+      apart = frames_apart drawing.version drawing.objects (objects_place drawing);
       objects =
           subst (λ (objects : List ObjectValue). IsPermutation (map (λ (frame : PairFrame). frame.object) (canonical_frames drawing)) objects)
-          (objects_of_frames drawing.objects (objects_place drawing))
+          (objects_of_frames drawing.version drawing.objects (objects_place drawing))
           (IsPermutation-refl (map (λ (frame : PairFrame). frame.object) (canonical_frames drawing)));
       ascending = is.ascending;
       others = sections_stand drawing is stand.others;

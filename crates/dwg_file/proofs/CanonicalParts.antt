@@ -4,6 +4,10 @@ use Rattle.std.specs.Prelude.{flat_map, nat_lt, ◌&&◌}
 use Rattle.std.proofs.lemmas.Bool.Decides.{nat_tests}
 use Rattle.std.specs.Int.{w16, w32, to_le_bytes}
 use Rattle.std.specs.List.{AllByRecursion}
+use Rattle.dwg_base.specs.Versions.{version_bytes}
+use Rattle.dwg_base.specs.declared.version.Version.{Version}
+use Rattle.dwg_base.specs.declared.version.Version.TheVariants.{Ac1014, Ac1015}
+use Rattle.dwg_sections.proofs.HeaderComplete.{header_is_counted}
 use Rattle.dwg_base.specs.Bytes.{AreBytes}
 use Rattle.dwg_bits.specs.Bits.{bits}
 use Rattle.dwg_bits.proofs.PaddingLaw.{padding_fills}
@@ -21,7 +25,7 @@ use Rattle.dwg_sections.specs.declared.framed.Framed.{Framed}
 use Rattle.dwg_sections.specs.declared.framed.Framed.TheVariants.{Variables, Classes}
 use Rattle.dwg_sections.specs.declared.header.Locator.{Locator}
 use Rattle.dwg_sections.specs.declared.header.FileHeader.{FileHeader}
-use Rattle.dwg_sections.specs.FileHeader.{VERSION, HEADER_SENTINEL, locator_bytes, header_front, header_bytes, IsLocator, IsFileHeader}
+use Rattle.dwg_sections.specs.FileHeader.{HEADER_SENTINEL, locator_bytes, header_front, header_bytes, IsLocator, IsFileHeader}
 use Rattle.dwg_sections.specs.Framed.{VARIABLES_SENTINEL, CLASSES_SENTINEL, begin_sentinel, end_sentinel, complemented, sized_content, framed_bytes}
 use Rattle.dwg_file.specs.Canonical.{PREVIEW, class_content}
 use Rattle.dwg_file.proofs.SevenPieces.{length_of_seven, seven_are_bytes}
@@ -38,24 +42,9 @@ tested_bytes (byte ∷ bytes) test =
     let one : byte < 2 ^ 8 = grind (arith, nat_tests) in
     let rest : all_small bytes ≡ true = grind (arith, nat_tests) in (one, tested_bytes bytes rest)
 
--- so many locators have nine times so many bytes
-length_of_locators : (locators : List Locator) → length (flat_map locator_bytes locators) ≡ 9 * length locators
-length_of_locators [] = refl
-length_of_locators (locator ∷ locators) = omega (arith, length_of_locators locators)
-
 -- a header has 43 bytes, and nine for each locator
 pub length_of_header : (header : FileHeader) → IsFileHeader header → length (header_bytes header) ≡ 43 + 9 * length header.locators
-length_of_header header is =
-    let check : List ℕ = to_le_bytes w16 (header_check_word (length header.locators) (header_front header)) in
-    omega (
-      arith,
-      length-append (header_front header ++ check) HEADER_SENTINEL,
-      length-append (header_front header) check,
-      length_of_seven VERSION header.lead (to_le_bytes w32 header.preview) header.mark (to_le_bytes w16 header.code_page) (to_le_bytes w32 (length header.locators)) (flat_map locator_bytes header.locators),
-      length_of_locators header.locators,
-      is.lead.0,
-      is.mark.0,
-    )
+length_of_header = header_is_counted
 
 -- locators are written in bytes
 locators_are_bytes : (locators : List Locator) → AllByRecursion IsLocator locators → AreBytes (flat_map locator_bytes locators)
@@ -71,13 +60,14 @@ header_is_bytes header is =
     let check : List ℕ = to_le_bytes w16 (header_check_word (length header.locators) (header_front header)) in
     bytes_joined (header_front header ++ check) HEADER_SENTINEL
     (bytes_joined (header_front header) check
-    (seven_are_bytes VERSION header.lead (to_le_bytes w32 header.preview) header.mark (to_le_bytes w16 header.code_page) (to_le_bytes w32 (length header.locators)) (flat_map locator_bytes header.locators)
-    version is.lead.1 (bytes_of_number 0 4 header.preview) is.mark.1 (bytes_of_number 0 2 header.code_page) (bytes_of_number 0 4 (length header.locators)) (locators_are_bytes header.locators is.locators))
+    (seven_are_bytes (version_bytes header.version) header.lead (to_le_bytes w32 header.preview) header.mark (to_le_bytes w16 header.code_page) (to_le_bytes w32 (length header.locators)) (flat_map locator_bytes header.locators)
+    (version header.version) is.lead.1 (bytes_of_number 0 4 header.preview) is.mark.1 (bytes_of_number 0 2 header.code_page) (bytes_of_number 0 4 (length header.locators)) (locators_are_bytes header.locators is.locators))
     (bytes_of_number 0 2 (header_check_word (length header.locators) (header_front header))))
     sentinel
   where
-    version : AreBytes VERSION
-    version = tested_bytes VERSION refl
+    version : (version : Version) → AreBytes (version_bytes version)
+    version Ac1014 = tested_bytes (version_bytes Ac1014) refl
+    version Ac1015 = tested_bytes (version_bytes Ac1015) refl
 
     sentinel : AreBytes HEADER_SENTINEL
     sentinel = tested_bytes HEADER_SENTINEL refl

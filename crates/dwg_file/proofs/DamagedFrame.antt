@@ -161,15 +161,15 @@ pub frame_damaged : DamageUnderSealShows → (drawing : Contents) (bytes : List 
 unfolding frame_bytes
 frame_damaged shows drawing bytes earlier frame later is small are whole damaged =
     let written =
-    (all_of_front (IsWritten drawing.classes (canonical drawing)) earlier (frame ∷ later)
-    (subst (AllByRecursion (IsWritten drawing.classes (canonical drawing))) whole (canonical_written drawing is small))).1.0 in
-    let body : List ℕ = body_bytes frame.object in
+    (all_of_front (IsWritten drawing.version drawing.classes (canonical drawing)) earlier (frame ∷ later)
+    (subst (AllByRecursion (IsWritten drawing.version drawing.classes (canonical drawing))) whole (canonical_written drawing is small))).1.0 in
+    let body : List ℕ = body_bytes drawing.version frame.object in
     let size : List ℕ = ms.short (length body) in
     let short : length (ms.short (length frame.body)) ≡ length size = ap (λ (b : List ℕ). length (ms.short (length b))) written.body in
     let to : ℕ = length damaged.differ.before + length damaged.differ.here in
     damage_of shows (canonical drawing) bytes (length damaged.differ.before) to frame.pair.place size body (damaged_spliced drawing frame bytes damaged) (canonical_is_counted drawing is small).1 are
-    damaged.differ.few damaged.differ.differ (ms_is_code.canonical (length body) (ms_has (length body) (omega (arith, (valid_fits drawing.classes frame.object written.valid).2)))) written.stands
-    (omega (arith, damaged.from, short)) (omega (arith, damaged.to, written.ends, length_of_frame frame.object))
+    damaged.differ.few damaged.differ.differ (ms_is_code.canonical (length body) (ms_has (length body) (omega (arith, (valid_fits drawing.version drawing.classes frame.object written.valid).2)))) written.stands
+    (omega (arith, damaged.from, short)) (omega (arith, damaged.to, written.ends, length_of_frame drawing.version frame.object))
 
 -- the check word of a damaged frame is refused
 check_refused : (bytes : List ℕ) (place index : ℕ) → FrameDamage bytes place → CheckRefused bytes place index (frame_refusal 30 index place)
@@ -197,7 +197,7 @@ shares_none (frame ∷ frames) place span before from (inr more) = shares_none f
 -- the damaged frame is the first that fails a line
 pub damaged_is_first : DamageUnderSealShows → (drawing : Contents) (bytes : List ℕ) (earlier : List PairFrame) (frame : PairFrame) (later : List PairFrame) → IsValid drawing
     → size_of drawing ≤ MOST_BYTES → AreBytes bytes → canonical_frames drawing ≡ earlier ++ frame ∷ later → IsDamagedShortly drawing frame bytes
-    → FramesRefused drawing.classes bytes (placed (objects_place drawing) drawing.objects) (frame_refusal 30 (length earlier) frame.pair.place)
+    → FramesRefused drawing.classes bytes (placed drawing.version (objects_place drawing) drawing.objects) (frame_refusal 30 (length earlier) frame.pair.place)
 damaged_is_first shows drawing bytes earlier frame later is small are whole damaged =
     let before = earlier_stand drawing bytes earlier frame later is small whole damaged in
     let damage = frame_damaged shows drawing bytes earlier frame later is small are whole damaged in

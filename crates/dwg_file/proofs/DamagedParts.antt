@@ -1,13 +1,16 @@
 -- What stands in a canonical file beside a frame that is damaged: it stands in the damaged input too.
-use Rattle.std.proofs.Common.{◌≡◌, refl, ◌∙◌, ap, subst, inl, inr, ℕ, ◌+◌, ◌≤◌, List, [], ◌∷◌, ◌++◌, length, length-append, arith}
+use Rattle.std.proofs.Common.{◌≡◌, refl, sym, ◌∙◌, ap, subst, inl, inr, ℕ, ◌+◌, ◌≤◌, List, [], ◌∷◌, ◌++◌, length, length-append, arith}
+use Rattle.dwg_base.specs.declared.version.Version.{Version}
 use Rattle.std.specs.Prelude.{map, AllPairs}
 use Rattle.std.specs.Int.{w16, to_le_bytes}
 use Rattle.std.specs.List.{AllByRecursion}
 use Rattle.std.proofs.lemmas.List.{map-append}
 use Rattle.dwg_base.specs.Bytes.{StandsAt}
 use Rattle.dwg_base.specs.Devices.{MOST_BYTES}
+use Rattle.dwg_base.specs.Versions.{version_at}
 use Rattle.dwg_check.specs.CheckWord.{FRAME_START, check_word}
 use Rattle.dwg_classes.specs.declared.class.Class.{Class}
+use Rattle.dwg_object.specs.Forms.{FormOf}
 use Rattle.dwg_object.specs.Frames.{frame_bytes, framed_body}
 use Rattle.dwg_object.proofs.StandingLemmas.{drop_stands}
 use Rattle.dwg_object.specs.Objects.{ObjectValue}
@@ -16,11 +19,12 @@ use Rattle.dwg_objmap.specs.Pages.{MapOf}
 use Rattle.dwg_sections.specs.declared.framed.Framed.TheVariants.{Variables, Classes}
 use Rattle.dwg_sections.specs.FileHeader.{BeginsWithHeader, header_bytes}
 use Rattle.dwg_sections.specs.Framed.{FramedAt, framed_bytes}
+use Rattle.dwg_sections.proofs.HeaderComplete.{header_tells_version}
 use Rattle.dwg_file.specs.Canonical.{canonical, class_content, classes_place, frames_bytes, header_of, map_of, map_place, objects_place, others_place, placed, preview_place, size_of, variables_place}
 use Rattle.dwg_file.specs.CanonicalFrames.{canonical_frames, frames_from}
 use Rattle.dwg_file.proofs.CanonicalFrames.{frames_apart, frames_stand, pairs_of_frames}
 use Rattle.dwg_file.proofs.CanonicalHeader.{header_fits}
-use Rattle.dwg_file.proofs.CanonicalLaws.{canonical_ascends, canonical_is_counted, header_reaches, parts_stand}
+use Rattle.dwg_file.proofs.CanonicalLaws.{canonical_ascends, canonical_is_counted, canonical_version, header_reaches, parts_stand}
 use Rattle.dwg_file.specs.CanonicalBytes.{HasPart}
 use Rattle.dwg_file.proofs.CanonicalParts.{length_of_framed}
 use Rattle.dwg_file.specs.Contents.{Contents}
@@ -42,11 +46,11 @@ pub record AreInOrder (most : ℕ) (frame : PairFrame) : Type 0 where
   pub within : frame.end ≤ most
 
 -- each frame of objects one behind the other is
-frames_in_order : (objects : List ObjectValue) (place most : ℕ) → place + length (frames_bytes objects) ≤ most → AllByRecursion (AreInOrder most) (frames_from place objects)
-frames_in_order [] place most fits = tt
-frames_in_order (object ∷ objects) place most fits =
-    let long : length (frames_bytes (object ∷ objects)) ≡ length (frame_bytes object) + length (frames_bytes objects) = length-append (frame_bytes object) (frames_bytes objects) in
-    (record { order = omega arith; within = omega (arith, fits, long) }, frames_in_order objects (place + length (frame_bytes object)) most (omega (arith, fits, long)))
+frames_in_order : (version : Version) (objects : List ObjectValue) (place most : ℕ) → place + length (frames_bytes version objects) ≤ most → AllByRecursion (AreInOrder most) (frames_from version place objects)
+frames_in_order version [] place most fits = tt
+frames_in_order version (object ∷ objects) place most fits =
+    let long : length (frames_bytes version (object ∷ objects)) ≡ length (frame_bytes version object) + length (frames_bytes version objects) = length-append (frame_bytes version object) (frames_bytes version objects) in
+    (record { order = omega arith; within = omega (arith, fits, long) }, frames_in_order version objects (place + length (frame_bytes version object)) most (omega (arith, fits, long)))
 
 -- frames that end before the damage are as they were
 before_same : (drawing : Contents) (bytes : List ℕ) (from to : ℕ) → IsSpliced (canonical drawing) bytes from to → (limit : ℕ) → limit ≤ from → (frames : List PairFrame)
@@ -74,14 +78,14 @@ else_is_same drawing bytes earlier frame later is small whole damaged =
     let splice = damaged_spliced drawing frame bytes damaged in
     let from : ℕ = length damaged.differ.before in
     let to : ℕ = length damaged.differ.before + length damaged.differ.here in
-    let among = lies_among drawing.objects (objects_place drawing) earlier frame later whole in
+    let among = lies_among drawing.version drawing.objects (objects_place drawing) earlier frame later whole in
     let size : length (canonical drawing) ≡ size_of drawing = (canonical_is_counted drawing is small).0 in
     let ahead : frame.pair.place ≤ from = omega (arith, damaged.from) in
     let past : to ≤ frame.end = damaged.to in
     let stays = same_part (canonical drawing) bytes from to splice in
     let orders = all_of_front (AreInOrder (length (canonical drawing))) earlier (frame ∷ later)
     (subst (AllByRecursion (AreInOrder (length (canonical drawing)))) whole
-    (frames_in_order drawing.objects (objects_place drawing) (length (canonical drawing)) (omega (arith, size)))) in
+    (frames_in_order drawing.version drawing.objects (objects_place drawing) (length (canonical drawing)) (omega (arith, size)))) in
     record {
       long = spliced_long (canonical drawing) bytes from to splice;
       header = stays 0 (variables_place drawing) (omega arith) (omega (arith, size)) (inl (omega (arith, ahead, among.from)));
@@ -98,7 +102,7 @@ pub record DamagedStands (drawing : Contents) (bytes : List ℕ) : Type 0 where
   pub begins : BeginsWithHeader bytes (header_of drawing)
   pub variables : FramedAt bytes (variables_place drawing) Variables drawing.variables
   pub classes : FramedAt bytes (classes_place drawing) Classes (class_content drawing.classes)
-  pub mapped : MapOf bytes (map_place drawing) (placed (objects_place drawing) drawing.objects)
+  pub mapped : MapOf bytes (map_place drawing) (placed drawing.version (objects_place drawing) drawing.objects)
 
 pub damaged_stands : (drawing : Contents) (bytes : List ℕ) (earlier : List PairFrame) (frame : PairFrame) (later : List PairFrame) → IsValid drawing → size_of drawing ≤ MOST_BYTES
     → canonical_frames drawing ≡ earlier ++ frame ∷ later → IsDamagedShortly drawing frame bytes → DamagedStands drawing bytes
@@ -107,7 +111,7 @@ damaged_stands drawing bytes earlier frame later is small whole damaged =
     let stand = parts_stand drawing fits in
     let from : ℕ = length damaged.differ.before in
     let to : ℕ = length damaged.differ.before + length damaged.differ.here in
-    let among = lies_among drawing.objects (objects_place drawing) earlier frame later whole in
+    let among = lies_among drawing.version drawing.objects (objects_place drawing) earlier frame later whole in
     let ahead : objects_place drawing ≤ from = omega (arith, damaged.from, among.from) in
     let past : to ≤ map_place drawing = omega (arith, damaged.to, among.to) in
     let still = stands_still (canonical drawing) bytes from to (damaged_spliced drawing frame bytes damaged) in
@@ -127,14 +131,14 @@ damaged_stands drawing bytes earlier frame later is small whole damaged =
         stands = still (classes_place drawing) classes stand.classes (inl (omega (arith, ahead, length_of_framed Classes (class_content drawing.classes))));
       };
       mapped =
-          map_is_written (map_place drawing) bytes (placed (objects_place drawing) drawing.objects) (canonical_ascends drawing is)
+          map_is_written (map_place drawing) bytes (placed drawing.version (objects_place drawing) drawing.objects) (canonical_ascends drawing is)
           (still (map_place drawing) (map_of drawing) stand.mapped (inr past));
     }
 
--- a frame that ends before the damage stands there still
-frame_still : (classes : List Class) (one other : List ℕ) (from to : ℕ) → IsSpliced one other from to → (frame : PairFrame) → frame.end ≤ from → IsFrameOfPair classes one frame
+-- a frame that ends before the damage stands there still, where the version is as it was
+frame_still : (classes : List Class) (one other : List ℕ) (from to : ℕ) → version_at one ≡ version_at other → IsSpliced one other from to → (frame : PairFrame) → frame.end ≤ from → IsFrameOfPair classes one frame
     → IsFrameOfPair classes other frame
-frame_still classes one other from to splice frame ahead is =
+frame_still classes one other from to same splice frame ahead is =
     let piece : List ℕ = framed_body is.stands.size frame.body in
     let front : List ℕ = is.stands.size ++ frame.body in
     let long : length piece ≡ length is.stands.size + length frame.body + 2 =
@@ -146,17 +150,17 @@ frame_still classes one other from to splice frame ahead is =
         stands = stands_still one other from to splice frame.pair.place piece is.stands.stands (inl (omega (arith, long, ahead, is.stands.ends)));
         ends = is.stands.ends;
       };
-      form = is.form;
+      form = subst (λ (v : Version). FormOf v classes frame.body frame.object) same is.form;
       own = is.own;
     }
 
 -- so do all that do
-frames_still : (classes : List Class) (one other : List ℕ) (from to : ℕ) → IsSpliced one other from to → (limit : ℕ) → limit ≤ from → (frames : List PairFrame)
+frames_still : (classes : List Class) (one other : List ℕ) (from to : ℕ) → version_at one ≡ version_at other → IsSpliced one other from to → (limit : ℕ) → limit ≤ from → (frames : List PairFrame)
     → AllByRecursion (λ (frame : PairFrame). frame.end ≤ limit) frames → AllByRecursion (IsFrameOfPair classes one) frames → AllByRecursion (IsFrameOfPair classes other) frames
-frames_still classes one other from to splice limit ahead [] end are = tt
-frames_still classes one other from to splice limit ahead (frame ∷ frames) end are = (
-  frame_still classes one other from to splice frame (omega (arith, ahead, end.0)) are.0,
-  frames_still classes one other from to splice limit ahead frames end.1 are.1,
+frames_still classes one other from to same splice limit ahead [] end are = tt
+frames_still classes one other from to same splice limit ahead (frame ∷ frames) end are = (
+  frame_still classes one other from to same splice frame (omega (arith, ahead, end.0)) are.0,
+  frames_still classes one other from to same splice limit ahead frames end.1 are.1,
 )
 
 -- the earlier frames stand in the damaged input, share no byte, and end before the damaged one
@@ -164,24 +168,28 @@ pub record EarlierStand (drawing : Contents) (bytes : List ℕ) (earlier : List 
   pub stand : AllByRecursion (IsFrameOfPair drawing.classes bytes) earlier
   pub apart : AllPairs AreApart earlier
   pub before : AllByRecursion (λ (one : PairFrame). one.end ≤ frame.pair.place) earlier
-  pub whole : placed (objects_place drawing) drawing.objects ≡ map (λ (one : PairFrame). one.pair) earlier ++ frame.pair ∷ map (λ (one : PairFrame). one.pair) later
+  pub whole : placed drawing.version (objects_place drawing) drawing.objects ≡ map (λ (one : PairFrame). one.pair) earlier ++ frame.pair ∷ map (λ (one : PairFrame). one.pair) later
 
 pub earlier_stand : (drawing : Contents) (bytes : List ℕ) (earlier : List PairFrame) (frame : PairFrame) (later : List PairFrame) → IsValid drawing → size_of drawing ≤ MOST_BYTES
     → canonical_frames drawing ≡ earlier ++ frame ∷ later → IsDamagedShortly drawing frame bytes → EarlierStand drawing bytes earlier frame later
 earlier_stand drawing bytes earlier frame later is small whole damaged =
-    let stand = parts_stand drawing (header_fits drawing is small) in
-    let among = lies_among drawing.objects (objects_place drawing) earlier frame later whole in
-    let all = frames_stand drawing.classes (canonical drawing) drawing.objects (objects_place drawing) is.objects stand.frames in
+    let fits = header_fits drawing is small in
+    let stand = parts_stand drawing fits in
+    let among = lies_among drawing.version drawing.objects (objects_place drawing) earlier frame later whole in
+    let own = canonical_version drawing fits in
+    let same : version_at (canonical drawing) ≡ version_at bytes =
+    sym own ∙ header_tells_version bytes (header_of drawing) (damaged_stands drawing bytes earlier frame later is small whole damaged).begins in
+    let all = frames_stand drawing.version drawing.classes (canonical drawing) drawing.objects (objects_place drawing) own is.objects stand.frames in
     let to : ℕ = length damaged.differ.before + length damaged.differ.here in
     record {
       stand =
-          frames_still drawing.classes (canonical drawing) bytes (length damaged.differ.before) to (damaged_spliced drawing frame bytes damaged) frame.pair.place (omega (arith, damaged.from)) earlier
+          frames_still drawing.classes (canonical drawing) bytes (length damaged.differ.before) to same (damaged_spliced drawing frame bytes damaged) frame.pair.place (omega (arith, damaged.from)) earlier
           among.before
           (all_of_front (IsFrameOfPair drawing.classes (canonical drawing)) earlier (frame ∷ later)
           (subst (AllByRecursion (IsFrameOfPair drawing.classes (canonical drawing))) whole all)).0;
-      apart = pairs_of_front AreApart earlier (frame ∷ later) (subst (AllPairs AreApart) whole (frames_apart drawing.objects (objects_place drawing)));
+      apart = pairs_of_front AreApart earlier (frame ∷ later) (subst (AllPairs AreApart) whole (frames_apart drawing.version drawing.objects (objects_place drawing)));
       before = among.before;
       whole =
-          pairs_of_frames drawing.objects (objects_place drawing) ∙ ap (map (λ (one : PairFrame). one.pair)) whole
+          pairs_of_frames drawing.version drawing.objects (objects_place drawing) ∙ ap (map (λ (one : PairFrame). one.pair)) whole
           ∙ map-append (λ (one : PairFrame). one.pair) earlier (frame ∷ later);
     }

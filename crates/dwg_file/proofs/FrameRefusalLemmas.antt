@@ -1,4 +1,5 @@
 -- The lines on frames refuse an input with a map exactly where a pair is the first whose frame fails.
+use Rattle.dwg_base.specs.Versions.{version_at}
 use Rattle.std.proofs.Common.{◌≡◌, refl, sym, ◌∙◌, ap, ap₂, subst, inl, inr, ℕ, ◌+◌, Bool, true, false, List, [], ◌∷◌, ◌++◌, length, Some, append_assoc, arith}
 use Rattle.std.specs.Prelude.{⊤, ◌⊎◌, ◌<◌, ◌==◌, ◌&&◌, ◌||◌, map, nat_lt, Ok, Err, if◌then◌else◌}
 use Rattle.std.specs.List.{AllByRecursion}
@@ -112,11 +113,11 @@ pair_refused : (bytes : List ℕ) (founds : List FoundFrame) (frames : List Pair
 unfolding tried_pair
 pair_refused bytes founds frames index pair refusal are same fails = of_span (tried_span pair.place index bytes) refl fails
   where
-    of_found : (span : Span) (found : FoundFrame) → (Overlaps bytes frames pair → ⊥) → tried_frame pair.place index bytes ≡ Ok found → (test : Bool) → (found.1.own == pair.handle) ≡ test
+    of_found : (span : Span) (found : FoundFrame) → (Overlaps bytes frames pair → ⊥) → tried_frame (version_at bytes) pair.place index bytes ≡ Ok found → (test : Bool) → (found.1.own == pair.handle) ≡ test
         → ◌≡◌ {A = Tried FoundFrame} (if test then Ok found else Err (frame_refusal 32 index pair.place)) (Err refusal) → PairRefused bytes frames index pair refusal
     of_found span found apart is true own fails = absurd cc
     of_found span found apart is false own fails =
-        let told = (tried_frame_means bytes pair.place index (Ok found) are).0 is in
+        let told = (tried_frame_means (version_at bytes) bytes pair.place index (Ok found) are).0 is in
         inr (inr (
           apart,
           inr (inr (record {
@@ -130,19 +131,19 @@ pair_refused bytes founds frames index pair refusal are same fails = of_span (tr
         ))
 
     of_told : (span : Span) → SpanAt bytes span → span.from ≡ pair.place → (Overlaps bytes frames pair → ⊥)
-        → SpanRefused bytes pair.place index refusal ⊎ (CheckRefused bytes pair.place index refusal ⊎ HeadRefused bytes pair.place index refusal) → PairRefused bytes frames index pair refusal
+        → SpanRefused bytes pair.place index refusal ⊎ (CheckRefused bytes pair.place index refusal ⊎ HeadRefused (version_at bytes) bytes pair.place index refusal) → PairRefused bytes frames index pair refusal
     of_told span stands from apart (inl refused) = absurd (span_unrefused bytes pair.place index span refusal stands from refused)
     of_told span stands from apart (inr (inl check)) = inr (inr (apart, inl check))
     of_told span stands from apart (inr (inr head)) = inr (inr (apart, inr (inl head)))
 
-    of_frame : (span : Span) → SpanAt bytes span → span.from ≡ pair.place → (Overlaps bytes frames pair → ⊥) → (tried : Tried FoundFrame) → tried_frame pair.place index bytes ≡ tried
+    of_frame : (span : Span) → SpanAt bytes span → span.from ≡ pair.place → (Overlaps bytes frames pair → ⊥) → (tried : Tried FoundFrame) → tried_frame (version_at bytes) pair.place index bytes ≡ tried
         → with_handle pair index tried ≡ Err refusal → PairRefused bytes frames index pair refusal
     of_frame span stands from apart (Err other) is fails =
-        of_told span stands from apart ((tried_frame_means bytes pair.place index (Err refusal) are).0 (is ∙ fails))
+        of_told span stands from apart ((tried_frame_means (version_at bytes) bytes pair.place index (Err refusal) are).0 (is ∙ fails))
     of_frame span stands from apart (Ok found) is fails = of_found span found apart is (found.1.own == pair.handle) refl fails
 
     of_touch : (span : Span) → SpanAt bytes span → span.from ≡ pair.place → (test : Bool) → touches founds span.from span.end ≡ test
-        → (if test then Err (frame_refusal 29 index pair.place) else with_handle pair index (tried_frame pair.place index bytes)) ≡ Err refusal
+        → (if test then Err (frame_refusal 29 index pair.place) else with_handle pair index (tried_frame (version_at bytes) pair.place index bytes)) ≡ Err refusal
         → PairRefused bytes frames index pair refusal
     of_touch span stands from true touched fails =
         inr (inl (
@@ -150,7 +151,7 @@ pair_refused bytes founds frames index pair refusal are same fails = of_span (tr
           sym (err_same (frame_refusal 29 index pair.place) refusal fails),
         ))
     of_touch span stands from false free fails =
-        of_frame span stands from (apart_of bytes founds frames pair span same stands from free) (tried_frame pair.place index bytes) refl fails
+        of_frame span stands from (apart_of bytes founds frames pair span same stands from free) (tried_frame (version_at bytes) pair.place index bytes) refl fails
 
     of_span : (tried : Tried Span) → tried_span pair.place index bytes ≡ tried → with_span bytes founds pair index tried ≡ Err refusal → PairRefused bytes frames index pair refusal
     of_span (Err other) is fails =
@@ -166,28 +167,28 @@ unfolding tried_pair
 refused_pair bytes founds frames index pair refusal are same fails = of_cause fails
   where
     goes_on : (span : Span) → SpanAt bytes span → span.from ≡ pair.place → (Overlaps bytes frames pair → ⊥)
-        → with_span bytes founds pair index (tried_span pair.place index bytes) ≡ with_handle pair index (tried_frame pair.place index bytes)
+        → with_span bytes founds pair index (tried_span pair.place index bytes) ≡ with_handle pair index (tried_frame (version_at bytes) pair.place index bytes)
     goes_on span stands from apart =
         ap (with_span bytes founds pair index) ((tried_span_means bytes pair.place index (Ok span) are).1 (stands, from))
-        ∙ ap (λ test. if test then Err (frame_refusal 29 index pair.place) else with_handle pair index (tried_frame pair.place index bytes))
+        ∙ ap (λ test. if test then Err (frame_refusal 29 index pair.place) else with_handle pair index (tried_frame (version_at bytes) pair.place index bytes))
         (untouched bytes founds frames pair span same stands from apart)
 
     of_cause : PairRefused bytes frames index pair refusal → with_span bytes founds pair index (tried_span pair.place index bytes) ≡ Err refusal
     of_cause (inl span) = ap (with_span bytes founds pair index) ((tried_span_means bytes pair.place index (Err refusal) are).1 span)
     of_cause (inr (inl (overlaps, line))) =
         ap (with_span bytes founds pair index) ((tried_span_means bytes pair.place index (Ok overlaps.span) are).1 (overlaps.stands, overlaps.from))
-        ∙ ap (λ test. if test then Err (frame_refusal 29 index pair.place) else with_handle pair index (tried_frame pair.place index bytes))
+        ∙ ap (λ test. if test then Err (frame_refusal 29 index pair.place) else with_handle pair index (tried_frame (version_at bytes) pair.place index bytes))
         (touches_of_shares founds frames overlaps.span same overlaps.shares)
         ∙ ap Err (sym line)
     of_cause (inr (inr (apart, inl check))) =
         goes_on check.span check.stands check.from apart
-        ∙ ap (with_handle pair index) ((tried_frame_means bytes pair.place index (Err refusal) are).1 (inr (inl check)))
+        ∙ ap (with_handle pair index) ((tried_frame_means (version_at bytes) bytes pair.place index (Err refusal) are).1 (inr (inl check)))
     of_cause (inr (inr (apart, inr (inl head)))) =
         goes_on head.span head.framed.stands head.framed.from apart
-        ∙ ap (with_handle pair index) ((tried_frame_means bytes pair.place index (Err refusal) are).1 (inr (inr head)))
+        ∙ ap (with_handle pair index) ((tried_frame_means (version_at bytes) bytes pair.place index (Err refusal) are).1 (inr (inr head)))
     of_cause (inr (inr (apart, inr (inr handle)))) =
         goes_on handle.span handle.framed.stands handle.framed.from apart
-        ∙ ap (with_handle pair index) ((tried_frame_means bytes pair.place index (Ok (handle.span, handle.parts)) are).1 (handle.framed, handle.head))
+        ∙ ap (with_handle pair index) ((tried_frame_means (version_at bytes) bytes pair.place index (Ok (handle.span, handle.parts)) are).1 (handle.framed, handle.head))
         ∙ ap (λ test. if test then Ok (handle.span, handle.parts) else Err (frame_refusal 32 index pair.place)) (other_test handle.parts.own pair.handle handle.other)
         ∙ ap Err (sym handle.line)
       where

@@ -1,5 +1,6 @@
 -- Reading frames pair by pair: what was read so far, and what is left.
 use Rattle.std.proofs.Common.{◌≡◌, refl, sym, ◌∙◌, ap, ap₂, subst, ℕ, ◌+◌, ◌-◌, ◌<◌, ◌≤◌, Bool, true, false, List, [], ◌∷◌, ◌++◌, length, take, drop, map, get_or, arith, add-one}
+use Rattle.dwg_base.specs.Versions.{version_at}
 use Rattle.std.specs.Prelude.{◌&&◌, ◌||◌, nat_lt, Ok, Err}
 use Rattle.std.proofs.Math.Seq.{drop-cons}
 use Rattle.std.proofs.lemmas.Bool.Decides.{nat_tests}
@@ -26,7 +27,7 @@ use Rattle.dwg_file.specs.Taken.{Run, meets, shares}
 
 -- one body more is read as one object more
 forms_with : (classes : List Class) (bytes : List ℕ) (frames : List FoundFrame) (values : List ObjectValue) (frame : FoundFrame) (value : ObjectValue) → AreFormsOf classes bytes frames values
-    → FormOf classes (span_body bytes frame.0) value → AreFormsOf classes bytes (frames ++ frame ∷ []) (values ++ value ∷ [])
+    → FormOf (version_at bytes) classes (span_body bytes frame.0) value → AreFormsOf classes bytes (frames ++ frame ∷ []) (values ++ value ∷ [])
 forms_with classes bytes [] values frame value forms form = (value, [], ap (λ v. v ++ value ∷ []) forms, form, refl)
 forms_with classes bytes (first ∷ frames) values frame value forms form =
     (forms.0, forms.1 ++ value ∷ [], ap (λ v. v ++ value ∷ []) forms.2, forms.3, forms_with classes bytes frames forms.1 frame value forms.4 form)

@@ -1,5 +1,6 @@
 -- The frames that are found of pairs are those that stand at their places, and share no byte. A rule of this project.
 use Rattle.std.proofs.Common.{◌≡◌, refl, sym, ◌∙◌, ap, subst, ℕ, ◌+◌, Bool, true, false, List, [], ◌∷◌, ◌++◌, append_assoc, arith}
+use Rattle.dwg_base.specs.Versions.{version_at}
 use Rattle.std.specs.Prelude.{◌==◌, Ok, Err, if◌then◌else◌}
 use Rattle.std.proofs.lemmas.Bool.Decides.{nat_tests}
 use Rattle.std.proofs.lemmas.List.{append-nil}
@@ -18,7 +19,7 @@ use Rattle.dwg_file.specs.FileLines.{FoundFrame, touches, with_handle, with_span
 -- what was found of the frame of a pair, behind those of earlier pairs, stands there
 pub record IsFound (bytes : List ℕ) (earlier : List FoundFrame) (pair : Pair) (found : FoundFrame) : Type 0 where
   pub framed : IsFramed bytes pair.place found.0
-  pub head : HasHead (bits (span_body bytes found.0)) found.1
+  pub head : HasHead (version_at bytes) (bits (span_body bytes found.0)) found.1
   pub own : found.1.own ≡ pair.handle
   pub free : touches earlier found.0.from found.0.end ≡ false
 
@@ -47,7 +48,7 @@ handle_told pair index (Ok other) found same = of_test (other.1.own == pair.hand
 
 -- what was found of a pair is tried of its span and of its frame, and shares no byte with an earlier frame
 span_told : (bytes : List ℕ) (earlier : List FoundFrame) (pair : Pair) (index : ℕ) (tried : Tried Span) (found : FoundFrame) → with_span bytes earlier pair index tried ≡ Ok found
-    → (span : Span) × (tried ≡ Ok span) × (touches earlier span.from span.end ≡ false) × (with_handle pair index (tried_frame pair.place index bytes) ≡ Ok found)
+    → (span : Span) × (tried ≡ Ok span) × (touches earlier span.from span.end ≡ false) × (with_handle pair index (tried_frame (version_at bytes) pair.place index bytes) ≡ Ok found)
 span_told bytes earlier pair index (Err refusal) found same = absurd cc
 span_told bytes earlier pair index (Ok span) found same = of_test (touches earlier span.from span.end) refl
   where
@@ -55,17 +56,17 @@ span_told bytes earlier pair index (Ok span) found same = of_test (touches earli
     not_refused is = cc
 
     of_test : (test : Bool) → touches earlier span.from span.end ≡ test
-        → (other : Span) × (◌≡◌ {A = Tried Span} (Ok span) (Ok other)) × (touches earlier other.from other.end ≡ false) × (with_handle pair index (tried_frame pair.place index bytes) ≡ Ok found)
-    of_test false is = (span, refl, is, sym (ap (λ test. if test then Err (frame_refusal 29 index pair.place) else with_handle pair index (tried_frame pair.place index bytes)) is) ∙ same)
-    of_test true is = absurd (not_refused (sym (ap (λ test. if test then Err (frame_refusal 29 index pair.place) else with_handle pair index (tried_frame pair.place index bytes)) is) ∙ same))
+        → (other : Span) × (◌≡◌ {A = Tried Span} (Ok span) (Ok other)) × (touches earlier other.from other.end ≡ false) × (with_handle pair index (tried_frame (version_at bytes) pair.place index bytes) ≡ Ok found)
+    of_test false is = (span, refl, is, sym (ap (λ test. if test then Err (frame_refusal 29 index pair.place) else with_handle pair index (tried_frame (version_at bytes) pair.place index bytes)) is) ∙ same)
+    of_test true is = absurd (not_refused (sym (ap (λ test. if test then Err (frame_refusal 29 index pair.place) else with_handle pair index (tried_frame (version_at bytes) pair.place index bytes)) is) ∙ same))
 
 -- what is found of a pair stands there
 pub pair_found : (bytes : List ℕ) (earlier : List FoundFrame) (index : ℕ) (pair : Pair) (found : FoundFrame) → AreBytes bytes → tried_pair bytes earlier index pair ≡ Ok found → IsFound bytes earlier pair found
 unfolding tried_pair
 pair_found bytes earlier index pair found are same =
     let told = span_told bytes earlier pair index (tried_span pair.place index bytes) found same in
-    let handle = handle_told pair index (tried_frame pair.place index bytes) found told.3 in
-    let is = (tried_frame_means bytes pair.place index (Ok found) are).0 handle.0 in
+    let handle = handle_told pair index (tried_frame (version_at bytes) pair.place index bytes) found told.3 in
+    let is = (tried_frame_means (version_at bytes) bytes pair.place index (Ok found) are).0 handle.0 in
     let here : ◌≡◌ {A = Tried Span} (Ok told.0) (Ok found.0) = sym told.1 ∙ (tried_span_means bytes pair.place index (Ok found.0) are).1 (is.0.stands, is.0.from) in
     let span : told.0 ≡ found.0 = cc in
     record {
@@ -81,8 +82,8 @@ unfolding tried_pair
 found_pair bytes earlier index pair found are is =
     let own : (found.1.own == pair.handle) ≡ true = same_test found.1.own pair.handle is.own in
     ap (with_span bytes earlier pair index) ((tried_span_means bytes pair.place index (Ok found.0) are).1 (is.framed.stands, is.framed.from))
-    ∙ ap (λ test. if test then Err (frame_refusal 29 index pair.place) else with_handle pair index (tried_frame pair.place index bytes)) is.free
-    ∙ ap (with_handle pair index) ((tried_frame_means bytes pair.place index (Ok found) are).1 (is.framed, is.head))
+    ∙ ap (λ test. if test then Err (frame_refusal 29 index pair.place) else with_handle pair index (tried_frame (version_at bytes) pair.place index bytes)) is.free
+    ∙ ap (with_handle pair index) ((tried_frame_means (version_at bytes) bytes pair.place index (Ok found) are).1 (is.framed, is.head))
     ∙ ap (λ test. if test then Ok found else Err (frame_refusal 32 index pair.place)) own
   where
     same_test : (a b : ℕ) → a ≡ b → (a == b) ≡ true

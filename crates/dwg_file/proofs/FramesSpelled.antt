@@ -1,5 +1,7 @@
 -- The frames that are found are those that are spelled, with the objects that their bodies are read as. A rule of this project.
 use Rattle.std.proofs.Common.{◌≡◌, refl, sym, ◌∙◌, ap, ap₂, subst, ℕ, suc, Bool, true, false, List, [], ◌∷◌, ◌++◌, inl, inr, arith}
+use Rattle.dwg_base.specs.Versions.{version_at}
+use Rattle.dwg_base.specs.declared.version.Version.{Version}
 use Rattle.std.specs.Prelude.{◌&&◌, ◌||◌, nat_lt, map, AllPairs}
 use Rattle.std.specs.List.{AllByRecursion}
 use Rattle.std.proofs.lemmas.Bool.Decides.{nat_tests}
@@ -110,9 +112,9 @@ pub record FramesOf (classes : List Class) (bytes : List ℕ) (earlier : List Fo
   pub objects : values ≡ map (λ (frame : PairFrame). frame.object) frames
 
 -- an object that a body is read as has the handle of the body's head
-pub own_of_head : (classes : List Class) (body : List ℕ) (object : ObjectValue) (parts : HeadParts) → FormOf classes body object → HasHead (bits body) parts → handle_of object ≡ parts.own
-own_of_head classes body object parts form head =
-    let told = head_of_form classes body object form in
+pub own_of_head : (version : Version) (classes : List Class) (body : List ℕ) (object : ObjectValue) (parts : HeadParts) → FormOf version classes body object → HasHead version (bits body) parts → handle_of object ≡ parts.own
+own_of_head version classes body object parts form head =
+    let told = head_of_form version classes body object form in
     told.3 ∙ ap (λ (p : HeadParts). p.own) (heads_same (bits body) told.0 parts told.1 head)
 
 -- what is found of pairs, and read, are frames of the pairs
@@ -124,12 +126,12 @@ frames_of classes bytes earlier (pair ∷ pairs) founds values (found, behind, i
     let read = subst (λ (f : List FoundFrame). AreFormsOf classes bytes f values) is forms in
     with_more read (frames_of classes bytes (earlier ++ found ∷ []) pairs behind read.1 more read.4)
   where
-    with_more : (read : (object : ObjectValue) × (rest : List ObjectValue) × (values ≡ object ∷ rest) × FormOf classes (span_body bytes found.0) object × AreFormsOf classes bytes behind rest)
+    with_more : (read : (object : ObjectValue) × (rest : List ObjectValue) × (values ≡ object ∷ rest) × FormOf (version_at bytes) classes (span_body bytes found.0) object × AreFormsOf classes bytes behind rest)
         → FramesOf classes bytes (earlier ++ found ∷ []) pairs read.1 → FramesOf classes bytes earlier (pair ∷ pairs) values
     with_more (object, rest, same, form, others) all =
         let frame : PairFrame = record { pair = pair; body = span_body bytes found.0; end = found.0.end; object = object } in
         let stands : IsFrameOfPair classes bytes frame =
-        record { stands = first.framed.frame; form = form; own = own_of_head classes (span_body bytes found.0) object found.1 form first.head ∙ first.own } in
+        record { stands = first.framed.frame; form = form; own = own_of_head (version_at bytes) classes (span_body bytes found.0) object found.1 form first.head ∙ first.own } in
         record {
           frames = frame ∷ all.frames;
           framed = ap (λ more. pair ∷ more) all.framed;
@@ -153,14 +155,14 @@ pub found_of : (classes : List Class) (bytes : List ℕ) (earlier : List FoundFr
 found_of classes bytes earlier [] stand apart free = record { founds = []; found = refl; forms = refl }
 found_of classes bytes earlier (frame ∷ frames) stand apart free =
     let span = span_of_frame bytes frame.pair.place frame.body frame.end stand.0.stands in
-    let told = head_of_form classes frame.body frame.object stand.0.form in
+    let told = head_of_form (version_at bytes) classes frame.body frame.object stand.0.form in
     let found : FoundFrame = (span.span, told.0) in
     let others : AllByRecursion (AreApart frame) frames = recursion_from_All (AreApart frame) frames (λ k d within. apart 0 (suc k) d (omega arith) (omega arith)) in
     let more = found_of classes bytes (earlier ++ found ∷ []) frames stand.1 (λ i j d before within. apart (suc i) (suc j) d (omega arith) (omega arith))
     (more_of_apart earlier found frame frames span.framed.from span.same_end free.1 others) in
     let first : IsFound bytes earlier frame.pair found = record {
       framed = span.framed;
-      head = subst (λ (b : List ℕ). HasHead (bits b) told.0) (sym span.same_body) told.1;
+      head = subst (λ (b : List ℕ). HasHead (version_at bytes) (bits b) told.0) (sym span.same_body) told.1;
       own = sym told.3 ∙ stand.0.own;
       free = subst (λ n. touches earlier n span.span.end ≡ false) (sym span.framed.from) (subst (λ n. touches earlier frame.pair.place n ≡ false) (sym span.same_end) free.0);
     } in
@@ -171,7 +173,7 @@ found_of classes bytes earlier (frame ∷ frames) stand apart free =
         frame.object,
         map (λ (frame : PairFrame). frame.object) frames,
         refl,
-        subst (λ (b : List ℕ). FormOf classes b frame.object) (sym span.same_body) stand.0.form,
+        subst (λ (b : List ℕ). FormOf (version_at bytes) classes b frame.object) (sym span.same_body) stand.0.form,
         more.forms,
       );
     }
@@ -181,5 +183,5 @@ pub forms_once : (classes : List Class) (bytes : List ℕ) (founds : List FoundF
 forms_once classes bytes [] values others none also = none ∙ sym also
 forms_once classes bytes (found ∷ founds) values others (one, behind, same, form, more) (two, rest, also, other, less) =
     same
-    ∙ ap₂ (λ first back. first ∷ back) (forms_same classes (span_body bytes found.0) one two form other) (forms_once classes bytes founds behind rest more less)
+    ∙ ap₂ (λ first back. first ∷ back) (forms_same (version_at bytes) classes (span_body bytes found.0) one two form other) (forms_once classes bytes founds behind rest more less)
     ∙ sym also

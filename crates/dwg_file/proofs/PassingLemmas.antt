@@ -1,5 +1,7 @@
 -- Where no line fails, an input spells a drawing.
 use Rattle.std.proofs.Common.{◌≡◌, refl, sym, ◌∙◌, ap, ap₂, subst, ℕ, List, [], ◌∷◌, ◌++◌, None, Ok}
+use Rattle.dwg_base.specs.Versions.{version_at}
+use Rattle.dwg_base.specs.declared.version.Version.{Version}
 use Rattle.std.specs.Prelude.{map}
 use Rattle.std.specs.Result.{result_unwrap_or}
 use Rattle.std.specs.List.Sorted.{IsPermutation}
@@ -31,16 +33,16 @@ pub forms_at : (classes : List Class) (bytes : List ℕ) (earlier : List FoundFr
 forms_at classes bytes earlier [] founds none = subst (λ (f : List FoundFrame). AreFormsOf classes bytes f (objects_at classes bytes f)) (sym none) refl
 forms_at classes bytes earlier (pair ∷ pairs) founds (found, behind, is, first, more) =
     subst (λ (f : List FoundFrame). AreFormsOf classes bytes f (objects_at classes bytes f)) (sym is) (
-      form_at classes (span_body bytes found.0),
+      form_at (version_at bytes) classes (span_body bytes found.0),
       objects_at classes bytes behind,
       refl,
-      form_is_at classes (span_body bytes found.0) found.1 first.head,
+      form_is_at (version_at bytes) classes (span_body bytes found.0) found.1 first.head,
       forms_at classes bytes (earlier ++ found ∷ []) pairs behind more,
     )
 
 -- a body with a head is read as an object of its handle
-own_at : (classes : List Class) (body : List ℕ) (parts : HeadParts) → HasHead (bits body) parts → handle_of (form_at classes body) ≡ parts.own
-own_at classes body parts has = own_of_head classes body (form_at classes body) parts (form_is_at classes body parts has) has
+own_at : (version : Version) (classes : List Class) (body : List ℕ) (parts : HeadParts) → HasHead version (bits body) parts → handle_of (form_at version classes body) ≡ parts.own
+own_at version classes body parts has = own_of_head version classes body (form_at version classes body) parts (form_is_at version classes body parts has) has
 
 -- with the handles of the pairs
 handles_at : (classes : List Class) (bytes : List ℕ) (earlier : List FoundFrame) (pairs : List Pair) (founds : List FoundFrame) → AreFound bytes earlier pairs founds
@@ -48,7 +50,7 @@ handles_at : (classes : List Class) (bytes : List ℕ) (earlier : List FoundFram
 handles_at classes bytes earlier [] founds none = ap (λ (f : List FoundFrame). map handle_of (objects_at classes bytes f)) none
 handles_at classes bytes earlier (pair ∷ pairs) founds (found, behind, is, first, more) =
     ap (λ (f : List FoundFrame). map handle_of (objects_at classes bytes f)) is
-    ∙ ap₂ (λ one back. one ∷ back) (own_at classes (span_body bytes found.0) found.1 first.head ∙ first.own) (handles_at classes bytes (earlier ++ found ∷ []) pairs behind more)
+    ∙ ap₂ (λ one back. one ∷ back) (own_at (version_at bytes) classes (span_body bytes found.0) found.1 first.head ∙ first.own) (handles_at classes bytes (earlier ++ found ∷ []) pairs behind more)
 
 -- where no line fails the drawing by its places is read
 pub drawing_is_read : (bytes : List ℕ) → AreBytes bytes → first_fault ALL_LINES bytes ≡ None → ReadsAs (drawing_at bytes) bytes
@@ -66,6 +68,7 @@ drawing_is_read bytes are none =
     let handles : AreHandles (map handle_of values) = subst AreHandles (sym (handles_at (classes_at bytes) bytes [] mapped.0 found.0 found.2)) stands.handles in
     record {
       holds = none;
+      version = refl;
       lead = refl;
       mark = refl;
       code_page = refl;

@@ -1,5 +1,6 @@
 -- What the parts of a valid drawing meet, so that they can be written.
 use Rattle.std.proofs.Common.{◌≡◌, sym, ◌∙◌, ap, ap₂, subst, ℕ, ◌+◌, ◌*◌, ◌^◌, ◌<◌, ◌≤◌, List, [], ◌∷◌, ◌++◌, append_assoc, length, length-append, drop, get_or, map, arith}
+use Rattle.dwg_base.specs.declared.version.Version.{Version}
 use Rattle.std.specs.List.{AllByRecursion}
 use Rattle.std.proofs.lemmas.List.{drop_all}
 use Rattle.dwg_classes.specs.declared.class.Class.{Class}
@@ -26,79 +27,79 @@ pub valid_writable : (drawing : Contents) → IsValid drawing → AreWritable dr
 valid_writable drawing is = read_are_writable (class_content drawing.classes) drawing.classes (content_is_classes drawing.classes is.classes)
 
 -- valid objects can be framed
-objects_framed : (classes : List Class) (objects : List ObjectValue) → AllByRecursion (IsValidObject classes) objects → AllByRecursion CanBeFramed objects
-objects_framed classes [] are = tt
-objects_framed classes (object ∷ objects) are =
-    let whole = valid_fits classes object are.0 in ((whole.0, whole.2), objects_framed classes objects are.1)
+objects_framed : (version : Version) (classes : List Class) (objects : List ObjectValue) → AllByRecursion (IsValidObject version classes) objects → AllByRecursion (CanBeFramed version) objects
+objects_framed version classes [] are = tt
+objects_framed version classes (object ∷ objects) are =
+    let whole = valid_fits version classes object are.0 in ((whole.0, whole.2), objects_framed version classes objects are.1)
 
 -- so can its objects
-pub valid_framed : (drawing : Contents) → IsValid drawing → AllByRecursion CanBeFramed drawing.objects
-valid_framed drawing is = objects_framed drawing.classes drawing.objects is.objects
+pub valid_framed : (drawing : Contents) → IsValid drawing → AllByRecursion (CanBeFramed drawing.version) drawing.objects
+valid_framed drawing is = objects_framed drawing.version drawing.classes drawing.objects is.objects
 
 -- there are no more pairs than bytes of frames
-placed_few : (objects : List ObjectValue) (place : ℕ) → length (placed place objects) ≤ length (frames_bytes objects)
-placed_few [] place = omega arith
-placed_few (object ∷ objects) place =
-    omega (arith, placed_few objects (place + length (frame_bytes object)), length_of_frame object, length-append (frame_bytes object) (frames_bytes objects))
+placed_few : (version : Version) (objects : List ObjectValue) (place : ℕ) → length (placed version place objects) ≤ length (frames_bytes version objects)
+placed_few version [] place = omega arith
+placed_few version (object ∷ objects) place =
+    omega (arith, placed_few version objects (place + length (frame_bytes version object)), length_of_frame version object, length-append (frame_bytes version object) (frames_bytes version objects))
 
 -- its pairs ascend
-pub pairs_ascend_from : (drawing : Contents) (from : ℕ) (objects : List ObjectValue) (pairs : List Pair) → IsValid drawing → from ≡ objects_place drawing → objects ≡ drawing.objects → pairs ≡ placed from objects
+pub pairs_ascend_from : (drawing : Contents) (from : ℕ) (objects : List ObjectValue) (pairs : List Pair) → IsValid drawing → from ≡ objects_place drawing → objects ≡ drawing.objects → pairs ≡ placed drawing.version from objects
     → Ascend 0 pairs
 pairs_ascend_from drawing from objects pairs is there these same =
-    subst (Ascend 0) (sym (same ∙ ap₂ placed there these)) (canonical_ascends drawing is)
+    subst (Ascend 0) (sym (same ∙ ap₂ (placed drawing.version) there these)) (canonical_ascends drawing is)
 
 -- and are few
-pub pairs_few : (drawing : Contents) (from : ℕ) (objects : List ObjectValue) (pairs : List Pair) → IsValid drawing → objects ≡ drawing.objects → pairs ≡ placed from objects → length pairs < 2 ^ 58
+pub pairs_few : (drawing : Contents) (from : ℕ) (objects : List ObjectValue) (pairs : List Pair) → IsValid drawing → objects ≡ drawing.objects → pairs ≡ placed drawing.version from objects → length pairs < 2 ^ 58
 pairs_few drawing from objects pairs is these same =
     let small = is.size in
-    omega (arith, small, placed_few objects from, ap length same, ap (λ (all : List ObjectValue). length (frames_bytes all)) these)
+    omega (arith, small, placed_few drawing.version objects from, ap length same, ap (λ (all : List ObjectValue). length (frames_bytes drawing.version all)) these)
 
 -- valid objects that fit in some room can be sent with it
-pub objects_sent : (classes : List Class) (objects : List ObjectValue) (part room : ℕ) → 8 * part ≤ room → AllByRecursion (IsValidObject classes) objects → AllByRecursion (FitsIn part) objects
-    → AllByRecursion (CanBeSent room) objects
-objects_sent classes [] part room within are fit = tt
-objects_sent classes (object ∷ objects) part room within are fit =
-    let whole = valid_fits classes object are.0 in
-    (record { framed = (whole.0, whole.2); are = whole.1; fits = omega (arith, within, fit.0) }, objects_sent classes objects part room within are.1 fit.1)
+pub objects_sent : (version : Version) (classes : List Class) (objects : List ObjectValue) (part room : ℕ) → 8 * part ≤ room → AllByRecursion (IsValidObject version classes) objects → AllByRecursion (FitsIn version part) objects
+    → AllByRecursion (CanBeSent version room) objects
+objects_sent version classes [] part room within are fit = tt
+objects_sent version classes (object ∷ objects) part room within are fit =
+    let whole = valid_fits version classes object are.0 in
+    (record { framed = (whole.0, whole.2); are = whole.1; fits = omega (arith, within, fit.0) }, objects_sent version classes objects part room within are.1 fit.1)
 
 -- an object that can be sent with some room can be with more
-pub sent_with_more : (room more : ℕ) (value : ObjectValue) → room ≤ more → CanBeSent room value → CanBeSent more value
-sent_with_more room more value fits can = record { framed = can.framed; are = can.are; fits = omega (arith, fits, can.fits) }
+pub sent_with_more : (version : Version) (room more : ℕ) (value : ObjectValue) → room ≤ more → CanBeSent version room value → CanBeSent version more value
+sent_with_more version room more value fits can = record { framed = can.framed; are = can.are; fits = omega (arith, fits, can.fits) }
 
 -- what fits in some room, with those behind it, is all that is left
-pub one_fits : (objects : List Object) (i : ℕ) (object : Object) (most room : ℕ) → i < length objects → object ≡ get_or objects i object → room ≡ room_of_frame (value_of object) → room ≤ most
-    → AllByRecursion (FitsIn most) (map value_of (drop (i + 1) objects)) → AllByRecursion (FitsIn most) (map value_of (drop i objects))
-one_fits objects i object most room inside here is within left =
-    subst (λ (all : List Object). AllByRecursion (FitsIn most) (map value_of all)) (sym (left_at objects i object inside here)) (omega (arith, is, within), left)
+pub one_fits : (version : Version) (objects : List Object) (i : ℕ) (object : Object) (most room : ℕ) → i < length objects → object ≡ get_or objects i object → room ≡ room_of_frame version (value_of object) → room ≤ most
+    → AllByRecursion (FitsIn version most) (map value_of (drop (i + 1) objects)) → AllByRecursion (FitsIn version most) (map value_of (drop i objects))
+one_fits version objects i object most room inside here is within left =
+    subst (λ (all : List Object). AllByRecursion (FitsIn version most) (map value_of all)) (sym (left_at objects i object inside here)) (omega (arith, is, within), left)
 
 -- where none is left, what is left fits
-pub none_left_fits : (objects : List Object) (i most : ℕ) → length objects ≤ i → AllByRecursion (FitsIn most) (map value_of (drop i objects))
-none_left_fits objects i most past = subst (λ (all : List Object). AllByRecursion (FitsIn most) (map value_of all)) (sym (drop_all i objects past)) tt
+pub none_left_fits : (version : Version) (objects : List Object) (i most : ℕ) → length objects ≤ i → AllByRecursion (FitsIn version most) (map value_of (drop i objects))
+none_left_fits version objects i most past = subst (λ (all : List Object). AllByRecursion (FitsIn version most) (map value_of all)) (sym (drop_all i objects past)) tt
 
 -- with one more object placed, those behind it are left
-pub placed_one : (objects : List Object) (i : ℕ) (object : Object) (from place frame handle : ℕ) (pairs more : List Pair) → i < length objects → object ≡ get_or objects i object
-    → frame ≡ length (frame_bytes (value_of object)) → handle ≡ handle_of (value_of object) → more ≡ pairs ++ record { handle = handle; place = place } ∷ []
-    → placed from (map value_of objects) ≡ pairs ++ placed place (map value_of (drop i objects)) → placed from (map value_of objects) ≡ more ++ placed (place + frame) (map value_of (drop (i + 1) objects))
-placed_one objects i object from place frame handle pairs more inside here long named put whole =
+pub placed_one : (version : Version) (objects : List Object) (i : ℕ) (object : Object) (from place frame handle : ℕ) (pairs more : List Pair) → i < length objects → object ≡ get_or objects i object
+    → frame ≡ length (frame_bytes version (value_of object)) → handle ≡ handle_of (value_of object) → more ≡ pairs ++ record { handle = handle; place = place } ∷ []
+    → placed version from (map value_of objects) ≡ pairs ++ placed version place (map value_of (drop i objects)) → placed version from (map value_of objects) ≡ more ++ placed version (place + frame) (map value_of (drop (i + 1) objects))
+placed_one version objects i object from place frame handle pairs more inside here long named put whole =
     let left : List ObjectValue = map value_of (drop (i + 1) objects) in
     let pair_of : ℕ → Pair = λ own. record { handle = own; place = place } in
-    let others : List Pair = placed (place + length (frame_bytes (value_of object))) left in
+    let others : List Pair = placed version (place + length (frame_bytes version (value_of object))) left in
     let same : pairs ++ pair_of (handle_of (value_of object)) ∷ [] ≡ more = ap (λ own. pairs ++ pair_of own ∷ []) (sym named) ∙ sym put in
-    whole ∙ ap (λ (all : List Object). pairs ++ placed place (map value_of all)) (left_at objects i object inside here)
+    whole ∙ ap (λ (all : List Object). pairs ++ placed version place (map value_of all)) (left_at objects i object inside here)
     ∙ sym (append_assoc pairs (pair_of (handle_of (value_of object)) ∷ []) others)
-    ∙ ap₂ (λ (front : List Pair) (n : ℕ). front ++ placed (place + n) left) same (sym long)
+    ∙ ap₂ (λ (front : List Pair) (n : ℕ). front ++ placed version (place + n) left) same (sym long)
 
 -- so can all
-pub all_with_more : (room more : ℕ) (objects : List ObjectValue) → room ≤ more → AllByRecursion (CanBeSent room) objects → AllByRecursion (CanBeSent more) objects
-all_with_more room more [] within can = tt
-all_with_more room more (object ∷ objects) within can = (sent_with_more room more object within can.0, all_with_more room more objects within can.1)
+pub all_with_more : (version : Version) (room more : ℕ) (objects : List ObjectValue) → room ≤ more → AllByRecursion (CanBeSent version room) objects → AllByRecursion (CanBeSent version more) objects
+all_with_more version room more [] within can = tt
+all_with_more version room more (object ∷ objects) within can = (sent_with_more version room more object within can.0, all_with_more version room more objects within can.1)
 
 -- and room for each part is there with more
 pub has_with_more : (room more : ℕ) (drawing : Contents) → room ≤ more → HasRoom room drawing → HasRoom more drawing
 has_with_more room more drawing within has = record {
   header = omega (arith, within, has.header);
   classes = omega (arith, within, has.classes);
-  objects = all_with_more room more drawing.objects within has.objects;
+  objects = all_with_more drawing.version room more drawing.objects within has.objects;
 }
 
 -- a plan with some room is one with more

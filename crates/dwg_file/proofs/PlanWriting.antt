@@ -31,9 +31,10 @@ sections_pieces drawing variables classes held declared =
 
 -- and the front
 pub front_pieces : (drawing : Contents) (header : FileHeader) (objects : List ObjectValue) → header ≡ header_of drawing → objects ≡ drawing.objects
-    → header_bytes header ++ sections_bytes drawing ++ frames_bytes objects ≡ front_bytes drawing
+    → header_bytes header ++ sections_bytes drawing ++ frames_bytes drawing.version objects ≡ front_bytes drawing
 unfolding front_bytes
-front_pieces drawing header objects heads all = ap₂ (λ (one : FileHeader) (some : List ObjectValue). header_bytes one ++ sections_bytes drawing ++ frames_bytes some) heads all
+front_pieces drawing header objects heads all =
+    ap₂ (λ (one : FileHeader) (some : List ObjectValue). header_bytes one ++ sections_bytes drawing ++ frames_bytes drawing.version some) heads all
 
 -- three pieces that are given one behind the other: where one is cut off, so are all
 pub first_cut : (a b : Option (List ℕ)) (waited x y z whole : List ℕ) → x ++ y ++ z ≡ whole → GivesFront a b waited x → GivesFront a b waited whole
@@ -58,7 +59,7 @@ canonical_thirds drawing =
     let head = header_bytes (header_of drawing) in
     let variables = framed_bytes Variables drawing.variables in
     let classes = framed_bytes Classes (class_content drawing.classes) in
-    ap (λ front. front ++ frames_bytes drawing.objects ++ map_of drawing ++ others_bytes drawing.others)
+    ap (λ front. front ++ frames_bytes drawing.version drawing.objects ++ map_of drawing ++ others_bytes drawing.others)
     (sym (append_assoc head (variables ++ classes) PREVIEW) ∙ ap (λ front. front ++ PREVIEW) (sym (append_assoc head variables classes)))
 
 -- three pieces that are sent one behind the other: where one is cut off, so are all

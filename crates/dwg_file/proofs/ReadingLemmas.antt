@@ -5,6 +5,7 @@ use Rattle.std.specs.List.Sorted.{IsPermutation}
 use Rattle.std.specs.Result.{result_unwrap_or}
 use Rattle.dwg_base.specs.Bytes.{AreBytes}
 use Rattle.dwg_base.specs.Refusals.{Tried, first_fault, fault_of}
+use Rattle.dwg_base.specs.declared.version.Version.{Version}
 use Rattle.dwg_classes.specs.declared.class.Class.{Class}
 use Rattle.dwg_classes.specs.Class.{AreClasses}
 use Rattle.dwg_classes.proofs.ClassLineLemmas.{tried_ok}
@@ -52,6 +53,7 @@ reads_spelled laws drawing bytes are reads =
     record {
       header = header_at bytes;
       begins = begins;
+      version = reads.version;
       lead = reads.lead;
       mark = reads.mark;
       code_page = reads.code_page;
@@ -112,6 +114,7 @@ spelled_reads laws drawing bytes are spelled =
         frames = ap fault_of frames;
         sections = sections.0;
       });
+      version = spelled.version ∙ ap (λ (h : FileHeader). h.version) same;
       lead = spelled.lead ∙ ap (λ (h : FileHeader). h.lead) same;
       mark = spelled.mark ∙ ap (λ (h : FileHeader). h.mark) same;
       code_page = spelled.code_page ∙ ap (λ (h : FileHeader). h.code_page) same;
@@ -135,16 +138,17 @@ ok_same : {V : Type 0} (tried : Tried V) (value other : V) → tried ≡ Ok valu
 ok_same {V} tried value other is also = let both : ◌≡◌ {A = Tried V} (Ok value) (Ok other) = sym is ∙ also in cc
 
 -- drawings of the same parts are one
-contents_same : (one other : Contents) → one.lead ≡ other.lead → one.mark ≡ other.mark → one.code_page ≡ other.code_page → one.variables ≡ other.variables
-    → one.classes ≡ other.classes → one.others ≡ other.others → one.objects ≡ other.objects → one ≡ other
-contents_same one other lead mark code_page variables classes others objects =
-    ap (λ (p : List ℕ). record { lead = p; mark = one.mark; code_page = one.code_page; variables = one.variables; classes = one.classes; others = one.others; objects = one.objects }) lead
-    ∙ ap (λ (p : List ℕ). record { lead = other.lead; mark = p; code_page = one.code_page; variables = one.variables; classes = one.classes; others = one.others; objects = one.objects }) mark
-    ∙ ap (λ (p : ℕ). record { lead = other.lead; mark = other.mark; code_page = p; variables = one.variables; classes = one.classes; others = one.others; objects = one.objects }) code_page
-    ∙ ap (λ (p : List ℕ). record { lead = other.lead; mark = other.mark; code_page = other.code_page; variables = p; classes = one.classes; others = one.others; objects = one.objects }) variables
-    ∙ ap (λ (p : List Class). record { lead = other.lead; mark = other.mark; code_page = other.code_page; variables = other.variables; classes = p; others = one.others; objects = one.objects }) classes
-    ∙ ap (λ (p : List OtherValue). record { lead = other.lead; mark = other.mark; code_page = other.code_page; variables = other.variables; classes = other.classes; others = p; objects = one.objects }) others
-    ∙ ap (λ (p : List ObjectValue). record { lead = other.lead; mark = other.mark; code_page = other.code_page; variables = other.variables; classes = other.classes; others = other.others; objects = p }) objects
+contents_same : (one other : Contents) → one.version ≡ other.version → one.lead ≡ other.lead → one.mark ≡ other.mark → one.code_page ≡ other.code_page
+    → one.variables ≡ other.variables → one.classes ≡ other.classes → one.others ≡ other.others → one.objects ≡ other.objects → one ≡ other
+contents_same one other version lead mark code_page variables classes others objects =
+    ap (λ (p : Version). record { version = p; lead = one.lead; mark = one.mark; code_page = one.code_page; variables = one.variables; classes = one.classes; others = one.others; objects = one.objects }) version
+    ∙ ap (λ (p : List ℕ). record { version = other.version; lead = p; mark = one.mark; code_page = one.code_page; variables = one.variables; classes = one.classes; others = one.others; objects = one.objects }) lead
+    ∙ ap (λ (p : List ℕ). record { version = other.version; lead = other.lead; mark = p; code_page = one.code_page; variables = one.variables; classes = one.classes; others = one.others; objects = one.objects }) mark
+    ∙ ap (λ (p : ℕ). record { version = other.version; lead = other.lead; mark = other.mark; code_page = p; variables = one.variables; classes = one.classes; others = one.others; objects = one.objects }) code_page
+    ∙ ap (λ (p : List ℕ). record { version = other.version; lead = other.lead; mark = other.mark; code_page = other.code_page; variables = p; classes = one.classes; others = one.others; objects = one.objects }) variables
+    ∙ ap (λ (p : List Class). record { version = other.version; lead = other.lead; mark = other.mark; code_page = other.code_page; variables = other.variables; classes = p; others = one.others; objects = one.objects }) classes
+    ∙ ap (λ (p : List OtherValue). record { version = other.version; lead = other.lead; mark = other.mark; code_page = other.code_page; variables = other.variables; classes = other.classes; others = p; objects = one.objects }) others
+    ∙ ap (λ (p : List ObjectValue). record { version = other.version; lead = other.lead; mark = other.mark; code_page = other.code_page; variables = other.variables; classes = other.classes; others = other.others; objects = p }) objects
 
 -- an input is read as one drawing
 pub reads_once : (bytes : List ℕ) (drawing other : Contents) → ReadsAs drawing bytes → ReadsAs other bytes → drawing ≡ other
@@ -153,7 +157,7 @@ reads_once bytes drawing other reads also =
     let founds = ok_same (frames_tried bytes) reads.found also.found reads.frames also.frames in
     let forms = subst (λ (f : List FoundFrame). AreFormsOf other.classes bytes f reads.values) founds (subst (λ (c : List Class). AreFormsOf c bytes reads.found reads.values) classes reads.forms) in
     let values = forms_once other.classes bytes also.found reads.values also.values forms also.forms in
-    contents_same drawing other (reads.lead ∙ sym also.lead) (reads.mark ∙ sym also.mark) (reads.code_page ∙ sym also.code_page) (reads.variables ∙ sym also.variables) classes (reads.others ∙ sym also.others)
+    contents_same drawing other (reads.version ∙ sym also.version) (reads.lead ∙ sym also.lead) (reads.mark ∙ sym also.mark) (reads.code_page ∙ sym also.code_page) (reads.variables ∙ sym also.variables) classes (reads.others ∙ sym also.others)
     (order_once also.values drawing.objects other.objects (subst (λ (v : List ObjectValue). IsPermutation v drawing.objects) values reads.objects) also.objects reads.ascending also.ascending)
 
 -- an input spells one drawing at the most

@@ -1,5 +1,6 @@
 -- Parts of the canonical file that are made in the room of one, or sent around bytes that are held.
 use Rattle.std.proofs.Common.{◌≡◌, refl, sym, ◌∙◌, ap, ap₂, ℕ, ◌%◌, List, [], ◌++◌, length, append_assoc, append-nil, arith}
+use Rattle.dwg_base.specs.declared.version.Version.{Version}
 use Rattle.std.specs.Int.{w16, to_le_bytes}
 use Rattle.dwg_base.specs.Bytes.{AreBytes}
 use Rattle.dwg_bits.specs.Bits.{bits}
@@ -47,6 +48,6 @@ framed_given begin size content word end first second fourth fifth whole begins 
     five_given first second content fourth fifth ∙ ap₂ joined (ap₂ joined (ap₂ joined begins (ap (λ all. all ++ content) sized)) checked) ends ∙ is
 
 -- the frame of a Raw object is that of its bytes
-pub raw_frame : (number handle : ℕ) (bytes : List ℕ) → framed_body (ms.short (length bytes)) bytes ≡ frame_bytes (RawValue number handle bytes)
+pub raw_frame : (version : Version) (number handle : ℕ) (bytes : List ℕ) → framed_body (ms.short (length bytes)) bytes ≡ frame_bytes version (RawValue number handle bytes)
 unfolding frame_bytes
-raw_frame number handle bytes = refl
+raw_frame version number handle bytes = refl

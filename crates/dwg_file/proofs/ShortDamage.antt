@@ -42,8 +42,8 @@ each_before laws drawing bytes are is stands =
           ap fault_of ((tried_ok (section_place 1 bytes + 20) (content_at bytes (section_place 1 bytes)) drawing.classes).1
           (subst (λ (c : List ℕ). AreClasses c drawing.classes) section.1 (content_is_classes drawing.classes is.classes)));
       map =
-          ap fault_of ((map_is_tried (section_place 2 bytes) bytes (placed (objects_place drawing) drawing.objects) are).1
-          (subst (λ n. MapOf bytes n (placed (objects_place drawing) drawing.objects)) third stands.mapped));
+          ap fault_of ((map_is_tried (section_place 2 bytes) bytes (placed drawing.version (objects_place drawing) drawing.objects) are).1
+          (subst (λ n. MapOf bytes n (placed drawing.version (objects_place drawing) drawing.objects)) third stands.mapped));
     }
 
 -- so it is
@@ -52,7 +52,7 @@ short_damage_is_refused laws shows drawing bytes earlier frame later is small ar
     let stands = damaged_stands drawing bytes earlier frame later is small whole damaged in
     let refusal = frame_refusal 30 (length earlier) frame.pair.place in
     frames_first bytes refusal (each_before laws drawing bytes are is stands)
-    ((frames_are_refused laws.header_complete drawing.classes bytes (header_of drawing) (map_place drawing) (placed (objects_place drawing) drawing.objects) refusal are stands.begins refl
+    ((frames_are_refused laws.header_complete drawing.classes bytes (header_of drawing) (map_place drawing) (placed drawing.version (objects_place drawing) drawing.objects) refusal are stands.begins refl
     stands.mapped).1 (damaged_is_first shows drawing bytes earlier frame later is small are whole damaged))
 
 -- and no frame with its pair's handle holds there

@@ -6,11 +6,13 @@ use Rattle.std.proofs.lemmas.List.{length-map}
 use Rattle.std.proofs.lemmas.List.Sorted.{length_permutation}
 use Rattle.dwg_base.specs.Bytes.{AreBytes}
 use Rattle.dwg_base.specs.Devices.{MOST_BYTES}
+use Rattle.dwg_base.specs.declared.version.Version.{Version}
 use Rattle.dwg_classes.proofs.WrittenClasses.{read_are_values}
 use Rattle.dwg_sections.specs.declared.framed.Framed.TheVariants.{Variables, Classes}
 use Rattle.dwg_sections.specs.declared.header.Locator.{Locator}
 use Rattle.dwg_sections.specs.declared.header.FileHeader.{FileHeader}
 use Rattle.dwg_sections.specs.FramedLines.{size_at}
+use Rattle.dwg_sections.proofs.HeaderComplete.{header_tells_version}
 use Rattle.dwg_file.specs.Canonical.{class_content, frames_bytes, others_bytes, map_of, objects_place, placed}
 use Rattle.dwg_file.specs.Contents.{OtherValue, Contents}
 use Rattle.dwg_file.specs.FileLines.{is_cut}
@@ -20,6 +22,7 @@ use Rattle.dwg_file.specs.Valid.{IsOther, IsValid}
 use Rattle.dwg_file.proofs.MapSize.{map_short, map_few}
 use Rattle.dwg_file.proofs.ObjectSize.{ordered_are_read, read_small, small_valid, frames_short, length_of_placed, classes_short}
 use Rattle.dwg_file.proofs.ReadingLemmas.{SectionLaws, spelled_reads}
+use Rattle.dwg_file.specs.ObjectSize.{IsReadOf}
 use Rattle.dwg_file.specs.SectionNumbers.{IsSection, Differ}
 use Rattle.dwg_file.proofs.SectionNumbers.{taken_bytes, taken_few, sections_are_sections, sections_few, sections_distinct, sections_filtered, sections_filtered_few, sections_filtered_differ}
 use Rattle.dwg_file.specs.ValidLaws.{ReadPartsAreValid, WholeSectionsAreRead}
@@ -48,7 +51,7 @@ parts_small others variables classes objects frames map sections a b c d e f g =
 -- so they do
 pub parts_are_valid : ReadPartsAreValid
 parts_are_valid drawing parts =
-    let small = read_small drawing.classes drawing.objects parts.objects in
+    let small = read_small drawing.version drawing.classes drawing.objects parts.objects in
     record {
       lead = parts.lead;
       mark = parts.mark;
@@ -58,14 +61,14 @@ parts_are_valid drawing parts =
       few = parts.few;
       others = sections_valid MOST_BYTES drawing.others parts.others;
       distinct = parts.distinct;
-      objects = small_valid drawing.classes MOST_BYTES drawing.objects small;
+      objects = small_valid drawing.version drawing.classes MOST_BYTES drawing.objects small;
       ascending = parts.ascending;
-      size = parts_small (length drawing.others) (length drawing.variables) (length (class_content drawing.classes)) (length drawing.objects) (length (frames_bytes drawing.objects))
+      size = parts_small (length drawing.others) (length drawing.variables) (length (class_content drawing.classes)) (length drawing.objects) (length (frames_bytes drawing.version drawing.objects))
           (length (map_of drawing)) (length (others_bytes drawing.others)) parts.few
           (omega (arith, parts.variables.1))
           (omega (arith, classes_short parts.content drawing.classes parts.classes, parts.content_few))
-          (omega (arith, parts.count)) (frames_short drawing.classes drawing.objects small)
-          (subst (λ n. length (map_of drawing) ≤ 8 + 24 * n) (length_of_placed (objects_place drawing) drawing.objects) (map_short (placed (objects_place drawing) drawing.objects)))
+          (omega (arith, parts.count)) (frames_short drawing.version drawing.classes drawing.objects small)
+          (subst (λ n. length (map_of drawing) ≤ 8 + 24 * n) (length_of_placed drawing.version (objects_place drawing) drawing.objects) (map_short (placed drawing.version (objects_place drawing) drawing.objects)))
           (sections_short drawing.others parts.others);
     }
 
@@ -106,7 +109,9 @@ spelled_is_valid laws drawing bytes are few spelled =
       others = sections_longer (length bytes) MOST_BYTES drawing.others few
           (subst (AllByRecursion (IsSection (length bytes))) (sym others) (sections_are_sections bytes locators are header.locators));
       distinct = subst (AllPairs Differ) (sym others) (sections_distinct bytes locators header.sections);
-      objects = ordered_are_read drawing.classes bytes spelled.frames drawing.objects are few spelled.stand spelled.objects;
+      objects =
+          subst (λ (v : Version). AllByRecursion (IsReadOf v drawing.classes) drawing.objects) (sym (spelled.version ∙ header_tells_version bytes spelled.header spelled.begins))
+          (ordered_are_read drawing.classes bytes spelled.frames drawing.objects are few spelled.stand spelled.objects);
       count = omega (
         arith,
         few,

@@ -1,5 +1,6 @@
 -- The frames of the canonical file as they are written, and where one of them lies among the others.
 use Rattle.std.proofs.Common.{◌≡◌, refl, ap, subst, ℕ, ◌+◌, ◌≤◌, List, [], ◌∷◌, ◌++◌, length, length-append, arith}
+use Rattle.dwg_base.specs.declared.version.Version.{Version}
 use Rattle.std.specs.Prelude.{AllPairs}
 use Rattle.std.specs.List.{AllByRecursion}
 use Rattle.std.proofs.lemmas.List.Elements.{All-from_recursion}
@@ -21,46 +22,46 @@ use Rattle.dwg_file.specs.Spelled.{PairFrame}
 use Rattle.dwg_file.specs.Valid.{IsValid}
 
 -- the frame of an object as it is written
-pub record IsWritten (classes : List Class) (bytes : List ℕ) (frame : PairFrame) : Type 0 where
-  pub stands : StandsAt bytes frame.pair.place (frame_bytes frame.object)
-  pub ends : frame.end ≡ frame.pair.place + length (frame_bytes frame.object)
-  pub body : frame.body ≡ body_bytes frame.object
+pub record IsWritten (version : Version) (classes : List Class) (bytes : List ℕ) (frame : PairFrame) : Type 0 where
+  pub stands : StandsAt bytes frame.pair.place (frame_bytes version frame.object)
+  pub ends : frame.end ≡ frame.pair.place + length (frame_bytes version frame.object)
+  pub body : frame.body ≡ body_bytes version frame.object
   pub own : frame.pair.handle ≡ handle_of frame.object
-  pub valid : IsValidObject classes frame.object
+  pub valid : IsValidObject version classes frame.object
 
 -- frames one behind the other are
-frames_written : (classes : List Class) (bytes : List ℕ) (objects : List ObjectValue) (place : ℕ) → AllByRecursion (IsValidObject classes) objects → StandsAt bytes place (frames_bytes objects)
-    → AllByRecursion (IsWritten classes bytes) (frames_from place objects)
-frames_written classes bytes [] place are stands = tt
-frames_written classes bytes (object ∷ objects) place are stands = (
-  record { stands = stands_first bytes place (frame_bytes object) (frames_bytes objects) stands; ends = refl; body = refl; own = refl; valid = are.0 },
-  frames_written classes bytes objects (place + length (frame_bytes object)) are.1 (stands_next bytes place (frame_bytes object) (frames_bytes objects) stands),
+frames_written : (version : Version) (classes : List Class) (bytes : List ℕ) (objects : List ObjectValue) (place : ℕ) → AllByRecursion (IsValidObject version classes) objects → StandsAt bytes place (frames_bytes version objects)
+    → AllByRecursion (IsWritten version classes bytes) (frames_from version place objects)
+frames_written version classes bytes [] place are stands = tt
+frames_written version classes bytes (object ∷ objects) place are stands = (
+  record { stands = stands_first bytes place (frame_bytes version object) (frames_bytes version objects) stands; ends = refl; body = refl; own = refl; valid = are.0 },
+  frames_written version classes bytes objects (place + length (frame_bytes version object)) are.1 (stands_next bytes place (frame_bytes version object) (frames_bytes version objects) stands),
 )
 
 -- so are those of the canonical file
 pub canonical_written : (drawing : Contents) → IsValid drawing → size_of drawing ≤ MOST_BYTES
-    → AllByRecursion (IsWritten drawing.classes (canonical drawing)) (canonical_frames drawing)
+    → AllByRecursion (IsWritten drawing.version drawing.classes (canonical drawing)) (canonical_frames drawing)
 canonical_written drawing is small =
-    frames_written drawing.classes (canonical drawing) drawing.objects (objects_place drawing) is.objects (parts_stand drawing (header_fits drawing is small)).frames
+    frames_written drawing.version drawing.classes (canonical drawing) drawing.objects (objects_place drawing) is.objects (parts_stand drawing (header_fits drawing is small)).frames
 
 -- the frames before one of those that stand one behind the other end before it, and those behind it begin behind its end
-pub record LiesAmong (place : ℕ) (objects : List ObjectValue) (earlier : List PairFrame) (frame : PairFrame) (later : List PairFrame) : Type 0 where
+pub record LiesAmong (version : Version) (place : ℕ) (objects : List ObjectValue) (earlier : List PairFrame) (frame : PairFrame) (later : List PairFrame) : Type 0 where
   pub from : place ≤ frame.pair.place
   pub order : frame.pair.place ≤ frame.end
-  pub to : frame.end ≤ place + length (frames_bytes objects)
+  pub to : frame.end ≤ place + length (frames_bytes version objects)
   pub before : AllByRecursion (λ (one : PairFrame). one.end ≤ frame.pair.place) earlier
   pub behind : AllByRecursion (λ (one : PairFrame). frame.end ≤ one.pair.place) later
 
-pub lies_among : (objects : List ObjectValue) (place : ℕ) (earlier : List PairFrame) (frame : PairFrame) (later : List PairFrame) → frames_from place objects ≡ earlier ++ frame ∷ later
-    → LiesAmong place objects earlier frame later
-lies_among [] place [] frame later same = absurd cc
-lies_among [] place (one ∷ earlier) frame later same = absurd cc
-lies_among (object ∷ objects) place [] frame later same =
-    let end : ℕ = place + length (frame_bytes object) in
-    let is : PairFrame = record { pair = record { handle = handle_of object; place = place }; body = body_bytes object; end = end; object = object } in
+pub lies_among : (version : Version) (objects : List ObjectValue) (place : ℕ) (earlier : List PairFrame) (frame : PairFrame) (later : List PairFrame) → frames_from version place objects ≡ earlier ++ frame ∷ later
+    → LiesAmong version place objects earlier frame later
+lies_among version [] place [] frame later same = absurd cc
+lies_among version [] place (one ∷ earlier) frame later same = absurd cc
+lies_among version (object ∷ objects) place [] frame later same =
+    let end : ℕ = place + length (frame_bytes version object) in
+    let is : PairFrame = record { pair = record { handle = handle_of object; place = place }; body = body_bytes version object; end = end; object = object } in
     let first : is ≡ frame = cc in
-    let rest : frames_from end objects ≡ later = cc in
-    let long : length (frames_bytes (object ∷ objects)) ≡ length (frame_bytes object) + length (frames_bytes objects) = length-append (frame_bytes object) (frames_bytes objects) in
+    let rest : frames_from version end objects ≡ later = cc in
+    let long : length (frames_bytes version (object ∷ objects)) ≡ length (frame_bytes version object) + length (frames_bytes version objects) = length-append (frame_bytes version object) (frames_bytes version objects) in
     let begins : place ≡ frame.pair.place = ap (λ (one : PairFrame). one.pair.place) first in
     let ends : end ≡ frame.end = ap (λ (one : PairFrame). one.end) first in
     record {
@@ -70,15 +71,15 @@ lies_among (object ∷ objects) place [] frame later same =
       before = tt;
       behind =
           subst (AllByRecursion (λ (one : PairFrame). frame.end ≤ one.pair.place)) rest
-          (subst (λ n. AllByRecursion (λ (one : PairFrame). n ≤ one.pair.place) (frames_from end objects)) ends (frames_behind objects end end (omega arith)));
+          (subst (λ n. AllByRecursion (λ (one : PairFrame). n ≤ one.pair.place) (frames_from version end objects)) ends (frames_behind version objects end end (omega arith)));
     }
-lies_among (object ∷ objects) place (one ∷ earlier) frame later same =
-    let end : ℕ = place + length (frame_bytes object) in
-    let is : PairFrame = record { pair = record { handle = handle_of object; place = place }; body = body_bytes object; end = end; object = object } in
+lies_among version (object ∷ objects) place (one ∷ earlier) frame later same =
+    let end : ℕ = place + length (frame_bytes version object) in
+    let is : PairFrame = record { pair = record { handle = handle_of object; place = place }; body = body_bytes version object; end = end; object = object } in
     let first : is ≡ one = cc in
-    let rest : frames_from end objects ≡ earlier ++ frame ∷ later = cc in
-    let more = lies_among objects end earlier frame later rest in
-    let long : length (frames_bytes (object ∷ objects)) ≡ length (frame_bytes object) + length (frames_bytes objects) = length-append (frame_bytes object) (frames_bytes objects) in
+    let rest : frames_from version end objects ≡ earlier ++ frame ∷ later = cc in
+    let more = lies_among version objects end earlier frame later rest in
+    let long : length (frames_bytes version (object ∷ objects)) ≡ length (frame_bytes version object) + length (frames_bytes version objects) = length-append (frame_bytes version object) (frames_bytes version objects) in
     let ends : end ≡ one.end = ap (λ (one : PairFrame). one.end) first in
     record {
       from = omega (arith, more.from);

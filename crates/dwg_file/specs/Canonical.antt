@@ -1,5 +1,6 @@
 -- The canonical file of a drawing: its parts one behind the other without gaps. A rule of this project, over the layout of the Open Design Specification, "R13 to R2000 file layout".
 use Rattle.std.specs.Prelude.{ℕ, ◌+◌, ◌*◌, List, [], ◌∷◌, ◌++◌, length, flat_map}
+use Rattle.dwg_base.specs.declared.version.Version.{Version}
 use Rattle.dwg_bits.specs.Sink.{padding}
 use Rattle.dwg_bits.specs.WholeBytes.{whole_bytes}
 use Rattle.dwg_classes.specs.declared.class.Class.{Class}
@@ -33,13 +34,13 @@ abbrev pub class_content : List Class → List ℕ
 class_content classes = whole_bytes (short_all numbered_class classes ++ padding (short_all numbered_class classes))
 
 -- the frames of objects, one behind the other
-abbrev pub frames_bytes : List ObjectValue → List ℕ
-frames_bytes objects = flat_map frame_bytes objects
+abbrev pub frames_bytes : Version → List ObjectValue → List ℕ
+frames_bytes version objects = flat_map (frame_bytes version) objects
 
 -- the pairs of objects whose frames stand one behind the other from a place
-abbrev pub placed : ℕ → List ObjectValue → List Pair
-placed place [] = []
-placed place (object ∷ objects) = record { handle = handle_of object; place = place } ∷ placed (place + length (frame_bytes object)) objects
+abbrev pub placed : Version → ℕ → List ObjectValue → List Pair
+placed version place [] = []
+placed version place (object ∷ objects) = record { handle = handle_of object; place = place } ∷ placed version (place + length (frame_bytes version object)) objects
 
 -- the bytes of the unknown sections, one behind the other
 abbrev pub others_bytes : List OtherValue → List ℕ
@@ -59,11 +60,11 @@ abbrev pub objects_place : Contents → ℕ
 objects_place drawing = preview_place drawing + OF_PREVIEW
 
 abbrev pub map_place : Contents → ℕ
-map_place drawing = objects_place drawing + length (frames_bytes drawing.objects)
+map_place drawing = objects_place drawing + length (frames_bytes drawing.version drawing.objects)
 
 -- the bytes of the map
 abbrev pub map_of : Contents → List ℕ
-map_of drawing = map_bytes (placed (objects_place drawing) drawing.objects)
+map_of drawing = map_bytes (placed drawing.version (objects_place drawing) drawing.objects)
 
 abbrev pub others_place : Contents → ℕ
 others_place drawing = map_place drawing + length (map_of drawing)
@@ -81,6 +82,7 @@ others_located place (other ∷ others) =
 -- the file header: the locators of header variables and classes count whole sections, that of the map all pages
 abbrev pub header_of : Contents → FileHeader
 header_of drawing = record {
+  version = drawing.version;
   lead = drawing.lead;
   preview = preview_place drawing;
   mark = drawing.mark;
@@ -96,4 +98,4 @@ header_of drawing = record {
 unfoldable pub canonical : Contents → List ℕ
 canonical drawing =
     header_bytes (header_of drawing) ++ framed_bytes Variables drawing.variables ++ framed_bytes Classes (class_content drawing.classes) ++ PREVIEW
-    ++ frames_bytes drawing.objects ++ map_of drawing ++ others_bytes drawing.others
+    ++ frames_bytes drawing.version drawing.objects ++ map_of drawing ++ others_bytes drawing.others

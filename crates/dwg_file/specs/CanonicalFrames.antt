@@ -1,5 +1,6 @@
 -- The frames of the canonical file of a drawing: those of its objects, one behind the other. A rule of this project.
 use Rattle.std.proofs.Common.{ℕ, ◌+◌, List, [], ◌∷◌, length}
+use Rattle.dwg_base.specs.declared.version.Version.{Version}
 use Rattle.dwg_object.specs.Written.{body_bytes}
 use Rattle.dwg_object.specs.Frames.{frame_bytes}
 use Rattle.dwg_object.specs.Objects.{ObjectValue, handle_of}
@@ -8,15 +9,15 @@ use Rattle.dwg_file.specs.Contents.{Contents}
 use Rattle.dwg_file.specs.Spelled.{PairFrame}
 
 -- the frames of objects that stand one behind the other from a place
-abbrev pub frames_from : ℕ → List ObjectValue → List PairFrame
-frames_from place [] = []
-frames_from place (object ∷ objects) = record {
+abbrev pub frames_from : Version → ℕ → List ObjectValue → List PairFrame
+frames_from version place [] = []
+frames_from version place (object ∷ objects) = record {
   pair = record { handle = handle_of object; place = place };
-  body = body_bytes object;
-  end = place + length (frame_bytes object);
+  body = body_bytes version object;
+  end = place + length (frame_bytes version object);
   object = object;
-} ∷ frames_from (place + length (frame_bytes object)) objects
+} ∷ frames_from version (place + length (frame_bytes version object)) objects
 
 -- the frames of the canonical file, in the order of its map
 abbrev pub canonical_frames : Contents → List PairFrame
-canonical_frames drawing = frames_from (objects_place drawing) drawing.objects
+canonical_frames drawing = frames_from drawing.version (objects_place drawing) drawing.objects

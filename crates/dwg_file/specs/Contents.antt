@@ -1,5 +1,6 @@
 -- What a drawing says, as a plain value, whoever holds its bytes. A rule of this project.
 use Rattle.std.specs.Prelude.{ℕ, List, map}
+use Rattle.dwg_base.specs.declared.version.Version.{Version}
 use Rattle.dwg_classes.specs.declared.class.Class.{Class}
 use Rattle.dwg_codes.specs.Parts.{part_bytes}
 use Rattle.dwg_object.specs.Objects.{ObjectValue, value_of}
@@ -17,6 +18,7 @@ other_value other = record { number = other.number; bytes = part_bytes other.byt
 
 -- a drawing
 pub record Contents : Type 0 where
+  pub version : Version
   pub lead : List ℕ
   pub mark : List ℕ
   pub code_page : ℕ
@@ -28,6 +30,7 @@ pub record Contents : Type 0 where
 -- what the parts in hand say
 abbrev pub contents_of : Parts → Contents
 contents_of parts = record {
+  version = parts.version;
   lead = parts.lead;
   mark = parts.mark;
   code_page = parts.code_page;

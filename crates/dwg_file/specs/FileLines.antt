@@ -1,5 +1,6 @@
 -- The lines of the table of refusals over a whole file, in their order. A rule of this project.
 use Rattle.std.specs.Prelude.{ℕ, ◌+◌, Bool, not, ◌&&◌, List, [], ◌∷◌, ◌++◌, length, nat_lt, ◌==◌, Option, Some, None, Ok, Err, unwrap_or, if◌then◌else◌}
+use Rattle.dwg_base.specs.Versions.{version_at}
 use Rattle.std.specs.List.{list_any}
 use Rattle.std.specs.Result.{result_unwrap_or}
 use Rattle.dwg_base.specs.Refusals.{RefusalRow, Tried, first_fault, fault_of}
@@ -62,7 +63,7 @@ abbrev pub with_span : List ℕ → List FoundFrame → Pair → ℕ → Tried S
 with_span bytes earlier pair index (Err refusal) = Err refusal
 with_span bytes earlier pair index (Ok span) =
     if touches earlier span.from span.end then Err (frame_refusal 29 index pair.place)
-    else with_handle pair index (tried_frame pair.place index bytes)
+    else with_handle pair index (tried_frame (version_at bytes) pair.place index bytes)
 
 -- the frame of a pair behind those of earlier pairs, or the first of its lines that fails: place, length, overlap, check word, head, handle
 unfoldable pub tried_pair : List ℕ → List FoundFrame → ℕ → Pair → Tried FoundFrame

@@ -1,5 +1,6 @@
 -- What the steps of reading frames do to what is left to try. A rule of this project.
 use Rattle.std.specs.Prelude.{◌≡◌, ⊤, ℕ, List, [], ◌∷◌, ◌++◌, map, Result, Ok, Err}
+use Rattle.dwg_base.specs.Versions.{version_at}
 use Rattle.std.specs.List.Sorted.{IsPermutation}
 use Rattle.dwg_base.specs.Refusals.{Tried}
 use Rattle.dwg_base.specs.declared.refusal.Fault.{Fault}
@@ -30,7 +31,7 @@ pub record IsFrameFound (classes : List Class) (bytes : List ℕ) (pair : Pair) 
   pub from : frame.0.from ≡ pair.place
   pub end : frame.0.end ≡ found.end
   pub head : frame.1.own ≡ pair.handle
-  pub form : FormOf classes (span_body bytes frame.0) (value_of found.object)
+  pub form : FormOf (version_at bytes) classes (span_body bytes frame.0) (value_of found.object)
   pub own : handle_of (value_of found.object) ≡ pair.handle
 
 -- a call answers the frame of a pair, or its refusal; want of memory tells nothing

@@ -1,5 +1,6 @@
 -- Which pair of a map is the first whose frame fails a line, said without going along the map. A rule of this project, over the frames of the Open Design Specification, "R13 to R2000 file layout, object data".
 use Rattle.std.specs.Prelude.{◌≡◌, ◌⊎◌, ◌<◌, ◌↔◌, ℕ, List, [], ◌∷◌, ◌++◌, length, map, AllPairs, Some}
+use Rattle.dwg_base.specs.Versions.{version_at}
 use Rattle.std.specs.List.{AllByRecursion}
 use Rattle.dwg_base.specs.Bytes.{AreBytes}
 use Rattle.dwg_base.specs.declared.refusal.Refusal.{Refusal}
@@ -36,7 +37,7 @@ pub record HandleRefused (bytes : List ℕ) (pair : Pair) (index : ℕ) (refusal
   pub span : Span
   pub framed : IsFramed bytes pair.place span
   pub parts : HeadParts
-  pub head : HasHead (bits (span_body bytes span)) parts
+  pub head : HasHead (version_at bytes) (bits (span_body bytes span)) parts
   pub other : parts.own ≡ pair.handle → ⊥
   pub line : refusal ≡ frame_refusal 32 index pair.place
 
@@ -46,7 +47,7 @@ PairRefused bytes frames index pair refusal =
     SpanRefused bytes pair.place index refusal
     ⊎ ((Overlaps bytes frames pair × (refusal ≡ frame_refusal 29 index pair.place))
     ⊎ ((Overlaps bytes frames pair → ⊥)
-    × (CheckRefused bytes pair.place index refusal ⊎ (HeadRefused bytes pair.place index refusal ⊎ HandleRefused bytes pair index refusal))))
+    × (CheckRefused bytes pair.place index refusal ⊎ (HeadRefused (version_at bytes) bytes pair.place index refusal ⊎ HandleRefused bytes pair index refusal))))
 
 -- the first pair of a map whose frame fails a line: frames stand at the places of all pairs before it, with the pairs' handles and without a common byte
 pub record FramesRefused (classes : List Class) (bytes : List ℕ) (pairs : List Pair) (refusal : Refusal) : Type 0 where

@@ -1,5 +1,6 @@
 -- What a drawing needs to be written: where its parts stand, and room for one of them. A rule of this project.
 use Rattle.std.specs.Prelude.{◌≡◌, ℕ, ◌*◌, ◌^◌, ◌<◌, ◌≤◌, List, ◌++◌, length, Option}
+use Rattle.dwg_base.specs.declared.version.Version.{Version}
 use Rattle.dwg_base.specs.Devices.{MOST_BYTES}
 use Rattle.std.specs.List.{AllByRecursion}
 use Rattle.dwg_sections.specs.declared.header.FileHeader.{FileHeader}
@@ -21,20 +22,20 @@ use Rattle.dwg_file.specs.Contents.{Contents}
 use Rattle.dwg_file.specs.Valid.{IsValid}
 
 -- an object whose frame can be written
-abbrev pub CanBeFramed : ObjectValue → Type 0
-CanBeFramed value = PartsFit value × (length (body_bytes value) < 2 ^ 29)
+abbrev pub CanBeFramed : Version → ObjectValue → Type 0
+CanBeFramed version value = PartsFit version value × (length (body_bytes version value) < 2 ^ 29)
 
 -- the room that the frame of an object takes while it is sent: that of a Raw one takes room for its length alone, since its body is held elsewhere
-abbrev pub room_of_frame : ObjectValue → ℕ
-room_of_frame (TypedValue number handle common body) = length (frame_bytes (TypedValue number handle common body))
-room_of_frame (PlainValue number handle common rest refs) = length (frame_bytes (PlainValue number handle common rest refs))
-room_of_frame (RawValue number handle bytes) = length (ms.short (length bytes))
+abbrev pub room_of_frame : Version → ObjectValue → ℕ
+room_of_frame version (TypedValue number handle common body) = length (frame_bytes version (TypedValue number handle common body))
+room_of_frame version (PlainValue number handle common rest refs) = length (frame_bytes version (PlainValue number handle common rest refs))
+room_of_frame version (RawValue number handle bytes) = length (ms.short (length bytes))
 
 -- an object whose frame can be written, with room for so many bits
-pub record CanBeSent (room : ℕ) (value : ObjectValue) : Type 0 where
-  pub framed : CanBeFramed value
-  pub are : AreBytes (body_bytes value)
-  pub fits : 8 * room_of_frame value ≤ room
+pub record CanBeSent (version : Version) (room : ℕ) (value : ObjectValue) : Type 0 where
+  pub framed : CanBeFramed version value
+  pub are : AreBytes (body_bytes version value)
+  pub fits : 8 * room_of_frame version value ≤ room
 
 -- of a map a sink took all but what is made of the open page and of the pairs that are left
 pub record IsPut (old now : Option (List ℕ)) (page : OpenPage) (left : List Pair) (map : List ℕ) : Type 0 where
@@ -43,21 +44,21 @@ pub record IsPut (old now : Option (List ℕ)) (page : OpenPage) (left : List Pa
   pub whole : sent ++ map_behind page left ≡ map
 
 -- the room for so many bytes holds what of an object's frame isn't held elsewhere
-abbrev pub FitsIn : ℕ → ObjectValue → Type 0
-FitsIn part value = room_of_frame value ≤ part
+abbrev pub FitsIn : Version → ℕ → ObjectValue → Type 0
+FitsIn version part value = room_of_frame version value ≤ part
 
 -- with room for so many bits each part of a drawing's canonical file can be made that isn't held elsewhere: the file header, which ends where the header variables stand, the content of the classes, and each frame
 pub record HasRoom (room : ℕ) (drawing : Contents) : Type 0 where
   pub header : 8 * variables_place drawing ≤ room
   pub classes : 8 * length (class_content drawing.classes) ≤ room
-  pub objects : AllByRecursion (CanBeSent room) drawing.objects
+  pub objects : AllByRecursion (CanBeSent drawing.version room) drawing.objects
 
 -- where the parts of a drawing's canonical file stand, and its size
 pub record IsLayout (layout : Layout) (drawing : Contents) : Type 0 where
   pub variables : layout.variables ≡ variables_place drawing
   pub classes : layout.classes ≡ classes_place drawing
   pub preview : layout.preview ≡ preview_place drawing
-  pub pairs : layout.pairs ≡ placed (objects_place drawing) drawing.objects
+  pub pairs : layout.pairs ≡ placed drawing.version (objects_place drawing) drawing.objects
   pub map : layout.map ≡ map_place drawing
   pub others : layout.others ≡ others_place drawing
   pub size : layout.size ≡ size_of drawing
@@ -72,7 +73,7 @@ pub record IsReady (drawing : Contents) (header : FileHeader) (room : ℕ) : Typ
 -- what is at hand to write a drawing: all that sending takes, a pair for each object, and the size of the file
 pub record IsPlan (drawing : Contents) (pairs : List Pair) (size : ℕ) (header : FileHeader) (room : ℕ) : Type 0 where
   pub ready : IsReady drawing header room
-  pub are_placed : pairs ≡ placed (objects_place drawing) drawing.objects
+  pub are_placed : pairs ≡ placed drawing.version (objects_place drawing) drawing.objects
   pub is_size : size ≡ size_of drawing
 
 -- the sections before the frames: header variables, classes, preview
@@ -81,4 +82,4 @@ sections_bytes drawing = framed_bytes Variables drawing.variables ++ framed_byte
 
 -- the canonical file up to the map: the file header, these sections, the frames
 unfoldable pub front_bytes : Contents → List ℕ
-front_bytes drawing = header_bytes (header_of drawing) ++ sections_bytes drawing ++ frames_bytes drawing.objects
+front_bytes drawing = header_bytes (header_of drawing) ++ sections_bytes drawing ++ frames_bytes drawing.version drawing.objects

@@ -1,5 +1,6 @@
 -- What is read of an input in which no line fails: its parts, by their places. A rule of this project.
 use Rattle.std.specs.Prelude.{◌≡◌, ℕ, not, List, [], ◌∷◌, take, drop, nat_lt, None, Ok, if◌then◌else◌}
+use Rattle.dwg_base.specs.Versions.{version_at}
 use Rattle.std.specs.List.{filter}
 use Rattle.std.specs.List.Sorted.{IsPermutation}
 use Rattle.dwg_base.specs.Refusals.{first_fault}
@@ -30,11 +31,12 @@ abbrev pub AreFormsOf : List Class → List ℕ → List FoundFrame → List Obj
 AreFormsOf classes bytes [] objects = objects ≡ []
 AreFormsOf classes bytes (found ∷ frames) objects =
     (object : ObjectValue) × (behind : List ObjectValue) × (objects ≡ object ∷ behind)
-    × FormOf classes (span_body bytes found.0) object × AreFormsOf classes bytes frames behind
+    × FormOf (version_at bytes) classes (span_body bytes found.0) object × AreFormsOf classes bytes frames behind
 
 -- a drawing is what is read of an input in which no line fails
 pub record ReadsAs (drawing : Contents) (bytes : List ℕ) : Type 0 where
   pub holds : first_fault ALL_LINES bytes ≡ None
+  pub version : drawing.version ≡ (header_at bytes).version
   pub lead : drawing.lead ≡ (header_at bytes).lead
   pub mark : drawing.mark ≡ (header_at bytes).mark
   pub code_page : drawing.code_page ≡ (header_at bytes).code_page

@@ -1,5 +1,6 @@
 -- What an input spells: the drawing that its parts, each at its place, say (Open Design Specification, "R13 to R2000 file layout"). That frames share no byte, and the order of objects, are rules of this project.
 use Rattle.std.specs.Prelude.{◌≡◌, ◌⊎◌, ℕ, ◌<◌, ◌≤◌, List, [], ◌∷◌, length, map, Some, AllPairs}
+use Rattle.dwg_base.specs.Versions.{version_at}
 use Rattle.std.specs.List.{AllByRecursion}
 use Rattle.std.specs.List.Sorted.{IsPermutation}
 use Rattle.dwg_base.specs.Bytes.{StandsAt}
@@ -28,7 +29,7 @@ pub record PairFrame : Type 0 where
 -- the frame of a pair stands at the pair's place, and its body is read, under the classes, as an object with the pair's handle
 pub record IsFrameOfPair (classes : List Class) (bytes : List ℕ) (frame : PairFrame) : Type 0 where
   pub stands : FrameAt bytes frame.pair.place frame.body frame.end
-  pub form : FormOf classes frame.body frame.object
+  pub form : FormOf (version_at bytes) classes frame.body frame.object
   pub own : handle_of frame.object ≡ frame.pair.handle
 
 -- two frames share no byte
@@ -58,6 +59,7 @@ pub record Spelled (drawing : Contents) (bytes : List ℕ) : Type 0 where
   -- the file header, and where its locators say that the sections lie
   pub header : FileHeader
   pub begins : BeginsWithHeader bytes header
+  pub version : drawing.version ≡ header.version
   pub lead : drawing.lead ≡ header.lead
   pub mark : drawing.mark ≡ header.mark
   pub code_page : drawing.code_page ≡ header.code_page

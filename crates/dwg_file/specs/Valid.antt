@@ -28,8 +28,8 @@ pub record IsValid (drawing : Contents) : Type 0 where
   pub few : length drawing.others ≤ 3
   pub others : AllByRecursion IsOther drawing.others
   pub distinct : AllPairs (λ (one other : OtherValue). one.number ≢ other.number) drawing.others
-  -- each object is one that the classes allow, and their handles ascend
-  pub objects : AllByRecursion (IsValidObject drawing.classes) drawing.objects
+  -- each object is one that the version and the classes allow, and their handles ascend
+  pub objects : AllByRecursion (IsValidObject drawing.version drawing.classes) drawing.objects
   pub ascending : AreAscending drawing.objects
   -- the canonical size, counted in bits too, is a word's
   pub size : size_of drawing < 2 ^ 58

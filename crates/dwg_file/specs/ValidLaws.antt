@@ -29,7 +29,7 @@ pub record AreReadParts (drawing : Contents) : Type 0 where
   pub others : AllByRecursion (IsSection MOST_BYTES) drawing.others
   pub distinct : AllPairs Differ drawing.others
   -- each object is read of some body, and their handles ascend
-  pub objects : AllByRecursion (IsReadOf drawing.classes) drawing.objects
+  pub objects : AllByRecursion (IsReadOf drawing.version drawing.classes) drawing.objects
   pub count : length drawing.objects ≤ 2 * MOST_BYTES
   pub ascending : AreAscending drawing.objects
 

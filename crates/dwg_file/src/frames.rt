@@ -11,7 +11,7 @@ ghost use Rattle.dwg_file.specs.FrameReading.{AreTaken, AnswersPair, HasRead, Go
 ghost use Rattle.dwg_file.specs.Taken.{meets, shares};
 
 use crate::taken::Taken;
-use dwg_base::{Fault, Handle, Items, NoMemory, Refusal, with_item, with_room};
+use dwg_base::{Fault, Handle, Items, NoMemory, Refusal, Version, with_item, with_room};
 use dwg_classes::Hints;
 use dwg_object::{Found, Object, read_span, span_at};
 use dwg_objmap::Pair;
@@ -60,7 +60,7 @@ fn frame_of_pair<'a>(
     if taken.shares(span.from, span.end) {
         return Err(refused(OVERLAP_LINE, index, place));
     }
-    let found = match read_span(alloc, bytes, &span, index, hints) {
+    let found = match read_span(alloc, bytes, &span, index, hints, Version::of_input(bytes)) {
         Ok(found) => found,
         Err(fault) => return Err(fault),
     };
@@ -82,9 +82,9 @@ pub struct ObjectFrame {
     pub end: u64,
 }
 
-/// No frame that has an object is shorter: its length and its check word take two bytes each, and the 50 bits of the shortest head
-/// seven.
-const LEAST_FRAME: usize = 11;
+/// No frame that has an object is shorter: its length and its check word take two bytes each, and the 18 bits of the shortest head,
+/// which AC1014 has, three.
+const LEAST_FRAME: usize = 7;
 
 /// A list with room for the objects of so many pairs, and for no more than an input of so many bytes can hold. The only refusal is
 /// want of memory.

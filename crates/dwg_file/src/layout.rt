@@ -53,7 +53,12 @@ pub(crate) fn layout_of(alloc: Global, parts: &Parts<'_>) -> Result<Layout, NoMe
     let classes = variables + FRAMED_SIZE as u64 + parts.variables.as_slice().len() as u64;
     let content = content_length(parts.classes.as_slice());
     let preview = classes + FRAMED_SIZE as u64 + content;
-    let frames = place_objects(alloc, parts.objects.as_slice(), preview + PREVIEW_SIZE)?;
+    let frames = place_objects(
+        alloc,
+        parts.version,
+        parts.objects.as_slice(),
+        preview + PREVIEW_SIZE,
+    )?;
     let others = frames.end + map_length(frames.pairs.as_slice());
     let size = others + others_length(sections);
     Ok(Layout {
@@ -152,6 +157,7 @@ pub(crate) fn header_of(
 {
     let locators = locators_of(alloc, parts, layout)?;
     Ok(FileHeader {
+        version: parts.version,
         lead: parts.lead,
         preview: layout.preview as u32,
         mark: parts.mark,

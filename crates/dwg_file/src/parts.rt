@@ -1,6 +1,6 @@
 //! The parts of a drawing.
 
-use dwg_base::Items;
+use dwg_base::{Items, Version};
 use dwg_classes::Class;
 use dwg_codes::BytePart;
 use dwg_object::Object;
@@ -16,6 +16,8 @@ pub struct Other<'a> {
 
 /// What a drawing says. Places, the preview, padding, slack and the choice of spellings aren't part of it.
 pub struct Parts<'a> {
+    /// The version, by whose rules its objects are read and written.
+    pub version: Version,
     /// Seven bytes behind the version, kept without meaning.
     pub lead: [u8; 7],
     /// Two bytes before the code page, kept without meaning.
@@ -36,6 +38,7 @@ impl Drop for Parts<'_> {
     // Written for the same reason as that of a body.
     fn drop(self) {
         let Parts {
+            version: _,
             lead: _,
             mark: _,
             code_page: _,

@@ -95,7 +95,13 @@ fn send_front<W: Sink>(
         Ok(()) => {}
         Err(WriteFault) => return Err(WriteFault),
     }
-    match give_frames(parts.objects.as_slice(), part, gathering, sink) {
+    match give_frames(
+        parts.version,
+        parts.objects.as_slice(),
+        part,
+        gathering,
+        sink,
+    ) {
         Ok(()) => {}
         Err(WriteFault) => return Err(WriteFault),
     }

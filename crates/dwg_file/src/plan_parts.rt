@@ -10,7 +10,7 @@ ghost use Rattle.dwg_file.specs.Contents.{other_value};
 ghost use Rattle.dwg_file.specs.Plans.{CanBeFramed, FitsIn, room_of_frame};
 
 use crate::parts::Other;
-use dwg_base::{Items, NoMemory, push_item, with_room};
+use dwg_base::{Items, NoMemory, Version, push_item, with_room};
 use dwg_classes::{Class, classes_bits};
 use dwg_codes::ms_bytes;
 use dwg_object::{Object, frame_length};
@@ -50,11 +50,11 @@ pub(crate) struct Placed {
 }
 
 /// How many bytes of an object's frame aren't held elsewhere: all of them, but of a Raw object's those of the length alone.
-fn room_of_frame(object: &Object<'_>, frame: u64) -> u64
-    requires framed { CanBeFramed (value_of object.now) }
-    requires frame { frame ≡ length (frame_bytes (value_of object.now)) }
+fn room_of_frame(object: &Object<'_>, version: Version, frame: u64) -> u64
+    requires framed { CanBeFramed version (value_of object.now) }
+    requires frame { frame ≡ length (frame_bytes version (value_of object.now)) }
     requires few { frame < 2 ^ 30 }
-    ensures room { result ≡ room_of_frame (value_of object.now) }
+    ensures room { result ≡ room_of_frame version (value_of object.now) }
     ensures few { result < 2 ^ 30 }
 {
     match object {
@@ -63,17 +63,18 @@ fn room_of_frame(object: &Object<'_>, frame: u64) -> u64
     }
 }
 
-/// Places the frames of objects one behind the other. The only refusal is want of memory.
+/// Places the frames of objects of a version one behind the other. The only refusal is want of memory.
 pub(crate) fn place_objects(
     alloc: Global,
+    version: Version,
     objects: &[Object<'_>],
     from: u64,
 ) -> Result<Placed, NoMemory>
-    requires framed { AllByRecursion CanBeFramed (map value_of objects.now) }
-    requires few { from + length (frames_bytes (map value_of objects.now)) < 2 ^ 58 }
-    ensures pairs { IfOk result (λ all. all.pairs ≡ placed from (map value_of objects.now)) }
-    ensures end { IfOk result (λ all. all.end ≡ from + length (frames_bytes (map value_of objects.now))) }
-    ensures part { IfOk result (λ all. AllByRecursion (FitsIn all.part) (map value_of objects.now)) }
+    requires framed { AllByRecursion (CanBeFramed version) (map value_of objects.now) }
+    requires few { from + length (frames_bytes version (map value_of objects.now)) < 2 ^ 58 }
+    ensures pairs { IfOk result (λ all. all.pairs ≡ placed version from (map value_of objects.now)) }
+    ensures end { IfOk result (λ all. all.end ≡ from + length (frames_bytes version (map value_of objects.now))) }
+    ensures part { IfOk result (λ all. AllByRecursion (FitsIn version all.part) (map value_of objects.now)) }
     ensures few_part { IfOk result (λ all. all.part < 2 ^ 30) }
 {
     let mut pairs = with_room(alloc, objects.len())?;
@@ -85,8 +86,8 @@ pub(crate) fn place_objects(
             place,
         };
         push_item(&mut pairs, pair)?;
-        let frame = frame_length(object);
-        part = room_of_frame(object, frame).max(part);
+        let frame = frame_length(object, version);
+        part = room_of_frame(object, version, frame).max(part);
         place += frame;
     }
     Ok(Placed {

@@ -93,6 +93,7 @@ fn parts_behind<'a>(
     };
     let FramedObjects { objects, frames } = framed;
     let parts = Parts {
+        version: header.version,
         lead: header.lead,
         mark: header.mark,
         code_page: header.code_page,

@@ -19,7 +19,7 @@ ghost use Rattle.dwg_file.specs.Plans.{CanBeSent, IsPut};
 
 use crate::gathering::Gathering;
 use crate::parts::Other;
-use dwg_base::{Sink, WriteFault, bounded_bytes};
+use dwg_base::{Sink, Version, WriteFault, bounded_bytes};
 use dwg_bits::BitSink;
 use dwg_check::{FRAME_START, check};
 use dwg_classes::{Class, write_classes};
@@ -134,15 +134,16 @@ fn give_raw_frame<W: Sink>(
     give_all(&pieces, gathering, sink)
 }
 
-/// Gives the frame of an object, which is made in the room of a part but for the body of a Raw one.
+/// Gives the frame of an object in a version, which is made in the room of a part but for the body of a Raw one.
 fn give_frame<W: Sink>(
     object: &Object<'_>,
+    version: Version,
     part: &mut BitSink,
     gathering: &mut Gathering,
     sink: &mut W,
 ) -> Result<(), WriteFault>
-    requires { CanBeSent (part.old.spare + length part.old.written) (value_of object.now) }
-    ensures gives { Gives (W.taken sink.old) (W.taken sink.new) gathering.old gathering.new (frame_bytes (value_of object.now)) result }
+    requires { CanBeSent version (part.old.spare + length part.old.written) (value_of object.now) }
+    ensures gives { Gives (W.taken sink.old) (W.taken sink.new) gathering.old gathering.new (frame_bytes version (value_of object.now)) result }
     ensures counts { Counts (W.faults sink.old) (W.faults sink.new) result }
     ensures room { part.old.spare + length part.old.written ≤ part.new.spare + length part.new.written }
 {
@@ -150,24 +151,25 @@ fn give_frame<W: Sink>(
         return give_raw_frame(raw.bytes.as_slice(), part, gathering, sink);
     }
     part.clear();
-    write_frame(object, part);
+    write_frame(object, version, part);
     gathering.give(bytes_of(part), sink)
 }
 
-/// Gives the frames of objects, one behind the other.
+/// Gives the frames of objects of a version, one behind the other.
 pub(crate) fn give_frames<W: Sink>(
+    version: Version,
     objects: &[Object<'_>],
     part: &mut BitSink,
     gathering: &mut Gathering,
     sink: &mut W,
 ) -> Result<(), WriteFault>
-    requires { AllByRecursion (CanBeSent (part.old.spare + length part.old.written)) (map value_of objects.now) }
-    ensures gives { Gives (W.taken sink.old) (W.taken sink.new) gathering.old gathering.new (frames_bytes (map value_of objects.now)) result }
+    requires { AllByRecursion (CanBeSent version (part.old.spare + length part.old.written)) (map value_of objects.now) }
+    ensures gives { Gives (W.taken sink.old) (W.taken sink.new) gathering.old gathering.new (frames_bytes version (map value_of objects.now)) result }
     ensures counts { Counts (W.faults sink.old) (W.faults sink.new) result }
     ensures room { part.old.spare + length part.old.written ≤ part.new.spare + length part.new.written }
 {
     'along: for object in objects {
-        match give_frame(object, part, gathering, sink) {
+        match give_frame(object, version, part, gathering, sink) {
             Ok(()) => {}
             Err(WriteFault) => return Err(WriteFault),
         }

@@ -1,8 +1,10 @@
 -- The slots of an object are no more than its references and the items of its application data, and each of these has eight bits at the least.
 use Rattle.std.proofs.Common.{◌≡◌, refl, ap, ℕ, ◌+◌, ◌*◌, ◌<◌, ◌≤◌, ◌^◌, Bool, true, false, List, [], ◌∷◌, ◌++◌, length, Option, Some, None, arith, length-append}
+use Rattle.dwg_base.specs.declared.version.Version.{Version}
+use Rattle.dwg_base.specs.declared.version.Version.TheVariants.{Ac1014, Ac1015}
+use Rattle.dwg_common.specs.declared.layout.Layout.{Layout}
 use Rattle.std.proofs.lemmas.List.{length-map}
 use Rattle.std.specs.Option.{option_map, option_map_or}
-use Rattle.dwg_common.specs.Layouts.{NEWER}
 use Rattle.dwg_grammar.specs.Codes.{bs}
 use Rattle.dwg_grammar.specs.Combinators.{until, SpellsUntil}
 use Rattle.dwg_grammar.specs.ToEnd.{SpellsAll}
@@ -34,12 +36,12 @@ use Rattle.dwg_grammar.specs.ReferenceCodes.{reference}
 use Rattle.dwg_grammar.proofs.ReferenceLemmas.{reference_least}
 use Rattle.dwg_more.specs.Groups.{group_body}
 use Rattle.dwg_more.specs.Polylines.{polyline_body}
-use Rattle.dwg_object.proofs.CommonForms.{common_is_body, common_may_follow}
+use Rattle.dwg_object.proofs.CommonForms.{common_is_body, common_may_follow, layout_small}
 use Rattle.dwg_object.specs.declared.body.Body.TheVariants as bodies
 use Rattle.dwg_object.specs.declared.body.Body.{Body}
 use Rattle.dwg_object.specs.declared.common.Common.TheVariants as commons
 use Rattle.dwg_object.specs.declared.common.Common.{Common}
-use Rattle.dwg_object.specs.Forms.{common_part}
+use Rattle.dwg_object.specs.Forms.{common_part, layout_in}
 use Rattle.dwg_object.proofs.FormLaws.{length_of_frame}
 use Rattle.dwg_object.specs.Objects.{TypedValue, PlainValue, RawValue, is_of_entity}
 use Rattle.dwg_object.specs.OwnBodies.{body_kind, own_body}
@@ -90,10 +92,10 @@ unfolding app_list until
 apps_least base listed letters spelled = until_least base listed letters spelled
 
 -- the application data of an entity stand in its main bits
-entity_apps : (base : ℕ) (common : EntityCommon) (main references : List Bool) (over : ℕ) → (entity_common NEWER base).Spells common main references over
+entity_apps : (layout : Layout) (base : ℕ) (common : EntityCommon) (main references : List Bool) (over : ℕ) → (entity_common layout base).Spells common main references over
     → 8 * length common.app ≤ length main
 unfolding entity_common
-entity_apps base common main references over (told, named, is, (front, back, (first, behind, apps, others, cut), look, same), names) =
+entity_apps layout base common main references over (told, named, is, (front, back, (first, behind, apps, others, cut), look, same), names) =
     omega (
       arith,
       apps_least base told.0.0 first apps,
@@ -105,10 +107,10 @@ entity_apps base common main references over (told, named, is, (front, back, (fi
     )
 
 -- and of any other object
-object_apps : (base : ℕ) (common : ObjectCommon) (main references : List Bool) (over : ℕ) → (object_common NEWER base).Spells common main references over
+object_apps : (layout : Layout) (base : ℕ) (common : ObjectCommon) (main references : List Bool) (over : ℕ) → (object_common layout base).Spells common main references over
     → 8 * length common.app ≤ length main
 unfolding object_common
-object_apps base common main references over (told, named, is, (front, back, apps, count, same), names) =
+object_apps layout base common main references over (told, named, is, (front, back, apps, count, same), names) =
     omega (arith, apps_least base told.0 front apps, ap (λ (one : ObjectCommon). length one.app) is, ap length same, length-append front back)
 
 -- two fields that may be there together have a reference each where they are
@@ -135,7 +137,7 @@ common_counted handle (commons.Entity common) more =
 common_counted handle (commons.Object common) more = simp (length-append, length-map) (omega arith)
 
 -- and a kind as many of its own as its body names
-own_counted : (base : ℕ) (body : Body) → count_of (held_by_body body) ≡ length ((own_body (body_kind body) base).references body)
+own_counted : (base : ℕ) (body : Body) → count_of (held_by_body body) ≡ length ((own_body Ac1015 (body_kind body) base).references body)
 unfolding held_by_body own_body text_body attrib_body attdef_body block_body endblk_body seqend_body insert_body minsert_body polyline_body dictionary_body block_control_body block_header_body layer_control_body layer_body style_control_body style_body ltype_control_body ltype_body appid_control_body app_id_body xrecord_body group_body
 own_counted base (bodies.Insert body) =
     omega (arith, length-append {A = Reference}, three_counted (λ (all : Attributes). all.first) (λ all. all.last) (λ all. all.seqend) body.attributes)
@@ -150,44 +152,73 @@ unfolding slots
 none_is_left_out number handle common body =
     omega (arith, slots_counted (held_by_common common ++ held_by_body body), common_counted handle common (held_by_body body), own_counted handle body)
 
+-- how many items of application data and references a common part has in a version
+abbrev count_in : Version → ℕ → Common → ℕ
+count_in version handle (commons.Entity common) = length common.app + length ((entity_common (layout_in version 0) handle).references common)
+count_in version handle (commons.Object common) = length common.app + length ((object_common (layout_in version 0) handle).references common)
+
+-- as many as in AC1015
+same_count : (version : Version) (handle : ℕ) (common : Common) → count_in version handle common ≡ count_of_common handle common
+unfolding entity_common object_common
+same_count Ac1015 handle (commons.Entity common) = refl
+same_count Ac1015 handle (commons.Object common) = refl
+same_count Ac1014 handle (commons.Entity common) = simp (length-append) (omega arith)
+same_count Ac1014 handle (commons.Object common) = refl
+
+-- of a kind's own references AC1014 leaves out one at the most
+own_counted_in : (version : Version) (base : ℕ) (body : Body) → count_of (held_by_body body) ≤ length ((own_body version (body_kind body) base).references body) + 1
+unfolding held_by_body own_body text_body attrib_body attdef_body block_body endblk_body seqend_body insert_body minsert_body polyline_body dictionary_body block_control_body block_header_body layer_control_body layer_body style_control_body style_body ltype_control_body ltype_body appid_control_body app_id_body xrecord_body group_body
+own_counted_in Ac1015 base body = omega (arith, own_counted base body)
+own_counted_in Ac1014 base (bodies.Insert body) =
+    omega (arith, length-append {A = Reference}, three_counted (λ (all : Attributes). all.first) (λ all. all.last) (λ all. all.seqend) body.attributes)
+own_counted_in Ac1014 base (bodies.MInsert body) =
+    omega (arith, length-append {A = Reference}, three_counted (λ (all : Attributes). all.first) (λ all. all.last) (λ all. all.seqend) body.insert.attributes)
+own_counted_in Ac1014 base (bodies.BlockHeader body) = omega (arith, length-append {A = Reference}, two_counted (λ (ends : Ends). ends.first) (λ ends. ends.last) body.ends)
+own_counted_in Ac1014 base body = omega (arith, length-append {A = Reference})
+
 -- a common part is written by eight bits for each of these at the least
-common_bound : (handle : ℕ) (common : Common) → handle < 2 ^ 63 → (common_part (is_of_entity common) handle).Fits common
-    → 8 * count_of_common handle common ≤ length (common_main handle common) + length (common_refs handle common)
-common_bound handle (commons.Entity common) small fits =
-    let is = common_is_body true handle small in
-    let spelled = is.canonical (commons.Entity common) 0 fits (common_may_follow true handle 0) in
+common_bound : (version : Version) (handle : ℕ) (common : Common) → handle < 2 ^ 63 → (common_part (layout_in version 0) (is_of_entity common) handle).Fits common
+    → 8 * count_in version handle common ≤ length (common_main (layout_in version 0) handle common) + length (common_refs (layout_in version 0) handle common)
+common_bound version handle (commons.Entity common) small fits =
+    let layout : Layout = layout_in version 0 in
+    let is = common_is_body layout true handle (layout_small version 0 (omega arith)) small in
+    let spelled = is.canonical (commons.Entity common) 0 fits (common_may_follow layout true handle 0) in
     let same : spelled.0 ≡ common = cc in
     omega (
       arith,
-      written_least handle (common_part true handle) (commons.Entity common) is fits,
-      entity_apps handle spelled.0 (common_main handle (commons.Entity common)) (common_refs handle (commons.Entity common)) 0 spelled.2,
+      written_least handle (common_part layout true handle) (commons.Entity common) is fits,
+      entity_apps layout handle spelled.0 (common_main layout handle (commons.Entity common)) (common_refs layout handle (commons.Entity common)) 0 spelled.2,
       ap (λ (one : EntityCommon). length one.app) same,
     )
-common_bound handle (commons.Object common) small fits =
-    let is = common_is_body false handle small in
-    let spelled = is.canonical (commons.Object common) 0 fits (common_may_follow false handle 0) in
+common_bound version handle (commons.Object common) small fits =
+    let layout : Layout = layout_in version 0 in
+    let is = common_is_body layout false handle (layout_small version 0 (omega arith)) small in
+    let spelled = is.canonical (commons.Object common) 0 fits (common_may_follow layout false handle 0) in
     let same : spelled.0 ≡ common = cc in
     omega (
       arith,
-      written_least handle (common_part false handle) (commons.Object common) is fits,
-      object_apps handle spelled.0 (common_main handle (commons.Object common)) (common_refs handle (commons.Object common)) 0 spelled.2,
+      written_least handle (common_part layout false handle) (commons.Object common) is fits,
+      object_apps layout handle spelled.0 (common_main layout handle (commons.Object common)) (common_refs layout handle (commons.Object common)) 0 spelled.2,
       ap (λ (one : ObjectCommon). length one.app) same,
     )
 
--- an object's frame has more bytes than it has slots
+-- an object's frame has more bytes than it has slots: that AC1014 leaves out a reference is made up for by the check word
 pub slots_are_few : SlotsAreFew
 unfolding slots
-slots_are_few classes (TypedValue number handle common body) valid =
-    let fit = valid.0.whole.0 in
+slots_are_few version classes (TypedValue number handle common body) valid =
+    let fit = valid.0.fits in
     let small : handle < 2 ^ 63 = valid.0.handle_fits in
     omega (
       arith,
-      none_is_left_out number handle common body,
-      common_bound handle common small fit.1,
-      written_least handle (own_body (body_kind body) handle) body (own_is_body (body_kind body) handle small) fit.2,
-      length_of_object number handle common (own_main handle body) (own_refs handle body),
-      (bytes_padded (object_bits number handle common (own_main handle body) (own_refs handle body))).enough,
-      length_of_frame (TypedValue number handle common body),
+      slots_counted (held_by_common common ++ held_by_body body),
+      common_counted handle common (held_by_body body),
+      own_counted_in version handle body,
+      same_count version handle common,
+      common_bound version handle common small fit.1,
+      written_least handle (own_body version (body_kind body) handle) body (own_is_body version (body_kind body) handle small) fit.2,
+      length_of_object version number handle common (own_main version handle body) (own_refs version handle body),
+      (bytes_padded (object_bits version number handle common (own_main version handle body) (own_refs version handle body))).enough,
+      length_of_frame version (TypedValue number handle common body),
     )
-slots_are_few classes (PlainValue number handle common rest refs) valid = omega (arith, length_of_frame (PlainValue number handle common rest refs))
-slots_are_few classes (RawValue number handle bytes) valid = omega (arith, length_of_frame (RawValue number handle bytes))
+slots_are_few version classes (PlainValue number handle common rest refs) valid = omega (arith, length_of_frame version (PlainValue number handle common rest refs))
+slots_are_few version classes (RawValue number handle bytes) valid = omega (arith, length_of_frame version (RawValue number handle bytes))

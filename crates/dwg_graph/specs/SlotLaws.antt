@@ -1,5 +1,7 @@
 -- What holds of the slots of objects. A rule of this project.
 use Rattle.std.specs.Prelude.{◌≡◌, ◌⊎◌, ℕ, ◌+◌, ◌<◌, ◌≤◌, List, length, IsTrue, AllPairs, Contains}
+use Rattle.dwg_base.specs.declared.version.Version.{Version}
+use Rattle.dwg_base.specs.declared.version.Version.TheVariants.{Ac1015}
 use Rattle.dwg_classes.specs.declared.class.Class.{Class}
 use Rattle.dwg_graph.specs.declared.slot.Slot.{Slot}
 use Rattle.dwg_graph.specs.Slots.{slots}
@@ -32,9 +34,9 @@ SlotsAreHeld = (x : ObjectValue) (slot : Slot) → IsWhole x → Contains (slots
 abbrev pub OwnersAreHeld : Type 0
 OwnersAreHeld = (number handle : ℕ) (common : Common) (body : Body) → IsTrue (has_field fields.Owner (kind_of (TypedValue number handle common body)))
 
--- an object is framed by more bytes than it has slots
+-- an object is framed by more bytes than it has slots, in each version
 abbrev pub SlotsAreFew : Type 0
-SlotsAreFew = (classes : List Class) (x : ObjectValue) → IsValidObject classes x → 1 + length (slots x) ≤ length (frame_bytes x)
+SlotsAreFew = (version : Version) (classes : List Class) (x : ObjectValue) → IsValidObject version classes x → 1 + length (slots x) ≤ length (frame_bytes version x)
 
 -- how many items of application data and references a common part has, that to the owner included
 abbrev pub count_of_common : ℕ → Common → ℕ
@@ -46,9 +48,9 @@ abbrev pub owners_of_common : Common → ℕ
 owners_of_common (commons.Entity common) = length (option_map_or (λ (owner : Reference). owner ∷ []) common.owner [])
 owners_of_common (commons.Object common) = 1
 
--- a Typed object has a slot for each item of application data and each reference, but for that to its owner
+-- a Typed object has a slot for each item of application data and each reference that AC1015 spells, but for that to its owner
 abbrev pub NoneIsLeftOut : Type 0
-NoneIsLeftOut = (number handle : ℕ) (common : Common) (body : Body) → length (slots (TypedValue number handle common body)) + owners_of_common common ≡ count_of_common handle common + length ((own_body (body_kind body) handle).references body)
+NoneIsLeftOut = (number handle : ℕ) (common : Common) (body : Body) → length (slots (TypedValue number handle common body)) + owners_of_common common ≡ count_of_common handle common + length ((own_body Ac1015 (body_kind body) handle).references body)
 
 -- a slot stands before another by its field, or by its position in the same field
 abbrev pub StandsBefore : Slot → Slot → Type 0

@@ -2,6 +2,8 @@
 use Rattle.std.proofs.Common.{◌≡◌, ◌∙◌, ap, ℕ, ◌+◌, ◌*◌, ◌^◌, ◌≤◌, ◌<◌, ◌%◌, Bool, List, [], ◌++◌, length, arith}
 use Rattle.std.proofs.lemmas.List.{length-append}
 use Rattle.dwg_base.specs.Devices.{MOST_BYTES}
+use Rattle.dwg_base.specs.declared.version.Version.TheVariants.{Ac1015}
+use Rattle.dwg_common.specs.Layouts.{NEWER}
 use Rattle.dwg_bits.specs.Sink.{padding}
 use Rattle.dwg_bits.proofs.PaddingLaw.{padding_fills}
 use Rattle.dwg_bits.specs.WholeBytes.{whole_bytes}
@@ -15,21 +17,21 @@ use Rattle.dwg_object.specs.Forms.{kind_under, common_part}
 use Rattle.dwg_object.specs.Heads.{head}
 use Rattle.dwg_object.specs.Objects.{HeadParts, TypedValue, is_of_entity}
 use Rattle.dwg_object.specs.OwnBodies.{body_kind, own_body}
-use Rattle.dwg_object.specs.Written.{common_main, common_refs, written_head, front_bits, refs_bits, object_bits, own_main, own_refs}
+use Rattle.dwg_object.specs.Written.{common_main, common_refs, main_size, written_head, front_bits, refs_bits, object_bits, own_main, own_refs}
 use Rattle.dwg_make.proofs.CodeSizes.{Few, both, low_few, bs_few, rl_few, number_few}
 use Rattle.dwg_make.proofs.PartsMade.{IsMade}
 
 -- a head
-head_few : (parts : HeadParts) → Few 122 (head.short parts)
+head_few : (parts : HeadParts) → Few 122 ((head Ac1015).short parts)
 unfolding head own_handle
 head_few parts = both (bs_few parts.number) (both (rl_few parts.size) (both (low_few 4 0) (number_few parts.own)))
 
 -- the bits of an object, by those of its parts
-bits_few : (number handle : ℕ) (common : Common) (own refs : List Bool) → Few 65536 (common_main handle common) → Few 65536 (common_refs handle common) → Few 65536 own → Few 65536 refs
-    → Few 262266 (object_bits number handle common own refs)
+bits_few : (number handle : ℕ) (common : Common) (own refs : List Bool) → Few 65536 (common_main NEWER handle common) → Few 65536 (common_refs NEWER handle common) → Few 65536 own → Few 65536 refs
+    → Few 262266 (object_bits Ac1015 number handle common own refs)
 unfolding front_bits refs_bits
 bits_few number handle common own refs main named own_few refs_few =
-    both (both (head_few (written_head number handle (length (common_main handle common ++ own)))) (both main own_few)) (both named refs_few)
+    both (both (head_few (written_head Ac1015 number handle (main_size Ac1015 number handle common own))) (both main own_few)) (both named refs_few)
 
 -- bits that are padded to bytes
 padded_few : (letters : List Bool) (most : ℕ) → Few most letters → 8 * length (whole_bytes (letters ++ padding letters)) ≤ most + 7
@@ -45,15 +47,15 @@ padded_few letters most few =
 
 -- an object that is made
 pub typed_made : (number handle : ℕ) (common : Common) (value : Body) → number < 2 ^ 16 → 0 < handle → handle < 2 ^ 63 → kind_under [] number ≡ body_kind value
-    → is_of_entity common ≡ is_entity_kind (body_kind value) → IsMade (common_part (is_of_entity common) handle) common → IsMade (own_body (body_kind value) handle) value
-    → IsSmall [] MOST_BYTES (TypedValue number handle common value)
+    → is_of_entity common ≡ is_entity_kind (body_kind value) → IsMade (common_part NEWER (is_of_entity common) handle) common → IsMade (own_body Ac1015 (body_kind value) handle) value
+    → IsSmall Ac1015 [] MOST_BYTES (TypedValue number handle common value)
 typed_made number handle common value low some small kind entity made own =
-    let letters : List Bool = object_bits number handle common (own_main handle value) (own_refs handle value) in
+    let letters : List Bool = object_bits Ac1015 number handle common (own_main Ac1015 handle value) (own_refs Ac1015 handle value) in
     let few : 8 * length (whole_bytes (letters ++ padding letters)) ≤ 262273 =
-    padded_few letters 262266 (bits_few number handle common (own_main handle value) (own_refs handle value) made.main made.refs own.main own.refs) in
+    padded_few letters 262266 (bits_few number handle common (own_main Ac1015 handle value) (own_refs Ac1015 handle value) made.main made.refs own.main own.refs) in
     record {
       valid = (
-        record { whole = ((some, made.fits, own.fits), entity); number_fits = low; handle_fits = small; kind = kind },
+        record { whole = ((some, made.fits, own.fits), entity); fits = (some, made.fits, own.fits); number_fits = low; handle_fits = small; kind = kind },
         omega (arith, few),
       );
       few = omega (arith, few);

@@ -1,5 +1,6 @@
 -- What is made is valid.
 use Rattle.std.proofs.Common.{◌≡◌, refl, ℕ, ◌^◌, ◌≤◌, ◌<◌, List, [], ◌∷◌, ◌++◌, length, arith}
+use Rattle.dwg_base.specs.declared.version.Version.TheVariants.{Ac1015}
 use Rattle.std.specs.Prelude.{map}
 use Rattle.std.specs.List.{AllByRecursion, range_with_len}
 use Rattle.std.proofs.lemmas.List.{length-append}
@@ -21,12 +22,12 @@ use Rattle.dwg_make.proofs.FurtherObjects.{all_further}
 use Rattle.dwg_make.proofs.TablesMade.{zeros_are_bytes}
 
 -- small objects behind small objects
-joined_small : (front back : List ObjectValue) → AllByRecursion (IsSmall [] MOST_BYTES) front → AllByRecursion (IsSmall [] MOST_BYTES) back → AllByRecursion (IsSmall [] MOST_BYTES) (front ++ back)
+joined_small : (front back : List ObjectValue) → AllByRecursion (IsSmall Ac1015 [] MOST_BYTES) front → AllByRecursion (IsSmall Ac1015 [] MOST_BYTES) back → AllByRecursion (IsSmall Ac1015 [] MOST_BYTES) (front ++ back)
 joined_small [] back small others = others
 joined_small (object ∷ front) back small others = (small.0, joined_small front back small.1 others)
 
 -- the fixed objects, and all objects
-fixed_small : (count : ℕ) → count < 2 ^ 20 → AllByRecursion (IsSmall [] MOST_BYTES) (fixed_objects count)
+fixed_small : (count : ℕ) → count < 2 ^ 20 → AllByRecursion (IsSmall Ac1015 [] MOST_BYTES) (fixed_objects count)
 unfolding fixed_objects
 fixed_small count few =
     joined_small _ tag_insert
@@ -46,20 +47,20 @@ unfolding whole_bytes
 no_content = refl
 
 -- the size of what is made
-made_small : (count seed : ℕ) → count ≤ 200000 → AllByRecursion (IsSmall [] MOST_BYTES) (fixed_objects count ++ map (further_entity count seed) (range_with_len 1 count)) → size_of (made count seed) < 2 ^ 58
+made_small : (count seed : ℕ) → count ≤ 200000 → AllByRecursion (IsSmall Ac1015 [] MOST_BYTES) (fixed_objects count ++ map (further_entity count seed) (range_with_len 1 count)) → size_of (made count seed) < 2 ^ 58
 unfolding made
 made_small count seed few small =
     let objects : List ObjectValue = fixed_objects count ++ map (further_entity count seed) (range_with_len 1 count) in
-    let pairs = placed (objects_place (made count seed)) objects in
+    let pairs = placed Ac1015 (objects_place (made count seed)) objects in
     omega (
       arith,
       length-append (fixed_objects count) (map (further_entity count seed) (range_with_len 1 count)),
       fixed_count count,
       length-map-range_with_len (further_entity count seed) 1 count,
       no_content,
-      frames_short [] objects small,
+      frames_short Ac1015 [] objects small,
       map_short pairs,
-      length_of_placed (objects_place (made count seed)) objects,
+      length_of_placed Ac1015 (objects_place (made count seed)) objects,
     )
 
 -- so it is valid
@@ -67,7 +68,7 @@ pub made_is_valid : (count seed : ℕ) → 0 < count → count ≤ 200000 → se
 unfolding made
 made_is_valid count seed some few low =
     let objects : List ObjectValue = fixed_objects count ++ map (further_entity count seed) (range_with_len 1 count) in
-    let small : AllByRecursion (IsSmall [] MOST_BYTES) objects =
+    let small : AllByRecursion (IsSmall Ac1015 [] MOST_BYTES) objects =
     joined_small (fixed_objects count) _ (fixed_small count (omega arith)) (all_further count seed 1 count low (omega arith)) in
     record {
       lead = (refl, zeros_are_bytes 7);
@@ -78,7 +79,7 @@ made_is_valid count seed some few low =
       few = omega arith;
       others = tt;
       distinct = λ i j d less within. absurd (omega arith);
-      objects = small_valid [] MOST_BYTES objects small;
+      objects = small_valid Ac1015 [] MOST_BYTES objects small;
       ascending = all_ascend count seed;
       size = made_small count seed few small;
     }

@@ -16,7 +16,7 @@ use crate::lists::no_bytes;
 use crate::making::Making;
 use crate::tables::make_entries;
 use crate::tag::{make_block, make_insert};
-use dwg_base::{Items, NoMemory};
+use dwg_base::{Items, NoMemory, Version};
 use dwg_codes::BytePart;
 use dwg_file::{Drawing, Parts};
 use dwg_object::Object;
@@ -71,6 +71,7 @@ fn parts_of(alloc: Global, count: u32, seed: u32) -> Result<Parts<'static>, NoMe
     ensures { IfOk result (λ parts. contents_of parts ≡ made count seed) }
 {
     Ok(Parts {
+        version: Version::Ac1015,
         lead: [0; 7],
         mark: [0; 2],
         code_page: CODE_PAGE,

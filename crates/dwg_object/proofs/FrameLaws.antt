@@ -1,5 +1,6 @@
 -- What is tried of a frame is what the input tells: by its span, by the check word of that, and by the head of its body.
 use Rattle.std.proofs.Common.{◌≡◌, refl, sym, ◌∙◌, ap, ap₂, subst, ℕ, ◌+◌, ◌-◌, Bool, true, false, List, ◌++◌, length, Option, Some, None, inl, inr, arith}
+use Rattle.dwg_base.specs.declared.version.Version.{Version}
 use Rattle.std.specs.Prelude.{◌==◌, not, Ok, Err, if◌then◌else◌}
 use Rattle.std.specs.Int.{w16, from_le_bytes, to_le_bytes}
 use Rattle.std.proofs.lemmas.Bool.Decides.{nat_tests}
@@ -16,6 +17,7 @@ use Rattle.dwg_object.specs.Objects.{HeadParts}
 use Rattle.dwg_object.specs.Heads.{HasHead, BeginsWithHead}
 use Rattle.dwg_object.specs.Frames.{FrameAt, FrameHolds, SpanAt}
 use Rattle.dwg_object.specs.FrameLines.{frame_refusal, span_of, bytes_from, span_body, has_check_word, head_at, head_tried, frame_checked, tried_span, tried_frame}
+use Rattle.dwg_base.specs.Versions.{version_at}
 use Rattle.dwg_object.specs.FrameCauses.{IsFramed, TellsSpan, TellsFrame}
 use Rattle.dwg_object.proofs.StandingLemmas.{take_stands, stands_first, stands_next, stands_same, stands_bytes}
 use Rattle.dwg_object.proofs.HeadLemmas.{TellsHead, head_told, head_only, head_begins, begins_head}
@@ -134,14 +136,14 @@ framed_at bytes place span are is from passed = record {
 }
 
 -- what is told of a span whose check word is right, by the head of its body
-frame_of_head : (bytes : List ℕ) (place index : ℕ) (span : Span) → IsFramed bytes place span → (found : Option HeadParts) → TellsHead (bits (span_body bytes span)) found
-    → TellsFrame bytes place index (head_tried place index span found)
-frame_of_head bytes place index span is (Some parts) found = (is, found)
-frame_of_head bytes place index span is None none = inr (inr (record { span = span; framed = is; headless = none; line = refl }))
+frame_of_head : (version : Version) (bytes : List ℕ) (place index : ℕ) (span : Span) → IsFramed bytes place span → (found : Option HeadParts) → TellsHead version (bits (span_body bytes span)) found
+    → TellsFrame version bytes place index (head_tried place index span found)
+frame_of_head version bytes place index span is (Some parts) found = (is, found)
+frame_of_head version bytes place index span is None none = inr (inr (record { span = span; framed = is; headless = none; line = refl }))
 
 -- a span whose check word is wrong refuses its frame
-pub check_refused : (bytes : List ℕ) (place index : ℕ) (span : Span) (refusal : Refusal) → SpanAt bytes span → span.from ≡ place → has_check_word bytes span ≡ false
-    → refusal ≡ frame_refusal 30 index place → TellsFrame bytes place index (Err refusal)
+pub check_refused : {version : Version} (bytes : List ℕ) (place index : ℕ) (span : Span) (refusal : Refusal) → SpanAt bytes span → span.from ≡ place → has_check_word bytes span ≡ false
+    → refusal ≡ frame_refusal 30 index place → TellsFrame version bytes place index (Err refusal)
 check_refused bytes place index span refusal is from failed line = inr (inl (record {
   span = span;
   stands = is;
@@ -154,54 +156,54 @@ check_refused bytes place index span refusal is from failed line = inr (inl (rec
     passes_not same = cc
 
 -- what is told of a span, by its check word
-frame_of_span : (bytes : List ℕ) (place index : ℕ) (span : Span) → AreBytes bytes → SpanAt bytes span → span.from ≡ place → (right : Bool) → has_check_word bytes span ≡ right
-    → TellsFrame bytes place index (if not right then Err (frame_refusal 30 index place) else head_tried place index span (head_at bytes span))
-frame_of_span bytes place index span are is from true passed =
-    frame_of_head bytes place index span (framed_at bytes place span are is from passed) (head_at bytes span) (head_told (bits (span_body bytes span)))
-frame_of_span bytes place index span are is from false failed = check_refused bytes place index span _ is from failed refl
+frame_of_span : (version : Version) (bytes : List ℕ) (place index : ℕ) (span : Span) → AreBytes bytes → SpanAt bytes span → span.from ≡ place → (right : Bool) → has_check_word bytes span ≡ right
+    → TellsFrame version bytes place index (if not right then Err (frame_refusal 30 index place) else head_tried place index span (head_at version bytes span))
+frame_of_span version bytes place index span are is from true passed =
+    frame_of_head version bytes place index span (framed_at bytes place span are is from passed) (head_at version bytes span) (head_told version (bits (span_body bytes span)))
+frame_of_span version bytes place index span are is from false failed = check_refused bytes place index span _ is from failed refl
 
 -- what is told of what was tried of a span
-frame_of_tried : (bytes : List ℕ) (place index : ℕ) (tried : Tried Span) → AreBytes bytes → TellsSpan bytes place index tried → TellsFrame bytes place index (frame_checked place index bytes tried)
-frame_of_tried bytes place index (Err refusal) are is = inl is
-frame_of_tried bytes place index (Ok span) are is = frame_of_span bytes place index span are is.0 is.1 (has_check_word bytes span) refl
+frame_of_tried : (version : Version) (bytes : List ℕ) (place index : ℕ) (tried : Tried Span) → AreBytes bytes → TellsSpan bytes place index tried → TellsFrame version bytes place index (frame_checked version place index bytes tried)
+frame_of_tried version bytes place index (Err refusal) are is = inl is
+frame_of_tried version bytes place index (Ok span) are is = frame_of_span version bytes place index span are is.0 is.1 (has_check_word bytes span) refl
 
 -- what is tried of a frame is what the input tells
-pub frame_told : (bytes : List ℕ) (place index : ℕ) → AreBytes bytes → TellsFrame bytes place index (tried_frame place index bytes)
+pub frame_told : (version : Version) (bytes : List ℕ) (place index : ℕ) → AreBytes bytes → TellsFrame version bytes place index (tried_frame version place index bytes)
 unfolding tried_frame
-frame_told bytes place index are = frame_of_tried bytes place index (tried_span place index bytes) are (span_told bytes place index are)
+frame_told version bytes place index are = frame_of_tried version bytes place index (tried_span place index bytes) are (span_told bytes place index are)
 
 -- what is checked of a span whose check word is right and of whose head this is told
-checked_head : (bytes : List ℕ) (place index : ℕ) (span : Span) (found : Option HeadParts) → IsFramed bytes place span → TellsHead (bits (span_body bytes span)) found
-    → frame_checked place index bytes (Ok span) ≡ head_tried place index span found
-checked_head bytes place index span found is told =
+checked_head : (version : Version) (bytes : List ℕ) (place index : ℕ) (span : Span) (found : Option HeadParts) → IsFramed bytes place span → TellsHead version (bits (span_body bytes span)) found
+    → frame_checked version place index bytes (Ok span) ≡ head_tried place index span found
+checked_head version bytes place index span found is told =
     let passed : has_check_word bytes span ≡ true = tested_where bytes span is.stands (subst (λ n. FrameAt bytes n (span_body bytes span) span.end) (sym is.from) is.frame) in
-    ap (λ right. if not right then Err (frame_refusal 30 index place) else head_tried place index span (head_at bytes span)) passed
-    ∙ ap (head_tried place index span) (head_only (bits (span_body bytes span)) (head_at bytes span) found (head_told (bits (span_body bytes span))) told)
+    ap (λ right. if not right then Err (frame_refusal 30 index place) else head_tried place index span (head_at version bytes span)) passed
+    ∙ ap (head_tried place index span) (head_only version (bits (span_body bytes span)) (head_at version bytes span) found (head_told version (bits (span_body bytes span))) told)
 
 -- what the input tells of a frame is what is checked of its span
-frame_checks : (bytes : List ℕ) (place index : ℕ) (tried : Tried (Span × HeadParts)) → AreBytes bytes → TellsFrame bytes place index tried
-    → frame_checked place index bytes (tried_span place index bytes) ≡ tried
-frame_checks bytes place index (Ok (span, parts)) are is =
-    ap (frame_checked place index bytes) ((tried_span_means bytes place index (Ok span) are).1 (is.0.stands, is.0.from))
-    ∙ checked_head bytes place index span (Some parts) is.0 is.1
-frame_checks bytes place index (Err refusal) are (inl is) = ap (frame_checked place index bytes) ((tried_span_means bytes place index (Err refusal) are).1 is)
-frame_checks bytes place index (Err refusal) are (inr (inl is)) =
+frame_checks : (version : Version) (bytes : List ℕ) (place index : ℕ) (tried : Tried (Span × HeadParts)) → AreBytes bytes → TellsFrame version bytes place index tried
+    → frame_checked version place index bytes (tried_span place index bytes) ≡ tried
+frame_checks version bytes place index (Ok (span, parts)) are is =
+    ap (frame_checked version place index bytes) ((tried_span_means bytes place index (Ok span) are).1 (is.0.stands, is.0.from))
+    ∙ checked_head version bytes place index span (Some parts) is.0 is.1
+frame_checks version bytes place index (Err refusal) are (inl is) = ap (frame_checked version place index bytes) ((tried_span_means bytes place index (Err refusal) are).1 is)
+frame_checks version bytes place index (Err refusal) are (inr (inl is)) =
     let fails : has_check_word bytes is.span ≡ false =
     fails_where bytes is.span are is.stands (λ frame. is.unframed (subst (λ n. FrameAt bytes n (span_body bytes is.span) is.span.end) is.from frame)) (has_check_word bytes is.span) refl in
-    ap (frame_checked place index bytes) ((tried_span_means bytes place index (Ok is.span) are).1 (is.stands, is.from))
-    ∙ ap (λ right. if not right then Err (frame_refusal 30 index place) else head_tried place index is.span (head_at bytes is.span)) fails
+    ap (frame_checked version place index bytes) ((tried_span_means bytes place index (Ok is.span) are).1 (is.stands, is.from))
+    ∙ ap (λ right. if not right then Err (frame_refusal 30 index place) else head_tried place index is.span (head_at version bytes is.span)) fails
     ∙ ap Err (sym is.line)
-frame_checks bytes place index (Err refusal) are (inr (inr is)) =
-    ap (frame_checked place index bytes) ((tried_span_means bytes place index (Ok is.span) are).1 (is.framed.stands, is.framed.from))
-    ∙ checked_head bytes place index is.span None is.framed is.headless
+frame_checks version bytes place index (Err refusal) are (inr (inr is)) =
+    ap (frame_checked version place index bytes) ((tried_span_means bytes place index (Ok is.span) are).1 (is.framed.stands, is.framed.from))
+    ∙ checked_head version bytes place index is.span None is.framed is.headless
     ∙ ap Err (sym is.line)
 
 -- so it is
 pub tried_frame_means : FramesAreTold
 unfolding tried_frame
-tried_frame_means bytes place index tried are = (
-  (λ same. subst (TellsFrame bytes place index) same (frame_told bytes place index are)),
-  frame_checks bytes place index tried are,
+tried_frame_means version bytes place index tried are = (
+  (λ same. subst (TellsFrame version bytes place index) same (frame_told version bytes place index are)),
+  frame_checks version bytes place index tried are,
 )
 
 -- the span of a frame
@@ -243,15 +245,15 @@ span_of_frame bytes place body end is =
 pub held_frame : FramesAreHeld
 held_frame bytes place index own end are = (tried, held)
   where
-    tried : FrameHolds bytes place own end → (found : Span × HeadParts) × (tried_frame place index bytes ≡ Ok found) × (found.0.end ≡ end) × (found.1.own ≡ own)
+    tried : FrameHolds bytes place own end → (found : Span × HeadParts) × (tried_frame (version_at bytes) place index bytes ≡ Ok found) × (found.0.end ≡ end) × (found.1.own ≡ own)
     tried (body, number, frame, begins) =
         let is = span_of_frame bytes place body end frame in
         let parts : HeadParts = record { number = number; size = begins.size; own = own } in
-        let has = subst (λ (b : List ℕ). HasHead (bits b) parts) (sym is.same_body) (head_begins (bits body) number own begins) in
-        ((is.span, parts), (tried_frame_means bytes place index (Ok (is.span, parts)) are).1 (is.framed, has), is.same_end, refl)
+        let has = subst (λ (b : List ℕ). HasHead (version_at bytes) (bits b) parts) (sym is.same_body) (head_begins (bits body) number own begins) in
+        ((is.span, parts), (tried_frame_means (version_at bytes) bytes place index (Ok (is.span, parts)) are).1 (is.framed, has), is.same_end, refl)
 
-    held : (found : Span × HeadParts) × (tried_frame place index bytes ≡ Ok found) × (found.0.end ≡ end) × (found.1.own ≡ own) → FrameHolds bytes place own end
+    held : (found : Span × HeadParts) × (tried_frame (version_at bytes) place index bytes ≡ Ok found) × (found.0.end ≡ end) × (found.1.own ≡ own) → FrameHolds bytes place own end
     held ((span, parts), same, ends, owns) =
-        let is = (tried_frame_means bytes place index (Ok (span, parts)) are).0 same in
+        let is = (tried_frame_means (version_at bytes) bytes place index (Ok (span, parts)) are).0 same in
         let body : List ℕ = span_body bytes span in
-        (body, parts.number, subst (FrameAt bytes place body) ends is.0.frame, subst (BeginsWithHead (bits body) parts.number) owns (begins_head (bits body) parts is.1))
+        (body, parts.number, subst (FrameAt bytes place body) ends is.0.frame, subst (BeginsWithHead (version_at bytes) (bits body) parts.number) owns (begins_head (bits body) parts is.1))

@@ -1,5 +1,6 @@
 -- Writing a frame: its length, its body and its check word.
 use Rattle.std.proofs.Common.{◌≡◌, sym, ◌∙◌, ap, subst, ℕ, ◌+◌, ◌*◌, ◌/◌, ◌%◌, ◌<◌, ◌≤◌, ◌^◌, Bool, false, List, ◌++◌, length, drop, arith}
+use Rattle.dwg_base.specs.declared.version.Version.{Version}
 use Rattle.std.specs.Prelude.{replicate}
 use Rattle.std.specs.Int.{w16, to_le_bytes}
 use Rattle.std.proofs.lemmas.List.{length-append, drop_at}
@@ -13,13 +14,14 @@ use Rattle.dwg_bits.proofs.WholeBytes.{whole_joined, whole_of_bits, length_of_wh
 use Rattle.dwg_check.specs.CheckWord.{FRAME_START, check_word}
 use Rattle.dwg_grammar.specs.ModularCodes.{ms}
 use Rattle.dwg_object.specs.declared.common.Common.{Common}
+use Rattle.dwg_object.specs.Forms.{layout_in}
 use Rattle.dwg_object.specs.Heads.{head}
 use Rattle.dwg_object.specs.Frames.{frame_bytes, sized}
 use Rattle.dwg_object.proofs.FormLaws.{length_of_frame}
 use Rattle.dwg_object.proofs.LengthLemmas.{bytes_joined, length_is_bytes}
 use Rattle.dwg_object.specs.Objects.{ObjectValue}
-use Rattle.dwg_object.proofs.WrittenLemmas.{front_long, object_long, bytes_padded, bits_padded}
-use Rattle.dwg_object.specs.Written.{common_main, common_refs, written_head, front_bits, refs_bits, object_bits, object_bytes, body_bytes}
+use Rattle.dwg_object.proofs.WrittenLemmas.{front_sized, object_long, bytes_padded, bits_padded}
+use Rattle.dwg_object.specs.Written.{common_main, common_refs, written_head, sized_main, front_bits, refs_bits, object_bits, object_bytes, body_bytes}
 
 -- bytes that were written one behind the other
 both_written : (first second third : Written) (some others : List ℕ) → Extends first second (bits some) → Extends second third (bits others) → Extends first third (bits (some ++ others))
@@ -27,11 +29,11 @@ both_written first second third some others by_some by_others =
     subst (Extends first third) (sym (bits_joined some others)) (extends_by_both first second third (bits some) (bits others) by_some by_others)
 
 -- the bytes of an object whose bits were counted before the references and of these
-pub object_counted : (number handle : ℕ) (common : Common) (own own_refs : List Bool) (front names : ℕ) → front ≡ length (front_bits number handle common own)
-    → names ≡ length (refs_bits handle common own_refs) → (front + names + 7) / 8 ≡ length (object_bytes number handle common own own_refs)
-object_counted number handle common own own_refs front names in_front behind =
-    let padded = bytes_padded (object_bits number handle common own own_refs) in
-    omega (arith, padded.enough, padded.few, object_long number handle common own own_refs, in_front, behind)
+pub object_counted : (version : Version) (number handle : ℕ) (common : Common) (own own_refs : List Bool) (front names : ℕ) → front ≡ length (front_bits version number handle common own)
+    → names ≡ length (refs_bits version handle common own_refs) → (front + names + 7) / 8 ≡ length (object_bytes version number handle common own own_refs)
+object_counted version number handle common own own_refs front names in_front behind =
+    let padded = bytes_padded (object_bits version number handle common own own_refs) in
+    omega (arith, padded.enough, padded.few, object_long version number handle common own own_refs, in_front, behind)
 
 -- behind whole bytes, bits are filled up as they are alone
 pub padding_behind : (front letters : List Bool) → length front % 8 ≡ 0 → padding (front ++ letters) ≡ padding letters
@@ -72,43 +74,41 @@ pub sized_are_bytes : (content : List ℕ) → AreBytes content → length conte
 sized_are_bytes content are small = bytes_joined (ms.short (length content)) content (length_is_bytes (length content) (omega (arith, small))) are
 
 -- a length, a body and a check word that were written are the frame
-pub frame_written : (first third fourth : Written) (value : ObjectValue) (word_bytes : List ℕ) (word : ℕ) → word ≡ check_word FRAME_START (sized (body_bytes value))
-    → word_bytes ≡ to_le_bytes w16 word → Extends first third (bits (sized (body_bytes value))) → Extends third fourth (bits word_bytes) → Extends first fourth (bits (frame_bytes value))
+pub frame_written : (first third fourth : Written) (version : Version) (value : ObjectValue) (word_bytes : List ℕ) (word : ℕ) → word ≡ check_word FRAME_START (sized (body_bytes version value))
+    → word_bytes ≡ to_le_bytes w16 word → Extends first third (bits (sized (body_bytes version value))) → Extends third fourth (bits word_bytes) → Extends first fourth (bits (frame_bytes version value))
 unfolding frame_bytes
-frame_written first third fourth value word_bytes word checked spelled by_both by_word =
-    let both : List ℕ = sized (body_bytes value) in
+frame_written first third fourth version value word_bytes word checked spelled by_both by_word =
+    let both : List ℕ = sized (body_bytes version value) in
     both_written first third fourth both (to_le_bytes w16 (check_word FRAME_START both)) by_both
     (subst (λ (b : List ℕ). Extends third fourth (bits b)) (spelled ∙ ap (to_le_bytes w16) checked) by_word)
 
 -- the room of a frame is that of its length, its body and its check word
-pub frame_room : (value : ObjectValue) → 8 * length (frame_bytes value) ≡ 8 * length (sized (body_bytes value)) + 16
-frame_room value = omega (arith, length_of_frame value, length-append (ms.short (length (body_bytes value))) (body_bytes value))
+pub frame_room : (version : Version) (value : ObjectValue) → 8 * length (frame_bytes version value) ≡ 8 * length (sized (body_bytes version value)) + 16
+frame_room version value = omega (arith, length_of_frame version value, length-append (ms.short (length (body_bytes version value))) (body_bytes version value))
 
--- what is written one behind the other before the references is the front of an object
-pub front_written : (first second third fourth : Written) (number size handle : ℕ) (common : Common) (own : List Bool) → size ≡ length (front_bits number handle common own)
-    → Extends first second (head.short (record { number = number; size = size; own = handle })) → Extends second third (common_main handle common) → Extends third fourth own
-    → Extends first fourth (front_bits number handle common own)
-unfolding front_bits written_head
-front_written first second third fourth number size handle common own same by_head by_main by_own =
-    let behind = extends_by_both second third fourth (common_main handle common) own by_main by_own in
-    let long : size ≡ length (head.short (record { number = number; size = 0; own = handle })) + length (common_main handle common ++ own) =
-    omega (arith, same, front_long number handle common own, length-append (common_main handle common) own) in
-    extends_by_both first second fourth (head.short (written_head number handle (length (common_main handle common ++ own)))) (common_main handle common ++ own)
-    (subst (λ (n : ℕ). Extends first second (head.short (record { number = number; size = n; own = handle }))) long by_head) behind
+-- what is written one behind the other before the references, with as many bits as they are, is the front of an object
+pub front_written : (first second third fourth : Written) (version : Version) (number size handle : ℕ) (common : Common) (own : List Bool) → size ≡ length (front_bits version number handle common own)
+    → Extends first second ((head version).short (written_head version number handle size)) → Extends second third (common_main (layout_in version size) handle common) → Extends third fourth own
+    → Extends first fourth (front_bits version number handle common own)
+unfolding front_bits
+front_written first second third fourth version number size handle common own same by_head by_main by_own =
+    let behind = extends_by_both second third fourth (common_main (layout_in version size) handle common) own by_main by_own in
+    subst (λ (n : ℕ). Extends first fourth (sized_main version n number handle common own)) (same ∙ front_sized version number handle common own)
+    (extends_by_both first second fourth ((head version).short (written_head version number handle size)) (common_main (layout_in version size) handle common ++ own) by_head behind)
 
 -- and what is written one behind the other of the references is these
-pub refs_written : (first second third : Written) (handle : ℕ) (common : Common) (own_refs : List Bool)
-    → Extends first second (common_refs handle common) → Extends second third own_refs → Extends first third (refs_bits handle common own_refs)
+pub refs_written : (first second third : Written) (version : Version) (handle : ℕ) (common : Common) (own_refs : List Bool)
+    → Extends first second (common_refs (layout_in version 0) handle common) → Extends second third own_refs → Extends first third (refs_bits version handle common own_refs)
 unfolding refs_bits
-refs_written first second third handle common own_refs by_common by_own = extends_by_both first second third (common_refs handle common) own_refs by_common by_own
+refs_written first second third version handle common own_refs by_common by_own = extends_by_both first second third (common_refs (layout_in version 0) handle common) own_refs by_common by_own
 
 -- both, filled up at whole bytes, are the bytes of an object
-pub object_written : (first second third fourth : Written) (number handle : ℕ) (common : Common) (own own_refs : List Bool) → length first.written % 8 ≡ 0
-    → Extends first second (front_bits number handle common own) → Extends second third (refs_bits handle common own_refs) → Extends third fourth (padding third.written)
-    → Extends first fourth (bits (object_bytes number handle common own own_refs))
-object_written first second third fourth number handle common own own_refs whole by_front by_names by_fill =
-    let letters : List Bool = object_bits number handle common own own_refs in
-    let both = extends_by_both first second third (front_bits number handle common own) (refs_bits handle common own_refs) by_front by_names in
+pub object_written : (first second third fourth : Written) (version : Version) (number handle : ℕ) (common : Common) (own own_refs : List Bool) → length first.written % 8 ≡ 0
+    → Extends first second (front_bits version number handle common own) → Extends second third (refs_bits version handle common own_refs) → Extends third fourth (padding third.written)
+    → Extends first fourth (bits (object_bytes version number handle common own own_refs))
+object_written first second third fourth version number handle common own own_refs whole by_front by_names by_fill =
+    let letters : List Bool = object_bits version number handle common own own_refs in
+    let both = extends_by_both first second third (front_bits version number handle common own) (refs_bits version handle common own_refs) by_front by_names in
     let fill : padding third.written ≡ padding letters = ap padding both.bits ∙ padding_behind first.written letters whole in
     subst (Extends first fourth) (sym (bits_padded letters)) (extends_by_both first third fourth letters (padding letters) both (subst (Extends third fourth) fill by_fill))
 
@@ -117,31 +117,31 @@ pub fill_long : (first third : Written) (letters : List Bool) → length first.w
 fill_long first third letters whole by = ap length (ap padding by.bits ∙ padding_behind first.written letters whole)
 
 -- the bits of an object below 2^29 bytes are below 2^32
-pub object_small : (number handle : ℕ) (common : Common) (own own_refs : List Bool) → length (object_bytes number handle common own own_refs) < 2 ^ 29
-    → length (object_bits number handle common own own_refs) < 2 ^ 32
-object_small number handle common own own_refs small = let padded = bytes_padded (object_bits number handle common own own_refs) in omega (arith, padded.enough, small)
+pub object_small : (version : Version) (number handle : ℕ) (common : Common) (own own_refs : List Bool) → length (object_bytes version number handle common own own_refs) < 2 ^ 29
+    → length (object_bits version number handle common own own_refs) < 2 ^ 32
+object_small version number handle common own own_refs small = let padded = bytes_padded (object_bits version number handle common own own_refs) in omega (arith, padded.enough, small)
 
 -- before the references, of these, and filled up behind them, they are those of its bytes
-pub object_whole : (number handle : ℕ) (common : Common) (own own_refs : List Bool)
-    → length (front_bits number handle common own) + length (refs_bits handle common own_refs) + length (padding (object_bits number handle common own own_refs))
-    ≡ 8 * length (object_bytes number handle common own own_refs)
-object_whole number handle common own own_refs =
-    let letters : List Bool = object_bits number handle common own own_refs in
+pub object_whole : (version : Version) (number handle : ℕ) (common : Common) (own own_refs : List Bool)
+    → length (front_bits version number handle common own) + length (refs_bits version handle common own_refs) + length (padding (object_bits version number handle common own own_refs))
+    ≡ 8 * length (object_bytes version number handle common own own_refs)
+object_whole version number handle common own own_refs =
+    let letters : List Bool = object_bits version number handle common own own_refs in
     omega (
       arith,
       ap length (bits_padded letters),
-      length_of_bits (object_bytes number handle common own own_refs),
+      length_of_bits (object_bytes version number handle common own own_refs),
       length-append letters (padding letters),
-      object_long number handle common own own_refs,
+      object_long version number handle common own own_refs,
     )
 
 -- behind their length they take the room of both
-pub object_room : (number handle : ℕ) (common : Common) (own own_refs : List Bool)
-    → 8 * length (sized (object_bytes number handle common own own_refs))
-    ≡ length (bits (ms.short (length (object_bytes number handle common own own_refs))))
-    + (length (front_bits number handle common own) + length (refs_bits handle common own_refs) + length (padding (object_bits number handle common own own_refs)))
-object_room number handle common own own_refs =
-    omega (arith, sized_room (object_bytes number handle common own own_refs), object_whole number handle common own own_refs)
+pub object_room : (version : Version) (number handle : ℕ) (common : Common) (own own_refs : List Bool)
+    → 8 * length (sized (object_bytes version number handle common own own_refs))
+    ≡ length (bits (ms.short (length (object_bytes version number handle common own own_refs))))
+    + (length (front_bits version number handle common own) + length (refs_bits version handle common own_refs) + length (padding (object_bits version number handle common own own_refs)))
+object_room version number handle common own own_refs =
+    omega (arith, sized_room (object_bytes version number handle common own own_refs), object_whole version number handle common own own_refs)
 
 -- behind whole bytes, bytes end at a whole byte
 pub aligned_behind : (old new : Written) (bytes : List ℕ) → length old.written % 8 ≡ 0 → Extends old new (bits bytes) → length new.written % 8 ≡ 0

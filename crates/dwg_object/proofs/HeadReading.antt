@@ -1,5 +1,6 @@
 -- Reading a head, part by part.
-use Rattle.std.proofs.Common.{◌≡◌, sym, ◌∙◌, ap, ℕ, ◌+◌, ◌*◌, Bool, List, ◌++◌, length, Option, Some, None, arith}
+use Rattle.std.proofs.Common.{◌≡◌, sym, ◌∙◌, ap, ℕ, ◌+◌, ◌*◌, ◌≤◌, Bool, List, ◌++◌, length, Option, Some, None, arith}
+use Rattle.dwg_base.specs.declared.version.Version.{Version}
 use Rattle.std.specs.Prelude.{option_map}
 use Rattle.std.proofs.lemmas.List.{length-append}
 use Rattle.dwg_bits.specs.Bits.{bits}
@@ -9,11 +10,11 @@ use Rattle.dwg_bits.specs.declared.cursor.BitCursor.{BitCursor}
 use Rattle.dwg_common.specs.Parsing.{Keeps}
 use Rattle.dwg_grammar.proofs.BodyReading.{parsed}
 use Rattle.dwg_grammar.proofs.OwnLemmas.{own_is_code}
-use Rattle.dwg_grammar.specs.Codes.{bs, rl}
+use Rattle.dwg_grammar.specs.Codes.{bs}
 use Rattle.dwg_grammar.specs.Grammar.{Reads}
 use Rattle.dwg_grammar.specs.ReferenceCodes.{own_handle}
 use Rattle.dwg_object.specs.Objects.{HeadParts}
-use Rattle.dwg_object.specs.Heads.{head, HasHead, IsHeadAt, own_of}
+use Rattle.dwg_object.specs.Heads.{head, head_size, HasHead, IsHeadAt, own_of}
 use Rattle.dwg_object.proofs.HeadLemmas.{head_is_code, own_told, head_unparsed}
 
 -- what was read of an own handle is what is parsed
@@ -26,10 +27,10 @@ whole_rest body cursor same from to =
     ap (λ (some : List ℕ). bits_between some cursor.place cursor.end) same ∙ ap (λ (n : ℕ). bits_between body n cursor.end) from ∙ bits_between_all body cursor.end to
 
 -- what is parsed from there is the head of the body, behind which the cursor stands
-pub body_begins : (body : List ℕ) (old new : BitCursor) (parts : HeadParts) → old.bytes.now ≡ body → old.place ≡ 0 → old.end ≡ 8 * length body → Keeps old new
-    → head.parse (rest old) ≡ Some (parts, rest new) → IsHeadAt (bits body) parts new.place
-body_begins body old new parts same from to kept found =
-    let is = head_is_code.sound (bits body) (rest new) parts tt (ap head.parse (sym (whole_rest body old same from to)) ∙ found) in
+pub body_begins : {version : Version} (body : List ℕ) (old new : BitCursor) (parts : HeadParts) → old.bytes.now ≡ body → old.place ≡ 0 → old.end ≡ 8 * length body → Keeps old new
+    → (head version).parse (rest old) ≡ Some (parts, rest new) → IsHeadAt version (bits body) parts new.place
+body_begins {version} body old new parts same from to kept found =
+    let is = (head_is_code version).sound (bits body) (rest new) parts tt (ap (head version).parse (sym (whole_rest body old same from to)) ∙ found) in
     record {
       has = record { front = is.0; rest = rest new; spelled = is.1; whole = is.2 };
       far = omega (
@@ -45,21 +46,32 @@ body_begins body old new parts same from to kept found =
     }
 
 -- where none is parsed from there, it has none
-pub body_begins_not : (body : List ℕ) (old : BitCursor) → old.bytes.now ≡ body → old.place ≡ 0 → old.end ≡ 8 * length body → head.parse (rest old) ≡ None
-    → (parts : HeadParts) → HasHead (bits body) parts → ⊥
-body_begins_not body old same from to none = head_unparsed (bits body) (ap head.parse (sym (whole_rest body old same from to)) ∙ none)
+pub body_begins_not : {version : Version} (body : List ℕ) (old : BitCursor) → old.bytes.now ≡ body → old.place ≡ 0 → old.end ≡ 8 * length body → (head version).parse (rest old) ≡ None
+    → (parts : HeadParts) → HasHead version (bits body) parts → ⊥
+body_begins_not {version} body old same from to none = head_unparsed (bits body) (ap (head version).parse (sym (whole_rest body old same from to)) ∙ none)
+
+-- a head ends within the body
+pub head_within : {version : Version} (body : List ℕ) (parts : HeadParts) (at : ℕ) → IsHeadAt version (bits body) parts at → at ≤ 8 * length body
+head_within body parts at is = omega (arith, is.far, ap length is.has.whole, length-append is.has.front is.has.rest, length_of_bits body)
 
 -- a head is as long as its parts
-pub head_long : (number own a b c : ℕ) → a ≡ length (bs.short number) → b ≡ length (rl.short 0) → c ≡ length (own_handle.short own)
-    → a + b + c ≡ length (head.short (record { number = number; size = 0; own = own }))
+pub head_long : (version : Version) (number own a b c : ℕ) → a ≡ length (bs.short number) → b ≡ length ((head_size version).short 0) → c ≡ length (own_handle.short own)
+    → a + b + c ≡ length ((head version).short (record { number = number; size = 0; own = own }))
 unfolding head
-head_long number own a b c is is_size is_own =
-    omega (arith, is, is_size, is_own, length-append (bs.short number) (rl.short 0 ++ own_handle.short own), length-append (rl.short 0) (own_handle.short own))
+head_long version number own a b c is is_size is_own =
+    omega (
+      arith,
+      is,
+      is_size,
+      is_own,
+      length-append (bs.short number) ((head_size version).short 0 ++ own_handle.short own),
+      length-append ((head_size version).short 0) (own_handle.short own),
+    )
 
 -- a head that a body begins with tells its own handle
-pub own_found : (letters : List Bool) (parts : HeadParts) (end : ℕ) → IsHeadAt letters parts end → Some parts.own ≡ own_of letters
-own_found letters parts end is = own_told letters (Some parts) is.has
+pub own_found : {version : Version} (letters : List Bool) (parts : HeadParts) (end : ℕ) → IsHeadAt version letters parts end → Some parts.own ≡ own_of version letters
+own_found {version} letters parts end is = own_told version letters (Some parts) is.has
 
 -- a body without a head tells none
-pub own_missing : (letters : List Bool) → ((parts : HeadParts) → HasHead letters parts → ⊥) → None ≡ own_of letters
-own_missing letters none = own_told letters None none
+pub own_missing : {version : Version} (letters : List Bool) → ((parts : HeadParts) → HasHead version letters parts → ⊥) → None ≡ own_of version letters
+own_missing {version} letters none = own_told version letters None none

@@ -1,5 +1,6 @@
 -- Plain forms: a body has one at the most, and whether it has one follows from its bits.
 use Rattle.std.proofs.Common.{◌≡◌, refl, ap₂, subst, ℕ, Bool, List, inl, inr, arith}
+use Rattle.dwg_base.specs.declared.version.Version.{Version}
 use Rattle.std.specs.Prelude.{◌≢◌, ◌⊎◌}
 use Rattle.dwg_bits.specs.Bits.{bits}
 use Rattle.dwg_classes.specs.declared.class.Class.{Class}
@@ -19,44 +20,44 @@ use Rattle.dwg_object.specs.Heads.{HasHead}
 use Rattle.dwg_object.proofs.CommonForms.{Parts, has_common, common_forms_same, fits_of_common, decided_behind}
 
 -- a body in a Plain form has it, and so a common part
-abbrev pub has_plain : {classes : List Class} {body : List ℕ} {number handle : ℕ} {common : Common} {rest : List Bool} {refs : List Reference} → PlainForm classes body number handle common rest refs
-    → HasPlainForm classes body
-has_plain {classes} {body} {number} {handle} {common} {rest} {refs} is = record { number = number; handle = handle; common = common; rest = rest; refs = refs; form = is }
+abbrev pub has_plain : {version : Version} {classes : List Class} {body : List ℕ} {number handle : ℕ} {common : Common} {rest : List Bool} {refs : List Reference} → PlainForm version classes body number handle common rest refs
+    → HasPlainForm version classes body
+has_plain {version} {classes} {body} {number} {handle} {common} {rest} {refs} is = record { number = number; handle = handle; common = common; rest = rest; refs = refs; form = is }
 
-abbrev pub common_of_plain : {classes : List Class} {body : List ℕ} → HasPlainForm classes body → HasCommonForm classes body
+abbrev pub common_of_plain : {version : Version} {classes : List Class} {body : List ℕ} → HasPlainForm version classes body → HasCommonForm version classes body
 common_of_plain has = has_common has.form.form
 
 -- in any common part that it has, what stands behind the references is cut into those of the form
-pub refs_cut : {classes : List Class} {body : List ℕ} (form : HasCommonForm classes body) (has : HasPlainForm classes body) → SpellsToEnd 8 (reference form.handle) has.refs form.behind has.form.left
+pub refs_cut : {version : Version} {classes : List Class} {body : List ℕ} (form : HasCommonForm version classes body) (has : HasPlainForm version classes body) → SpellsToEnd 8 (reference form.handle) has.refs form.behind has.form.left
 refs_cut form has =
     subst (λ (p : Parts). SpellsToEnd 8 (reference p.handle) has.refs p.behind has.form.left) (common_forms_same (common_of_plain has) form)
     (record { front = has.form.refs_bits; spelled = has.form.refs_spelled; whole = refl; short = has.form.few })
 
 -- and its kind is known
-pub record IsPlainCut {classes : List Class} {body : List ℕ} (form : HasCommonForm classes body) : Type 0 where
+pub record IsPlainCut {version : Version} {classes : List Class} {body : List ℕ} (form : HasCommonForm version classes body) : Type 0 where
   pub known : kind_under classes form.number ≢ kinds.Unknown
   pub cut : HasCut 8 (reference form.handle) form.behind
 
-pub plain_cut : {classes : List Class} {body : List ℕ} (form : HasCommonForm classes body) → HasPlainForm classes body → IsPlainCut form
-plain_cut {classes} form has = record {
+pub plain_cut : {version : Version} {classes : List Class} {body : List ℕ} (form : HasCommonForm version classes body) → HasPlainForm version classes body → IsPlainCut form
+plain_cut {version} {classes} form has = record {
   known = subst (λ (p : Parts). kind_under classes p.number ≢ kinds.Unknown) (common_forms_same (common_of_plain has) form) has.form.known;
   cut = record { values = has.refs; left = has.form.left; cut = refs_cut form has };
 }
 
 -- and where that holds, the form is a Plain one
-pub plain_of_cut : {classes : List Class} {body : List ℕ} {number handle : ℕ} {common : Common} {rest behind left : List Bool} {refs : List Reference} → kind_under classes number ≢ kinds.Unknown
-    → CommonForm classes body number handle common rest behind → SpellsToEnd 8 (reference handle) refs behind left → PlainForm classes body number handle common rest refs
-plain_of_cut {classes} {body} {number} {handle} {common} {rest} {left = left} known form cut = record {
+pub plain_of_cut : {version : Version} {classes : List Class} {body : List ℕ} {number handle : ℕ} {common : Common} {rest behind left : List Bool} {refs : List Reference} → kind_under classes number ≢ kinds.Unknown
+    → CommonForm version classes body number handle common rest behind → SpellsToEnd 8 (reference handle) refs behind left → PlainForm version classes body number handle common rest refs
+plain_of_cut {version} {classes} {body} {number} {handle} {common} {rest} {left = left} known form cut = record {
   known = known;
   refs_bits = cut.front;
   left = left;
-  form = subst (CommonForm classes body number handle common rest) cut.whole form;
+  form = subst (CommonForm version classes body number handle common rest) cut.whole form;
   refs_spelled = cut.spelled;
   few = cut.short;
 }
 
 -- a body is read as one Plain object at the most
-pub plain_forms_same : {classes : List Class} {body : List ℕ} (is was : HasPlainForm classes body)
+pub plain_forms_same : {version : Version} {classes : List Class} {body : List ℕ} (is was : HasPlainForm version classes body)
     → PlainValue is.number is.handle is.common is.rest is.refs ≡ PlainValue was.number was.handle was.common was.rest was.refs
 plain_forms_same is was =
     let small = (fits_of_common was.form.form).own in
@@ -70,17 +71,17 @@ unknown_or_not kinds.Unknown = inl refl
 unknown_or_not kind = inr (λ same. cc)
 
 -- a body with a head has a Plain form or has none
-pub plain_decided : {classes : List Class} {body : List ℕ} {parts : HeadParts} → HasHead (bits body) parts → HasPlainForm classes body ⊎ (HasPlainForm classes body → ⊥)
-plain_decided {classes} {body} begins =
-    decided_behind (HasPlainForm classes body) IsPlainCut begins common_of_plain plain_cut (λ form is. has_plain (plain_of_cut is.known form.form is.cut.cut))
+pub plain_decided : {version : Version} {classes : List Class} {body : List ℕ} {parts : HeadParts} → HasHead version (bits body) parts → HasPlainForm version classes body ⊎ (HasPlainForm version classes body → ⊥)
+plain_decided {version} {classes} {body} begins =
+    decided_behind (HasPlainForm version classes body) IsPlainCut begins common_of_plain plain_cut (λ form is. has_plain (plain_of_cut is.known form.form is.cut.cut))
     (λ form. by_kind form (unknown_or_not (kind_under classes form.number)))
   where
-    by_cut : (form : HasCommonForm classes body) → kind_under classes form.number ≢ kinds.Unknown
+    by_cut : (form : HasCommonForm version classes body) → kind_under classes form.number ≢ kinds.Unknown
         → HasCut 8 (reference form.handle) form.behind ⊎ (HasCut 8 (reference form.handle) form.behind → ⊥) → IsPlainCut form ⊎ (IsPlainCut form → ⊥)
     by_cut form known (inl cut) = inl (record { known = known; cut = cut })
     by_cut form known (inr none) = inr (λ is. none is.cut)
 
-    by_kind : (form : HasCommonForm classes body) → (kind_under classes form.number ≡ kinds.Unknown) ⊎ (kind_under classes form.number ≢ kinds.Unknown) → IsPlainCut form ⊎ (IsPlainCut form → ⊥)
+    by_kind : (form : HasCommonForm version classes body) → (kind_under classes form.number ≡ kinds.Unknown) ⊎ (kind_under classes form.number ≢ kinds.Unknown) → IsPlainCut form ⊎ (IsPlainCut form → ⊥)
     by_kind form (inl unknown) = inr (λ is. is.known unknown)
     by_kind form (inr known) =
         by_cut form known (cut_decided 8 (reference form.handle) form.behind (reference_is_code form.handle (fits_of_common form.form).own) (reference_least form.handle) (omega arith))

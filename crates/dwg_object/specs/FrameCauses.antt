@@ -1,5 +1,6 @@
 -- What the tried frame of a place means: the span or the frame that stands there, or why there is none. A rule of this project, over the frames of the Open Design Specification, "R13 to R2000 file layout, object data".
 use Rattle.std.specs.Prelude.{◌≡◌, ℕ, ◌+◌, ◌<◌, ◌≤◌, ◌⊎◌, List, length, Ok, Err}
+use Rattle.dwg_base.specs.declared.version.Version.{Version}
 use Rattle.dwg_base.specs.Bytes.{StandsAt}
 use Rattle.dwg_base.specs.Refusals.{Tried}
 use Rattle.dwg_base.specs.declared.refusal.Refusal.{Refusal}
@@ -40,15 +41,15 @@ pub record CheckRefused (bytes : List ℕ) (place index : ℕ) (refusal : Refusa
   pub unframed : FrameAt bytes place (span_body bytes span) span.end → ⊥
   pub line : refusal ≡ frame_refusal 30 index place
 
--- a frame stands at a place, and its body has no head
-pub record HeadRefused (bytes : List ℕ) (place index : ℕ) (refusal : Refusal) : Type 0 where
+-- a frame stands at a place, and its body has no head of a version
+pub record HeadRefused (version : Version) (bytes : List ℕ) (place index : ℕ) (refusal : Refusal) : Type 0 where
   pub span : Span
   pub framed : IsFramed bytes place span
-  pub headless : (parts : HeadParts) → HasHead (bits (span_body bytes span)) parts → ⊥
+  pub headless : (parts : HeadParts) → HasHead version (bits (span_body bytes span)) parts → ⊥
   pub line : refusal ≡ frame_refusal 31 index place
 
 -- what was tried of a frame: its span and its head, or why there is none
-abbrev pub TellsFrame : List ℕ → ℕ → ℕ → Tried (Span × HeadParts) → Type 0
-TellsFrame bytes place index (Ok found) = IsFramed bytes place found.0 × HasHead (bits (span_body bytes found.0)) found.1
-TellsFrame bytes place index (Err refusal) =
-    SpanRefused bytes place index refusal ⊎ (CheckRefused bytes place index refusal ⊎ HeadRefused bytes place index refusal)
+abbrev pub TellsFrame : Version → List ℕ → ℕ → ℕ → Tried (Span × HeadParts) → Type 0
+TellsFrame version bytes place index (Ok found) = IsFramed bytes place found.0 × HasHead version (bits (span_body bytes found.0)) found.1
+TellsFrame version bytes place index (Err refusal) =
+    SpanRefused bytes place index refusal ⊎ (CheckRefused bytes place index refusal ⊎ HeadRefused version bytes place index refusal)

@@ -1,5 +1,6 @@
 -- The frame that is tried at a place is the one that stands there, and there is one at the most.
 use Rattle.std.proofs.Common.{◌≡◌, ℕ, List}
+use Rattle.dwg_base.specs.declared.version.Version.{Version}
 use Rattle.std.specs.Prelude.{Ok, ◌↔◌}
 use Rattle.dwg_base.specs.Bytes.{AreBytes}
 use Rattle.dwg_base.specs.Refusals.{Tried}
@@ -8,6 +9,7 @@ use Rattle.dwg_object.specs.Objects.{HeadParts}
 use Rattle.dwg_object.specs.Frames.{FrameAt, FrameHolds}
 use Rattle.dwg_object.specs.FrameLines.{tried_frame}
 use Rattle.dwg_object.specs.FrameCauses.{TellsFrame}
+use Rattle.dwg_base.specs.Versions.{version_at}
 
 -- at a place there is at most one frame
 abbrev pub FramesAreOne : Type 0
@@ -17,10 +19,11 @@ FramesAreOne =
 -- what is tried of a frame is what the input tells, and nothing else
 abbrev pub FramesAreTold : Type 0
 FramesAreTold =
-    (bytes : List ℕ) (place index : ℕ) (tried : Tried (Span × HeadParts)) → AreBytes bytes → (tried_frame place index bytes ≡ tried) ↔ TellsFrame bytes place index tried
+    (version : Version) (bytes : List ℕ) (place index : ℕ) (tried : Tried (Span × HeadParts))
+    → AreBytes bytes → (tried_frame version place index bytes ≡ tried) ↔ TellsFrame version bytes place index tried
 
--- a frame of an object with a handle stands at a place exactly where it is what is tried there
+-- a frame of an object with a handle stands at a place exactly where it is what is tried there in the version that is read
 abbrev pub FramesAreHeld : Type 0
 FramesAreHeld =
     (bytes : List ℕ) (place index own end : ℕ) → AreBytes bytes
-    → FrameHolds bytes place own end ↔ ((found : Span × HeadParts) × (tried_frame place index bytes ≡ Ok found) × (found.0.end ≡ end) × (found.1.own ≡ own))
+    → FrameHolds bytes place own end ↔ ((found : Span × HeadParts) × (tried_frame (version_at bytes) place index bytes ≡ Ok found) × (found.0.end ≡ end) × (found.1.own ≡ own))

@@ -1,5 +1,6 @@
 -- The lines of the table of refusals on the frame of a pair. A rule of this project, over the frames of the Open Design Specification, "R13 to R2000 file layout, object data".
 use Rattle.std.specs.Prelude.{ℕ, ◌+◌, ◌-◌, not, Bool, List, length, take, drop, nat_lt, option_map, ◌==◌, Option, Some, None, Ok, Err, if◌then◌else◌}
+use Rattle.dwg_base.specs.declared.version.Version.{Version}
 use Rattle.std.specs.Int.{w16, from_le_bytes}
 use Rattle.dwg_base.specs.Refusals.{Tried}
 use Rattle.dwg_base.specs.declared.refusal.Refusal.{Refusal}
@@ -44,20 +45,20 @@ abbrev pub has_check_word : List ℕ → Span → Bool
 has_check_word bytes span =
     from_le_bytes w16 (bytes_from bytes span.body_end span.end) == check_word FRAME_START (bytes_from bytes span.from span.body_end)
 
--- what the head of a span's body says
-abbrev pub head_at : List ℕ → Span → Option HeadParts
-head_at bytes span = option_map (λ (found : HeadParts × List Bool). found.0) (head.parse (bits (span_body bytes span)))
+-- what the head of a span's body says, in a version
+abbrev pub head_at : Version → List ℕ → Span → Option HeadParts
+head_at version bytes span = option_map (λ (found : HeadParts × List Bool). found.0) ((head version).parse (bits (span_body bytes span)))
 
 -- what a span gives that was found: a wrong check word and then a missing head refuse it
 abbrev pub head_tried : ℕ → ℕ → Span → Option HeadParts → Tried (Span × HeadParts)
 head_tried place index span None = Err (frame_refusal 31 index place)
 head_tried place index span (Some parts) = Ok (span, parts)
 
-abbrev pub frame_checked : ℕ → ℕ → List ℕ → Tried Span → Tried (Span × HeadParts)
-frame_checked place index bytes (Err refusal) = Err refusal
-frame_checked place index bytes (Ok span) =
-    if not (has_check_word bytes span) then Err (frame_refusal 30 index place) else head_tried place index span (head_at bytes span)
+abbrev pub frame_checked : Version → ℕ → ℕ → List ℕ → Tried Span → Tried (Span × HeadParts)
+frame_checked version place index bytes (Err refusal) = Err refusal
+frame_checked version place index bytes (Ok span) =
+    if not (has_check_word bytes span) then Err (frame_refusal 30 index place) else head_tried place index span (head_at version bytes span)
 
--- the span and the head of the frame at a place, or its refusal
-unfoldable pub tried_frame : ℕ → ℕ → List ℕ → Tried (Span × HeadParts)
-tried_frame place index bytes = frame_checked place index bytes (tried_span place index bytes)
+-- the span and the head of a version of the frame at a place, or its refusal
+unfoldable pub tried_frame : Version → ℕ → ℕ → List ℕ → Tried (Span × HeadParts)
+tried_frame version place index bytes = frame_checked version place index bytes (tried_span place index bytes)

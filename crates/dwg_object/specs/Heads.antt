@@ -1,49 +1,61 @@
 -- The head of an object (Open Design Specification, "R13 to R2000 file layout, object data"): where it ends, its own handle, and that bits begin with one at the most.
 use Rattle.std.specs.Prelude.{◌≡◌, ℕ, ◌^◌, ◌<◌, Bool, List, ◌++◌, length, Option, option_map}
+use Rattle.dwg_base.specs.declared.version.Version.{Version}
+use Rattle.dwg_base.specs.declared.version.Version.TheVariants.{Ac1014, Ac1015}
 use Rattle.dwg_grammar.specs.Codes.{bs, rl}
 use Rattle.dwg_grammar.specs.Combinators.{seq, image}
 use Rattle.dwg_grammar.specs.Grammar.{Grammar}
 use Rattle.dwg_grammar.specs.ReferenceCodes.{own_handle}
+use Rattle.dwg_grammar.specs.Versions.{since_1015}
 use Rattle.dwg_object.specs.Objects.{HeadParts}
 
+-- the bit size as a head tells it: in AC1014 it stands in the common part, and that of a head is 0
+abbrev pub head_size : Version → Grammar Bool ℕ
+head_size version = since_1015 version 0 rl
+
+abbrev pub told_size : Version → ℕ → ℕ
+told_size Ac1014 size = 0
+told_size Ac1015 size = size
+
 -- the parts of a head lie in their ranges
-pub record IsHead (parts : HeadParts) : Type 0 where
+pub record IsHead (version : Version) (parts : HeadParts) : Type 0 where
   pub number : parts.number < 2 ^ 16
-  pub size : parts.size < 2 ^ 32
+  pub size : (head_size version).IsValue parts.size
   pub positive : 0 < parts.own
   pub own : parts.own < 2 ^ 63
 
--- BS type number, RL bit size, H own handle
-unfoldable pub head : Grammar Bool HeadParts
-head =
-    image IsHead (λ parts. record { number = parts.0; size = parts.1.0; own = parts.1.1 }) (λ parts. (parts.number, (parts.size, parts.own)))
-    (seq bs (λ number. seq rl (λ size. own_handle)))
+-- BS type number; in AC1015 RL bit size; H own handle
+unfoldable pub head : Version → Grammar Bool HeadParts
+head version =
+    image (IsHead version) (λ parts. record { number = parts.0; size = parts.1.0; own = parts.1.1 }) (λ parts. (parts.number, (parts.size, parts.own)))
+    (seq bs (λ number. seq (head_size version) (λ size. own_handle)))
 
 -- the bits begin with this head
-pub record HasHead (letters : List Bool) (parts : HeadParts) : Type 0 where
+pub record HasHead (version : Version) (letters : List Bool) (parts : HeadParts) : Type 0 where
   pub front : List Bool
   pub rest : List Bool
-  pub spelled : head.Spells parts front
+  pub spelled : (head version).Spells parts front
   pub whole : letters ≡ front ++ rest
 
 -- the bits begin with a head of this number and this own handle
-pub record BeginsWithHead (letters : List Bool) (number own : ℕ) : Type 0 where
+pub record BeginsWithHead (version : Version) (letters : List Bool) (number own : ℕ) : Type 0 where
   pub size : ℕ
   pub front : List Bool
   pub rest : List Bool
-  pub spelled : head.Spells (record { number = number; size = size; own = own }) front
+  pub spelled : (head version).Spells (record { number = number; size = size; own = own }) front
   pub whole : letters ≡ front ++ rest
 
 -- the bits begin with this head, which takes so many of them
-pub record IsHeadAt (letters : List Bool) (parts : HeadParts) (end : ℕ) : Type 0 where
-  pub has : HasHead letters parts
+pub record IsHeadAt (version : Version) (letters : List Bool) (parts : HeadParts) (end : ℕ) : Type 0 where
+  pub has : HasHead version letters parts
   pub far : length has.front ≡ end
 
 -- the own handle in the head that the bits begin with
-abbrev pub own_of : List Bool → Option ℕ
-own_of letters = option_map (λ (parts : HeadParts). parts.own) (option_map (λ (found : HeadParts × List Bool). found.0) (head.parse letters))
+abbrev pub own_of : Version → List Bool → Option ℕ
+own_of version letters = option_map (λ (parts : HeadParts). parts.own) (option_map (λ (found : HeadParts × List Bool). found.0) ((head version).parse letters))
 
 -- bits begin with one number and one own handle at the most
 abbrev pub HeadsAreOne : Type 0
 HeadsAreOne =
-    (letters : List Bool) (number own other other_own : ℕ) → BeginsWithHead letters number own → BeginsWithHead letters other other_own → (number ≡ other) × (own ≡ other_own)
+    (version : Version) (letters : List Bool) (number own other other_own : ℕ)
+    → BeginsWithHead version letters number own → BeginsWithHead version letters other other_own → (number ≡ other) × (own ≡ other_own)

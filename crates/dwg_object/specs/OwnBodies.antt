@@ -1,8 +1,9 @@
 -- What the kinds of objects have of their own behind their common part (Open Design Specification, the sections named by the kinds). Which kinds have a body is a rule of this project.
 use Rattle.std.specs.Prelude.{⊤, ℕ, [], Some, None}
-use Rattle.dwg_base.specs.declared.version.Version.TheVariants.{Ac1015}
+use Rattle.dwg_base.specs.declared.version.Version.{Version}
 use Rattle.dwg_grammar.specs.Bodies.{BodyGrammar}
 use Rattle.dwg_grammar.specs.MakingBodies.{variant}
+use Rattle.dwg_grammar.specs.Versions.{only_1015}
 use Rattle.dwg_dicts.specs.Dictionaries.{dictionary_body}
 use Rattle.dwg_dicts.specs.Entries.{layer_control_body, style_control_body, appid_control_body}
 use Rattle.dwg_dicts.specs.EntriesAndTwo.{block_control_body, ltype_control_body}
@@ -90,43 +91,43 @@ no_body {V} = record {
   references = λ value. [];
 }
 
--- what a kind has of its own, in the object of a handle; a kind without a body has nothing that could be read
-unfoldable pub own_body : Kind → ℕ → BodyGrammar Body
-own_body kinds.Text base = variant bodies.Text (elim [ bodies.Text body ↦ Some body | other ↦ None ]) (text_body Ac1015 base)
-own_body kinds.Attrib base = variant bodies.Attrib (elim [ bodies.Attrib body ↦ Some body | other ↦ None ]) (attrib_body Ac1015 base)
-own_body kinds.Attdef base = variant bodies.Attdef (elim [ bodies.Attdef body ↦ Some body | other ↦ None ]) (attdef_body Ac1015 base)
-own_body kinds.Block base = variant bodies.Block (elim [ bodies.Block body ↦ Some body | other ↦ None ]) (block_body base)
-own_body kinds.EndBlk base = variant bodies.EndBlk (elim [ bodies.EndBlk body ↦ Some body | other ↦ None ]) (endblk_body base)
-own_body kinds.SeqEnd base = variant bodies.SeqEnd (elim [ bodies.SeqEnd body ↦ Some body | other ↦ None ]) (seqend_body base)
-own_body kinds.Insert base = variant bodies.Insert (elim [ bodies.Insert body ↦ Some body | other ↦ None ]) (insert_body Ac1015 base)
-own_body kinds.MInsert base = variant bodies.MInsert (elim [ bodies.MInsert body ↦ Some body | other ↦ None ]) (minsert_body base)
-own_body kinds.Arc base = variant bodies.Arc (elim [ bodies.Arc body ↦ Some body | other ↦ None ]) (arc_body Ac1015 base)
-own_body kinds.Circle base = variant bodies.Circle (elim [ bodies.Circle body ↦ Some body | other ↦ None ]) (circle_body Ac1015 base)
-own_body kinds.Line base = variant bodies.Line (elim [ bodies.Line body ↦ Some body | other ↦ None ]) (line_body Ac1015 base)
-own_body kinds.Point base = variant bodies.Point (elim [ bodies.Point body ↦ Some body | other ↦ None ]) (point_body Ac1015 base)
-own_body kinds.LwPolyline base = variant bodies.LwPolyline (elim [ bodies.LwPolyline body ↦ Some body | other ↦ None ]) (lwpolyline_body Ac1015 base)
-own_body kinds.Vertex3d base = variant bodies.Vertex3d (elim [ bodies.Vertex3d body ↦ Some body | other ↦ None ]) (vertex_body base)
-own_body kinds.Polyline3d base = variant bodies.Polyline3d (elim [ bodies.Polyline3d body ↦ Some body | other ↦ None ]) (polyline_body base)
-own_body kinds.Face3d base = variant bodies.Face3d (elim [ bodies.Face3d body ↦ Some body | other ↦ None ]) (face_body base)
-own_body kinds.Solid base = variant bodies.Solid (elim [ bodies.Solid body ↦ Some body | other ↦ None ]) (solid_body base)
-own_body kinds.Trace base = variant bodies.Trace (elim [ bodies.Trace body ↦ Some body | other ↦ None ]) (trace_body base)
-own_body kinds.Ellipse base = variant bodies.Ellipse (elim [ bodies.Ellipse body ↦ Some body | other ↦ None ]) (ellipse_body base)
-own_body kinds.Ray base = variant bodies.Ray (elim [ bodies.Ray body ↦ Some body | other ↦ None ]) (ray_body base)
-own_body kinds.XLine base = variant bodies.XLine (elim [ bodies.XLine body ↦ Some body | other ↦ None ]) (xline_body base)
-own_body kinds.Dictionary base = variant bodies.Dictionary (elim [ bodies.Dictionary body ↦ Some body | other ↦ None ]) (dictionary_body Ac1015 base)
-own_body kinds.BlockControl base = variant bodies.BlockControl (elim [ bodies.BlockControl body ↦ Some body | other ↦ None ]) (block_control_body base)
-own_body kinds.BlockHeader base = variant bodies.BlockHeader (elim [ bodies.BlockHeader body ↦ Some body | other ↦ None ]) (block_header_body Ac1015 base)
-own_body kinds.LayerControl base = variant bodies.LayerControl (elim [ bodies.LayerControl body ↦ Some body | other ↦ None ]) (layer_control_body base)
-own_body kinds.Layer base = variant bodies.Layer (elim [ bodies.Layer body ↦ Some body | other ↦ None ]) (layer_body Ac1015 base)
-own_body kinds.StyleControl base = variant bodies.StyleControl (elim [ bodies.StyleControl body ↦ Some body | other ↦ None ]) (style_control_body base)
-own_body kinds.Style base = variant bodies.Style (elim [ bodies.Style body ↦ Some body | other ↦ None ]) (style_body base)
-own_body kinds.LtypeControl base = variant bodies.LtypeControl (elim [ bodies.LtypeControl body ↦ Some body | other ↦ None ]) (ltype_control_body base)
-own_body kinds.Ltype base = variant bodies.Ltype (elim [ bodies.Ltype body ↦ Some body | other ↦ None ]) (ltype_body base)
-own_body kinds.AppIdControl base = variant bodies.AppIdControl (elim [ bodies.AppIdControl body ↦ Some body | other ↦ None ]) (appid_control_body base)
-own_body kinds.AppId base = variant bodies.AppId (elim [ bodies.AppId body ↦ Some body | other ↦ None ]) (app_id_body base)
-own_body kinds.XRecord base = variant bodies.XRecord (elim [ bodies.XRecord body ↦ Some body | other ↦ None ]) (xrecord_body Ac1015 base)
-own_body kinds.Group base = variant bodies.Group (elim [ bodies.Group body ↦ Some body | other ↦ None ]) (group_body base)
-own_body kind base = no_body
+-- what a kind has of its own, in the object of a handle; a kind without a body has nothing that could be read, nor in AC1014 one that AC1015 alone has
+unfoldable pub own_body : Version → Kind → ℕ → BodyGrammar Body
+own_body version kinds.Text base = variant bodies.Text (elim [ bodies.Text body ↦ Some body | other ↦ None ]) (text_body version base)
+own_body version kinds.Attrib base = variant bodies.Attrib (elim [ bodies.Attrib body ↦ Some body | other ↦ None ]) (attrib_body version base)
+own_body version kinds.Attdef base = variant bodies.Attdef (elim [ bodies.Attdef body ↦ Some body | other ↦ None ]) (attdef_body version base)
+own_body version kinds.Block base = variant bodies.Block (elim [ bodies.Block body ↦ Some body | other ↦ None ]) (block_body base)
+own_body version kinds.EndBlk base = variant bodies.EndBlk (elim [ bodies.EndBlk body ↦ Some body | other ↦ None ]) (endblk_body base)
+own_body version kinds.SeqEnd base = variant bodies.SeqEnd (elim [ bodies.SeqEnd body ↦ Some body | other ↦ None ]) (seqend_body base)
+own_body version kinds.Insert base = variant bodies.Insert (elim [ bodies.Insert body ↦ Some body | other ↦ None ]) (insert_body version base)
+own_body version kinds.MInsert base = variant bodies.MInsert (elim [ bodies.MInsert body ↦ Some body | other ↦ None ]) (only_1015 version (minsert_body base))
+own_body version kinds.Arc base = variant bodies.Arc (elim [ bodies.Arc body ↦ Some body | other ↦ None ]) (arc_body version base)
+own_body version kinds.Circle base = variant bodies.Circle (elim [ bodies.Circle body ↦ Some body | other ↦ None ]) (circle_body version base)
+own_body version kinds.Line base = variant bodies.Line (elim [ bodies.Line body ↦ Some body | other ↦ None ]) (line_body version base)
+own_body version kinds.Point base = variant bodies.Point (elim [ bodies.Point body ↦ Some body | other ↦ None ]) (point_body version base)
+own_body version kinds.LwPolyline base = variant bodies.LwPolyline (elim [ bodies.LwPolyline body ↦ Some body | other ↦ None ]) (lwpolyline_body version base)
+own_body version kinds.Vertex3d base = variant bodies.Vertex3d (elim [ bodies.Vertex3d body ↦ Some body | other ↦ None ]) (only_1015 version (vertex_body base))
+own_body version kinds.Polyline3d base = variant bodies.Polyline3d (elim [ bodies.Polyline3d body ↦ Some body | other ↦ None ]) (only_1015 version (polyline_body base))
+own_body version kinds.Face3d base = variant bodies.Face3d (elim [ bodies.Face3d body ↦ Some body | other ↦ None ]) (only_1015 version (face_body base))
+own_body version kinds.Solid base = variant bodies.Solid (elim [ bodies.Solid body ↦ Some body | other ↦ None ]) (only_1015 version (solid_body base))
+own_body version kinds.Trace base = variant bodies.Trace (elim [ bodies.Trace body ↦ Some body | other ↦ None ]) (only_1015 version (trace_body base))
+own_body version kinds.Ellipse base = variant bodies.Ellipse (elim [ bodies.Ellipse body ↦ Some body | other ↦ None ]) (only_1015 version (ellipse_body base))
+own_body version kinds.Ray base = variant bodies.Ray (elim [ bodies.Ray body ↦ Some body | other ↦ None ]) (only_1015 version (ray_body base))
+own_body version kinds.XLine base = variant bodies.XLine (elim [ bodies.XLine body ↦ Some body | other ↦ None ]) (only_1015 version (xline_body base))
+own_body version kinds.Dictionary base = variant bodies.Dictionary (elim [ bodies.Dictionary body ↦ Some body | other ↦ None ]) (dictionary_body version base)
+own_body version kinds.BlockControl base = variant bodies.BlockControl (elim [ bodies.BlockControl body ↦ Some body | other ↦ None ]) (block_control_body base)
+own_body version kinds.BlockHeader base = variant bodies.BlockHeader (elim [ bodies.BlockHeader body ↦ Some body | other ↦ None ]) (block_header_body version base)
+own_body version kinds.LayerControl base = variant bodies.LayerControl (elim [ bodies.LayerControl body ↦ Some body | other ↦ None ]) (layer_control_body base)
+own_body version kinds.Layer base = variant bodies.Layer (elim [ bodies.Layer body ↦ Some body | other ↦ None ]) (layer_body version base)
+own_body version kinds.StyleControl base = variant bodies.StyleControl (elim [ bodies.StyleControl body ↦ Some body | other ↦ None ]) (style_control_body base)
+own_body version kinds.Style base = variant bodies.Style (elim [ bodies.Style body ↦ Some body | other ↦ None ]) (style_body base)
+own_body version kinds.LtypeControl base = variant bodies.LtypeControl (elim [ bodies.LtypeControl body ↦ Some body | other ↦ None ]) (ltype_control_body base)
+own_body version kinds.Ltype base = variant bodies.Ltype (elim [ bodies.Ltype body ↦ Some body | other ↦ None ]) (ltype_body base)
+own_body version kinds.AppIdControl base = variant bodies.AppIdControl (elim [ bodies.AppIdControl body ↦ Some body | other ↦ None ]) (appid_control_body base)
+own_body version kinds.AppId base = variant bodies.AppId (elim [ bodies.AppId body ↦ Some body | other ↦ None ]) (app_id_body base)
+own_body version kinds.XRecord base = variant bodies.XRecord (elim [ bodies.XRecord body ↦ Some body | other ↦ None ]) (xrecord_body version base)
+own_body version kinds.Group base = variant bodies.Group (elim [ bodies.Group body ↦ Some body | other ↦ None ]) (only_1015 version (group_body base))
+own_body version kind base = no_body
 
 -- that each of these bodies is one, by its law
 pub ruleset own_laws = (

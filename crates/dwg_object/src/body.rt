@@ -2,10 +2,11 @@
 
 ghost use Rattle.std.specs.Prelude.{◌≡◌, Bool, List, Some, None, IfOk};
 ghost use Rattle.dwg_common.specs.Parsing.{ParsesBody};
-ghost use Rattle.dwg_common.specs.Layouts.{NEWER};
+ghost use Rattle.dwg_base.specs.declared.version.Version.TheVariants.{Ac1014, Ac1015};
+ghost use Rattle.dwg_object.specs.Forms.{layout_of};
 ghost use Rattle.dwg_object.specs.OwnBodies.{body_kind, own_body};
 
-use dwg_base::{Handle, NoMemory};
+use dwg_base::{Handle, NoMemory, Version};
 use dwg_bits::BitCursor;
 use dwg_common::{BodyCode, Layout};
 use dwg_dicts::{
@@ -90,11 +91,13 @@ pub enum Body {
     Group(Group),
 }
 
-/// What is done by kind, for all kinds that have a body: here alone do they stand in a list.
+/// What is done by kind, for all kinds that have a body: here alone do they stand in lists, first those of both versions, then those
+/// of AC1015 alone.
 ///
 /// - `by_kind!(body of, held => done)`: what is done with the body that is held, whichever it is;
 /// - `by_kind!(kind of)`: the kind of a body;
-/// - `by_kind!(parse kind, ..)`, in this file alone: the body of a kind as it is parsed, `Ok(None)` for each kind that has none.
+/// - `by_kind!(parse kind, ..)`, in this file alone: the body of a kind as it is parsed, `Ok(None)` for each kind that has none in
+///   the version.
 #[macro_export]
 macro_rules! by_kind {
     (body $of:expr, $held:ident => $done:expr) => {
@@ -103,38 +106,43 @@ macro_rules! by_kind {
     (kind $of:expr) => {
         $crate::by_kind!(names kind_held $of)
     };
-    (parse $kind:expr, $alloc:expr, $main:expr, $refs:expr, $base:expr) => {
-        $crate::by_kind!(names parse_as $kind, $alloc, $main, $refs, $base)
+    (parse $kind:expr, $alloc:expr, $version:expr, $main:expr, $refs:expr, $base:expr) => {
+        $crate::by_kind!(names parse_as $kind, $alloc, $version, $main, $refs, $base)
     };
     (names $then:ident $($given:tt)*) => {
         $crate::by_kind!($then [
-            Text Attrib Attdef Block EndBlk SeqEnd Insert MInsert Arc Circle Line Point LwPolyline Vertex3d Polyline3d Face3d Solid
-            Trace Ellipse Ray XLine Dictionary BlockControl BlockHeader LayerControl Layer StyleControl Style LtypeControl Ltype
-            AppIdControl AppId XRecord Group
+            Text Attrib Attdef Block EndBlk SeqEnd Insert Arc Circle Line Point LwPolyline Dictionary BlockControl BlockHeader
+            LayerControl Layer StyleControl Style LtypeControl Ltype AppIdControl AppId XRecord
+        ] [
+            MInsert Vertex3d Polyline3d Face3d Solid Trace Ellipse Ray XLine Group
         ] $($given)*)
     };
-    (done_with [$($name:ident)*] $of:expr, $held:ident => $done:expr) => {
+    (done_with [$($name:ident)*] [$($newer:ident)*] $of:expr, $held:ident => $done:expr) => {
         match $of {
             $($crate::Body::$name($held) => $done,)*
+            $($crate::Body::$newer($held) => $done,)*
         }
     };
-    (kind_held [$($name:ident)*] $of:expr) => {
+    (kind_held [$($name:ident)*] [$($newer:ident)*] $of:expr) => {
         match $of {
             $($crate::Body::$name(_) => Kind::$name,)*
+            $($crate::Body::$newer(_) => Kind::$newer,)*
         }
     };
-    (parse_as [$($name:ident)*] $kind:expr, $alloc:expr, $main:expr, $refs:expr, $base:expr) => {
+    (parse_as [$($name:ident)*] [$($newer:ident)*] $kind:expr, $alloc:expr, $version:expr, $main:expr, $refs:expr, $base:expr) => {
         match $kind {
-            $(Kind::$name => parse_held::<$name, _>($alloc, Kind::$name, $main, $refs, $base, $crate::Body::$name),)*
+            $(Kind::$name => parse_held::<$name, _>($alloc, $version, Kind::$name, $main, $refs, $base, $crate::Body::$name),)*
+            $(Kind::$newer => parse_newer::<$newer, _>($alloc, $version, Kind::$newer, $main, $refs, $base, $crate::Body::$newer),)*
             _ => Ok(None),
         }
     };
 }
 
 /// Reads what is parsed of a body, and answers it as `held` holds it among the bodies of all kinds. What is parsed of the kind is what is parsed of
-/// the body, so held. The only refusal is want of memory.
+/// the body, so held. Err: out of memory.
 fn parse_held<B: BodyCode, H: FnOnce(B) -> Body>(
     alloc: Global,
+    version: Version,
     kind: Kind,
     main: &mut BitCursor<'_>,
     refs: &mut BitCursor<'_>,
@@ -143,14 +151,37 @@ fn parse_held<B: BodyCode, H: FnOnce(B) -> Body>(
 ) -> Result<Option<Body>, NoMemory>
     requires callable { H.IsAlwaysCallable held }
     requires some { (body : B) (one : Body) → H.post held body one → (bits references : List Bool) (left : List Bool × List Bool) →
-        (B.grammar NEWER base).parse bits references ≡ Some (body, left) → (own_body kind base).parse bits references ≡ Some (one, left) }
-    requires none { (bits references : List Bool) → (B.grammar NEWER base).parse bits references ≡ None → (own_body kind base).parse bits references ≡ None }
-    ensures parsed { IfOk result (λ found. ParsesBody (own_body kind base) found main.old main.new refs.old refs.new) }
+        (B.grammar (layout_of version) base).parse bits references ≡ Some (body, left) → (own_body version kind base).parse bits references ≡ Some (one, left) }
+    requires none { (bits references : List Bool) → (B.grammar (layout_of version) base).parse bits references ≡ None → (own_body version kind base).parse bits references ≡ None }
+    ensures parsed { IfOk result (λ found. ParsesBody (own_body version kind base) found main.old main.new refs.old refs.new) }
 {
     // In a function of its own, since the prover goes through a call for each kind much sooner than through a match for each.
-    match B::parse(alloc, Layout::newer(), main, refs, base)? {
+    match B::parse(alloc, Layout { version, size: 0 }, main, refs, base)? {
         Some(body) => Ok(Some(held(body))),
         None => Ok(None),
+    }
+}
+
+/// The same of a body that AC1015 alone has: in AC1014 none is parsed.
+fn parse_newer<B: BodyCode, H: FnOnce(B) -> Body>(
+    alloc: Global,
+    version: Version,
+    kind: Kind,
+    main: &mut BitCursor<'_>,
+    refs: &mut BitCursor<'_>,
+    base: Handle,
+    held: H,
+) -> Result<Option<Body>, NoMemory>
+    requires callable { H.IsAlwaysCallable held }
+    requires some { (body : B) (one : Body) → H.post held body one → (bits references : List Bool) (left : List Bool × List Bool) →
+        (B.grammar (layout_of Ac1015) base).parse bits references ≡ Some (body, left) → (own_body Ac1015 kind base).parse bits references ≡ Some (one, left) }
+    requires none { (bits references : List Bool) → (B.grammar (layout_of Ac1015) base).parse bits references ≡ None → (own_body Ac1015 kind base).parse bits references ≡ None }
+    requires older { (bits references : List Bool) → (own_body Ac1014 kind base).parse bits references ≡ None }
+    ensures parsed { IfOk result (λ found. ParsesBody (own_body version kind base) found main.old main.new refs.old refs.new) }
+{
+    match version {
+        Version::Ac1014 => Ok(None),
+        Version::Ac1015 => parse_held::<B, _>(alloc, Version::Ac1015, kind, main, refs, base, held),
     }
 }
 
@@ -162,20 +193,21 @@ impl Drop for Body {
 }
 
 impl Body {
-    /// Reads what is parsed of a kind's own in the object of the handle `base`, and moves both cursors as far as it came. None
-    /// exactly where no fronts of the main bits and of the reference bits spell it, and so for each kind that is no variant of
-    /// `Body`; the only refusal is want of memory.
+    /// Reads what is parsed of a kind's own in a version in the object of the handle `base`, and moves both cursors as far as it
+    /// came. None exactly where no prefixes of the main bits and of the reference bits spell it, and so for each kind that is no
+    /// variant of `Body`, and in AC1014 for those of AC1015 alone. Err: out of memory.
     #[tactic(auto, unfolding(crate::specs::OwnBodies::own_body))]
     pub(crate) fn parse(
         alloc: Global,
+        version: Version,
         kind: Kind,
         main: &mut BitCursor<'_>,
         refs: &mut BitCursor<'_>,
         base: Handle,
     ) -> Result<Option<Body>, NoMemory>
-        ensures parsed { IfOk result (λ found. ParsesBody (own_body kind base) found main.old main.new refs.old refs.new) }
+        ensures parsed { IfOk result (λ found. ParsesBody (own_body version kind base) found main.old main.new refs.old refs.new) }
     {
-        by_kind!(parse kind, alloc, main, refs, base)
+        by_kind!(parse kind, alloc, version, main, refs, base)
     }
 
     /// The kind of what is held.

@@ -13,7 +13,7 @@ use crate::head::head_of;
 use crate::object::Object;
 use crate::reading::read_behind_head;
 use crate::span::{Span, frame_refusal, span_at};
-use dwg_base::{Fault, NoMemory};
+use dwg_base::{Fault, NoMemory, Version};
 use dwg_check::{FRAME_START, check};
 use dwg_classes::{Class, Hints};
 use std::alloc::Global;
@@ -72,32 +72,33 @@ fn has_frame_word(bytes: &[u8], span: &Span) -> bool
     span_word(bytes, span) == word
 }
 
-/// Reads the frame of a span that stands in the input, of the pair of this index. It is refused where the check word is wrong,
-/// and where the body has no head, in this order.
+/// Reads the frame of a span that stands in the input, of the pair of this index, by the rules of a version, whatever the input begins
+/// with. It is refused where the check word is wrong, and where the body has no head, in this order.
 pub fn read_span<'a>(
     alloc: Global,
     bytes: &'a [u8],
     span: &Span,
     index: u64,
     hints: &Hints<'_>,
+    version: Version,
 ) -> Result<Found<'a>, Fault>
     requires { SpanAt bytes.now span.now }
     // The object of the frame that stands there; the free bits of a Plain one and the bytes of a Raw one are lent.
     ensures lent { IfOk result (λ found. IsBorrowedObject found.object) }
-    ensures found { IfOk result (λ found. (body : List ℕ) × FrameAt bytes.now span.now.from body found.end × FormOf hints.now body (value_of found.object)) }
+    ensures found { IfOk result (λ found. (body : List ℕ) × FrameAt bytes.now span.now.from body found.end × FormOf version hints.now body (value_of found.object)) }
 
     // What is found and what is refused is what is tried; there is want of memory beside.
-    ensures tried { AnswersFrame result (tried_frame span.now.from index bytes.now) }
+    ensures tried { AnswersFrame result (tried_frame version span.now.from index bytes.now) }
     ensures of_table { IfErr result IsFaultOfTable }
 {
     if !has_frame_word(bytes, span) {
         return Err(Fault::Refused(frame_refusal(CHECK_LINE, index, span.from)));
     }
     let body = piece(bytes, span.body, span.body_end);
-    let Some(head) = head_of(body) else {
+    let Some(head) = head_of(version, body) else {
         return Err(Fault::Refused(frame_refusal(HEAD_LINE, index, span.from)));
     };
-    match read_behind_head(alloc, body, &head, hints) {
+    match read_behind_head(alloc, body, &head, hints, version) {
         Ok(object) => Ok(Found {
             object,
             end: span.end,
@@ -106,7 +107,7 @@ pub fn read_span<'a>(
     }
 }
 
-/// Reads the frame at a place of the input, of the pair of this index. It is refused where the place is behind the input,
+/// Reads the frame at a place of the input, of the pair of this index, by the rules of a version, whatever the input begins with. It is refused where the place is behind the input,
 /// where no length is spelled there or the frame passes the end of the input, where the check word is wrong, and where the
 /// body has no head, in this order.
 ///
@@ -117,13 +118,14 @@ pub fn read_frame<'a>(
     place: u64,
     index: u64,
     classes: &[Class],
+    version: Version,
 ) -> Result<Found<'a>, Fault>
     // The object of the frame that stands there; the free bits of a Plain one and the bytes of a Raw one are lent.
     ensures lent { IfOk result (λ found. IsBorrowedObject found.object) }
-    ensures found { IfOk result (λ found. (body : List ℕ) × FrameAt bytes.now place body found.end × FormOf classes.now body (value_of found.object)) }
+    ensures found { IfOk result (λ found. (body : List ℕ) × FrameAt bytes.now place body found.end × FormOf version classes.now body (value_of found.object)) }
 
     // What is found and what is refused is what is tried; there is want of memory beside.
-    ensures tried { AnswersFrame result (tried_frame place index bytes.now) }
+    ensures tried { AnswersFrame result (tried_frame version place index bytes.now) }
     ensures of_table { IfErr result IsFaultOfTable }
 {
     let span = match span_at(bytes, place, index) {
@@ -134,5 +136,5 @@ pub fn read_frame<'a>(
         Ok(hints) => hints,
         Err(NoMemory) => return Err(Fault::NoMemory),
     };
-    read_span(alloc, bytes, &span, index, &hints)
+    read_span(alloc, bytes, &span, index, &hints, version)
 }

@@ -6,6 +6,7 @@ mod common;
 mod frame;
 mod head;
 mod laws;
+mod layout;
 mod object;
 mod part;
 mod reading;

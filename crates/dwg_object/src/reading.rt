@@ -1,15 +1,17 @@
 //! Reading bodies, in the strongest form that they have.
 
-ghost use Rattle.std.specs.Prelude.{◌≡◌, ◌≢◌, ◌^◌, ◌<◌, ◌↔◌, ◌⊎◌, ℕ, Bool, List, length, Ok, Some, None, IfOk, IfSome, IsTrue};
+ghost use Rattle.std.specs.Prelude.{◌≡◌, ◌≢◌, ◌*◌, ◌^◌, ◌<◌, ◌↔◌, ◌⊎◌, ℕ, Bool, List, length, Ok, Some, None, IfOk, IfSome, IfNone, IsTrue};
 ghost use Rattle.dwg_bits.specs.Bits.{bits};
-ghost use Rattle.dwg_bits.specs.Cursor.{rest};
+ghost use Rattle.dwg_base.specs.declared.version.Version.TheVariants.{Ac1014};
+ghost use Rattle.dwg_bits.specs.Cursor.{bits_between, rest};
 ghost use Rattle.dwg_classes.specs.declared.class.Class.{Class};
+ghost use Rattle.dwg_common.specs.BitSizes.{SpellsSize};
 ghost use Rattle.dwg_grammar.specs.ToEnd.{ReadsToEnd};
 ghost use Rattle.dwg_grammar.specs.Reference.{Reference};
 ghost use Rattle.dwg_grammar.specs.ReferenceCodes.{reference};
 ghost use Rattle.dwg_kinds.specs.declared.kind.Kind.TheVariants as kinds;
 ghost use Rattle.dwg_object.specs.declared.reading.Rest.{Rest};
-ghost use Rattle.dwg_object.specs.Forms.{CommonForm, FormOf, HasCommonForm, HasPlainForm, HasTypedForm, kind_under};
+ghost use Rattle.dwg_object.specs.Forms.{CommonForm, FormOf, HasCommonForm, HasPlainForm, HasTypedForm, SizeTold, kind_under};
 ghost use Rattle.dwg_object.specs.Heads.{BeginsWithHead, IsHeadAt};
 ghost use Rattle.dwg_object.specs.Objects.{IsBorrowedObject, PlainValue, parts_of, value_of};
 ghost use Rattle.dwg_object.specs.OwnBits.{HasOwn};
@@ -17,11 +19,13 @@ ghost use Rattle.dwg_object.specs.OwnBits.{HasOwn};
 use crate::body::Body;
 use crate::common::Common;
 use crate::head::{Head, HeadAt, head_of};
+use crate::layout::layout_in;
 use crate::object::{Object, Plain, Raw, Typed};
-use dwg_base::{Handle, Items, NoMemory};
+use dwg_base::{Handle, Items, NoMemory, Version};
 use dwg_bits::{BitCursor, BitPart, BitSpan};
 use dwg_classes::{Class, Hints};
 use dwg_codes::BytePart;
+use dwg_common::read_size;
 use dwg_handles::{Ref, read_refs_to_end};
 use dwg_kinds::{Kind, is_entity, kind_of};
 use std::alloc::Global;
@@ -48,28 +52,61 @@ struct Front<'a> {
     refs: BitCursor<'a>,
 }
 
+/// The bit size that AC1014 has after the head of a body, of an entity or of another object. None exactly where none is spelled there.
+fn size_after(body: &[u8], found: &HeadAt, entity: bool) -> Option<u32>
+    requires small { length body.now < 2 ^ 60 }
+    requires head { IsHeadAt Ac1014 (bits body.now) (parts_of found.now.head) found.now.end }
+    ensures some { IfSome result (λ size. SpellsSize entity found.now.head.own size (bits_between body.now found.now.end (8 * length body.now))) }
+    ensures none { IfNone result ((size : ℕ) → SpellsSize entity found.now.head.own size (bits_between body.now found.now.end (8 * length body.now)) → ⊥) }
+{
+    let mut cursor = BitCursor::new(body, found.end, 8 * body.len() as u64);
+    match read_size(&mut cursor, entity, found.head.own) {
+        Some(size) => Some(size),
+        None => None,
+    }
+}
+
+/// The bit size of a body with this head, of an entity or of another object: in AC1015 the head has it. None exactly where none is told.
+fn size_of(version: Version, body: &[u8], found: &HeadAt, entity: bool) -> Option<u32>
+    requires small { length body.now < 2 ^ 60 }
+    requires head { IsHeadAt version (bits body.now) (parts_of found.now.head) found.now.end }
+    ensures some { IfSome result (λ size. SizeTold version entity (parts_of found.now.head) size (bits_between body.now found.now.end (8 * length body.now))) }
+    ensures none { IfNone result ((size : ℕ) → SizeTold version entity (parts_of found.now.head) size (bits_between body.now found.now.end (8 * length body.now)) → ⊥) }
+{
+    match version {
+        Version::Ac1014 => size_after(body, found, entity),
+        Version::Ac1015 => Some(found.head.size),
+    }
+}
+
 /// Reads the common part of a body of a kind. None exactly where the body isn't cut into head, common part, own bits and
 /// references; the only refusal is want of memory.
 fn read_front<'a>(
     alloc: Global,
     body: &'a [u8],
+    version: Version,
     found: &HeadAt,
     kind: Kind,
 ) -> Result<Option<Front<'a>>, NoMemory>
     requires small { length body.now < 2 ^ 60 }
-    requires head { IsHeadAt (bits body.now) (parts_of found.now.head) found.now.end }
-    ensures form { IfOk result (λ read. IfSome read (λ front. (classes : List Class) → kind ≡ kind_under classes found.now.head.number → CommonForm classes body.now found.now.head.number found.now.head.own front.common (rest front.main) (rest front.refs))) }
-    ensures none { result ≡ Ok None → (classes : List Class) → kind ≡ kind_under classes found.now.head.number → HasCommonForm classes body.now → ⊥ }
+    requires head { IsHeadAt version (bits body.now) (parts_of found.now.head) found.now.end }
+    ensures form { IfOk result (λ read. IfSome read (λ front. (classes : List Class) → kind ≡ kind_under classes found.now.head.number → CommonForm version classes body.now found.now.head.number found.now.head.own front.common (rest front.main) (rest front.refs))) }
+    ensures none { result ≡ Ok None → (classes : List Class) → kind ≡ kind_under classes found.now.head.number → HasCommonForm version classes body.now → ⊥ }
 {
-    let size = u64::from(found.head.size);
+    let entity = is_entity(kind);
+    let Some(told) = size_of(version, body, found, entity) else {
+        return Ok(None);
+    };
+    let size = u64::from(told);
     let end = 8 * body.len() as u64;
     if size < found.end || end < size {
         return Ok(None);
     }
+    let layout = layout_in(version, told);
     let own = found.head.own;
     let mut main = BitCursor::new(body, found.end, size);
     let mut refs = BitCursor::new(body, size, end);
-    let Some(common) = Common::parse(alloc, is_entity(kind), &mut main, &mut refs, own)? else {
+    let Some(common) = Common::parse(alloc, layout, entity, &mut main, &mut refs, own)? else {
         return Ok(None);
     };
     Ok(Some(Front { common, main, refs }))
@@ -116,9 +153,9 @@ fn read_rest<'a>(
 }
 
 /// The object that keeps a body as its bytes, under the number and the own handle of its head.
-fn raw_object<'a>(found: &HeadAt, body: &'a [u8]) -> Object<'a>
-    requires head { IsHeadAt (bits body.now) (parts_of found.now.head) found.now.end }
-    ensures form { (classes : List Class) → (HasPlainForm classes body.now → ⊥) → (HasTypedForm classes body.now → ⊥) → FormOf classes body.now (value_of result) }
+fn raw_object<'a>(version: Version, found: &HeadAt, body: &'a [u8]) -> Object<'a>
+    requires head { IsHeadAt version (bits body.now) (parts_of found.now.head) found.now.end }
+    ensures form { (classes : List Class) → (HasPlainForm version classes body.now → ⊥) → (HasTypedForm version classes body.now → ⊥) → FormOf version classes body.now (value_of result) }
     ensures lent { IsBorrowedObject result }
 {
     Object::Raw(Raw {
@@ -147,18 +184,19 @@ fn plain_object<'a>(found: &HeadAt, common: Common, behind: Rest<'a>) -> Object<
 fn read_untyped<'a>(
     alloc: Global,
     body: &'a [u8],
+    version: Version,
     found: &HeadAt,
     kind: Kind,
     front: Front<'a>,
 ) -> Result<Object<'a>, NoMemory>
-    requires head { IsHeadAt (bits body.now) (parts_of found.now.head) found.now.end }
-    requires form { (classes : List Class) → kind ≡ kind_under classes found.now.head.number → CommonForm classes body.now found.now.head.number found.now.head.own front.common (rest front.main) (rest front.refs) }
-    requires untyped { HasOwn kind found.now.head.own (rest front.main) (rest front.refs) → ⊥ }
-    ensures form { IfOk result (λ object. (classes : List Class) → kind ≡ kind_under classes found.now.head.number → FormOf classes body.now (value_of object)) }
+    requires head { IsHeadAt version (bits body.now) (parts_of found.now.head) found.now.end }
+    requires form { (classes : List Class) → kind ≡ kind_under classes found.now.head.number → CommonForm version classes body.now found.now.head.number found.now.head.own front.common (rest front.main) (rest front.refs) }
+    requires untyped { HasOwn version kind found.now.head.own (rest front.main) (rest front.refs) → ⊥ }
+    ensures form { IfOk result (λ object. (classes : List Class) → kind ≡ kind_under classes found.now.head.number → FormOf version classes body.now (value_of object)) }
     ensures lent { IfOk result IsBorrowedObject }
 {
     let Some(behind) = read_rest(alloc, &front, kind, found.head.own)? else {
-        return Ok(raw_object(found, body));
+        return Ok(raw_object(version, found, body));
     };
     Ok(plain_object(found, front.common, behind))
 }
@@ -168,30 +206,31 @@ fn read_untyped<'a>(
 fn read_kind<'a>(
     alloc: Global,
     body: &'a [u8],
+    version: Version,
     found: &HeadAt,
     kind: Kind,
 ) -> Result<Object<'a>, NoMemory>
     requires small { length body.now < 2 ^ 60 }
-    requires head { IsHeadAt (bits body.now) (parts_of found.now.head) found.now.end }
-    ensures form { IfOk result (λ object. (classes : List Class) → kind ≡ kind_under classes found.now.head.number → FormOf classes body.now (value_of object)) }
+    requires head { IsHeadAt version (bits body.now) (parts_of found.now.head) found.now.end }
+    ensures form { IfOk result (λ object. (classes : List Class) → kind ≡ kind_under classes found.now.head.number → FormOf version classes body.now (value_of object)) }
     ensures lent { IfOk result IsBorrowedObject }
 {
     let Head { number, own, .. } = found.head;
-    let Some(front) = read_front(alloc, body, found, kind)? else {
-        return Ok(raw_object(found, body));
+    let Some(front) = read_front(alloc, body, version, found, kind)? else {
+        return Ok(raw_object(version, found, body));
     };
     // The laws of bodies ask that their base is a handle's number.
     let _base = own.value();
     let mut main = front.main;
     let mut refs = front.refs;
-    match Body::parse(alloc, kind, &mut main, &mut refs, own)? {
+    match Body::parse(alloc, version, kind, &mut main, &mut refs, own)? {
         Some(value) if is_read_out(&main, &refs) => Ok(Object::Typed(Typed {
             number,
             handle: own,
             common: front.common,
             body: value,
         })),
-        _ => read_untyped(alloc, body, found, kind, front),
+        _ => read_untyped(alloc, body, version, found, kind, front),
     }
 }
 
@@ -202,36 +241,39 @@ pub(crate) fn read_behind_head<'a>(
     body: &'a [u8],
     found: &HeadAt,
     hints: &Hints<'_>,
+    version: Version,
 ) -> Result<Object<'a>, NoMemory>
     requires small { length body.now < 2 ^ 60 }
-    requires head { IsHeadAt (bits body.now) (parts_of found.now.head) found.now.end }
-    ensures form { IfOk result (λ object. FormOf hints.now body.now (value_of object)) }
+    requires head { IsHeadAt version (bits body.now) (parts_of found.now.head) found.now.end }
+    ensures form { IfOk result (λ object. FormOf version hints.now body.now (value_of object)) }
     ensures lent { IfOk result IsBorrowedObject }
 {
     let number = found.head.number;
-    read_kind(alloc, body, found, kind_of(number, hints.hint(number)))
+    let kind = kind_of(number, hints.hint(number));
+    read_kind(alloc, body, version, found, kind)
 }
 
-/// Reads a body of fewer than 2^60 bytes, in the strongest form that it has under the classes of its drawing: with its
+/// Reads a body of fewer than 2^60 bytes by the rules of a version, in the strongest form that it has under the classes of its drawing: with its
 /// common part and the body of its kind, or with its common part and its references, or as its bytes, whichever of these comes
 /// first. None exactly where the body has no head; the only refusal is want of memory.
 pub fn read_body_hinted<'a>(
     alloc: Global,
     body: &'a [u8],
     hints: &Hints<'_>,
+    version: Version,
 ) -> Result<Option<Object<'a>>, NoMemory>
     requires { length body.now < 2 ^ 60 }
     // The object that the body is read as; there is one exactly where the body has a head.
-    ensures form { IfOk result (λ found. IfSome found (λ object. FormOf hints.now body.now (value_of object))) }
-    ensures none { result ≡ Ok None → (number own : ℕ) → BeginsWithHead (bits body.now) number own → ⊥ }
+    ensures form { IfOk result (λ found. IfSome found (λ object. FormOf version hints.now body.now (value_of object))) }
+    ensures none { result ≡ Ok None → (number own : ℕ) → BeginsWithHead version (bits body.now) number own → ⊥ }
 
     // The free bits of a Plain object and the bytes of a Raw one are lent.
     ensures lent { IfOk result (λ found. IfSome found IsBorrowedObject) }
 {
-    let Some(found) = head_of(body) else {
+    let Some(found) = head_of(version, body) else {
         return Ok(None);
     };
-    Ok(Some(read_behind_head(alloc, body, &found, hints)?))
+    Ok(Some(read_behind_head(alloc, body, &found, hints, version)?))
 }
 
 /// The same by the classes themselves: it makes a table of them, which who reads more than one body makes once.
@@ -239,15 +281,16 @@ pub fn read_body<'a>(
     alloc: Global,
     body: &'a [u8],
     classes: &[Class],
+    version: Version,
 ) -> Result<Option<Object<'a>>, NoMemory>
     requires { length body.now < 2 ^ 60 }
     // The object that the body is read as; there is one exactly where the body has a head.
-    ensures form { IfOk result (λ found. IfSome found (λ object. FormOf classes.now body.now (value_of object))) }
-    ensures none { result ≡ Ok None → (number own : ℕ) → BeginsWithHead (bits body.now) number own → ⊥ }
+    ensures form { IfOk result (λ found. IfSome found (λ object. FormOf version classes.now body.now (value_of object))) }
+    ensures none { result ≡ Ok None → (number own : ℕ) → BeginsWithHead version (bits body.now) number own → ⊥ }
 
     // The free bits of a Plain object and the bytes of a Raw one are lent.
     ensures lent { IfOk result (λ found. IfSome found IsBorrowedObject) }
 {
     let hints = Hints::build(alloc, classes)?;
-    read_body_hinted(alloc, body, &hints)
+    read_body_hinted(alloc, body, &hints, version)
 }

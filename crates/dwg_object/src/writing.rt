@@ -6,7 +6,7 @@ ghost use Rattle.dwg_bits.specs.Bits.{bits};
 ghost use Rattle.dwg_bits.specs.Sink.{Extends};
 ghost use Rattle.dwg_bits.specs.WholeBytes.{whole_bytes};
 ghost use Rattle.dwg_check.specs.CheckWord.{FRAME_START, check_word};
-ghost use Rattle.dwg_object.specs.Forms.{common_part};
+ghost use Rattle.dwg_object.specs.Forms.{common_part, layout_in};
 ghost use Rattle.dwg_object.specs.Frames.{frame_bytes, sized};
 ghost use Rattle.dwg_object.specs.Objects.{is_of_entity, value_of};
 ghost use Rattle.dwg_object.specs.Written.{PartsFit, body_bytes, front_bits, object_bytes, refs_bits};
@@ -16,7 +16,7 @@ use crate::head::{head_length, write_head};
 use crate::object::Object;
 use crate::part::Part;
 use crate::span::CHECK_SIZE;
-use dwg_base::{Handle, bounded_bytes, bytes_behind};
+use dwg_base::{Handle, Version, bounded_bytes, bytes_behind};
 use dwg_bits::BitSink;
 use dwg_check::{FRAME_START, check};
 use dwg_codes::{ms_bytes, write_ms};
@@ -32,18 +32,24 @@ struct ObjectLengths {
 
 /// What an object is written by.
 #[tactic(auto, using(crate::proofs::WrittenLemmas::front_long, crate::proofs::WrittenLemmas::refs_long, crate::proofs::WrittenLemmas::object_long, crate::proofs::FrameWriting::object_small))]
-fn object_lengths<P: Part>(number: u16, handle: Handle, common: &Common, own: &P) -> ObjectLengths
+fn object_lengths<P: Part>(
+    version: Version,
+    number: u16,
+    handle: Handle,
+    common: &Common,
+    own: &P,
+) -> ObjectLengths
     requires positive { 0 < handle }
-    requires common { (common_part (is_of_entity common.now) handle).Fits common.now }
-    requires own { P.PartFits handle own.now }
-    requires few { length (object_bytes number handle common.now (P.main handle own.now) (P.refs handle own.now)) < 2 ^ 29 }
-    ensures front { result.front ≡ length (front_bits number handle common.now (P.main handle own.now)) }
+    requires common { (common_part (layout_in version 0) (is_of_entity common.now) handle).Fits common.now }
+    requires own { P.PartFits version handle own.now }
+    requires few { length (object_bytes version number handle common.now (P.main version handle own.now) (P.refs version handle own.now)) < 2 ^ 29 }
+    ensures front { result.front ≡ length (front_bits version number handle common.now (P.main version handle own.now)) }
     ensures few { result.front < 2 ^ 32 }
-    ensures bytes { result.bytes ≡ length (object_bytes number handle common.now (P.main handle own.now) (P.refs handle own.now)) }
+    ensures bytes { result.bytes ≡ length (object_bytes version number handle common.now (P.main version handle own.now) (P.refs version handle own.now)) }
 {
-    let shared = common.lengths(handle);
-    let owned = own.lengths(handle);
-    let front = head_length(number, handle) + shared.main + owned.main;
+    let shared = common.lengths(version, handle);
+    let owned = own.lengths(version, handle);
+    let front = head_length(version, number, handle) + shared.main + owned.main;
     let refs = shared.refs + owned.refs;
     ObjectLengths {
         front,
@@ -52,8 +58,9 @@ fn object_lengths<P: Part>(number: u16, handle: Handle, common: &Common, own: &P
 }
 
 /// Writes what stands before the references: head, common part, its own bits; together as many bits as the head says.
-#[tactic(auto, using(crate::proofs::WrittenLemmas::front_long, crate::proofs::WrittenLemmas::head_as_long))]
+#[tactic(auto, using(crate::proofs::WrittenLemmas::front_long, crate::proofs::WrittenLemmas::head_long_written, crate::proofs::WrittenLemmas::sized_long))]
 fn write_front<P: Part>(
+    version: Version,
     number: u16,
     handle: Handle,
     common: &Common,
@@ -62,47 +69,60 @@ fn write_front<P: Part>(
     sink: &mut BitSink,
 )
     requires positive { 0 < handle }
-    requires common { (common_part (is_of_entity common.now) handle).Fits common.now }
-    requires own { P.PartFits handle own.now }
-    requires size { size ≡ length (front_bits number handle common.now (P.main handle own.now)) }
-    requires room { length (front_bits number handle common.now (P.main handle own.now)) ≤ sink.old.spare }
-    ensures { Extends sink.old sink.new (front_bits number handle common.now (P.main handle own.now)) }
+    requires common { (common_part (layout_in version 0) (is_of_entity common.now) handle).Fits common.now }
+    requires own { P.PartFits version handle own.now }
+    requires size { size ≡ length (front_bits version number handle common.now (P.main version handle own.now)) }
+    requires room { length (front_bits version number handle common.now (P.main version handle own.now)) ≤ sink.old.spare }
+    ensures { Extends sink.old sink.new (front_bits version number handle common.now (P.main version handle own.now)) }
 {
-    write_head(number, size, handle, sink);
-    common.write_main(handle, sink);
-    own.write_main(handle, sink);
+    write_head(version, number, size, handle, sink);
+    common.write_main(version, size, handle, sink);
+    own.write_main(version, handle, sink);
 }
 
 /// Writes the references: those of the common part, and its own.
 #[tactic(auto, using(crate::proofs::WrittenLemmas::refs_long))]
-fn write_references<P: Part>(handle: Handle, common: &Common, own: &P, sink: &mut BitSink)
-    requires common { (common_part (is_of_entity common.now) handle).Fits common.now }
-    requires own { P.PartFits handle own.now }
-    requires few { length (refs_bits handle common.now (P.refs handle own.now)) < 2 ^ 32 }
-    requires room { length (refs_bits handle common.now (P.refs handle own.now)) ≤ sink.old.spare }
-    ensures { Extends sink.old sink.new (refs_bits handle common.now (P.refs handle own.now)) }
+fn write_references<P: Part>(
+    version: Version,
+    handle: Handle,
+    common: &Common,
+    own: &P,
+    sink: &mut BitSink,
+)
+    requires common { (common_part (layout_in version 0) (is_of_entity common.now) handle).Fits common.now }
+    requires own { P.PartFits version handle own.now }
+    requires few { length (refs_bits version handle common.now (P.refs version handle own.now)) < 2 ^ 32 }
+    requires room { length (refs_bits version handle common.now (P.refs version handle own.now)) ≤ sink.old.spare }
+    ensures { Extends sink.old sink.new (refs_bits version handle common.now (P.refs version handle own.now)) }
 {
-    common.write_refs(handle, sink);
-    own.write_refs(handle, sink);
+    common.write_refs(version, handle, sink);
+    own.write_refs(version, handle, sink);
 }
 
 /// How many bytes an object is written by.
 #[tactic(auto, using(dwg_bits::proofs::WholeBytes::whole_are_bytes))]
-fn parts_length<P: Part>(number: u16, handle: Handle, common: &Common, own: &P) -> u64
+fn parts_length<P: Part>(
+    version: Version,
+    number: u16,
+    handle: Handle,
+    common: &Common,
+    own: &P,
+) -> u64
     requires positive { 0 < handle }
-    requires common { (common_part (is_of_entity common.now) handle).Fits common.now }
-    requires own { P.PartFits handle own.now }
-    requires few { length (object_bytes number handle common.now (P.main handle own.now) (P.refs handle own.now)) < 2 ^ 29 }
-    ensures length { result ≡ length (object_bytes number handle common.now (P.main handle own.now) (P.refs handle own.now)) }
-    ensures bytes { AreBytes (object_bytes number handle common.now (P.main handle own.now) (P.refs handle own.now)) }
+    requires common { (common_part (layout_in version 0) (is_of_entity common.now) handle).Fits common.now }
+    requires own { P.PartFits version handle own.now }
+    requires few { length (object_bytes version number handle common.now (P.main version handle own.now) (P.refs version handle own.now)) < 2 ^ 29 }
+    ensures length { result ≡ length (object_bytes version number handle common.now (P.main version handle own.now) (P.refs version handle own.now)) }
+    ensures bytes { AreBytes (object_bytes version number handle common.now (P.main version handle own.now) (P.refs version handle own.now)) }
 {
-    object_lengths(number, handle, common, own).bytes
+    object_lengths(version, number, handle, common, own).bytes
 }
 
 /// Writes an object at a whole byte, behind its length in the fewest units and with zero bits up to a whole byte. It is measured
 /// once.
 #[tactic(auto, using(crate::proofs::FrameWriting::object_small, crate::proofs::WrittenLemmas::object_long, crate::proofs::FrameWriting::object_room, crate::proofs::FrameWriting::room_behind_size, dwg_bits::proofs::BitLaws::length_of_bits, dwg_bits::proofs::WholeBytes::whole_are_bytes))]
 fn write_sized_parts<P: Part>(
+    version: Version,
     number: u16,
     handle: Handle,
     common: &Common,
@@ -110,18 +130,26 @@ fn write_sized_parts<P: Part>(
     sink: &mut BitSink,
 )
     requires positive { 0 < handle }
-    requires common { (common_part (is_of_entity common.now) handle).Fits common.now }
-    requires own { P.PartFits handle own.now }
-    requires few { length (object_bytes number handle common.now (P.main handle own.now) (P.refs handle own.now)) < 2 ^ 29 }
+    requires common { (common_part (layout_in version 0) (is_of_entity common.now) handle).Fits common.now }
+    requires own { P.PartFits version handle own.now }
+    requires few { length (object_bytes version number handle common.now (P.main version handle own.now) (P.refs version handle own.now)) < 2 ^ 29 }
     requires aligned { length sink.old.written % 8 ≡ 0 }
-    requires room { 8 * length (sized (object_bytes number handle common.now (P.main handle own.now) (P.refs handle own.now))) ≤ sink.old.spare }
-    ensures written { Extends sink.old sink.new (bits (sized (object_bytes number handle common.now (P.main handle own.now) (P.refs handle own.now)))) }
-    ensures bytes { AreBytes (object_bytes number handle common.now (P.main handle own.now) (P.refs handle own.now)) }
+    requires room { 8 * length (sized (object_bytes version number handle common.now (P.main version handle own.now) (P.refs version handle own.now))) ≤ sink.old.spare }
+    ensures written { Extends sink.old sink.new (bits (sized (object_bytes version number handle common.now (P.main version handle own.now) (P.refs version handle own.now)))) }
+    ensures bytes { AreBytes (object_bytes version number handle common.now (P.main version handle own.now) (P.refs version handle own.now)) }
 {
-    let lengths = object_lengths(number, handle, common, own);
+    let lengths = object_lengths(version, number, handle, common, own);
     write_ms(lengths.bytes, sink);
-    write_front(number, handle, common, own, lengths.front as u32, sink);
-    write_references(handle, common, own, sink);
+    write_front(
+        version,
+        number,
+        handle,
+        common,
+        own,
+        lengths.front as u32,
+        sink,
+    );
+    write_references(version, handle, common, own, sink);
     sink.pad();
 }
 
@@ -138,54 +166,75 @@ fn write_sized_bytes(bytes: &[u8], sink: &mut BitSink)
 
 impl Object<'_> {
     /// How many bytes the body is written by.
-    fn body_length(&self) -> u64
-        requires fits { PartsFit (value_of self.now) }
-        requires few { length (body_bytes (value_of self.now)) < 2 ^ 29 }
-        ensures length { result ≡ length (body_bytes (value_of self.now)) }
-        ensures bytes { AreBytes (body_bytes (value_of self.now)) }
+    fn body_length(&self, version: Version) -> u64
+        requires fits { PartsFit version (value_of self.now) }
+        requires few { length (body_bytes version (value_of self.now)) < 2 ^ 29 }
+        ensures length { result ≡ length (body_bytes version (value_of self.now)) }
+        ensures bytes { AreBytes (body_bytes version (value_of self.now)) }
     {
         match self {
             Object::Typed(typed) => parts_length(
+                version,
                 typed.number,
                 typed.handle,
                 &typed.common,
                 &typed.body,
             ),
-            Object::Plain(plain) => parts_length(plain.number, plain.handle, &plain.common, plain),
+            Object::Plain(plain) => parts_length(
+                version,
+                plain.number,
+                plain.handle,
+                &plain.common,
+                plain,
+            ),
             Object::Raw(raw) => bounded_bytes(raw.bytes.as_slice()).len() as u64,
         }
     }
 
     /// Writes the body at a whole byte, behind its length in the fewest units.
-    fn write_sized_body(&self, sink: &mut BitSink)
-        requires fits { PartsFit (value_of self.now) }
-        requires few { length (body_bytes (value_of self.now)) < 2 ^ 29 }
+    fn write_sized_body(&self, version: Version, sink: &mut BitSink)
+        requires fits { PartsFit version (value_of self.now) }
+        requires few { length (body_bytes version (value_of self.now)) < 2 ^ 29 }
         requires aligned { length sink.old.written % 8 ≡ 0 }
-        requires room { 8 * length (sized (body_bytes (value_of self.now))) ≤ sink.old.spare }
-        ensures written { Extends sink.old sink.new (bits (sized (body_bytes (value_of self.now)))) }
-        ensures bytes { AreBytes (body_bytes (value_of self.now)) }
+        requires room { 8 * length (sized (body_bytes version (value_of self.now))) ≤ sink.old.spare }
+        ensures written { Extends sink.old sink.new (bits (sized (body_bytes version (value_of self.now)))) }
+        ensures bytes { AreBytes (body_bytes version (value_of self.now)) }
     {
         match self {
             Object::Typed(typed) => {
-                write_sized_parts(typed.number, typed.handle, &typed.common, &typed.body, sink)
+                write_sized_parts(
+                    version,
+                    typed.number,
+                    typed.handle,
+                    &typed.common,
+                    &typed.body,
+                    sink,
+                )
             }
             Object::Plain(plain) => {
-                write_sized_parts(plain.number, plain.handle, &plain.common, plain, sink)
+                write_sized_parts(
+                    version,
+                    plain.number,
+                    plain.handle,
+                    &plain.common,
+                    plain,
+                    sink,
+                )
             }
             Object::Raw(raw) => write_sized_bytes(bounded_bytes(raw.bytes.as_slice()), sink),
         }
     }
 }
 
-/// How many bytes the frame of an object is written by: a length in the fewest units, the body, a check word.
+/// How many bytes the frame of an object is written by in a version: a length in the fewest units, the body, a check word.
 #[tactic(auto, using(crate::proofs::FormLaws::length_of_frame))]
-pub fn frame_length(object: &Object<'_>) -> u64
-    requires fits { PartsFit (value_of object.now) }
-    requires few { length (body_bytes (value_of object.now)) < 2 ^ 29 }
-    ensures length { result ≡ length (frame_bytes (value_of object.now)) }
+pub fn frame_length(object: &Object<'_>, version: Version) -> u64
+    requires fits { PartsFit version (value_of object.now) }
+    requires few { length (body_bytes version (value_of object.now)) < 2 ^ 29 }
+    ensures length { result ≡ length (frame_bytes version (value_of object.now)) }
     ensures few { result < 2 ^ 30 }
 {
-    let length = object.body_length();
+    let length = object.body_length(version);
     ms_bytes(length) as u64 + length + CHECK_SIZE
 }
 
@@ -202,17 +251,17 @@ fn word_behind(sink: &BitSink, from: u64) -> u16
     )
 }
 
-/// Writes the frame of an object at a whole byte: a length in the fewest units, the body, a check word.
+/// Writes the frame of an object in a version at a whole byte: a length in the fewest units, the body, a check word.
 #[tactic(auto, using(crate::proofs::FrameWriting::frame_room, dwg_bits::proofs::BitLaws::length_of_bits, crate::proofs::FrameWriting::aligned_behind))]
-pub fn write_frame(object: &Object<'_>, sink: &mut BitSink)
-    requires fits { PartsFit (value_of object.now) }
-    requires few { length (body_bytes (value_of object.now)) < 2 ^ 29 }
+pub fn write_frame(object: &Object<'_>, version: Version, sink: &mut BitSink)
+    requires fits { PartsFit version (value_of object.now) }
+    requires few { length (body_bytes version (value_of object.now)) < 2 ^ 29 }
     requires aligned { length sink.old.written % 8 ≡ 0 }
-    requires room { 8 * length (frame_bytes (value_of object.now)) ≤ sink.old.spare }
-    ensures { Extends sink.old sink.new (bits (frame_bytes (value_of object.now))) }
+    requires room { 8 * length (frame_bytes version (value_of object.now)) ≤ sink.old.spare }
+    ensures { Extends sink.old sink.new (bits (frame_bytes version (value_of object.now))) }
 {
     let from = sink.length() / 8;
-    object.write_sized_body(sink);
+    object.write_sized_body(version, sink);
     let word = word_behind(sink, from);
     sink.push_bytes(&word.to_le_bytes());
 }

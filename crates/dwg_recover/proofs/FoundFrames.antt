@@ -1,5 +1,6 @@
 -- What is found is what stands: a pair has a candidate exactly where a frame with its handle stands at its place, and the scan finds a frame exactly where one is read with its common part.
 use Rattle.std.proofs.Common.{◌≡◌, refl, sym, ◌∙◌, ap, ap₂, subst, ℕ, ◌<◌, Bool, true, false, List, Option, Some, None, arith}
+use Rattle.dwg_base.specs.Versions.{version_at}
 use Rattle.std.specs.Prelude.{◌&&◌, ◌==◌, Ok, Err, not, nat_lt, option_map, if◌then◌else◌}
 use Rattle.std.specs.Option.{option_and_then}
 use Rattle.std.specs.Result.{result_ok}
@@ -42,7 +43,7 @@ candidate_is bytes number pair frame is = of_span (span_found bytes pair.place) 
 -- what is tried of the frame at a place
 record IsTried (place end own : ℕ) (bytes : List ℕ) (tried : Tried Span) : Type 0 where
   found : Span × HeadParts
-  is : frame_checked place 0 bytes tried ≡ Ok found
+  is : frame_checked (version_at bytes) place 0 bytes tried ≡ Ok found
   ends : found.0.end ≡ end
   has : found.1.own ≡ own
 
@@ -56,9 +57,9 @@ tried_candidate : (bytes : List ℕ) (number : ℕ) (pair : Pair) (end : ℕ) �
 unfolding own_of_span
 tried_candidate bytes number pair end some (Err refusal) is = absurd (none is.is)
   where
-    none : {found : Span × HeadParts} → frame_checked pair.place 0 bytes (Err refusal) ≡ Ok found → ⊥
+    none : {found : Span × HeadParts} → frame_checked (version_at bytes) pair.place 0 bytes (Err refusal) ≡ Ok found → ⊥
     none same = absurd cc
-tried_candidate bytes number pair end some (Ok span) is = of_test (has_check_word bytes span) (head_at bytes span) is.found is.is is.ends is.has
+tried_candidate bytes number pair end some (Ok span) is = of_test (has_check_word bytes span) (head_at (version_at bytes) bytes span) is.found is.is is.ends is.has
   where
     of_test : (right : Bool) (head : Option HeadParts) (found : Span × HeadParts) → (if not right then Err (frame_refusal 30 0 pair.place) else head_tried pair.place 0 span head) ≡ Ok found
         → found.0.end ≡ end → found.1.own ≡ pair.handle
@@ -76,14 +77,14 @@ candidate_tried : (bytes : List ℕ) (number : ℕ) (pair : Pair) (end : ℕ) (t
     → (0 < pair.handle) × IsTried pair.place end pair.handle bytes tried
 unfolding own_of_span
 candidate_tried bytes number pair end (Err refusal) is = absurd cc
-candidate_tried bytes number pair end (Ok span) is = of_test (has_check_word bytes span) refl (head_at bytes span) refl is
+candidate_tried bytes number pair end (Ok span) is = of_test (has_check_word bytes span) refl (head_at (version_at bytes) bytes span) refl is
   where
     of_pass : (parts : HeadParts) (passes : Bool) → (nat_lt 0 pair.handle && (parts.own == pair.handle)) ≡ passes
         → (if passes then Some (frame_of number pair span.end) else None) ≡ Some (frame_of number pair end) → (0 < pair.handle) × (span.end ≡ end) × (parts.own ≡ pair.handle)
     of_pass parts true known same = (grind (arith, nat_tests, known), ap (λ (frame : Frame). frame.end) (same_Some _ _ same), grind (arith, nat_tests, known))
     of_pass parts false known same = absurd cc
 
-    of_test : (right : Bool) → has_check_word bytes span ≡ right → (head : Option HeadParts) → head_at bytes span ≡ head
+    of_test : (right : Bool) → has_check_word bytes span ≡ right → (head : Option HeadParts) → head_at (version_at bytes) bytes span ≡ head
         → option_and_then (candidate_of number pair span) (if right then option_map (λ (parts : HeadParts). parts.own) head else None) ≡ Some (frame_of number pair end)
         → (0 < pair.handle) × IsTried pair.place end pair.handle bytes (Ok span)
     of_test false right head told same = absurd cc
@@ -93,7 +94,7 @@ candidate_tried bytes number pair end (Ok span) is = of_test (has_check_word byt
           passed.0,
           record {
             found = (span, parts);
-            is = ap (λ test. if not test then Err (frame_refusal 30 0 pair.place) else head_tried pair.place 0 span (head_at bytes span)) right ∙ ap (head_tried pair.place 0 span) told;
+            is = ap (λ test. if not test then Err (frame_refusal 30 0 pair.place) else head_tried pair.place 0 span (head_at (version_at bytes) bytes span)) right ∙ ap (head_tried pair.place 0 span) told;
             ends = passed.1;
             has = passed.2;
           },
@@ -120,16 +121,16 @@ scanned_span classes bytes place found = option_and_then (λ (span : Span). opti
 
 -- what is tried so is found, where it is read with its common part
 tried_scanned : (classes : List Class) (bytes : List ℕ) (place end own : ℕ) (tried : Tried Span) (is : IsTried place end own bytes tried)
-    → has_common_part (form_at classes (span_body bytes is.found.0)) ≡ true → scanned_span classes bytes place (result_ok tried) ≡ Some (scanned_frame place end own)
+    → has_common_part (form_at (version_at bytes) classes (span_body bytes is.found.0)) ≡ true → scanned_span classes bytes place (result_ok tried) ≡ Some (scanned_frame place end own)
 unfolding own_of_span
 tried_scanned classes bytes place end own (Err refusal) is common = absurd (none is.is)
   where
-    none : {found : Span × HeadParts} → frame_checked place 0 bytes (Err refusal) ≡ Ok found → ⊥
+    none : {found : Span × HeadParts} → frame_checked (version_at bytes) place 0 bytes (Err refusal) ≡ Ok found → ⊥
     none same = absurd cc
-tried_scanned classes bytes place end own (Ok span) is common = of_test (has_check_word bytes span) (head_at bytes span) is.found is.is is.ends is.has common
+tried_scanned classes bytes place end own (Ok span) is common = of_test (has_check_word bytes span) (head_at (version_at bytes) bytes span) is.found is.is is.ends is.has common
   where
     of_test : (right : Bool) (head : Option HeadParts) (found : Span × HeadParts) → (if not right then Err (frame_refusal 30 0 place) else head_tried place 0 span head) ≡ Ok found
-        → found.0.end ≡ end → found.1.own ≡ own → has_common_part (form_at classes (span_body bytes found.0)) ≡ true
+        → found.0.end ≡ end → found.1.own ≡ own → has_common_part (form_at (version_at bytes) classes (span_body bytes found.0)) ≡ true
         → option_and_then (scanned_of classes bytes place span) (if right then option_map (λ (parts : HeadParts). parts.own) head else None) ≡ Some (scanned_frame place end own)
     of_test false head found same ends has with_common = absurd cc
     of_test true None found same ends has with_common = absurd cc
@@ -137,37 +138,37 @@ tried_scanned classes bytes place end own (Ok span) is common = of_test (has_che
         let span_ends : span.end ≡ end = cc in
         let own_is : parts.own ≡ own = cc in
         let is_span : span ≡ found.0 = cc in
-        let test : has_common_part (form_at classes (span_body bytes span)) ≡ true = ap (λ (one : Span). has_common_part (form_at classes (span_body bytes one))) is_span ∙ with_common in
+        let test : has_common_part (form_at (version_at bytes) classes (span_body bytes span)) ≡ true = ap (λ (one : Span). has_common_part (form_at (version_at bytes) classes (span_body bytes one))) is_span ∙ with_common in
         ap (λ passes. if passes then Some (scanned_frame place span.end parts.own) else None) test ∙ ap₂ (λ to handle. Some (scanned_frame place to handle)) span_ends own_is
 
 -- what is tried of a frame that is found, with its common part
 record IsScanned (classes : List Class) (bytes : List ℕ) (place end own : ℕ) (tried : Tried Span) : Type 0 where
   is : IsTried place end own bytes tried
-  common : has_common_part (form_at classes (span_body bytes is.found.0)) ≡ true
+  common : has_common_part (form_at (version_at bytes) classes (span_body bytes is.found.0)) ≡ true
 
 -- and what is found is tried so
 scanned_tried : (classes : List Class) (bytes : List ℕ) (place end own : ℕ) (tried : Tried Span) → scanned_span classes bytes place (result_ok tried) ≡ Some (scanned_frame place end own)
     → IsScanned classes bytes place end own tried
 unfolding own_of_span
 scanned_tried classes bytes place end own (Err refusal) is = absurd cc
-scanned_tried classes bytes place end own (Ok span) is = of_test (has_check_word bytes span) refl (head_at bytes span) refl is
+scanned_tried classes bytes place end own (Ok span) is = of_test (has_check_word bytes span) refl (head_at (version_at bytes) bytes span) refl is
   where
     of_pass : (parts : HeadParts) (passes : Bool) → (if passes then Some (scanned_frame place span.end parts.own) else None) ≡ Some (scanned_frame place end own)
         → (passes ≡ true) × (span.end ≡ end) × (parts.own ≡ own)
     of_pass parts true same = (refl, ap (λ (frame : Frame). frame.end) (same_Some _ _ same), ap (λ (frame : Frame). frame.handle) (same_Some _ _ same))
     of_pass parts false same = absurd cc
 
-    of_test : (right : Bool) → has_check_word bytes span ≡ right → (head : Option HeadParts) → head_at bytes span ≡ head
+    of_test : (right : Bool) → has_check_word bytes span ≡ right → (head : Option HeadParts) → head_at (version_at bytes) bytes span ≡ head
         → option_and_then (scanned_of classes bytes place span) (if right then option_map (λ (parts : HeadParts). parts.own) head else None) ≡ Some (scanned_frame place end own)
         → IsScanned classes bytes place end own (Ok span)
     of_test false right head told same = absurd cc
     of_test true right None told same = absurd cc
     of_test true right (Some parts) told same =
-        let passed = of_pass parts (has_common_part (form_at classes (span_body bytes span))) same in
+        let passed = of_pass parts (has_common_part (form_at (version_at bytes) classes (span_body bytes span))) same in
         record {
           is = record {
             found = (span, parts);
-            is = ap (λ test. if not test then Err (frame_refusal 30 0 place) else head_tried place 0 span (head_at bytes span)) right ∙ ap (head_tried place 0 span) told;
+            is = ap (λ test. if not test then Err (frame_refusal 30 0 place) else head_tried place 0 span (head_at (version_at bytes) bytes span)) right ∙ ap (head_tried place 0 span) told;
             ends = passed.1;
             has = passed.2;
           };
@@ -183,11 +184,11 @@ scanned_are_read told classes bytes place end own are = (to, from)
     to read =
         let standing = span_of_frame bytes place read.body end read.frame in
         let parts : HeadParts = record { number = read.number; size = read.head.size; own = own } in
-        let has : HasHead (bits (span_body bytes standing.span)) parts = subst (λ (b : List ℕ). HasHead (bits b) parts) (sym standing.same_body) (head_begins (bits read.body) read.number own read.head) in
-        let form : FormOf classes (span_body bytes standing.span) read.object = subst (λ (b : List ℕ). FormOf classes b read.object) (sym standing.same_body) read.form in
-        let one : form_at classes (span_body bytes standing.span) ≡ read.object = forms_same classes (span_body bytes standing.span) _ _ (form_is_at classes (span_body bytes standing.span) parts has) form in
+        let has : HasHead (version_at bytes) (bits (span_body bytes standing.span)) parts = subst (λ (b : List ℕ). HasHead (version_at bytes) (bits b) parts) (sym standing.same_body) (head_begins (bits read.body) read.number own read.head) in
+        let form : FormOf (version_at bytes) classes (span_body bytes standing.span) read.object = subst (λ (b : List ℕ). FormOf (version_at bytes) classes b read.object) (sym standing.same_body) read.form in
+        let one : form_at (version_at bytes) classes (span_body bytes standing.span) ≡ read.object = forms_same (version_at bytes) classes (span_body bytes standing.span) _ _ (form_is_at (version_at bytes) classes (span_body bytes standing.span) parts has) form in
         tried_scanned classes bytes place end own (tried_span place 0 bytes)
-        (record { found = (standing.span, parts); is = (told bytes place 0 (Ok (standing.span, parts)) are).1 (standing.framed, has); ends = standing.same_end; has = refl })
+        (record { found = (standing.span, parts); is = (told (version_at bytes) bytes place 0 (Ok (standing.span, parts)) are).1 (standing.framed, has); ends = standing.same_end; has = refl })
         (ap has_common_part one ∙ read.common)
 
     from : scanned classes bytes place ≡ Some (scanned_frame place end own) → IsReadAt classes bytes place end own
@@ -195,13 +196,13 @@ scanned_are_read told classes bytes place end own are = (to, from)
         let scan = scanned_tried classes bytes place end own (tried_span place 0 bytes) is in
         let span : Span = scan.is.found.0 in
         let parts : HeadParts = scan.is.found.1 in
-        let tells = (told bytes place 0 (Ok (span, parts)) are).0 scan.is.is in
+        let tells = (told (version_at bytes) bytes place 0 (Ok (span, parts)) are).0 scan.is.is in
         record {
           body = span_body bytes span;
           number = parts.number;
-          object = form_at classes (span_body bytes span);
+          object = form_at (version_at bytes) classes (span_body bytes span);
           frame = subst (FrameAt bytes place (span_body bytes span)) scan.is.ends tells.0.frame;
-          head = subst (BeginsWithHead (bits (span_body bytes span)) parts.number) scan.is.has (begins_head (bits (span_body bytes span)) parts tells.1);
-          form = form_is_at classes (span_body bytes span) parts tells.1;
+          head = subst (BeginsWithHead (version_at bytes) (bits (span_body bytes span)) parts.number) scan.is.has (begins_head (bits (span_body bytes span)) parts tells.1);
+          form = form_is_at (version_at bytes) classes (span_body bytes span) parts tells.1;
           common = scan.common;
         }

@@ -128,6 +128,7 @@ whole_not_cut bytes index (locator ∷ locators) = of_test (is_cut bytes locator
 pub parts_are_kept : PartsAreKept
 unfolding drawing_recovered classes_found
 parts_are_kept bytes = record {
+  version = refl;
   header = λ header is. (
     ap lead_of is,
     ap mark_of is,

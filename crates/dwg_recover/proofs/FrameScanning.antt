@@ -1,5 +1,7 @@
 -- Frames that are looked for: the span at a place, what its body is read as, and whether its frame is kept.
 use Rattle.std.proofs.Common.{◌≡◌, refl, sym, ◌∙◌, ap, ap₂, subst, ℕ, ◌-◌, ◌^◌, ◌<◌, Bool, true, false, ◌&&◌, List, [], ◌∷◌, ◌++◌, length, drop, Option, Some, None, arith, length-take}
+use Rattle.dwg_base.specs.declared.version.Version.{Version}
+use Rattle.dwg_base.specs.Versions.{version_at}
 use Rattle.std.specs.Prelude.{option_map, Ok, Err, if◌then◌else◌}
 use Rattle.std.specs.Option.{IsSome, is_some, option_and_then}
 use Rattle.std.specs.Result.{result_ok}
@@ -26,34 +28,35 @@ short_body bytes body span is same =
     omega (arith, ap length same, length-take (span.body_end - span.body) (drop span.body bytes), is.body_end, ms_below (length is.body) (ms_is_code.value is.size (length is.body) is.spelled))
 
 -- what is parsed of a head is one
-head_of_parsed : (letters : List Bool) (found : Option (HeadParts × List Bool)) → head.parse letters ≡ found
-    → is_some (option_map (λ (parts : HeadParts). parts.own) (option_map (λ (found : HeadParts × List Bool). found.0) found)) ≡ true → (parts : HeadParts) × HasHead letters parts
-head_of_parsed letters None same some = absurd cc
-head_of_parsed letters (Some (parts, rest)) same some = (parts, head_parsed letters rest parts same)
+head_of_parsed : (version : Version) (letters : List Bool) (found : Option (HeadParts × List Bool)) → (head version).parse letters ≡ found
+    → is_some (option_map (λ (parts : HeadParts). parts.own) (option_map (λ (found : HeadParts × List Bool). found.0) found)) ≡ true → (parts : HeadParts) × HasHead version letters parts
+head_of_parsed version letters None same some = absurd cc
+head_of_parsed version letters (Some (parts, rest)) same some = (parts, head_parsed letters rest parts same)
 
 -- where the own handle of a span is found, its body has a head
-head_of_own : (bytes : List ℕ) (span : Span) → IsSome (own_of_span bytes span) → (parts : HeadParts) × HasHead (bits (span_body bytes span)) parts
+head_of_own : (bytes : List ℕ) (span : Span) → IsSome (own_of_span bytes span) → (parts : HeadParts) × HasHead (version_at bytes) (bits (span_body bytes span)) parts
 unfolding own_of_span
 head_of_own bytes span some = by_test (has_check_word bytes span) some
   where
-    by_test : (checks : Bool) → is_some (if checks then option_map (λ (parts : HeadParts). parts.own) (head_at bytes span) else None) ≡ true
-        → (parts : HeadParts) × HasHead (bits (span_body bytes span)) parts
-    by_test true found = head_of_parsed (bits (span_body bytes span)) (head.parse (bits (span_body bytes span))) refl found
+    by_test : (checks : Bool) → is_some (if checks then option_map (λ (parts : HeadParts). parts.own) (head_at (version_at bytes) bytes span) else None) ≡ true
+        → (parts : HeadParts) × HasHead (version_at bytes) (bits (span_body bytes span)) parts
+    by_test true found = head_of_parsed (version_at bytes) (bits (span_body bytes span)) ((head (version_at bytes)).parse (bits (span_body bytes span))) refl found
     by_test false none = absurd cc
 
 -- what such a body is read as is what stands for it
-pub read_at : (classes : List Class) (bytes body : List ℕ) (span : Span) (value : ObjectValue) → body ≡ span_body bytes span → IsSome (own_of_span bytes span) → FormOf classes body value
-    → value ≡ form_at classes (span_body bytes span)
+pub read_at : (classes : List Class) (bytes body : List ℕ) (span : Span) (value : ObjectValue) → body ≡ span_body bytes span → IsSome (own_of_span bytes span) → FormOf (version_at bytes) classes body value
+    → value ≡ form_at (version_at bytes) classes (span_body bytes span)
 read_at classes bytes body span value same some form =
     let has = head_of_own bytes span some in
-    forms_same classes (span_body bytes span) value (form_at classes (span_body bytes span)) (subst (λ (b : List ℕ). FormOf classes b value) same form)
-    (form_is_at classes (span_body bytes span) has.0 has.1)
+    forms_same (version_at bytes) classes (span_body bytes span) value (form_at (version_at bytes) classes (span_body bytes span)) (subst (λ (b : List ℕ). FormOf (version_at bytes) classes b value) same form)
+    (form_is_at (version_at bytes) classes (span_body bytes span) has.0 has.1)
 
 -- and it is read as something
-pub is_read : (bytes body : List ℕ) (span : Span) → body ≡ span_body bytes span → IsSome (own_of_span bytes span) → ((number own : ℕ) → BeginsWithHead (bits body) number own → ⊥) → ⊥
-is_read bytes body span same some none =
+pub is_read : (version : Version) (bytes body : List ℕ) (span : Span) → body ≡ span_body bytes span → IsSome (own_of_span bytes span) → version ≡ version_at bytes
+    → ((number own : ℕ) → BeginsWithHead version (bits body) number own → ⊥) → ⊥
+is_read version bytes body span same some told none =
     let has = head_of_own bytes span some in
-    none has.0.number has.0.own (subst (λ (b : List ℕ). BeginsWithHead (bits b) has.0.number has.0.own) (sym same) (begins_head (bits (span_body bytes span)) has.0 has.1))
+    none has.0.number has.0.own (subst (λ (v : Version). BeginsWithHead v (bits body) has.0.number has.0.own) (sym told) (subst (λ (b : List ℕ). BeginsWithHead (version_at bytes) (bits b) has.0.number has.0.own) (sym same) (begins_head (bits (span_body bytes span)) has.0 has.1)))
 
 -- where a span is tried without a refusal, it is found
 pub span_there : (bytes : List ℕ) (place : ℕ) (span : Span) → Ok span ≡ tried_span place 0 bytes → span_found bytes place ≡ Some span
@@ -78,7 +81,7 @@ of_span classes bytes kept place span own found is =
 
 -- what three tests decide of a frame
 decided : (classes : List Class) (bytes : List ℕ) (kept : List Frame) (place : ℕ) (span : Span) (own : ℕ) (free new common : Bool) → is_free kept place span.end ≡ free → is_new kept own ≡ new
-    → has_common_part (form_at classes (span_body bytes span)) ≡ common
+    → has_common_part (form_at (version_at bytes) classes (span_body bytes span)) ≡ common
     → keep_free kept (scanned_of classes bytes place span own) ≡ (if common then (if free && new then kept ++ frame_of place span own ∷ [] else kept) else kept)
 decided classes bytes kept place span own free new true is_free is_new is_common =
     ap (λ (t : Bool). keep_free kept (if t then Some (frame_of place span own) else None)) is_common
@@ -95,7 +98,7 @@ unkept true true true more kept fails = absurd (fails refl refl refl)
 
 -- where no own handle is found, or a test of it fails, the frames stay
 stay : (classes : List Class) (bytes : List ℕ) (kept : List Frame) (place : ℕ) (span : Span) (own : Option ℕ)
-    → ((handle : ℕ) → own ≡ Some handle → is_free kept place span.end ≡ true → is_new kept handle ≡ true → has_common_part (form_at classes (span_body bytes span)) ≡ true → ⊥)
+    → ((handle : ℕ) → own ≡ Some handle → is_free kept place span.end ≡ true → is_new kept handle ≡ true → has_common_part (form_at (version_at bytes) classes (span_body bytes span)) ≡ true → ⊥)
     → keep_free kept (option_and_then (scanned_of classes bytes place span) own) ≡ kept
 stay classes bytes kept place span None fails = refl
 stay classes bytes kept place span (Some handle) fails =
@@ -128,14 +131,14 @@ not_new classes bytes kept place span own tried is old =
 
 -- where its body isn't read with its common part, they stay
 pub not_common : (classes : List Class) (bytes : List ℕ) (kept : List Frame) (place : ℕ) (span : Span) (own : ℕ) → Ok span ≡ tried_span place 0 bytes → own_of_span bytes span ≡ Some own
-    → has_common_part (form_at classes (span_body bytes span)) ≡ false → kept ≡ keep_free kept (scanned classes bytes place)
+    → has_common_part (form_at (version_at bytes) classes (span_body bytes span)) ≡ false → kept ≡ keep_free kept (scanned classes bytes place)
 not_common classes bytes kept place span own tried is raw =
     sym (of_span classes bytes kept place span (Some own) (span_there bytes place span tried) is
     ∙ stay classes bytes kept place span (Some own) (λ handle same free new common. both_ways _ raw common))
 
 -- where no test fails, the frame is kept
 pub is_kept : (classes : List Class) (bytes : List ℕ) (kept : List Frame) (place : ℕ) (span : Span) (own : ℕ) → Ok span ≡ tried_span place 0 bytes → own_of_span bytes span ≡ Some own
-    → is_free kept place span.end ≡ true → is_new kept own ≡ true → has_common_part (form_at classes (span_body bytes span)) ≡ true
+    → is_free kept place span.end ≡ true → is_new kept own ≡ true → has_common_part (form_at (version_at bytes) classes (span_body bytes span)) ≡ true
     → kept ++ record { pair = None; handle = own; from = place; end = span.end } ∷ [] ≡ keep_free kept (scanned classes bytes place)
 is_kept classes bytes kept place span own tried is free new common =
     sym (of_span classes bytes kept place span (Some own) (span_there bytes place span tried) is ∙ decided classes bytes kept place span own true true true free new common)

@@ -1,5 +1,6 @@
 -- Frames of the canonical file that hold in an input whose map is that file's: no two share a byte or a handle, so each of them is kept.
 use Rattle.std.proofs.Common.{◌≡◌, refl, sym, ◌∙◌, ap, subst, ℕ, ◌+◌, ◌<◌, ◌≤◌, List, [], ◌∷◌, ◌++◌, length, Option, Some, None, inl, inr, arith}
+use Rattle.dwg_base.specs.declared.version.Version.{Version}
 use Rattle.std.specs.Prelude.{◌⊎◌, ◌≢◌, ◌==◌, true}
 use Rattle.std.specs.List.{AllByRecursion, cons_option}
 use Rattle.std.proofs.lemmas.Bool.Decides.{nat_tests}
@@ -75,45 +76,45 @@ holds_candidate held bytes frames frame are some holds is =
     }
 
 -- frames of objects one behind the other begin at the first place or behind it
-named_behind : (objects : List ObjectValue) (number place : ℕ) (one : Frame) → IsOneOf one (named number (frames_from place objects)) → place ≤ one.from
-named_behind [] number place one is = absurd is
-named_behind (object ∷ objects) number place one (inl same) = omega (arith, ap (λ (frame : Frame). frame.from) same)
-named_behind (object ∷ objects) number place one (inr behind) = omega (arith, named_behind objects (number + 1) (place + length (frame_bytes object)) one behind)
+named_behind : (version : Version) (objects : List ObjectValue) (number place : ℕ) (one : Frame) → IsOneOf one (named number (frames_from version place objects)) → place ≤ one.from
+named_behind version [] number place one is = absurd is
+named_behind version (object ∷ objects) number place one (inl same) = omega (arith, ap (λ (frame : Frame). frame.from) same)
+named_behind version (object ∷ objects) number place one (inr behind) = omega (arith, named_behind version objects (number + 1) (place + length (frame_bytes version object)) one behind)
 
 -- and have handles above one that is below those of the objects
-named_above : (objects : List ObjectValue) (number place low : ℕ) (one : Frame) → AllByRecursion (λ (object : ObjectValue). low < handle_of object) objects
-    → IsOneOf one (named number (frames_from place objects)) → low < one.handle
-named_above [] number place low one above is = absurd is
-named_above (object ∷ objects) number place low one above (inl same) = omega (arith, above.0, ap (λ (frame : Frame). frame.handle) same)
-named_above (object ∷ objects) number place low one above (inr behind) = named_above objects (number + 1) (place + length (frame_bytes object)) low one above.1 behind
+named_above : (version : Version) (objects : List ObjectValue) (number place low : ℕ) (one : Frame) → AllByRecursion (λ (object : ObjectValue). low < handle_of object) objects
+    → IsOneOf one (named number (frames_from version place objects)) → low < one.handle
+named_above version [] number place low one above is = absurd is
+named_above version (object ∷ objects) number place low one above (inl same) = omega (arith, above.0, ap (λ (frame : Frame). frame.handle) same)
+named_above version (object ∷ objects) number place low one above (inr behind) = named_above version objects (number + 1) (place + length (frame_bytes version object)) low one above.1 behind
 
 -- so the first shares no byte and no handle with those behind it
-first_other : (object : ObjectValue) (objects : List ObjectValue) (number place : ℕ) (first one : Frame) → AreAscending (object ∷ objects)
-    → first ≡ frame_of number (record { handle = handle_of object; place = place }) (place + length (frame_bytes object))
-    → IsOneOf one (named (number + 1) (frames_from (place + length (frame_bytes object)) objects)) → (first.end ≤ one.from) × (first.handle < one.handle)
-first_other object objects number place first one ascending same behind = (
-  omega (arith, ap (λ (frame : Frame). frame.end) same, named_behind objects (number + 1) (place + length (frame_bytes object)) one behind),
+first_other : (version : Version) (object : ObjectValue) (objects : List ObjectValue) (number place : ℕ) (first one : Frame) → AreAscending (object ∷ objects)
+    → first ≡ frame_of number (record { handle = handle_of object; place = place }) (place + length (frame_bytes version object))
+    → IsOneOf one (named (number + 1) (frames_from version (place + length (frame_bytes version object)) objects)) → (first.end ≤ one.from) × (first.handle < one.handle)
+first_other version object objects number place first one ascending same behind = (
+  omega (arith, ap (λ (frame : Frame). frame.end) same, named_behind version objects (number + 1) (place + length (frame_bytes version object)) one behind),
   omega (
     arith,
     ap (λ (frame : Frame). frame.handle) same,
-    named_above objects (number + 1) (place + length (frame_bytes object)) (handle_of object) one
+    named_above version objects (number + 1) (place + length (frame_bytes version object)) (handle_of object) one
         (pairs_head (λ one other. handle_of one < handle_of other) object objects ascending) behind,
   ),
 )
 
 -- two frames of ascending objects that stand one behind the other are one, or share no byte and no handle
-named_other : (objects : List ObjectValue) (number place : ℕ) (one other : Frame) → AreAscending objects → IsOneOf one (named number (frames_from place objects))
-    → IsOneOf other (named number (frames_from place objects)) → (one ≡ other) ⊎ AreOther one other
-named_other [] number place one other ascending is was = absurd is
-named_other (object ∷ objects) number place one other ascending (inl same) (inl also) = inl (same ∙ sym also)
-named_other (object ∷ objects) number place one other ascending (inl same) (inr behind) =
-    let before = first_other object objects number place one other ascending same behind in
+named_other : (version : Version) (objects : List ObjectValue) (number place : ℕ) (one other : Frame) → AreAscending objects → IsOneOf one (named number (frames_from version place objects))
+    → IsOneOf other (named number (frames_from version place objects)) → (one ≡ other) ⊎ AreOther one other
+named_other version [] number place one other ascending is was = absurd is
+named_other version (object ∷ objects) number place one other ascending (inl same) (inl also) = inl (same ∙ sym also)
+named_other version (object ∷ objects) number place one other ascending (inl same) (inr behind) =
+    let before = first_other version object objects number place one other ascending same behind in
     inr (record { apart = inl before.0; handles = λ both. absurd (omega (arith, before.1, both)) })
-named_other (object ∷ objects) number place one other ascending (inr behind) (inl same) =
-    let before = first_other object objects number place other one ascending same behind in
+named_other version (object ∷ objects) number place one other ascending (inr behind) (inl same) =
+    let before = first_other version object objects number place other one ascending same behind in
     inr (record { apart = inr before.0; handles = λ both. absurd (omega (arith, before.1, both)) })
-named_other (object ∷ objects) number place one other ascending (inr behind) (inr also) =
-    named_other objects (number + 1) (place + length (frame_bytes object)) one other (pairs_tail (λ one other. handle_of one < handle_of other) object objects ascending) behind also
+named_other version (object ∷ objects) number place one other ascending (inr behind) (inr also) =
+    named_other version objects (number + 1) (place + length (frame_bytes version object)) one other (pairs_tail (λ one other. handle_of one < handle_of other) object objects ascending) behind also
 
 -- what begins in the input is one of its frames in order of place
 pub one_ordered : (most : ℕ) (frames : List Frame) (frame : Frame) → frame.from < most → IsOneOf frame frames → IsOneOf frame (in_place_order most frames)
@@ -139,10 +140,10 @@ front_begins (first ∷ before) frame behind other up (inl same) =
 front_begins (first ∷ before) frame behind other up (inr later) = front_begins before frame behind other up.1 later
 
 -- candidates that are frames of ascending objects, one behind the other, are all kept
-all_are_kept : (bytes : List ℕ) (pairs : List Pair) (objects : List ObjectValue) (place : ℕ) → AreAscending objects
-    → ((one : Frame) → IsOneOf one (candidates bytes 0 pairs) → IsOneOf one (named 0 (frames_from place objects)))
+all_are_kept : (bytes : List ℕ) (pairs : List Pair) (version : Version) (objects : List ObjectValue) (place : ℕ) → AreAscending objects
+    → ((one : Frame) → IsOneOf one (candidates bytes 0 pairs) → IsOneOf one (named 0 (frames_from version place objects)))
     → (frame : Frame) → IsOneOf frame (candidates bytes 0 pairs) → IsOneOf frame (mapped_frames bytes pairs)
-all_are_kept bytes pairs objects place ascending among frame is =
+all_are_kept bytes pairs version objects place ascending among frame is =
     (map_keeps_exactly bytes pairs split.before frame split.behind split.whole).1 (λ other earlier kept. follows other earlier)
   where
     placed : (frame.from < frame.end) × (frame.end ≤ length bytes)
@@ -155,7 +156,7 @@ all_are_kept bytes pairs objects place ascending among frame is =
     follows : (other : Frame) → IsOneOf other split.before → (other.end ≤ frame.from) × (other.handle ≢ frame.handle)
     follows other earlier =
         of_case
-        (named_other objects 0 place other frame ascending
+        (named_other version objects 0 place other frame ascending
         (among other (ordered_is_one (length bytes) (candidates bytes 0 pairs) other (subst (IsOneOf other) (sym split.whole) (in_first other split.before (frame ∷ split.behind) earlier))))
         (among frame is))
       where
@@ -171,13 +172,13 @@ all_are_kept bytes pairs objects place ascending among frame is =
             of_sides (inr begins) = absurd (omega (arith, begins, no_later, placed.0))
 
 -- so the frame of a pair that holds is kept for the number of that pair
-pub numbered_is_kept : CandidatesHold → (bytes : List ℕ) (objects : List ObjectValue) (place number : ℕ) (frame : PairFrame) → AreBytes bytes → AreAscending objects
-    → AllByRecursion (λ (one : PairFrame). 0 < one.pair.handle) (frames_from place objects) → AllByRecursion (HoldsOrNone bytes) (frames_from place objects)
-    → IsAt number frame.pair (pairs_framed (frames_from place objects)) → 0 < frame.pair.handle → FrameHolds bytes frame.pair.place frame.pair.handle frame.end
-    → IsOneOf (frame_of number frame.pair frame.end) (mapped_frames bytes (pairs_framed (frames_from place objects)))
-numbered_is_kept held bytes objects place number frame are ascending some each at positive holds =
-    let frames : List PairFrame = frames_from place objects in
-    all_are_kept bytes (pairs_framed frames) objects place ascending (candidates_named held bytes frames 0 are some each) (frame_of number frame.pair frame.end)
+pub numbered_is_kept : CandidatesHold → (bytes : List ℕ) (version : Version) (objects : List ObjectValue) (place number : ℕ) (frame : PairFrame) → AreBytes bytes → AreAscending objects
+    → AllByRecursion (λ (one : PairFrame). 0 < one.pair.handle) (frames_from version place objects) → AllByRecursion (HoldsOrNone bytes) (frames_from version place objects)
+    → IsAt number frame.pair (pairs_framed (frames_from version place objects)) → 0 < frame.pair.handle → FrameHolds bytes frame.pair.place frame.pair.handle frame.end
+    → IsOneOf (frame_of number frame.pair frame.end) (mapped_frames bytes (pairs_framed (frames_from version place objects)))
+numbered_is_kept held bytes version objects place number frame are ascending some each at positive holds =
+    let frames : List PairFrame = frames_from version place objects in
+    all_are_kept bytes (pairs_framed frames) version objects place ascending (candidates_named held bytes frames 0 are some each) (frame_of number frame.pair frame.end)
     ((candidates_are_of_pairs bytes (pairs_framed frames) (frame_of number frame.pair frame.end)).1 (number, frame.pair, at, (held bytes number frame.pair frame.end are).0 (positive, holds)))
 
 -- the frame of a pair is kept, under the number of its pair
@@ -187,14 +188,14 @@ pub record IsKeptFrame (bytes : List ℕ) (pairs : List Pair) (frame : PairFrame
   pub kept : IsOneOf (frame_of at frame.pair frame.end) (mapped_frames bytes pairs)
 
 -- a frame that holds is kept where each other one holds, or none does at its place
-pub intact_is_kept : CandidatesHold → (bytes : List ℕ) (objects : List ObjectValue) (place : ℕ) (frame : PairFrame) → AreBytes bytes → AreAscending objects
-    → AllByRecursion (λ (one : PairFrame). 0 < one.pair.handle) (frames_from place objects) → AllByRecursion (HoldsOrNone bytes) (frames_from place objects)
-    → IsOneOf frame (frames_from place objects) → FrameHolds bytes frame.pair.place frame.pair.handle frame.end → IsKeptFrame bytes (pairs_framed (frames_from place objects)) frame
-intact_is_kept held bytes objects place frame are ascending some each is holds =
-    let frames : List PairFrame = frames_from place objects in
+pub intact_is_kept : CandidatesHold → (bytes : List ℕ) (version : Version) (objects : List ObjectValue) (place : ℕ) (frame : PairFrame) → AreBytes bytes → AreAscending objects
+    → AllByRecursion (λ (one : PairFrame). 0 < one.pair.handle) (frames_from version place objects) → AllByRecursion (HoldsOrNone bytes) (frames_from version place objects)
+    → IsOneOf frame (frames_from version place objects) → FrameHolds bytes frame.pair.place frame.pair.handle frame.end → IsKeptFrame bytes (pairs_framed (frames_from version place objects)) frame
+intact_is_kept held bytes version objects place frame are ascending some each is holds =
+    let frames : List PairFrame = frames_from version place objects in
     let one = holds_candidate held bytes frames frame are (one_of_all (λ (one : PairFrame). 0 < one.pair.handle) frames frame some is) holds is in
     record {
       at = one.at;
       candidate = one.is;
-      kept = all_are_kept bytes (pairs_framed frames) objects place ascending (candidates_named held bytes frames 0 are some each) (frame_of one.at frame.pair frame.end) one.is;
+      kept = all_are_kept bytes (pairs_framed frames) version objects place ascending (candidates_named held bytes frames 0 are some each) (frame_of one.at frame.pair frame.end) one.is;
     }

@@ -1,5 +1,6 @@
 -- The intact objects of a damaged canonical file are recovered.
 use Rattle.std.proofs.Common.{◌≡◌, refl, sym, ◌∙◌, ap, ap₂, subst, ℕ, ◌≤◌, List, [], length, map, Option, Some, None, inl, inr, arith}
+use Rattle.dwg_base.specs.declared.version.Version.{Version}
 use Rattle.std.specs.Prelude.{◌⊎◌, if◌then◌else◌}
 use Rattle.std.specs.List.{AllByRecursion}
 use Rattle.std.specs.Option.{is_none}
@@ -47,7 +48,7 @@ use Rattle.dwg_recover.proofs.FoundFrames.{candidates_hold}
 use Rattle.dwg_recover.specs.Intact.{IntactObjectsAreKept, IsPartlyIntact, kept_frame, pairs_framed}
 use Rattle.dwg_recover.proofs.IntactFrames.{HoldsOrNone, IsKeptFrame, intact_is_kept, one_ordered}
 use Rattle.dwg_recover.proofs.IntactMap.{map_is_read}
-use Rattle.dwg_recover.proofs.IntactParts.{IntactParts, body_is_found, classes_are_found, classes_are_intact, frame_is_intact, intact_holds, parts_are_intact, written_positive}
+use Rattle.dwg_recover.proofs.IntactParts.{IntactParts, body_is_found, classes_are_found, classes_are_intact, frame_is_intact, intact_holds, intact_version, parts_are_intact, written_positive}
 use Rattle.dwg_recover.specs.ListMembers.{IsOneOf}
 use Rattle.dwg_recover.proofs.ListMembers.{all_of_each, mapped_from, one_mapped, one_of_all, one_permuted}
 use Rattle.dwg_recover.proofs.FoundParts.{header_is_found}
@@ -60,8 +61,8 @@ use Rattle.dwg_recover.proofs.WholeLemmas.{candidates_are_found}
 record IsIntact (drawing : Contents) (bytes : List ℕ) (frame : PairFrame) : Type 0 where
   parts : IntactParts drawing bytes
   header : header_of bytes ≡ Some (canonical_header drawing)
-  written : IsWritten drawing.classes (canonical drawing) frame
-  framed : FrameAt bytes frame.pair.place (body_bytes frame.object) frame.end
+  written : IsWritten drawing.version drawing.classes (canonical drawing) frame
+  framed : FrameAt bytes frame.pair.place (body_bytes drawing.version frame.object) frame.end
   kept : IsKeptFrame bytes (pairs_framed (canonical_frames drawing)) frame
 
 -- each frame of the canonical file holds, or none does at its place
@@ -71,7 +72,7 @@ each_holds_or_none drawing bytes is small intact = all_of_each (HoldsOrNone byte
     of_case : (frame : PairFrame) → IsOneOf frame (canonical_frames drawing)
         → HasPart drawing bytes frame.pair.place frame.end ⊎ ((end : ℕ) → FrameHolds bytes frame.pair.place frame.pair.handle end → ⊥) → HoldsOrNone bytes frame
     of_case frame one (inl same) =
-        inl (intact_holds drawing bytes frame intact (one_of_all (IsWritten drawing.classes (canonical drawing)) (canonical_frames drawing) frame (canonical_written drawing is small) one) same)
+        inl (intact_holds drawing bytes frame (intact_version drawing bytes (parts_are_intact drawing bytes is small intact)) intact (one_of_all (IsWritten drawing.version drawing.classes (canonical drawing)) (canonical_frames drawing) frame (canonical_written drawing is small) one) same)
     of_case frame one (inr never) = inr never
 
 -- so a frame that the input has is kept
@@ -79,7 +80,7 @@ frame_is_kept : SectionLaws → (drawing : Contents) (bytes : List ℕ) (frame :
     → IsOneOf frame (canonical_frames drawing) → HasPart drawing bytes frame.pair.place frame.end → IsIntact drawing bytes frame
 frame_is_kept laws drawing bytes frame is small are intact one same =
     let all = canonical_written drawing is small in
-    let written = one_of_all (IsWritten drawing.classes (canonical drawing)) (canonical_frames drawing) frame all one in
+    let written = one_of_all (IsWritten drawing.version drawing.classes (canonical drawing)) (canonical_frames drawing) frame all one in
     let parts = parts_are_intact drawing bytes is small intact in
     record {
       parts = parts;
@@ -87,9 +88,9 @@ frame_is_kept laws drawing bytes frame is small are intact one same =
       written = written;
       framed = frame_is_intact drawing bytes frame intact written same;
       kept =
-          intact_is_kept (candidates_hold held_frame) bytes drawing.objects (objects_place drawing) frame are is.ascending
-          (written_positive drawing.classes (canonical drawing) (canonical_frames drawing) all) (each_holds_or_none drawing bytes is small intact) one
-          (intact_holds drawing bytes frame intact written same);
+          intact_is_kept (candidates_hold held_frame) bytes drawing.version drawing.objects (objects_place drawing) frame are is.ascending
+          (written_positive drawing.version drawing.classes (canonical drawing) (canonical_frames drawing) all) (each_holds_or_none drawing bytes is small intact) one
+          (intact_holds drawing bytes frame (intact_version drawing bytes parts) intact written same);
     }
 
 -- a candidate that is among frames is told with them
@@ -102,11 +103,11 @@ told_one bytes pairs frames number frame candidate one =
     one_mapped kept_of is _ (one_ordered (length bytes) frames is (omega (arith, placed.some, placed.within)) one)
 
 -- the object that the body of a valid one is read as is that one
-read_again : (classes : List Class) (object : ObjectValue) → IsValidObject classes object → form_at classes (body_bytes object) ≡ object
-read_again classes object valid =
-    let form = valid_is_form classes object valid in
-    let head = head_of_form classes (body_bytes object) object form in
-    forms_same classes (body_bytes object) _ _ (form_is_at classes (body_bytes object) head.0 head.1) form
+read_again : (version : Version) (classes : List Class) (object : ObjectValue) → IsValidObject version classes object → form_at version classes (body_bytes version object) ≡ object
+read_again version classes object valid =
+    let form = valid_is_form version classes object valid in
+    let head = head_of_form version classes (body_bytes version object) object form in
+    forms_same version classes (body_bytes version object) _ _ (form_is_at version classes (body_bytes version object) head.0 head.1) form
 
 -- of a damaged input the frame is kept, and its object recovered where the classes are those of the drawing
 record IsRecovered (drawing : Contents) (frame : PairFrame) (value : RecoveredValue) (Classes : Type 0) : Type 0 where
@@ -135,7 +136,9 @@ damaged_recovers drawing bytes frame are intact = record { kept = told_one bytes
     object : classes_found bytes ≡ drawing.classes → IsOneOf frame.object (drawing_recovered bytes).objects
     object found =
         let same : object_of (classes_found bytes) bytes is ≡ frame.object =
-        ap₂ form_at found (body_is_found bytes frame.pair.place (body_bytes frame.object) frame.end are intact.framed) ∙ read_again drawing.classes frame.object intact.written.valid in
+        ap (λ (v : Version). form_at v (classes_found bytes) (frame_body bytes is.from)) (sym (intact_version drawing bytes intact.parts))
+        ∙ ap₂ (form_at drawing.version) found (body_is_found bytes frame.pair.place (body_bytes drawing.version frame.object) frame.end are intact.framed)
+        ∙ read_again drawing.version drawing.classes frame.object intact.written.valid in
         one_permuted frame.object (map (object_of (classes_found bytes) bytes) (frames_kept bytes)) (sorted (map (object_of (classes_found bytes) bytes) (frames_kept bytes)))
         (sorted_same (map (object_of (classes_found bytes) bytes) (frames_kept bytes)))
         (subst (λ (one : ObjectValue). IsOneOf one (map (object_of (classes_found bytes) bytes) (frames_kept bytes))) same (one_mapped (object_of (classes_found bytes) bytes) is (frames_kept bytes) among))
@@ -211,21 +214,22 @@ whole_recovers laws drawing bytes frame is are none one intact = record {
         its : IsSpelledFrame bytes (drawing_at bytes) frame.pair
         its = spelled_frame bytes (drawing_at bytes) spelled frame.pair (subst (IsOneOf frame.pair) all (one_mapped (λ (frame : PairFrame). frame.pair) frame (canonical_frames drawing) one))
 
-        body : its.frame.body ≡ body_bytes frame.object
+        body : its.frame.body ≡ body_bytes drawing.version frame.object
         body =
             sym (body_is_found bytes its.frame.pair.place its.frame.body its.frame.end are its.is.stands)
             ∙ ap (λ (pair : Pair). frame_body bytes pair.place) (sym its.of_pair)
-            ∙ body_is_found bytes frame.pair.place (body_bytes frame.object) frame.end are intact.framed
+            ∙ body_is_found bytes frame.pair.place (body_bytes drawing.version frame.object) frame.end are intact.framed
 
         classes : (drawing_at bytes).classes ≡ drawing.classes
         classes = spelled_classes laws drawing (drawing_at bytes) bytes is spelled intact.parts section
 
         same : its.frame.object ≡ frame.object
         same =
-            forms_same drawing.classes (body_bytes frame.object) its.frame.object frame.object
-            (subst (λ (classes : List Class). FormOf classes (body_bytes frame.object) its.frame.object) classes
-            (subst (λ (body : List ℕ). FormOf (drawing_at bytes).classes body its.frame.object) body its.is.form))
-            (valid_is_form drawing.classes frame.object intact.written.valid)
+            forms_same drawing.version drawing.classes (body_bytes drawing.version frame.object) its.frame.object frame.object
+            (subst (λ (classes : List Class). FormOf drawing.version classes (body_bytes drawing.version frame.object) its.frame.object) classes
+            (subst (λ (body : List ℕ). FormOf drawing.version (drawing_at bytes).classes body its.frame.object) body
+            (subst (λ (v : Version). FormOf v (drawing_at bytes).classes its.frame.body its.frame.object) (sym (intact_version drawing bytes intact.parts)) its.is.form)))
+            (valid_is_form drawing.version drawing.classes frame.object intact.written.valid)
 
 -- so the intact objects are recovered
 pub intact_objects_are_kept : SectionLaws → IntactObjectsAreKept

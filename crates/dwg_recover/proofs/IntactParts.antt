@@ -1,5 +1,7 @@
 -- The parts of a canonical file that an input has stand in it at their places: the header, the map, the classes and each frame.
 use Rattle.std.proofs.Common.{◌≡◌, refl, sym, ◌∙◌, ap, subst, ℕ, ◌+◌, ◌-◌, ◌<◌, ◌≤◌, Bool, true, List, [], ◌∷◌, ◌++◌, length, take, drop, Option, Some, None, arith}
+use Rattle.dwg_base.specs.Versions.{version_at}
+use Rattle.dwg_base.specs.declared.version.Version.{Version}
 use Rattle.std.specs.Prelude.{if◌then◌else◌, Ok}
 use Rattle.std.specs.List.{AllByRecursion}
 use Rattle.std.specs.Option.{option_and_then, option_or}
@@ -15,7 +17,7 @@ use Rattle.dwg_file.specs.CanonicalFrames.{canonical_frames}
 use Rattle.dwg_file.specs.Canonical.{canonical, class_content, classes_place, header_of as canonical_header, map_of, map_place, objects_place, others_place, placed, preview_place, size_of, variables_place}
 use Rattle.dwg_file.proofs.CanonicalFrames.{frames_stand, objects_of_frames, pairs_of_frames as placed_pairs}
 use Rattle.dwg_file.proofs.CanonicalHeader.{header_fits}
-use Rattle.dwg_file.proofs.CanonicalLaws.{canonical_ascends, header_reaches, parts_stand}
+use Rattle.dwg_file.proofs.CanonicalLaws.{canonical_ascends, canonical_begins, canonical_version, header_reaches, parts_stand}
 use Rattle.dwg_file.specs.CanonicalBytes.{HasPart}
 use Rattle.dwg_file.proofs.CanonicalParts.{length_of_framed}
 use Rattle.dwg_file.specs.Contents.{Contents}
@@ -42,6 +44,7 @@ use Rattle.dwg_sections.specs.declared.framed.Framed.TheVariants as framed
 use Rattle.dwg_sections.specs.declared.header.FileHeader.{FileHeader}
 use Rattle.dwg_sections.specs.FileHeader.{BeginsWithHeader, header_bytes}
 use Rattle.dwg_sections.specs.Framed.{FramedAt, framed_bytes}
+use Rattle.dwg_sections.proofs.HeaderComplete.{header_tells_version}
 use Rattle.dwg_sections.specs.HeaderLines.{place_of}
 use Rattle.dwg_recover.specs.Frames.{span_found}
 use Rattle.dwg_recover.specs.Intact.{CanonicalPartsStand, IsPartlyIntact, pairs_framed}
@@ -64,15 +67,15 @@ canonical_parts_stand drawing is small =
     let fits = header_fits drawing is small in
     let stand = parts_stand drawing fits in
     record {
-      begins = record { in_range = fits; stands = stand.begins };
+      begins = canonical_begins drawing fits;
       reaches = header_reaches drawing fits;
       pages = stand.mapped;
       classes = record { size = omega arith; stands = stand.classes };
       mapped =
-          subst (MapOf (canonical drawing) (map_place drawing)) (placed_pairs drawing.objects (objects_place drawing))
-          (map_is_written (map_place drawing) (canonical drawing) (placed (objects_place drawing) drawing.objects) (canonical_ascends drawing is) stand.mapped);
-      objects = objects_of_frames drawing.objects (objects_place drawing);
-      stand = frames_stand drawing.classes (canonical drawing) drawing.objects (objects_place drawing) is.objects stand.frames;
+          subst (MapOf (canonical drawing) (map_place drawing)) (placed_pairs drawing.version drawing.objects (objects_place drawing))
+          (map_is_written (map_place drawing) (canonical drawing) (placed drawing.version (objects_place drawing) drawing.objects) (canonical_ascends drawing is) stand.mapped);
+      objects = objects_of_frames drawing.version drawing.objects (objects_place drawing);
+      stand = frames_stand drawing.version drawing.classes (canonical drawing) drawing.objects (objects_place drawing) (canonical_version drawing fits) is.objects stand.frames;
     }
 
 -- the header and the map of an input that is partly intact
@@ -94,9 +97,13 @@ parts_are_intact drawing bytes is small intact =
     record {
       begins = record { in_range = fits; stands = (front.behind, drop_stands bytes 0 header front) };
       mapped =
-          subst (MapOf bytes (map_place drawing)) (placed_pairs drawing.objects (objects_place drawing))
-          (map_is_written (map_place drawing) bytes (placed (objects_place drawing) drawing.objects) (canonical_ascends drawing is) pages);
+          subst (MapOf bytes (map_place drawing)) (placed_pairs drawing.version drawing.objects (objects_place drawing))
+          (map_is_written (map_place drawing) bytes (placed drawing.version (objects_place drawing) drawing.objects) (canonical_ascends drawing is) pages);
     }
+
+-- so it is read by the version of the drawing
+pub intact_version : (drawing : Contents) (bytes : List ℕ) → IntactParts drawing bytes → drawing.version ≡ version_at bytes
+intact_version drawing bytes parts = header_tells_version bytes (canonical_header drawing) parts.begins
 
 -- the classes of an input that has that part
 pub classes_are_intact : (drawing : Contents) (bytes : List ℕ) → IsValid drawing → size_of drawing ≤ MOST_BYTES → IsPartlyIntact drawing bytes
@@ -117,35 +124,35 @@ variables_are_intact drawing bytes is small intact same =
     record { size = omega arith; stands = stands_also bytes (canonical drawing) section (variables_place drawing) (classes_place drawing) intact.long stand.variables reaches same }
 
 -- the pairs of written frames have positive handles
-pub written_positive : (classes : List Class) (bytes : List ℕ) (frames : List PairFrame) → AllByRecursion (IsWritten classes bytes) frames
+pub written_positive : (version : Version) (classes : List Class) (bytes : List ℕ) (frames : List PairFrame) → AllByRecursion (IsWritten version classes bytes) frames
     → AllByRecursion (λ (frame : PairFrame). 0 < frame.pair.handle) frames
-written_positive classes bytes [] are = tt
-written_positive classes bytes (frame ∷ frames) are =
-    (omega (arith, are.0.own, (valid_handle classes frame.object are.0.valid).0), written_positive classes bytes frames are.1)
+written_positive version classes bytes [] are = tt
+written_positive version classes bytes (frame ∷ frames) are =
+    (omega (arith, are.0.own, (valid_handle version classes frame.object are.0.valid).0), written_positive version classes bytes frames are.1)
 
 -- a frame that an input has stands there with the body that is written
-pub frame_is_intact : (drawing : Contents) (bytes : List ℕ) (frame : PairFrame) → IsPartlyIntact drawing bytes → IsWritten drawing.classes (canonical drawing) frame
-    → HasPart drawing bytes frame.pair.place frame.end → FrameAt bytes frame.pair.place (body_bytes frame.object) frame.end
+pub frame_is_intact : (drawing : Contents) (bytes : List ℕ) (frame : PairFrame) → IsPartlyIntact drawing bytes → IsWritten drawing.version drawing.classes (canonical drawing) frame
+    → HasPart drawing bytes frame.pair.place frame.end → FrameAt bytes frame.pair.place (body_bytes drawing.version frame.object) frame.end
 frame_is_intact drawing bytes frame intact written same =
-    let stands : StandsAt bytes frame.pair.place (frame_bytes frame.object) =
-    stands_also bytes (canonical drawing) (frame_bytes frame.object) frame.pair.place frame.end intact.long written.stands written.ends same in
-    subst (FrameAt bytes frame.pair.place (body_bytes frame.object)) (sym written.ends)
-    (written_frame bytes frame.pair.place frame.object (valid_fits drawing.classes frame.object written.valid).2 stands)
+    let stands : StandsAt bytes frame.pair.place (frame_bytes drawing.version frame.object) =
+    stands_also bytes (canonical drawing) (frame_bytes drawing.version frame.object) frame.pair.place frame.end intact.long written.stands written.ends same in
+    subst (FrameAt bytes frame.pair.place (body_bytes drawing.version frame.object)) (sym written.ends)
+    (written_frame drawing.version bytes frame.pair.place frame.object (valid_fits drawing.version drawing.classes frame.object written.valid).2 stands)
 
 -- a frame whose body is read as an object holds with the handle of that object
-pub form_holds : (classes : List Class) (bytes : List ℕ) (place : ℕ) (body : List ℕ) (end : ℕ) (object : ObjectValue) → FrameAt bytes place body end → FormOf classes body object
+pub form_holds : (classes : List Class) (bytes : List ℕ) (place : ℕ) (body : List ℕ) (end : ℕ) (object : ObjectValue) → FrameAt bytes place body end → FormOf (version_at bytes) classes body object
     → FrameHolds bytes place (handle_of object) end
 form_holds classes bytes place body end object frame form =
-    let head = head_of_form classes body object form in
-    (body, head.0.number, frame, subst (BeginsWithHead (bits body) head.0.number) (sym head.3) (begins_head (bits body) head.0 head.1))
+    let head = head_of_form (version_at bytes) classes body object form in
+    (body, head.0.number, frame, subst (BeginsWithHead (version_at bytes) (bits body) head.0.number) (sym head.3) (begins_head (bits body) head.0 head.1))
 
 -- so a frame that an input has holds there
-pub intact_holds : (drawing : Contents) (bytes : List ℕ) (frame : PairFrame) → IsPartlyIntact drawing bytes → IsWritten drawing.classes (canonical drawing) frame
+pub intact_holds : (drawing : Contents) (bytes : List ℕ) (frame : PairFrame) → drawing.version ≡ version_at bytes → IsPartlyIntact drawing bytes → IsWritten drawing.version drawing.classes (canonical drawing) frame
     → HasPart drawing bytes frame.pair.place frame.end → FrameHolds bytes frame.pair.place frame.pair.handle frame.end
-intact_holds drawing bytes frame intact written same =
+intact_holds drawing bytes frame by intact written same =
     subst (λ own. FrameHolds bytes frame.pair.place own frame.end) (sym written.own)
-    (form_holds drawing.classes bytes frame.pair.place (body_bytes frame.object) frame.end frame.object (frame_is_intact drawing bytes frame intact written same)
-    (valid_is_form drawing.classes frame.object written.valid))
+    (form_holds drawing.classes bytes frame.pair.place (body_bytes drawing.version frame.object) frame.end frame.object (frame_is_intact drawing bytes frame intact written same)
+    (subst (λ (v : Version). FormOf v drawing.classes (body_bytes drawing.version frame.object) frame.object) by (valid_is_form drawing.version drawing.classes frame.object written.valid)))
 
 -- what stands at a place as the body of a frame is found there as one
 pub body_is_found : (bytes : List ℕ) (place : ℕ) (body : List ℕ) (end : ℕ) → AreBytes bytes → FrameAt bytes place body end → frame_body bytes place ≡ body

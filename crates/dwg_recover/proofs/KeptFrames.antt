@@ -1,5 +1,6 @@
 -- What holds of the frames that are kept: each was found in the input, no two share a byte or have one handle, and there are few.
 use Rattle.std.proofs.Common.{◌≡◌, refl, ◌∙◌, ap, subst, ℕ, zero, suc, ◌+◌, ◌≤◌, Bool, true, false, List, [], ◌∷◌, ◌++◌, length, length-append, Option, Some, None, inl, inr, arith}
+use Rattle.dwg_base.specs.Versions.{version_at}
 use Rattle.std.specs.Prelude.{◌≢◌, ◌⊎◌, ◌&&◌, ◌||◌, ◌==◌, not, fold, nat_le, nat_lt, AllPairs, if◌then◌else◌}
 use Rattle.std.specs.List.{AllByRecursion, list_any, range_with_len}
 use Rattle.std.specs.Option.{option_and_then}
@@ -153,7 +154,7 @@ scanned_found classes bytes place frame is = of_span (span_found bytes place) re
 
     of_own : (span : Span) → span_found bytes place ≡ Some span → (own : Option ℕ) → own_of_span bytes span ≡ own → option_and_then (scanned_of classes bytes place span) own ≡ Some frame → IsFound bytes frame
     of_own span stands None owns is = absurd cc
-    of_own span stands (Some own) owns is = of_test span own stands owns (has_common_part (form_at classes (span_body bytes span))) is
+    of_own span stands (Some own) owns is = of_test span own stands owns (has_common_part (form_at (version_at bytes) classes (span_body bytes span))) is
 
     of_span : (span : Option Span) → span_found bytes place ≡ span
         → option_and_then (λ (span : Span). option_and_then (scanned_of classes bytes place span) (own_of_span bytes span)) span ≡ Some frame → IsFound bytes frame

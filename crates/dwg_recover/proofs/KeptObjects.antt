@@ -1,5 +1,7 @@
 -- The objects of frames that are kept: each is read of the body of its frame, and has its handle.
 use Rattle.std.proofs.Common.{◌≡◌, refl, sym, ◌∙◌, ap, subst, ℕ, ◌-◌, ◌<◌, ◌≤◌, Bool, true, false, List, [], ◌∷◌, length, map, Option, Some, None, arith}
+use Rattle.dwg_base.specs.Versions.{version_at}
+use Rattle.dwg_base.specs.declared.version.Version.{Version}
 use Rattle.std.specs.Prelude.{◌≢◌, option_map, slice_index, AllPairs, if◌then◌else◌}
 use Rattle.std.specs.List.{AllByRecursion}
 use Rattle.std.specs.List.Sorted.{IsPermutation}
@@ -31,29 +33,30 @@ use Rattle.dwg_recover.specs.Placing.{IsFound}
 use Rattle.dwg_recover.specs.Recovering.{body_tried, frame_body, object_of, objects_of}
 
 -- the head of a body, whose own handle is a number
-record HasOwn (body : List ℕ) (own : ℕ) : Type 0 where
+record HasOwn (version : Version) (body : List ℕ) (own : ℕ) : Type 0 where
   parts : HeadParts
-  has : HasHead (bits body) parts
+  has : HasHead version (bits body) parts
   same : parts.own ≡ own
 
 -- a span whose own handle is found has a head with it
-own_of_head : (bytes : List ℕ) (span : Span) (own : ℕ) → own_of_span bytes span ≡ Some own → HasOwn (span_body bytes span) own
+own_of_head : (bytes : List ℕ) (span : Span) (own : ℕ) → own_of_span bytes span ≡ Some own → HasOwn (version_at bytes) (span_body bytes span) own
 unfolding own_of_span
 own_of_head bytes span own is = of_test (has_check_word bytes span) is
   where
-    of_head : (told : Option HeadParts) → TellsHead (bits (span_body bytes span)) told → option_map (λ (parts : HeadParts). parts.own) told ≡ Some own → HasOwn (span_body bytes span) own
+    of_head : (told : Option HeadParts) → TellsHead (version_at bytes) (bits (span_body bytes span)) told → option_map (λ (parts : HeadParts). parts.own) told ≡ Some own → HasOwn (version_at bytes) (span_body bytes span) own
     of_head None tells same = absurd cc
     of_head (Some parts) tells same = record { parts = parts; has = tells; same = same_Some _ _ same }
 
-    of_test : (right : Bool) → (if right then option_map (λ (parts : HeadParts). parts.own) (head_at bytes span) else None) ≡ Some own → HasOwn (span_body bytes span) own
-    of_test true same = of_head (head_at bytes span) (head_told (bits (span_body bytes span))) same
+    of_test : (right : Bool) → (if right then option_map (λ (parts : HeadParts). parts.own) (head_at (version_at bytes) bytes span) else None) ≡ Some own → HasOwn (version_at bytes) (span_body bytes span) own
+    of_test true same = of_head (head_at (version_at bytes) bytes span) (head_told (version_at bytes) (bits (span_body bytes span))) same
     of_test false same = absurd cc
 
 -- a body with a head is read so
-read_of_head : (classes : List Class) (body : List ℕ) (own : ℕ) → HasOwn body own → FormOf classes body (form_at classes body) × (handle_of (form_at classes body) ≡ own) × (0 < own)
-read_of_head classes body own head =
-    let form = form_is_at classes body head.parts head.has in
-    let told = head_of_form classes body (form_at classes body) form in
+read_of_head : (version : Version) (classes : List Class) (body : List ℕ) (own : ℕ) → HasOwn version body own
+    → FormOf version classes body (form_at version classes body) × (handle_of (form_at version classes body) ≡ own) × (0 < own)
+read_of_head version classes body own head =
+    let form = form_is_at version classes body head.parts head.has in
+    let told = head_of_form version classes body (form_at version classes body) form in
     let same : told.0 ≡ head.parts = heads_same (bits body) told.0 head.parts told.1 head.has in
     (form, told.3 ∙ ap (λ (parts : HeadParts). parts.own) same ∙ head.same, omega (arith, (head_fits (bits body) head.parts head.has).positive, head.same))
 
@@ -66,8 +69,8 @@ body_found bytes frame found = ap (body_tried bytes) found.stands
 pub found_is_read : (classes : List Class) (bytes : List ℕ) (frame : Frame) → IsFound bytes frame → IsRead classes bytes frame
 found_is_read classes bytes frame found =
     let body : List ℕ = frame_body bytes frame.from in
-    let head : HasOwn body frame.handle = subst (λ (b : List ℕ). HasOwn b frame.handle) (sym (body_found bytes frame found)) (own_of_head bytes found.span frame.handle found.own) in
-    let read = read_of_head classes body frame.handle head in record { form = read.0; own = read.1; positive = read.2 }
+    let head : HasOwn (version_at bytes) body frame.handle = subst (λ (b : List ℕ). HasOwn (version_at bytes) b frame.handle) (sym (body_found bytes frame found)) (own_of_head bytes found.span frame.handle found.own) in
+    let read = read_of_head (version_at bytes) classes body frame.handle head in record { form = read.0; own = read.1; positive = read.2 }
 
 -- the bodies of frames that were found are bytes of the input
 body_bytes : (bytes : List ℕ) (frame : Frame) → AreBytes bytes → IsFound bytes frame → AreBytes (frame_body bytes frame.from) × (length (frame_body bytes frame.from) ≤ length bytes)
@@ -80,7 +83,7 @@ body_bytes bytes frame are found =
 
 -- the objects of frames that were found are read of the input
 objects_are_read : (classes : List Class) (bytes : List ℕ) (frames : List Frame) → AreBytes bytes → length bytes ≤ MOST_BYTES → AllByRecursion (IsFound bytes) frames
-    → AllByRecursion (IsReadOf classes) (map (object_of classes bytes) frames)
+    → AllByRecursion (IsReadOf (version_at bytes) classes) (map (object_of classes bytes) frames)
 objects_are_read classes bytes [] are few found = tt
 objects_are_read classes bytes (frame ∷ frames) are few found =
     let body = body_bytes bytes frame are found.0 in (
@@ -117,7 +120,7 @@ handles_kept classes bytes frames are =
 
 -- the objects of frames that are kept, in ascending order of handle
 pub record AreObjectsRead (classes : List Class) (bytes : List ℕ) (frames : List Frame) : Type 0 where
-  pub read : AllByRecursion (IsReadOf classes) (objects_of classes bytes frames)
+  pub read : AllByRecursion (IsReadOf (version_at bytes) classes) (objects_of classes bytes frames)
   pub ascending : AreAscending (objects_of classes bytes frames)
   pub count : length (objects_of classes bytes frames) ≡ length frames
 
@@ -126,7 +129,7 @@ pub objects_kept : (classes : List Class) (bytes : List ℕ) (frames : List Fram
 objects_kept classes bytes frames are few kept =
     let values : List ObjectValue = map (object_of classes bytes) frames in
     let same : IsPermutation values (sorted values) = sorted_same values in
-    let read = IsReadOf classes in
+    let read = IsReadOf (version_at bytes) classes in
     record {
       read = recursion_from_All read (sorted values) (All-permutation read values (sorted values) same (All-from_recursion read values (objects_are_read classes bytes frames are few kept.found)));
       ascending = sorted_ascends values (distinct_objects values (handles_kept classes bytes frames kept).distinct);

@@ -1,5 +1,7 @@
 -- The parts of a recovery: the walk, the losses, the objects, and what is told of frames.
 use Rattle.std.proofs.Common.{◌≡◌, refl, sym, ◌∙◌, ap, ap₂, subst, ℕ, Bool, true, false, List, [], ◌++◌, append_assoc, map, Option, Some, None}
+use Rattle.dwg_base.specs.declared.version.Version.{Version}
+use Rattle.dwg_base.specs.Versions.{version_at}
 use Rattle.std.specs.Prelude.{Ok, Err, not}
 use Rattle.std.specs.Option.{is_none, is_some}
 use Rattle.std.proofs.lemmas.Option.{same_Some}
@@ -70,36 +72,37 @@ pub own_found : (bytes : List ℕ) (frame : Frame) (span : Span) → IsFound byt
 own_found bytes frame span found tried = ap (own_of_span bytes) (same_span bytes frame span found tried) ∙ found.own
 
 -- what the body of a frame that was found is read as is its object
-pub object_read : (classes : List Class) (bytes : List ℕ) (frame : Frame) (span : Span) (body : List ℕ) (value : ObjectValue) → IsFound bytes frame → Ok span ≡ tried_span frame.from 0 bytes
-    → body ≡ span_body bytes span → FormOf classes body value → value ≡ object_of classes bytes frame
+pub object_read : (version : Version) (classes : List Class) (bytes : List ℕ) (frame : Frame) (span : Span) (body : List ℕ) (value : ObjectValue) → IsFound bytes frame → Ok span ≡ tried_span frame.from 0 bytes
+    → body ≡ span_body bytes span → version ≡ version_at bytes → FormOf version classes body value → value ≡ object_of classes bytes frame
 unfolding frame_body
-object_read classes bytes frame span body value found tried same form =
+object_read version classes bytes frame span body value found tried same told form =
     let is : body ≡ frame_body bytes frame.from = same ∙ sym (ap (body_tried bytes) (span_there bytes frame.from span tried)) in
-    forms_same classes (frame_body bytes frame.from) value (object_of classes bytes frame) (subst (λ (b : List ℕ). FormOf classes b value) is form) (found_is_read classes bytes frame found).form
+    forms_same (version_at bytes) classes (frame_body bytes frame.from) value (object_of classes bytes frame) (subst (λ (b : List ℕ). FormOf (version_at bytes) classes b value) is (subst (λ (v : Version). FormOf v classes body value) told form)) (found_is_read classes bytes frame found).form
 
 -- a drawing is told by its parts
-contents_same : (lead other_lead mark other_mark : List ℕ) (code_page other_page : ℕ) (variables other_variables : List ℕ) (classes other_classes : List Class) (others other_others : List OtherValue)
-    (objects other_objects : List ObjectValue)
-    → lead ≡ other_lead → mark ≡ other_mark → code_page ≡ other_page → variables ≡ other_variables → classes ≡ other_classes → others ≡ other_others → objects ≡ other_objects
-    → ◌≡◌ {A = Contents} (record { lead = lead; mark = mark; code_page = code_page; variables = variables; classes = classes; others = others; objects = objects })
-    (record { lead = other_lead; mark = other_mark; code_page = other_page; variables = other_variables; classes = other_classes; others = other_others; objects = other_objects })
-contents_same lead other_lead mark other_mark code_page other_page variables other_variables classes other_classes others other_others objects other_objects a b c d e f g =
-    ap (λ (x : List ℕ). record { lead = x; mark = mark; code_page = code_page; variables = variables; classes = classes; others = others; objects = objects }) a
-    ∙ ap (λ (x : List ℕ). record { lead = other_lead; mark = x; code_page = code_page; variables = variables; classes = classes; others = others; objects = objects }) b
-    ∙ ap (λ (x : ℕ). record { lead = other_lead; mark = other_mark; code_page = x; variables = variables; classes = classes; others = others; objects = objects }) c
-    ∙ ap (λ (x : List ℕ). record { lead = other_lead; mark = other_mark; code_page = other_page; variables = x; classes = classes; others = others; objects = objects }) d
-    ∙ ap (λ (x : List Class). record { lead = other_lead; mark = other_mark; code_page = other_page; variables = other_variables; classes = x; others = others; objects = objects }) e
-    ∙ ap (λ (x : List OtherValue). record { lead = other_lead; mark = other_mark; code_page = other_page; variables = other_variables; classes = other_classes; others = x; objects = objects }) f
-    ∙ ap (λ (x : List ObjectValue). record { lead = other_lead; mark = other_mark; code_page = other_page; variables = other_variables; classes = other_classes; others = other_others; objects = x }) g
+contents_same : (version other_version : Version) (lead other_lead mark other_mark : List ℕ) (code_page other_page : ℕ) (variables other_variables : List ℕ) (classes other_classes : List Class)
+    (others other_others : List OtherValue) (objects other_objects : List ObjectValue)
+    → version ≡ other_version → lead ≡ other_lead → mark ≡ other_mark → code_page ≡ other_page → variables ≡ other_variables → classes ≡ other_classes → others ≡ other_others → objects ≡ other_objects
+    → ◌≡◌ {A = Contents} (record { version = version; lead = lead; mark = mark; code_page = code_page; variables = variables; classes = classes; others = others; objects = objects })
+    (record { version = other_version; lead = other_lead; mark = other_mark; code_page = other_page; variables = other_variables; classes = other_classes; others = other_others; objects = other_objects })
+contents_same version other_version lead other_lead mark other_mark code_page other_page variables other_variables classes other_classes others other_others objects other_objects a b c d e f g h =
+    ap (λ (x : Version). record { version = x; lead = lead; mark = mark; code_page = code_page; variables = variables; classes = classes; others = others; objects = objects }) a
+    ∙ ap (λ (x : List ℕ). record { version = other_version; lead = x; mark = mark; code_page = code_page; variables = variables; classes = classes; others = others; objects = objects }) b
+    ∙ ap (λ (x : List ℕ). record { version = other_version; lead = other_lead; mark = x; code_page = code_page; variables = variables; classes = classes; others = others; objects = objects }) c
+    ∙ ap (λ (x : ℕ). record { version = other_version; lead = other_lead; mark = other_mark; code_page = x; variables = variables; classes = classes; others = others; objects = objects }) d
+    ∙ ap (λ (x : List ℕ). record { version = other_version; lead = other_lead; mark = other_mark; code_page = other_page; variables = x; classes = classes; others = others; objects = objects }) e
+    ∙ ap (λ (x : List Class). record { version = other_version; lead = other_lead; mark = other_mark; code_page = other_page; variables = other_variables; classes = x; others = others; objects = objects }) f
+    ∙ ap (λ (x : List OtherValue). record { version = other_version; lead = other_lead; mark = other_mark; code_page = other_page; variables = other_variables; classes = other_classes; others = x; objects = objects }) g
+    ∙ ap (λ (x : List ObjectValue). record { version = other_version; lead = other_lead; mark = other_mark; code_page = other_page; variables = other_variables; classes = other_classes; others = other_others; objects = x }) h
 
 -- the drawing that is recovered is that of its parts
-pub drawing_is : (bytes : List ℕ) (header : Option FileHeader) (found : Option ℕ) (locators : List Locator) (classes : List Class) (lead mark variables : List ℕ) (code_page : ℕ)
-    (others : List OtherValue) (objects values : List ObjectValue) → header ≡ header_of bytes → found ≡ section_found framed.Variables bytes → classes ≡ classes_found bytes → lead ≡ lead_of header → mark ≡ mark_of header
+pub drawing_is : (bytes : List ℕ) (header : Option FileHeader) (found : Option ℕ) (locators : List Locator) (classes : List Class) (version : Version) (lead mark variables : List ℕ) (code_page : ℕ)
+    (others : List OtherValue) (objects values : List ObjectValue) → header ≡ header_of bytes → found ≡ section_found framed.Variables bytes → classes ≡ classes_found bytes → version ≡ version_at bytes → lead ≡ lead_of header → mark ≡ mark_of header
     → code_page ≡ code_page_of header → variables ≡ variables_of bytes found → locators ≡ locators_of header → others ≡ sections_at bytes (whole_locators bytes locators)
     → values ≡ map (object_of (classes_found bytes) bytes) (frames_kept bytes) → objects ≡ sorted values
-    → record { lead = lead; mark = mark; code_page = code_page; variables = variables; classes = classes; others = others; objects = objects } ≡ drawing_recovered bytes
+    → record { version = version; lead = lead; mark = mark; code_page = code_page; variables = variables; classes = classes; others = others; objects = objects } ≡ drawing_recovered bytes
 unfolding drawing_recovered
-drawing_is bytes header found locators classes lead mark variables code_page others objects values is at cut a b c d l o v x =
-    contents_same lead _ mark _ code_page _ variables _ classes _ others _ objects _ (a ∙ ap lead_of is) (b ∙ ap mark_of is) (c ∙ ap code_page_of is) (d ∙ ap (variables_of bytes) at) cut
+drawing_is bytes header found locators classes version lead mark variables code_page others objects values is at cut by a b c d l o v x =
+    contents_same version _ lead _ mark _ code_page _ variables _ classes _ others _ objects _ by (a ∙ ap lead_of is) (b ∙ ap mark_of is) (c ∙ ap code_page_of is) (d ∙ ap (variables_of bytes) at) cut
     (o ∙ ap (λ (some : List Locator). sections_at bytes (whole_locators bytes some)) (l ∙ ap locators_of is))
     (x ∙ ap sorted v)

@@ -1,5 +1,6 @@
 -- Every answer of recovery is sound, whether the input spells a drawing or is damaged.
 use Rattle.std.proofs.Common.{◌≡◌, ◌≢◌, refl, sym, ◌∙◌, ap, subst, ℕ, suc, ◌+◌, ◌<◌, ◌≤◌, true, false, is_some, List, [], ◌∷◌, length, map, Option, Some, None, inl, inr, arith}
+use Rattle.dwg_base.specs.Versions.{version_at}
 use Rattle.std.specs.Prelude.{◌⊎◌, AllPairs, slice_index, if◌then◌else◌}
 use Rattle.std.specs.List.{AllByRecursion, cons_option}
 use Rattle.std.specs.List.Sorted.{IsPermutation}
@@ -117,11 +118,11 @@ spelled_objects classes bytes (frame ∷ frames) number are stand =
     ap (λ object. object ∷ map (object_of classes bytes) (named (number + 1) frames)) here
     ∙ ap (λ (objects : List ObjectValue). frame.object ∷ objects) (spelled_objects classes bytes frames (number + 1) are stand.1)
   where
-    here : form_at classes (frame_body bytes frame.pair.place) ≡ frame.object
+    here : form_at (version_at bytes) classes (frame_body bytes frame.pair.place) ≡ frame.object
     here =
-        let head = head_of_form classes frame.body frame.object stand.0.form in
-        ap (form_at classes) (body_is_found bytes frame.pair.place frame.body frame.end are stand.0.stands)
-        ∙ forms_same classes frame.body _ _ (form_is_at classes frame.body head.0 head.1) stand.0.form
+        let head = head_of_form (version_at bytes) classes frame.body frame.object stand.0.form in
+        ap (form_at (version_at bytes) classes) (body_is_found bytes frame.pair.place frame.body frame.end are stand.0.stands)
+        ∙ forms_same (version_at bytes) classes frame.body _ _ (form_is_at (version_at bytes) classes frame.body head.0 head.1) stand.0.form
 
 -- the frames that were found of an input that spells a drawing are those that it is spelled with
 found_are_spelled : SectionLaws → (drawing : Contents) (bytes : List ℕ) (spelled : Spelled drawing bytes) → AreBytes bytes → first_fault ALL_LINES bytes ≡ None

@@ -1,5 +1,6 @@
 -- Which frames are kept, said of each by itself: a frame is kept exactly where it shares nothing with those that are kept before it.
 use Rattle.std.proofs.Common.{◌≡◌, refl, sym, ◌∙◌, ap, subst, ℕ, zero, suc, ◌+◌, ◌-◌, ◌<◌, ◌≤◌, Bool, true, false, List, [], ◌∷◌, ◌++◌, length, append_assoc, Option, Some, None, inl, inr, arith}
+use Rattle.dwg_base.specs.Versions.{version_at}
 use Rattle.std.specs.Prelude.{◌≢◌, ◌⊎◌, ◌&&◌, ◌||◌, ◌==◌, not, if◌then◌else◌}
 use Rattle.std.specs.List.{AllByRecursion, list_any, range_with_len}
 use Rattle.std.specs.Option.{option_and_then}
@@ -60,7 +61,7 @@ scanned_at classes bytes place frame is = of_span (span_found bytes place) is
 
     of_own : (span : Span) (own : Option ℕ) → option_and_then (scanned_of classes bytes place span) own ≡ Some frame → (frame.from ≡ place) × (frame.pair ≡ None)
     of_own span None same = absurd cc
-    of_own span (Some own) same = of_test span own (has_common_part (form_at classes (span_body bytes span))) same
+    of_own span (Some own) same = of_test span own (has_common_part (form_at (version_at bytes) classes (span_body bytes span))) same
 
     of_span : (span : Option Span) → option_and_then (λ (span : Span). option_and_then (scanned_of classes bytes place span) (own_of_span bytes span)) span ≡ Some frame
         → (frame.from ≡ place) × (frame.pair ≡ None)

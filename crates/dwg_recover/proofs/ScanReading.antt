@@ -1,5 +1,7 @@
 -- What the scan reads at a place: the object of a frame that is kept, which is kept with it.
 use Rattle.std.specs.Bool.{then_some}
+use Rattle.dwg_base.specs.declared.version.Version.{Version}
+use Rattle.dwg_base.specs.Versions.{version_at}
 use Rattle.std.proofs.Common.{◌≡◌, refl, sym, ◌∙◌, ap, subst, ℕ, Bool, true, false, List, Option, Some, None}
 use Rattle.std.specs.Prelude.{option_map, Ok}
 use Rattle.std.specs.Option.{IsSome}
@@ -25,11 +27,12 @@ value_taken true object = refl
 value_taken false object = refl
 
 -- an object that is read of a body, where it is read with its common part
-pub common_read : (classes : List Class) (bytes body : List ℕ) (span : Span) (object : Object) (taken : Option Object) → taken ≡ then_some (has_common_part (value_of object)) object
-    → body ≡ span_body bytes span → IsSome (own_of_span bytes span) → FormOf classes body (value_of object) → option_map value_of taken ≡ common_at classes bytes span
-common_read classes bytes body span object taken is same some form =
+pub common_read : (version : Version) (classes : List Class) (bytes body : List ℕ) (span : Span) (object : Object) (taken : Option Object) → taken ≡ then_some (has_common_part (value_of object)) object
+    → body ≡ span_body bytes span → IsSome (own_of_span bytes span) → version ≡ version_at bytes → FormOf version classes body (value_of object)
+    → option_map value_of taken ≡ common_at classes bytes span
+common_read version classes bytes body span object taken is same some told form =
     ap (option_map value_of) is ∙ value_taken (has_common_part (value_of object)) object
-    ∙ ap (λ (value : ObjectValue). then_some (has_common_part value) value) (read_at classes bytes body span (value_of object) same some form)
+    ∙ ap (λ (value : ObjectValue). then_some (has_common_part value) value) (read_at classes bytes body span (value_of object) same some (subst (λ (v : Version). FormOf v classes body (value_of object)) told form))
 
 -- what is taken where a test holds, and what the test is where nothing is
 was_taken : (test : Bool) (value other : ObjectValue) → Some value ≡ then_some test other → (test ≡ true) × (value ≡ other)
@@ -50,21 +53,21 @@ pub common_kept : (classes : List Class) (bytes : List ℕ) (kept : List Frame) 
     → own_of_span bytes span ≡ Some own → is_free kept place span.end ≡ true → is_new kept own ≡ true → Some (value_of object) ≡ common_at classes bytes span
     → IsKeptAt classes bytes kept place (record { frame = record { pair = None; handle = own; from = place; end = span.end }; object = object })
 common_kept classes bytes kept place span own object tried is free new read =
-    let form : ObjectValue = form_at classes (span_body bytes span) in
+    let form : ObjectValue = form_at (version_at bytes) classes (span_body bytes span) in
     let common = was_taken (has_common_part form) (value_of object) form read in
     record {
       from = refl;
       more = is_kept classes bytes kept place span own tried is free new common.0;
       some = (span_inside bytes place span (span_there bytes place span tried)).some;
       free = free;
-      object = common.1 ∙ sym (ap (form_at classes) (body_there bytes place span tried));
+      object = common.1 ∙ sym (ap (form_at (version_at bytes) classes) (body_there bytes place span tried));
     }
 
 -- where it isn't read so, the frames stay
 pub common_missing : (classes : List Class) (bytes : List ℕ) (kept : List Frame) (place : ℕ) (span : Span) (own : ℕ) → Ok span ≡ tried_span place 0 bytes → own_of_span bytes span ≡ Some own
     → None ≡ common_at classes bytes span → kept ≡ keep_free kept (scanned classes bytes place)
 common_missing classes bytes kept place span own tried is none =
-    let form : ObjectValue = form_at classes (span_body bytes span) in not_common classes bytes kept place span own tried is (was_left (has_common_part form) form none)
+    let form : ObjectValue = form_at (version_at bytes) classes (span_body bytes span) in not_common classes bytes kept place span own tried is (was_left (has_common_part form) form none)
 
 -- what is told of a place where a frame is kept, and where none is
 pub kept_at : (classes : List Class) (bytes : List ℕ) (kept : List Frame) (place : ℕ) (told : Option FrameObject) (found : FrameObject) → told ≡ Some found → TellsPlace classes bytes kept place told

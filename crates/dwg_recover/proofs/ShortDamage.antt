@@ -37,7 +37,7 @@ use Rattle.dwg_recover.proofs.IntactFrames.{numbered_is_kept}
 use Rattle.dwg_recover.proofs.IntactLemmas.{each_holds_or_none, intact_objects_are_kept}
 use Rattle.dwg_recover.proofs.IntactMap.{IsWholeWalk, map_is_walked}
 use Rattle.dwg_file.proofs.WrittenFrames.{IsWritten, canonical_written}
-use Rattle.dwg_recover.proofs.IntactParts.{IntactParts, class_section_is_found, classes_are_intact, intact_holds, parts_are_intact, variables_are_found, variables_are_intact, written_positive}
+use Rattle.dwg_recover.proofs.IntactParts.{IntactParts, class_section_is_found, classes_are_intact, intact_holds, intact_version, parts_are_intact, variables_are_found, variables_are_intact, written_positive}
 use Rattle.dwg_recover.specs.ListMembers.{IsAt, IsOneOf}
 use Rattle.dwg_recover.proofs.ListMembers.{at_back, at_front, at_next, in_first, in_second, mapped_from, of_joined, one_at, one_of_all, same_at}
 use Rattle.dwg_recover.proofs.LostPairs.{AllKept, kept_told, one_lost}
@@ -103,11 +103,11 @@ other_is_kept drawing bytes earlier frame later number one but is at =
     let other = other_frame drawing bytes earlier frame later but one is in
     let intact = is_partly_intact drawing bytes earlier frame later but in
     let all = canonical_written drawing but.valid but.small in
-    let positive = written_positive drawing.classes (canonical drawing) (canonical_frames drawing) all in
+    let positive = written_positive drawing.version drawing.classes (canonical drawing) (canonical_frames drawing) all in
     let holds =
-    intact_holds drawing bytes one intact (one_of_all (IsWritten drawing.classes (canonical drawing)) (canonical_frames drawing) one all other.among) other.has in
+    intact_holds drawing bytes one (intact_version drawing bytes (parts_are_intact drawing bytes but.valid but.small intact)) intact (one_of_all (IsWritten drawing.version drawing.classes (canonical drawing)) (canonical_frames drawing) one all other.among) other.has in
     kept_told (mapped_frames bytes (pairs_framed (canonical_frames drawing))) number (frame_of number one.pair one.end)
-    (numbered_is_kept (candidates_hold held_frame) bytes drawing.objects (objects_place drawing) number one but.are but.valid.ascending positive
+    (numbered_is_kept (candidates_hold held_frame) bytes drawing.version drawing.objects (objects_place drawing) number one but.are but.valid.ascending positive
     (each_holds_or_none drawing bytes but.valid but.small intact) at
     (one_of_all (λ (one : PairFrame). 0 < one.pair.handle) (canonical_frames drawing) one positive other.among) holds)
     refl

@@ -1,5 +1,6 @@
 -- Where an input spells a drawing, the frames of its map stand in it, and are the frames that its pairs name.
 use Rattle.std.proofs.Common.{◌≡◌, refl, sym, ◌∙◌, ap, ap₂, subst, ℕ, ◌+◌, ◌-◌, ◌<◌, Bool, true, false, List, [], ◌∷◌, ◌++◌, length, drop, map, append_assoc, Option, Some, None, arith}
+use Rattle.dwg_base.specs.Versions.{version_at}
 use Rattle.std.specs.Prelude.{◌&&◌, ◌==◌, not, nat_lt, option_map, Ok, Err, if◌then◌else◌}
 use Rattle.std.specs.List.{AllByRecursion, cons_option}
 use Rattle.std.specs.Option.{option_and_then}
@@ -55,28 +56,28 @@ record StandsFound (bytes : List ℕ) (place : ℕ) (found : FoundFrame) : Type 
   own : own_of_span bytes found.0 ≡ Some found.1.own
 
 -- a frame that was tried is found
-frame_stands : (bytes : List ℕ) (place index : ℕ) (found : FoundFrame) → tried_frame place index bytes ≡ Ok found → StandsFound bytes place found
+frame_stands : (bytes : List ℕ) (place index : ℕ) (found : FoundFrame) → tried_frame (version_at bytes) place index bytes ≡ Ok found → StandsFound bytes place found
 unfolding tried_frame own_of_span
 frame_stands bytes place index (span, parts) is = of_span (tried_span place index bytes) refl is
   where
-    of_head : (stood : Span) → tried_span place index bytes ≡ Ok stood → has_check_word bytes stood ≡ true → (told : Option HeadParts) → head_at bytes stood ≡ told
+    of_head : (stood : Span) → tried_span place index bytes ≡ Ok stood → has_check_word bytes stood ≡ true → (told : Option HeadParts) → head_at (version_at bytes) bytes stood ≡ told
         → ◌≡◌ {A = Tried FoundFrame} (head_tried place index stood told) (Ok (span, parts)) → StandsFound bytes place (span, parts)
     of_head stood at right None told same = absurd cc
     of_head stood at right (Some others) told same =
         subst (StandsFound bytes place) (same_found stood others span parts same) (record {
           stands = same_span bytes place index stood at;
-          own = ap (λ (test : Bool). if test then option_map (λ (parts : HeadParts). parts.own) (head_at bytes stood) else None) right ∙ ap (option_map (λ (parts : HeadParts). parts.own)) told;
+          own = ap (λ (test : Bool). if test then option_map (λ (parts : HeadParts). parts.own) (head_at (version_at bytes) bytes stood) else None) right ∙ ap (option_map (λ (parts : HeadParts). parts.own)) told;
         })
       where
         same_found : (stood : Span) (others : HeadParts) (span : Span) (parts : HeadParts) → ◌≡◌ {A = Tried FoundFrame} (Ok (stood, others)) (Ok (span, parts)) → ◌≡◌ {A = FoundFrame} (stood, others) (span, parts)
         same_found stood others span parts same = cc
 
     of_word : (stood : Span) → tried_span place index bytes ≡ Ok stood → (right : Bool) → has_check_word bytes stood ≡ right
-        → ◌≡◌ {A = Tried FoundFrame} (if not right then Err (frame_refusal 30 index place) else head_tried place index stood (head_at bytes stood)) (Ok (span, parts)) → StandsFound bytes place (span, parts)
-    of_word stood at true right same = of_head stood at right (head_at bytes stood) refl same
+        → ◌≡◌ {A = Tried FoundFrame} (if not right then Err (frame_refusal 30 index place) else head_tried place index stood (head_at (version_at bytes) bytes stood)) (Ok (span, parts)) → StandsFound bytes place (span, parts)
+    of_word stood at true right same = of_head stood at right (head_at (version_at bytes) bytes stood) refl same
     of_word stood at false right same = absurd cc
 
-    of_span : (tried : Tried Span) → tried_span place index bytes ≡ tried → ◌≡◌ {A = Tried FoundFrame} (frame_checked place index bytes tried) (Ok (span, parts)) → StandsFound bytes place (span, parts)
+    of_span : (tried : Tried Span) → tried_span place index bytes ≡ tried → ◌≡◌ {A = Tried FoundFrame} (frame_checked (version_at bytes) place index bytes tried) (Ok (span, parts)) → StandsFound bytes place (span, parts)
     of_span (Err refusal) at same = absurd cc
     of_span (Ok stood) at same = of_word stood at (has_check_word bytes stood) refl same
 
@@ -94,7 +95,7 @@ pair_stands : (bytes : List ℕ) (earlier : List FoundFrame) (index : ℕ) (pair
 unfolding tried_pair
 pair_stands bytes earlier index pair found is = of_span (tried_span pair.place index bytes) is
   where
-    of_own : (other : FoundFrame) → tried_frame pair.place index bytes ≡ Ok other → (same : Bool) → (other.1.own == pair.handle) ≡ same
+    of_own : (other : FoundFrame) → tried_frame (version_at bytes) pair.place index bytes ≡ Ok other → (same : Bool) → (other.1.own == pair.handle) ≡ same
         → ◌≡◌ {A = Tried FoundFrame} (if same then Ok other else Err (frame_refusal 32 index pair.place)) (Ok found) → IsOfPair bytes pair found
     of_own other tried true own same =
         subst (IsOfPair bytes pair) (same_found other found same) (record { found_at = frame_stands bytes pair.place index other tried; own = test_same other.1.own pair.handle own })
@@ -103,14 +104,14 @@ pair_stands bytes earlier index pair found is = of_span (tried_span pair.place i
         same_found other found same = cc
     of_own other tried false own same = absurd cc
 
-    of_frame : (tried : Tried FoundFrame) → tried_frame pair.place index bytes ≡ tried → ◌≡◌ {A = Tried FoundFrame} (with_handle pair index tried) (Ok found) → IsOfPair bytes pair found
+    of_frame : (tried : Tried FoundFrame) → tried_frame (version_at bytes) pair.place index bytes ≡ tried → ◌≡◌ {A = Tried FoundFrame} (with_handle pair index tried) (Ok found) → IsOfPair bytes pair found
     of_frame (Err refusal) tried same = absurd cc
     of_frame (Ok other) tried same = of_own other tried (other.1.own == pair.handle) refl same
 
     of_touch : (touched : Bool)
-        → ◌≡◌ {A = Tried FoundFrame} (if touched then Err (frame_refusal 29 index pair.place) else with_handle pair index (tried_frame pair.place index bytes)) (Ok found) → IsOfPair bytes pair found
+        → ◌≡◌ {A = Tried FoundFrame} (if touched then Err (frame_refusal 29 index pair.place) else with_handle pair index (tried_frame (version_at bytes) pair.place index bytes)) (Ok found) → IsOfPair bytes pair found
     of_touch true same = absurd cc
-    of_touch false same = of_frame (tried_frame pair.place index bytes) refl same
+    of_touch false same = of_frame (tried_frame (version_at bytes) pair.place index bytes) refl same
 
     of_span : (tried : Tried Span) → ◌≡◌ {A = Tried FoundFrame} (with_span bytes earlier pair index tried) (Ok found) → IsOfPair bytes pair found
     of_span (Err refusal) same = absurd cc

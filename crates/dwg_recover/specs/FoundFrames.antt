@@ -1,5 +1,6 @@
 -- What is found is what stands: the candidates are those of the pairs, a pair has one exactly where a frame with its handle stands at its place, and the scan finds a frame exactly where one is read with its common part. A rule of this project.
 use Rattle.std.proofs.Common.{◌≡◌, ℕ, ◌<◌, true, List, Some, None}
+use Rattle.dwg_base.specs.Versions.{version_at}
 use Rattle.std.specs.Prelude.{◌↔◌}
 use Rattle.dwg_base.specs.Bytes.{AreBytes}
 use Rattle.dwg_bits.specs.Bits.{bits}
@@ -28,8 +29,8 @@ pub record IsReadAt (classes : List Class) (bytes : List ℕ) (place end own : �
   pub number : ℕ
   pub object : ObjectValue
   pub frame : FrameAt bytes place body end
-  pub head : BeginsWithHead (bits body) number own
-  pub form : FormOf classes body object
+  pub head : BeginsWithHead (version_at bytes) (bits body) number own
+  pub form : FormOf (version_at bytes) classes body object
   pub common : has_common_part object ≡ true
 
 -- the frame that the scan finds at a place

@@ -2,6 +2,7 @@
 use Rattle.std.proofs.Common.{◌≡◌, ℕ, true, List, [], Some, None}
 use Rattle.std.specs.Prelude.{◌↔◌, ⊤, replicate}
 use Rattle.dwg_base.specs.Bytes.{AreBytes}
+use Rattle.dwg_base.specs.Versions.{version_at}
 use Rattle.dwg_classes.specs.declared.class.Class.{Class}
 use Rattle.dwg_classes.specs.Class.{AreClasses}
 use Rattle.dwg_file.specs.ReadAs.{whole_locators}
@@ -53,8 +54,9 @@ PagesGivePairs =
     (bytes : List ℕ) (page : ℕ) → AreBytes bytes
     → (HasPageWord bytes page → AreLongest (body_at bytes page) (pairs_at bytes page)) × ((HasPageWord bytes page → ⊥) → pairs_at bytes page ≡ [])
 
--- what a drawing that is recovered of a damaged input has of the header, or without one, and of the sections that are found; of the unknown sections it has those that don't pass the end of the input
+-- what a drawing that is recovered of a damaged input has: the version by which the input is read, also where the header is lost; what is of the header, or without one, and of the sections that are found; of the unknown sections it has those that don't pass the end of the input
 pub record ArePartsKept (bytes : List ℕ) : Type 0 where
+  pub version : (drawing_recovered bytes).version ≡ version_at bytes
   pub header : (header : FileHeader) → header_of bytes ≡ Some header
       → ((drawing_recovered bytes).lead ≡ header.lead) × ((drawing_recovered bytes).mark ≡ header.mark) × ((drawing_recovered bytes).code_page ≡ header.code_page)
       × AreSectionsOf bytes (whole_locators bytes header.locators) (drawing_recovered bytes).others

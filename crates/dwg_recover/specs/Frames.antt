@@ -1,5 +1,6 @@
 -- Which frames are kept: those that the pairs of the map name, and then those that stand elsewhere. A rule of this project, over the frames of the Open Design Specification, "R13 to R2000 file layout, object data".
 use Rattle.std.specs.Prelude.{ℕ, ◌+◌, Bool, true, false, not, ◌&&◌, List, [], ◌∷◌, ◌++◌, length, fold, flat_map, nat_le, nat_lt, option_map, ◌==◌, Option, Some, None, if◌then◌else◌}
+use Rattle.dwg_base.specs.Versions.{version_at}
 use Rattle.std.specs.List.{cons_option, filter, list_all, list_any, range_with_len}
 use Rattle.std.specs.Option.{is_some, option_and_then}
 use Rattle.std.specs.Result.{result_ok}
@@ -45,7 +46,7 @@ span_found bytes place = result_ok (tried_span place 0 bytes)
 
 -- the own handle of the frame of a span, where its check word is right and its body has a head
 unfoldable pub own_of_span : List ℕ → Span → Option ℕ
-own_of_span bytes span = if has_check_word bytes span then option_map (λ (parts : HeadParts). parts.own) (head_at bytes span) else None
+own_of_span bytes span = if has_check_word bytes span then option_map (λ (parts : HeadParts). parts.own) (head_at (version_at bytes) bytes span) else None
 
 -- the frame of a pair whose span and own handle are found at its place, where the pair's handle is positive and is the frame's own
 abbrev pub candidate_of : ℕ → Pair → Span → ℕ → Option Frame
@@ -87,7 +88,7 @@ has_common_part (RawValue number handle bytes) = false
 -- the frame of a span and an own handle that are found at a place, where its body is read with its common part
 abbrev pub scanned_of : List Class → List ℕ → ℕ → Span → ℕ → Option Frame
 scanned_of classes bytes place span own =
-    if has_common_part (form_at classes (span_body bytes span)) then Some (record { pair = None; handle = own; from = place; end = span.end }) else None
+    if has_common_part (form_at (version_at bytes) classes (span_body bytes span)) then Some (record { pair = None; handle = own; from = place; end = span.end }) else None
 
 -- such a frame at a place
 abbrev pub scanned : List Class → List ℕ → ℕ → Option Frame

@@ -1,5 +1,6 @@
 -- Which frames are kept, said of each by itself, that no others are, and what the frames that are kept and their objects are: found in the input, without a byte or a handle in common. A rule of this project.
 use Rattle.std.proofs.Common.{◌≡◌, ℕ, ◌≤◌, List, ◌∷◌, ◌++◌, length, Some, None, ◌<◌, map}
+use Rattle.dwg_base.specs.Versions.{version_at}
 use Rattle.std.specs.Prelude.{◌≢◌, ◌⊎◌, AllPairs, ◌↔◌}
 use Rattle.std.specs.List.{AllByRecursion}
 use Rattle.dwg_classes.specs.declared.class.Class.{Class}
@@ -48,7 +49,7 @@ NoOthersAreKept = (bytes : List ℕ) (frame : Frame)
 
 -- a frame is read as its object: the object has the form of the frame's body, and the frame's handle, which is positive
 pub record IsRead (classes : List Class) (bytes : List ℕ) (frame : Frame) : Type 0 where
-  pub form : FormOf classes (frame_body bytes frame.from) (object_of classes bytes frame)
+  pub form : FormOf (version_at bytes) classes (frame_body bytes frame.from) (object_of classes bytes frame)
   pub own : handle_of (object_of classes bytes frame) ≡ frame.handle
   pub positive : 0 < frame.handle
 

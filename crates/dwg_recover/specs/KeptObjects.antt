@@ -1,5 +1,6 @@
 -- The objects of the frames that are kept, and what the scan tells of a place. A rule of this project.
 use Rattle.std.specs.Bool.{then_some}
+use Rattle.dwg_base.specs.Versions.{version_at}
 use Rattle.std.specs.List.{range_with_len}
 use Rattle.std.specs.Prelude.{◌≡◌, ◌+◌, ◌-◌, ◌*◌, ◌<◌, ◌≤◌, ℕ, true, List, [], ◌∷◌, ◌++◌, length, map, Option, Some, None}
 use Rattle.dwg_classes.specs.declared.class.Class.{Class}
@@ -19,7 +20,7 @@ HoldsObjects classes bytes kept = map value_of kept.objects.items ≡ map (objec
 
 -- what the body of a span is read as, where it is read with its common part
 abbrev pub common_at : List Class → List ℕ → Span → Option ObjectValue
-common_at classes bytes span = then_some (has_common_part (form_at classes (span_body bytes span))) (form_at classes (span_body bytes span))
+common_at classes bytes span = then_some (has_common_part (form_at (version_at bytes) classes (span_body bytes span))) (form_at (version_at bytes) classes (span_body bytes span))
 
 -- a frame is the one that is kept at a place beside others, with which it shares no byte; and its object is the one that its body is read as
 pub record IsKeptAt (classes : List Class) (bytes : List ℕ) (kept : List Frame) (place : ℕ) (found : FrameObject) : Type 0 where

@@ -6,6 +6,7 @@
 -- on, the frame that shares no byte and no handle with those kept and whose object is Typed or Plain (`frames_kept`). Their objects in order of handle (`objects_of`) and those parts are the drawing
 -- (`drawing_recovered`). Losses are told in the order of `losses_of`, and frames in order of place (`told`).
 use Rattle.std.specs.Prelude.{ℕ, ◌+◌, List, [], ◌∷◌, ◌++◌, length, map, replicate, Option, Some, None, if◌then◌else◌}
+use Rattle.dwg_base.specs.Versions.{version_at}
 use Rattle.std.specs.Option.{is_none}
 use Rattle.std.specs.Result.{result_unwrap_or}
 use Rattle.dwg_base.specs.Refusals.{first_fault}
@@ -73,7 +74,7 @@ frame_body bytes place = body_tried bytes (span_found bytes place)
 
 -- the object that the body of a frame is read as: the one of which `FormOf` holds (`form_at`)
 abbrev pub object_of : List Class → List ℕ → Frame → ObjectValue
-object_of classes bytes frame = form_at classes (frame_body bytes frame.from)
+object_of classes bytes frame = form_at (version_at bytes) classes (frame_body bytes frame.from)
 
 -- the objects of frames, in ascending order of handle
 abbrev pub objects_of : List Class → List ℕ → List Frame → List ObjectValue
@@ -92,9 +93,10 @@ abbrev pub code_page_of : Option FileHeader → ℕ
 code_page_of None = 0
 code_page_of (Some header) = header.code_page
 
--- the drawing that is recovered of a damaged input
+-- the drawing that is recovered of a damaged input: of the version by which that is read, also where the header is lost
 unfoldable pub drawing_recovered : List ℕ → Contents
 drawing_recovered bytes = record {
+  version = version_at bytes;
   lead = lead_of (header_of bytes);
   mark = mark_of (header_of bytes);
   code_page = code_page_of (header_of bytes);

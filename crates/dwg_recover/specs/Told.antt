@@ -1,5 +1,6 @@
 -- What holds of every answer of recovery: its frames stand in the input and share nothing, and its objects are those of its frames; and what it is where the input spells a drawing, and where it is damaged. A rule of this project.
 use Rattle.std.specs.Prelude.{◌≡◌, ◌≢◌, ⊤, ℕ, ◌≤◌, ◌↔◌, true, Some, None, List, [], ◌∷◌, length, map}
+use Rattle.dwg_base.specs.Versions.{version_at}
 use Rattle.std.specs.List.{AllByRecursion}
 use Rattle.std.specs.List.Sorted.{IsPermutation}
 use Rattle.dwg_base.specs.Bytes.{AreBytes}
@@ -30,12 +31,12 @@ AreToldApart (kept ∷ others) = AllByRecursion (λ (other : Kept). (kept.end �
 
 -- the object that the body of a frame is read as under the classes
 abbrev pub object_told : List Class → List ℕ → Kept → ObjectValue
-object_told classes bytes kept = form_at classes (frame_body bytes kept.from)
+object_told classes bytes kept = form_at (version_at bytes) classes (frame_body bytes kept.from)
 
 -- a frame that is told stands in the input with its body, and the object of that body has its handle
 pub record IsTold (classes : List Class) (bytes : List ℕ) (kept : Kept) : Type 0 where
   pub stands : FrameAt bytes kept.from (frame_body bytes kept.from) kept.end
-  pub form : FormOf classes (frame_body bytes kept.from) (object_told classes bytes kept)
+  pub form : FormOf (version_at bytes) classes (frame_body bytes kept.from) (object_told classes bytes kept)
   pub own : handle_of (object_told classes bytes kept) ≡ kept.handle
 
 -- the frames stand in the input, in order of place, and share no byte and no handle; the objects are those of the frames under the classes of the drawing; and the drawing is valid

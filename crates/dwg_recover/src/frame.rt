@@ -5,7 +5,7 @@ ghost use Rattle.dwg_object.specs.FrameLines.{has_check_word};
 ghost use Rattle.dwg_object.specs.Frames.{SpanAt};
 ghost use Rattle.dwg_recover.specs.Frames.{own_of_span};
 
-use dwg_base::Handle;
+use dwg_base::{Handle, Version};
 use dwg_check::{FRAME_START, SpanChecks};
 use dwg_object::{Span, own_handle, span_body, span_word};
 use dwg_steps::Steps;
@@ -64,5 +64,5 @@ pub(crate) fn own_of_span<L: Ledger>(
     if !is_checked_span(bytes, checks, span, steps) {
         return None;
     }
-    own_handle(span_body(bytes, span))
+    own_handle(Version::of_input(bytes), span_body(bytes, span))
 }

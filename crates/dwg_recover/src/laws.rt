@@ -54,8 +54,8 @@ pub fn recovered_laws()
 /// stands with its sentinels, its size and its check word, that of the classes around what is cut into classes; what is taken of
 /// it is its content, or these classes. The walk goes from the place of the map's locator, and without a header there is none.
 /// A page with a right check word gives the longest list of pairs in front of its bytes, one with a wrong one gives none. The
-/// candidates are those of the pairs, each under the number of its pair. The drawing has the lead, the mark and the code page of the
-/// header, or zeros without one, the unknown sections that don't pass the end, and what is taken of the sections that are found.
+/// candidates are those of the pairs, each under the number of its pair. The drawing has the version by which the input is read, the
+/// lead, the mark and the code page of the header, or zeros without one, the unknown sections that don't pass the end, and what is taken of the sections that are found.
 pub fn part_laws()
     ensures header { HeaderIsFound }
     ensures whole { SectionIsWhole }

@@ -10,7 +10,7 @@ ghost use Rattle.dwg_recover.specs.Recovering.{object_of};
 
 use crate::frame::Frame;
 use crate::kept::KeptFrames;
-use dwg_base::{NoMemory, with_item, with_room};
+use dwg_base::{NoMemory, Version, with_item, with_room};
 use dwg_classes::Hints;
 use dwg_object::{Object, read_body_hinted, span_at, span_body};
 use std::alloc::Global;
@@ -42,7 +42,12 @@ fn object_of<'a>(
     let Ok(span) = span_at(bytes, frame.from, 0) else {
         unreachable!()
     };
-    match read_body_hinted(alloc, span_body(bytes, &span), hints)? {
+    match read_body_hinted(
+        alloc,
+        span_body(bytes, &span),
+        hints,
+        Version::of_input(bytes),
+    )? {
         Some(object) => Ok(object),
         None => unreachable!(),
     }

@@ -31,7 +31,7 @@ use crate::objects::KeptObjects;
 use crate::scan::scan;
 use crate::sections::{classes_at, header_of, place_located, section_found, variables_at};
 use crate::walk::{Walked, walk};
-use dwg_base::{Fault, Items, NoMemory, Refusal, with_item};
+use dwg_base::{Fault, Items, NoMemory, Refusal, Version, with_item};
 use dwg_check::SpanChecks;
 use dwg_classes::Class;
 use dwg_file::{
@@ -225,6 +225,7 @@ fn parts_recovered<'a>(
     let others = whole_others(alloc, bytes, locators_of(header))?;
     let objects = in_handle_order(objects);
     Ok(Parts {
+        version: Version::of_input(bytes),
         lead,
         mark,
         code_page: front.code_page,

@@ -13,7 +13,7 @@ ghost use Rattle.dwg_recover.specs.Placing.{IsFound};
 use crate::frame::{Frame, own_of_span};
 use crate::kept::KeptFrames;
 use crate::objects::{FrameObject, KeptObjects, with_frame, with_objects};
-use dwg_base::NoMemory;
+use dwg_base::{NoMemory, Version};
 use dwg_check::SpanChecks;
 use dwg_classes::{Class, Hints};
 use dwg_object::{Object, Span, read_body_hinted, span_at, span_body};
@@ -51,7 +51,12 @@ fn read_with_common_part<'a>(
     requires head { IsSome (own_of_span bytes.now span.now) }
     ensures { IfOk result (λ read. option_map value_of read ≡ common_at hints.now bytes.now span.now) }
 {
-    match read_body_hinted(alloc, span_body(bytes, span), hints)? {
+    match read_body_hinted(
+        alloc,
+        span_body(bytes, span),
+        hints,
+        Version::of_input(bytes),
+    )? {
         Some(object) => Ok(of_common_part(object)),
         None => Ok(None),
     }

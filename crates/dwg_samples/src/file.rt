@@ -188,6 +188,14 @@ pub fn with_header_word(alloc: Global, file: &[u8]) -> Option<Vec<u8>> {
     Some(sealed)
 }
 
+/// A file whose header has three locators, as one of AC1014: with the six bytes of that version, and the check word of the header made
+/// right.
+pub fn older(alloc: Global, file: &[u8]) -> Option<Vec<u8>> {
+    let mut renamed = Vec::from_slice(alloc, b"AC1014").ok()?;
+    renamed.extend_from_slice(file.get(6..)?).ok()?;
+    with_header_word(alloc, &renamed)
+}
+
 /// The file header over parts of these sizes.
 fn header_of(alloc: Global, sizes: &Sizes) -> Option<Vec<u8>> {
     let mut header = header_fields(alloc, sizes)?;

@@ -37,18 +37,39 @@ fn push_number(bits: &mut Bits, number: u16) -> Option<()> {
     }
 }
 
-/// What stands behind the bit size and before the references: the own handle and the main bits.
-fn own_bits(alloc: Global, handle: u64, main: &str) -> Option<Bits> {
+/// Where the bit size of an object of AC1014 stands among the words of its main bits.
+const SIZE: &str = "size";
+
+/// The type number of an object, and its own handle.
+fn head_of(alloc: Global, text: &str) -> Option<(Bits, Bits)> {
+    let (number, _) = text.split_once(" ")?;
+    let mut before = Bits::new(alloc);
+    push_number(&mut before, number.parse::<u16>().ok()?)?;
     let mut own = Bits::new(alloc);
-    own.push_handle(0, handle)?;
-    own.push_text(main)?;
-    Some(own)
+    own.push_handle(0, handle_of(text)?)?;
+    Some((before, own))
 }
 
-/// The body of an object: its type number, how many bits stand before its references, those bits, and its references.
-fn body_of(alloc: Global, number: u16, own: &Bits, references: &str) -> Option<Vec<u8>> {
+/// What stands before the bit size, and what stands behind it and before the references: in AC1015 the type number alone stands before
+/// it, in AC1014 own handle and main bits up to the word `size` as well.
+fn own_bits(alloc: Global, text: &str, main: &str) -> Option<(Bits, Bits)> {
+    let (mut before, mut own) = head_of(alloc, text)?;
+    if let Some((front, behind)) = main.split_once(SIZE) {
+        before.push_all(&own)?;
+        before.push_text(front)?;
+        let mut rest = Bits::new(alloc);
+        rest.push_text(behind)?;
+        return Some((before, rest));
+    }
+    own.push_text(main)?;
+    Some((before, own))
+}
+
+/// The body of an object: what stands before the bit size, how many bits stand before its references, what stands behind that, and its
+/// references.
+fn body_of(alloc: Global, before: &Bits, own: &Bits, references: &str) -> Option<Vec<u8>> {
     let mut body = Bits::new(alloc);
-    push_number(&mut body, number)?;
+    body.push_all(before)?;
     let size = body.length().wrapping_add(32).wrapping_add(own.length());
     body.push_bytes(&u32::try_from(size).unwrap_or(u32::MAX).to_le_bytes())?;
     body.push_all(own)?;
@@ -65,12 +86,12 @@ pub(crate) fn handle_of(text: &str) -> Option<u64> {
 
 /// The frame of an object by a text `NUMBER HANDLE : MAIN / REFERENCES`: its type number in decimal digits, its own handle in
 /// hexadecimal ones, and the words of its main bits and its references (`Bits::push_text`). Length, bit size, padding and check
-/// word are put in. None for any other text, and for want of memory.
+/// word are put in. The bit size stands where AC1015 has it, behind the type number; where MAIN has the word `size`, it stands there,
+/// as in AC1014. None for any other text, and for want of memory.
 pub fn frame_of(alloc: Global, text: &str) -> Option<Vec<u8>> {
-    let (head, parts) = text.split_once(" : ")?;
-    let (number, _) = head.split_once(" ")?;
+    let (_, parts) = text.split_once(" : ")?;
     let (main, references) = parts.split_once(" / ")?;
-    let own = own_bits(alloc, handle_of(text)?, main)?;
-    let body = body_of(alloc, number.parse::<u16>().ok()?, &own, references)?;
+    let (before, own) = own_bits(alloc, text, main)?;
+    let body = body_of(alloc, &before, &own, references)?;
     framed(alloc, &body)
 }

@@ -4,16 +4,19 @@ use Rattle.std.specs.List.{AllByRecursion, flat_map}
 use Rattle.std.specs.Int.{from_le_bytes, to_le_bytes}
 use Rattle.std.proofs.lemmas.List.{get_or_at, length-map}
 use Rattle.std.proofs.lemmas.Nat.{from_le_bytes-to_le_bytes_2, from_le_bytes-to_le_bytes_4}
+use Rattle.dwg_base.specs.Versions.{version_at, version_bytes}
+use Rattle.dwg_base.specs.declared.version.Version.{Version}
 use Rattle.dwg_check.specs.CheckWord.{header_check_word}
 use Rattle.dwg_check.proofs.CheckWordLaws.{header_check_word_fits}
 use Rattle.dwg_sections.specs.declared.header.Locator.{Locator}
 use Rattle.dwg_sections.specs.declared.header.FileHeader.{FileHeader}
-use Rattle.dwg_sections.specs.FileHeader.{VERSION, HEADER_SENTINEL, IsLocator, LocateSections, IsFileHeader, locator_bytes, locator_numbers, header_front}
+use Rattle.dwg_sections.specs.FileHeader.{HEADER_SENTINEL, IsLocator, LocateSections, IsFileHeader, locator_bytes, locator_numbers, header_front}
 use Rattle.dwg_sections.specs.HeaderLines.{bytes_at, rs_at, rl_at, count_at, locators_end, locator_at, locators_at, numbers_at, header_at}
-use Rattle.dwg_sections.specs.HeaderLaws.{HeaderIsRead, HeaderIsCounted}
+use Rattle.dwg_sections.specs.HeaderLaws.{HeaderIsRead, HeaderIsCounted, HeaderTellsVersion}
 use Rattle.dwg_sections.proofs.BytePieces.{piece_at}
 use Rattle.dwg_sections.proofs.LocatorNumbers.{AreDistinct, AreLocated}
 use Rattle.dwg_sections.proofs.HeaderPasses.{Passes, none_from_passes}
+use Rattle.dwg_sections.proofs.VersionBegins.{read_as_begins, six}
 
 -- so many locators have nine times so many bytes
 length_of_locators : (locators : List Locator) → length (flat_map locator_bytes locators) ≡ 9 * length locators
@@ -30,18 +33,19 @@ same_locator a b number place size =
     ap (λ n. locator_of n a.place a.size) number ∙ ap (λ n. locator_of b.number n a.size) place ∙ ap (λ n. locator_of b.number b.place n) size
 
 -- the header of these parts
-abbrev header_of : List ℕ → ℕ → List ℕ → ℕ → List Locator → FileHeader
-header_of lead preview mark code_page locators =
-    record { lead = lead; preview = preview; mark = mark; code_page = code_page; locators = locators }
+abbrev header_of : Version → List ℕ → ℕ → List ℕ → ℕ → List Locator → FileHeader
+header_of version lead preview mark code_page locators =
+    record { version = version; lead = lead; preview = preview; mark = mark; code_page = code_page; locators = locators }
 
 -- two headers with the same parts are one
-same_header : (a b : FileHeader) → a.lead ≡ b.lead → a.preview ≡ b.preview → a.mark ≡ b.mark → a.code_page ≡ b.code_page → a.locators ≡ b.locators → a ≡ b
-same_header a b lead preview mark code_page locators =
-    ap (λ part. header_of part a.preview a.mark a.code_page a.locators) lead
-    ∙ ap (λ part. header_of b.lead part a.mark a.code_page a.locators) preview
-    ∙ ap (λ part. header_of b.lead b.preview part a.code_page a.locators) mark
-    ∙ ap (λ part. header_of b.lead b.preview b.mark part a.locators) code_page
-    ∙ ap (λ part. header_of b.lead b.preview b.mark b.code_page part) locators
+same_header : (a b : FileHeader) → a.version ≡ b.version → a.lead ≡ b.lead → a.preview ≡ b.preview → a.mark ≡ b.mark → a.code_page ≡ b.code_page → a.locators ≡ b.locators → a ≡ b
+same_header a b version lead preview mark code_page locators =
+    ap (λ part. header_of part a.lead a.preview a.mark a.code_page a.locators) version
+    ∙ ap (λ part. header_of b.version part a.preview a.mark a.code_page a.locators) lead
+    ∙ ap (λ part. header_of b.version b.lead part a.mark a.code_page a.locators) preview
+    ∙ ap (λ part. header_of b.version b.lead b.preview part a.code_page a.locators) mark
+    ∙ ap (λ part. header_of b.version b.lead b.preview b.mark part a.locators) code_page
+    ∙ ap (λ part. header_of b.version b.lead b.preview b.mark b.code_page part) locators
 
 -- what stands further on behind a front of known length
 behind_front : (bytes front behind : List ℕ) (place skip count : ℕ) → bytes ≡ front ++ behind → length front ≡ place → bytes_at bytes (place + skip) count ≡ bytes_at behind skip count
@@ -75,7 +79,7 @@ locators_read (locator ∷ locators) bytes front rest place whole long in_range 
 
 -- where the fields before the locators stand
 record FieldsStand (bytes version lead preview mark code_page count : List ℕ) : Type 0 where
-  version_at : take 6 bytes ≡ version
+  version_stands : take 6 bytes ≡ version
   lead_at : bytes_at bytes 6 7 ≡ lead
   preview_at : bytes_at bytes 13 4 ≡ preview
   mark_at : bytes_at bytes 17 2 ≡ mark
@@ -99,7 +103,7 @@ fields_stand bytes version lead preview mark code_page count rest whole six seve
     let from_13 = from_17 ∙ append_assoc (version ++ lead) preview (mark ++ (code_page ++ (count ++ rest))) in
     let from_6 = from_13 ∙ append_assoc version lead (preview ++ (mark ++ (code_page ++ (count ++ rest)))) in
     record {
-      version_at = ap (take 6) from_6 ∙ take_at version _ 6 six;
+      version_stands = ap (take 6) from_6 ∙ take_at version _ 6 six;
       lead_at = piece_at bytes version lead _ 6 7 from_13 six seven;
       preview_at = piece_at bytes (version ++ lead) preview _ 13 4 from_17 to_13 four;
       mark_at = piece_at bytes (version ++ lead ++ preview) mark _ 17 2 from_19 to_17 two;
@@ -133,19 +137,19 @@ end_stands bytes front check sentinel rest place whole long two sixteen =
 -- what stands before the locators
 abbrev before_locators : FileHeader → List ℕ
 before_locators header =
-    VERSION ++ header.lead ++ to_le_bytes w32 header.preview ++ header.mark ++ to_le_bytes w16 header.code_page ++ to_le_bytes w32 (length header.locators)
+    version_bytes header.version ++ header.lead ++ to_le_bytes w32 header.preview ++ header.mark ++ to_le_bytes w16 header.code_page ++ to_le_bytes w32 (length header.locators)
 
 -- the fields before the locators stand at their places in bytes
 abbrev FrontStands : List ℕ → FileHeader → Type 0
 FrontStands bytes header =
-    FieldsStand bytes VERSION header.lead (to_le_bytes w32 header.preview) header.mark (to_le_bytes w16 header.code_page) (to_le_bytes w32 (length header.locators))
+    FieldsStand bytes (version_bytes header.version) header.lead (to_le_bytes w32 header.preview) header.mark (to_le_bytes w16 header.code_page) (to_le_bytes w32 (length header.locators))
 
 -- the fields of a header stand at their places
 front_stands : (bytes : List ℕ) (header : FileHeader) (rest : List ℕ) → IsFileHeader header → bytes ≡ header_front header ++ rest → FrontStands bytes header
 front_stands bytes header rest in_range whole =
     let locators = flat_map locator_bytes header.locators in
-    fields_stand bytes VERSION header.lead (to_le_bytes w32 header.preview) header.mark (to_le_bytes w16 header.code_page) (to_le_bytes w32 (length header.locators)) (locators ++ rest)
-    (whole ∙ append_assoc (before_locators header) locators rest) refl in_range.lead.0 refl in_range.mark.0 refl refl
+    fields_stand bytes (version_bytes header.version) header.lead (to_le_bytes w32 header.preview) header.mark (to_le_bytes w16 header.code_page) (to_le_bytes w32 (length header.locators)) (locators ++ rest)
+    (whole ∙ append_assoc (before_locators header) locators rest) (six header.version) in_range.lead.0 refl in_range.mark.0 refl refl
 
 -- the count of locators is read where it stands
 count_read : (bytes : List ℕ) (header : FileHeader) → IsFileHeader header → FrontStands bytes header → count_at bytes ≡ length header.locators
@@ -167,6 +171,7 @@ unfolding header_at
 parts_read bytes header rest in_range whole fields counted =
     let behind = whole ∙ append_assoc (before_locators header) (flat_map locator_bytes header.locators) rest in
     same_header header (header_at bytes)
+    (read_as_begins bytes header.version fields.version_stands)
     (sym fields.lead_at)
     (sym (ap (from_le_bytes w32) fields.preview_at ∙ from_le_bytes-to_le_bytes_4 header.preview in_range.preview))
     (sym fields.mark_at)
@@ -196,7 +201,7 @@ passes_from_header bytes header in_range fields counted end numbered =
     let within : 18 + locators_end bytes ≤ length bytes = end.within in
     record {
       long = omega arith;
-      version = fields.version_at;
+      version = fields.version_stands ∙ ap version_bytes (read_as_begins bytes header.version fields.version_stands);
       least = subst (λ count. 3 ≤ count) (sym counted) in_range.sections.count.0;
       most = subst (λ count. count ≤ 6) (sym counted) in_range.sections.count.1;
       whole = end.within;
@@ -218,6 +223,11 @@ header_is_read bytes header begins =
     let end = end_stands bytes (header_front header) check HEADER_SENTINEL rest (locators_end bytes) begins.stands.1 (end_read bytes header fields counted) refl refl in
     let same : header ≡ header_at bytes = parts_read bytes header _ begins.in_range behind fields counted in
     (none_from_passes bytes (passes_from_header bytes header begins.in_range fields counted end (numbers_read bytes header same)), same)
+
+-- the version of the header that bytes begin with is the one by which they are read
+pub header_tells_version : HeaderTellsVersion
+unfolding header_at
+header_tells_version bytes header begins = ap (λ (read : FileHeader). read.version) (header_is_read bytes header begins).1
 
 -- what stands before the check word has 25 bytes, and nine for each locator
 front_is_counted : (header : FileHeader) → IsFileHeader header → length (header_front header) ≡ 25 + 9 * length header.locators

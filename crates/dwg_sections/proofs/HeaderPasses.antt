@@ -4,17 +4,19 @@ use Rattle.std.specs.Prelude.{find, option_map}
 use Rattle.std.specs.List.{range_with_len}
 use Rattle.std.proofs.lemmas.Bool.{not-false, not_from_true, or_parts, or_from}
 use Rattle.dwg_base.specs.Refusals.{first_fault}
+use Rattle.dwg_base.specs.Versions.{version_at, version_bytes}
 use Rattle.dwg_check.specs.CheckWord.{header_check_word}
-use Rattle.dwg_sections.specs.FileHeader.{VERSION, HEADER_SENTINEL}
+use Rattle.dwg_sections.specs.FileHeader.{HEADER_SENTINEL}
 use Rattle.dwg_sections.specs.HeaderLines.{bytes_at, rs_at, count_at, locators_end, numbers_at, stands_earlier, is_missing, repeated_refusal, missing_refusal, short_line, version_line, count_line, cut_line, check_line, sentinel_line, repeated_line, missing_line, HEADER_LINES}
 use Rattle.dwg_sections.proofs.TableLines.{no_refusal, keeps, both_none, none_of_both, same_bytes, bytes_same}
 use Rattle.dwg_sections.proofs.LocatorNumbers.{AreDistinct, AreLocated, distinct_from_none, none_from_distinct, located_from_none, none_from_located}
 use Rattle.dwg_sections.proofs.LocatorStep.{numbers_counted}
+use Rattle.dwg_sections.proofs.VersionBegins.{begins, begins_as_read}
 
 -- what each line on the header asks of the bytes
 pub record Passes (bytes : List ℕ) : Type 0 where
   pub long : 25 ≤ length bytes
-  pub version : take 6 bytes ≡ VERSION
+  pub version : take 6 bytes ≡ version_bytes (version_at bytes)
   pub least : 3 ≤ count_at bytes
   pub most : count_at bytes ≤ 6
   pub whole : 18 + locators_end bytes ≤ length bytes
@@ -67,7 +69,7 @@ passes_from_none bytes none =
     let range = or_parts _ _ (no_refusal _ 3 0 21 count.0) in
     record {
       long = ltb-false _ _ (no_refusal _ 1 0 (length bytes) short.0);
-      version = same_bytes _ _ (no_refusal _ 2 0 0 version.0);
+      version = begins_as_read bytes (not-false _ (no_refusal _ 2 0 0 version.0));
       least = ltb-false _ _ range.0;
       most = ltb-false _ _ range.1;
       whole = ltb-false _ _ (no_refusal _ 4 0 (length bytes) cut.0);
@@ -82,7 +84,7 @@ pub none_from_passes : (bytes : List ℕ) → Passes bytes → first_fault HEADE
 unfolding short_line version_line count_line cut_line check_line sentinel_line
 none_from_passes bytes passes =
     none_of_both _ _ (keeps _ 1 0 (length bytes) (le-ltb _ _ passes.long))
-    (none_of_both _ _ (keeps _ 2 0 0 (bytes_same _ _ passes.version))
+    (none_of_both _ _ (keeps _ 2 0 0 (not_from_true _ (begins bytes (version_at bytes) passes.version)))
     (none_of_both _ _ (keeps _ 3 0 21 (or_from _ _ (le-ltb _ _ passes.least) (le-ltb _ _ passes.most)))
     (none_of_both _ _ (keeps _ 4 0 (length bytes) (le-ltb _ _ passes.whole))
     (none_of_both _ _ (keeps _ 5 0 (locators_end bytes) (not_from_true _ (eq-eqb _ _ passes.check)))

@@ -6,9 +6,10 @@ use Rattle.std.proofs.lemmas.List.{drop_more}
 use Rattle.dwg_check.specs.CheckWord.{header_check_word}
 use Rattle.dwg_sections.specs.declared.header.FileHeader.{FileHeader}
 use Rattle.dwg_base.specs.Bytes.{AreBytes}
+use Rattle.dwg_base.specs.Versions.{version_at, version_bytes}
 use Rattle.dwg_base.proofs.ByteLists.{are_bytes}
 use Rattle.dwg_base.specs.Refusals.{first_fault}
-use Rattle.dwg_sections.specs.FileHeader.{BeginsWithHeader, VERSION, HEADER_SENTINEL, IsLocator, LocateSections, IsFileHeader, locator_bytes, header_front, header_bytes}
+use Rattle.dwg_sections.specs.FileHeader.{BeginsWithHeader, HEADER_SENTINEL, IsLocator, LocateSections, IsFileHeader, locator_bytes, header_front, header_bytes}
 use Rattle.dwg_sections.specs.HeaderLines.{HEADER_LINES, bytes_at, rs_at, rl_at, count_at, locators_end, locator_at, locators_at, numbers_at, header_at}
 use Rattle.dwg_sections.specs.HeaderLaws.{PassingBytesBeginWithHeader}
 use Rattle.dwg_sections.proofs.BytePieces.{front_more, length_at, are_bytes_at, byte_at_below, rs_back, rl_back, rs_below, rl_below}
@@ -65,12 +66,12 @@ fields_back bytes version count number locators all begins counted listed within
     front_more bytes _ _ 25 (9 * count) length_field listed
 
 -- the front of the header that is read is what stands before its check word
-front_back : (bytes : List ℕ) → AreBytes bytes → take 6 bytes ≡ VERSION → locators_end bytes ≤ length bytes → take (locators_end bytes) bytes ≡ header_front (header_at bytes)
+front_back : (bytes : List ℕ) → AreBytes bytes → take 6 bytes ≡ version_bytes (version_at bytes) → locators_end bytes ≤ length bytes → take (locators_end bytes) bytes ≡ header_front (header_at bytes)
 unfolding count_at locators_end header_at
 front_back bytes all begins within =
     let count = rl_at bytes 21 in
     let locators = locators_at count bytes 25 in
-    fields_back bytes VERSION count (length locators) (flat_map locator_bytes locators) all begins (sym (length_of_locators_at count bytes 25)) (locators_back count bytes 25 all within) within
+    fields_back bytes (version_bytes (version_at bytes)) count (length locators) (flat_map locator_bytes locators) all begins (sym (length_of_locators_at count bytes 25)) (locators_back count bytes 25 all within) within
 
 -- the header that is read has as many locators as it says
 counted_back : (bytes : List ℕ) → count_at bytes ≡ length (header_at bytes).locators

@@ -4,12 +4,13 @@ use Rattle.std.specs.List.{flat_map}
 use Rattle.std.specs.Int.{to_le_bytes}
 use Rattle.std.proofs.lemmas.List.{take_more}
 use Rattle.std.proofs.lemmas.List.Concat.{flat_map-append}
+use Rattle.dwg_base.specs.Versions.{version_bytes}
 use Rattle.dwg_bits.specs.Bits.{bits}
 use Rattle.dwg_bits.specs.Sink.{Written, Extends}
 use Rattle.dwg_check.specs.CheckWord.{header_check_word}
 use Rattle.dwg_sections.specs.declared.header.Locator.{Locator}
 use Rattle.dwg_sections.specs.declared.header.FileHeader.{FileHeader}
-use Rattle.dwg_sections.specs.FileHeader.{VERSION, HEADER_SENTINEL, locator_bytes, header_front, header_bytes}
+use Rattle.dwg_sections.specs.FileHeader.{HEADER_SENTINEL, locator_bytes, header_front, header_bytes}
 use Rattle.dwg_sections.specs.Writing.{Puts}
 use Rattle.dwg_sections.proofs.BytePuts.{puts_none, puts_both}
 
@@ -37,18 +38,18 @@ one_locator_written old mid new locators i locator d inside here so_far next =
     subst (Puts old new) (sym all) (puts_both old mid new (flat_map locator_bytes (take i locators)) (locator_bytes locator) so_far next)
 
 -- a sink that grew by one field after the other grew by the front
-pub front_written : (s0 s1 s2 s3 s4 s5 s6 s7 : Written) (header : FileHeader) (preview code_page count : List ℕ) (locators : List Locator)
-    → locators ≡ header.locators → preview ≡ to_le_bytes w32 header.preview → code_page ≡ to_le_bytes w16 header.code_page → count ≡ to_le_bytes w32 (length locators)
-    → Puts s0 s1 VERSION → Puts s1 s2 header.lead → Puts s2 s3 preview → Puts s3 s4 header.mark → Puts s4 s5 code_page → Puts s5 s6 count → Puts s6 s7 (flat_map locator_bytes locators)
+pub front_written : (s0 s1 s2 s3 s4 s5 s6 s7 : Written) (header : FileHeader) (version preview code_page count : List ℕ) (locators : List Locator)
+    → version ≡ version_bytes header.version → locators ≡ header.locators → preview ≡ to_le_bytes w32 header.preview → code_page ≡ to_le_bytes w16 header.code_page → count ≡ to_le_bytes w32 (length locators)
+    → Puts s0 s1 version → Puts s1 s2 header.lead → Puts s2 s3 preview → Puts s3 s4 header.mark → Puts s4 s5 code_page → Puts s5 s6 count → Puts s6 s7 (flat_map locator_bytes locators)
     → Puts s0 s7 (header_front header)
-front_written s0 s1 s2 s3 s4 s5 s6 s7 header preview code_page count locators listed previewed paged counted one two three four five six seven =
-    let to_lead = puts_both s0 s1 s2 VERSION header.lead one two in
-    let to_preview = puts_both s0 s2 s3 (VERSION ++ header.lead) preview to_lead three in
-    let to_mark = puts_both s0 s3 s4 (VERSION ++ header.lead ++ preview) header.mark to_preview four in
-    let to_code_page = puts_both s0 s4 s5 (VERSION ++ header.lead ++ preview ++ header.mark) code_page to_mark five in
-    let to_count = puts_both s0 s5 s6 (VERSION ++ header.lead ++ preview ++ header.mark ++ code_page) count to_code_page six in
-    let all = puts_both s0 s6 s7 (VERSION ++ header.lead ++ preview ++ header.mark ++ code_page ++ count) (flat_map locator_bytes locators) to_count seven in
-    let to_13 = ap (λ field. VERSION ++ header.lead ++ field) previewed in
+front_written s0 s1 s2 s3 s4 s5 s6 s7 header version preview code_page count locators versioned listed previewed paged counted one two three four five six seven =
+    let to_lead = puts_both s0 s1 s2 version header.lead one two in
+    let to_preview = puts_both s0 s2 s3 (version ++ header.lead) preview to_lead three in
+    let to_mark = puts_both s0 s3 s4 (version ++ header.lead ++ preview) header.mark to_preview four in
+    let to_code_page = puts_both s0 s4 s5 (version ++ header.lead ++ preview ++ header.mark) code_page to_mark five in
+    let to_count = puts_both s0 s5 s6 (version ++ header.lead ++ preview ++ header.mark ++ code_page) count to_code_page six in
+    let all = puts_both s0 s6 s7 (version ++ header.lead ++ preview ++ header.mark ++ code_page ++ count) (flat_map locator_bytes locators) to_count seven in
+    let to_13 = ap₂ (λ begin field. begin ++ header.lead ++ field) versioned previewed in
     let to_21 = ap₂ (λ front field. front ++ header.mark ++ field) to_13 paged in
     let to_25 = ap₂ ◌++◌ to_21 (counted ∙ ap (λ list. to_le_bytes w32 (length list)) listed) in
     subst (Puts s0 s7) (ap₂ ◌++◌ to_25 (ap (flat_map locator_bytes) listed)) all

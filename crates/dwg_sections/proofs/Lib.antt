@@ -4,6 +4,7 @@ pub mod LocatorFinding
 pub mod LocatorRefusals
 pub mod BytePieces
 pub mod TableLines
+pub mod VersionBegins
 pub mod HeaderPasses
 pub mod HeaderSound
 pub mod HeaderComplete

@@ -1,15 +1,12 @@
 -- The file header (Open Design Specification, "R13 to R2000 file layout"): what it spells.
-use Rattle.std.specs.Prelude.{◌≡◌, ◌≢◌, ℕ, ◌^◌, ◌<◌, ◌≤◌, List, [], ◌∷◌, ◌++◌, length, map, slice_index, Contains, codes, flat_map}
+use Rattle.std.specs.Prelude.{◌≡◌, ◌≢◌, ℕ, ◌^◌, ◌<◌, ◌≤◌, List, [], ◌∷◌, ◌++◌, length, map, slice_index, Contains, flat_map}
 use Rattle.std.specs.List.{AllByRecursion}
 use Rattle.std.specs.Int.{w16, w32, to_le_bytes}
 use Rattle.dwg_base.specs.Bytes.{AreBytes}
+use Rattle.dwg_base.specs.Versions.{version_bytes}
 use Rattle.dwg_check.specs.CheckWord.{header_check_word}
 use Rattle.dwg_sections.specs.declared.header.Locator.{Locator}
 use Rattle.dwg_sections.specs.declared.header.FileHeader.{FileHeader}
-
--- the bytes of the version that is read
-abbrev pub VERSION : List ℕ
-VERSION = codes "AC1015"
 
 -- the sixteen bytes behind the header's check word
 abbrev pub HEADER_SENTINEL : List ℕ
@@ -22,7 +19,7 @@ locator_bytes locator = locator.number ∷ (to_le_bytes w32 locator.place ++ to_
 -- what stands before the check word: the version, seven bytes, RL place of the preview, two bytes, RS code page, RL count of locators, the locators
 abbrev pub header_front : FileHeader → List ℕ
 header_front header =
-    VERSION ++ header.lead ++ to_le_bytes w32 header.preview ++ header.mark ++ to_le_bytes w16 header.code_page
+    version_bytes header.version ++ header.lead ++ to_le_bytes w32 header.preview ++ header.mark ++ to_le_bytes w16 header.code_page
     ++ to_le_bytes w32 (length header.locators) ++ flat_map locator_bytes header.locators
 
 -- the whole header: its front, RS check word, sentinel

@@ -2,6 +2,7 @@
 use Rattle.std.specs.Prelude.{◌≡◌, ℕ, ◌+◌, ◌*◌, ◌<◌, ◌↔◌, List, length, slice_index, Contains, Some, None}
 use Rattle.dwg_base.specs.Bytes.{AreBytes}
 use Rattle.dwg_base.specs.Refusals.{first_fault}
+use Rattle.dwg_base.specs.Versions.{version_at}
 use Rattle.dwg_base.specs.declared.refusal.Refusal.{Refusal}
 use Rattle.dwg_sections.specs.declared.header.Locator.{Locator}
 use Rattle.dwg_sections.specs.declared.header.FileHeader.{FileHeader}
@@ -18,6 +19,10 @@ abbrev pub HeaderIsRead : Type 0
 HeaderIsRead =
     (bytes : List ℕ) (header : FileHeader) → BeginsWithHeader bytes header
     → (first_fault HEADER_LINES bytes ≡ None) × (header ≡ header_at bytes)
+
+-- the version of the header that bytes begin with is the one by which they are read
+abbrev pub HeaderTellsVersion : Type 0
+HeaderTellsVersion = (bytes : List ℕ) (header : FileHeader) → BeginsWithHeader bytes header → header.version ≡ version_at bytes
 
 -- a header has so many bytes without its locators, and so many for each
 abbrev pub HeaderIsCounted : Type 0

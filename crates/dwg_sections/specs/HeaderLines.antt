@@ -3,11 +3,13 @@ use Rattle.std.specs.Prelude.{ℕ, zero, suc, ◌+◌, ◌*◌, Bool, not, ◌||
 use Rattle.std.specs.List.{list_any, range_with_len}
 use Rattle.std.specs.Int.{w16, w32, from_le_bytes}
 use Rattle.dwg_base.specs.Refusals.{RefusalRow, refuse_if}
+use Rattle.dwg_base.specs.Versions.{version_at, version_bytes}
+use Rattle.dwg_base.specs.declared.version.Version.TheVariants.{Ac1014, Ac1015}
 use Rattle.dwg_base.specs.declared.refusal.Refusal.{Refusal}
 use Rattle.dwg_check.specs.CheckWord.{header_check_word}
 use Rattle.dwg_sections.specs.declared.header.Locator.{Locator}
 use Rattle.dwg_sections.specs.declared.header.FileHeader.{FileHeader}
-use Rattle.dwg_sections.specs.FileHeader.{VERSION, HEADER_SENTINEL, locator_numbers}
+use Rattle.dwg_sections.specs.FileHeader.{HEADER_SENTINEL, locator_numbers}
 
 -- so many bytes from the place
 abbrev pub bytes_at : List ℕ → ℕ → ℕ → List ℕ
@@ -33,9 +35,13 @@ locators_end bytes = 25 + 9 * count_at bytes
 unfoldable pub short_line : RefusalRow
 short_line bytes = refuse_if (nat_lt (length bytes) 25) 1 0 (length bytes)
 
+-- whether the first six bytes are those of a version that is read
+abbrev pub begins_with_version : List ℕ → Bool
+begins_with_version bytes = bytes_eq (take 6 bytes) (version_bytes Ac1014) || bytes_eq (take 6 bytes) (version_bytes Ac1015)
+
 -- another version
 unfoldable pub version_line : RefusalRow
-version_line bytes = refuse_if (not (bytes_eq (take 6 bytes) VERSION)) 2 0 0
+version_line bytes = refuse_if (not (begins_with_version bytes)) 2 0 0
 
 -- not three to six locators
 unfoldable pub count_line : RefusalRow
@@ -100,6 +106,7 @@ HEADER_LINES = short_line ∷ version_line ∷ count_line ∷ cut_line ∷ check
 -- the header that the bytes begin with, where no line on the header fails
 unfoldable pub header_at : List ℕ → FileHeader
 header_at bytes = record {
+  version = version_at bytes;
   lead = bytes_at bytes 6 7;
   preview = rl_at bytes 13;
   mark = bytes_at bytes 17 2;

@@ -12,7 +12,7 @@ use crate::header_lines::{count, refusal_of_header};
 use crate::header_places::{
     CODE_PAGE_PLACE, LEAD_PLACE, LOCATOR_SIZE, LOCATORS_PLACE, MARK_PLACE, PREVIEW_PLACE,
 };
-use dwg_base::{Fault, Items, NoMemory};
+use dwg_base::{Fault, Items, NoMemory, Version};
 use std::alloc::Global;
 
 /// Where a section lies (Open Design Specification, "R13 to R2000 file layout").
@@ -29,6 +29,8 @@ pub struct Locator {
 /// The file header (Open Design Specification, "R13 to R2000 file layout").
 #[derive(Drop)]
 pub struct FileHeader {
+    /// The version, by the six bytes with which the file begins.
+    pub version: Version,
     /// Seven bytes behind the version, kept without meaning.
     pub lead: [u8; 7],
     /// The place of the preview section.
@@ -137,6 +139,7 @@ fn read_parts(alloc: Global, bytes: &[u8]) -> Result<FileHeader, NoMemory>
 {
     let locators = read_locators(alloc, bytes, count(bytes))?;
     Ok(FileHeader {
+        version: Version::of_input(bytes),
         lead: lead(bytes),
         preview: preview(bytes),
         mark: mark(bytes),
@@ -146,7 +149,7 @@ fn read_parts(alloc: Global, bytes: &[u8]) -> Result<FileHeader, NoMemory>
 }
 
 /// Reads the file header at the front of the input. It is refused by the first of its lines that fails: the input is
-/// short, the version or the count of locators is another, the check word or the sentinel is wrong, a locator has the
+/// short, the version is neither AC1014 nor AC1015, the count of locators is another, the check word or the sentinel is wrong, a locator has the
 /// number of an earlier one, or 0, 1 or 2 is no locator's number.
 pub fn read_file_header(alloc: Global, bytes: &[u8]) -> Result<FileHeader, Fault>
     // The header that the input begins with; there is one exactly where no line on the header fails.

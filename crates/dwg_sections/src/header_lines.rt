@@ -1,16 +1,16 @@
 //! The lines of the table of refusals on the file header.
 
-ghost use Rattle.std.specs.Prelude.{◌≡◌, ◌+◌, ◌≤◌, length, take, bytes_eq, ◌==◌, MatchOption};
+ghost use Rattle.std.specs.Prelude.{◌≡◌, ◌+◌, ◌≤◌, length, ◌==◌, MatchOption, bytes_eq, take};
 ghost use Rattle.dwg_base.specs.Refusals.{first_fault, IsOfTable};
 ghost use Rattle.dwg_check.specs.CheckWord.{header_check_word};
-ghost use Rattle.dwg_sections.specs.FileHeader.{VERSION, HEADER_SENTINEL};
-ghost use Rattle.dwg_sections.specs.HeaderLines.{HEADER_LINES, bytes_at, rs_at, count_at, locators_end};
+ghost use Rattle.dwg_sections.specs.FileHeader.{HEADER_SENTINEL};
+ghost use Rattle.dwg_sections.specs.HeaderLines.{HEADER_LINES, begins_with_version, bytes_at, rs_at, count_at, locators_end};
 
 use crate::fields::{piece, rl, rs};
 use crate::header_places::{COUNT_PLACE, LOCATOR_SIZE, LOCATORS_PLACE};
 use crate::locator_lines::refusal_of_locators;
 use crate::refusals::refusal;
-use dwg_base::Refusal;
+use dwg_base::{Refusal, Version};
 use dwg_check::header_word;
 
 // The lines of the table, in the order in which they are tried.
@@ -25,9 +25,6 @@ const CUT_LINE: u8 = 4;
 const CHECK_LINE: u8 = 5;
 
 const SENTINEL_LINE: u8 = 6;
-
-/// The bytes of the version that is read.
-pub const VERSION_BYTES: [u8; 6] = *b"AC1015";
 
 /// The sixteen bytes behind the check word.
 pub const SENTINEL_BYTES: [u8; 16] = [
@@ -46,12 +43,11 @@ const CHECK_SIZE: usize = 2;
 /// The bytes of the check word and of the sentinel behind it.
 const TAIL_SIZE: usize = 18;
 
-/// Whether the input begins with the version that is read.
-fn is_version(bytes: &[u8]) -> bool
-    requires { 25 ≤ length bytes.now }
-    ensures { result ≡ bytes_eq (take 6 bytes.now) VERSION }
+/// Whether the input begins with the bytes of a version that is read.
+fn has_version(bytes: &[u8]) -> bool
+    ensures { result ≡ begins_with_version bytes.now }
 {
-    bytes.starts_with(&VERSION_BYTES)
+    bytes.starts_with(&Version::Ac1014.bytes()) || bytes.starts_with(&Version::Ac1015.bytes())
 }
 
 /// The count of locators that the header says it has.
@@ -91,7 +87,7 @@ pub fn refusal_of_header(bytes: &[u8]) -> Option<Refusal>
     if length < LOCATORS_PLACE {
         return Some(refusal(SHORT_LINE, 0, length));
     }
-    if !is_version(bytes) {
+    if !has_version(bytes) {
         return Some(refusal(VERSION_LINE, 0, 0));
     }
     let count = count(bytes);

@@ -10,7 +10,7 @@ ghost use Rattle.dwg_sections.specs.Writing.{Puts};
 
 use crate::appending::put;
 use crate::header::{FileHeader, Locator};
-use crate::header_lines::{SENTINEL_BYTES, VERSION_BYTES};
+use crate::header_lines::SENTINEL_BYTES;
 use dwg_bits::BitSink;
 use dwg_check::header_word;
 
@@ -44,7 +44,7 @@ fn write_front(header: &FileHeader, sink: &mut BitSink)
 {
     let locators = header.locators.as_slice();
     let count = locators.len() as u32;
-    put(&VERSION_BYTES, sink);
+    put(&header.version.bytes(), sink);
     put(&header.lead, sink);
     put(&header.preview.to_le_bytes(), sink);
     put(&header.mark, sink);

@@ -1,5 +1,6 @@
 -- The text of a drawing. A rule of this project.
 use Rattle.std.specs.Prelude.{ℕ, List, ◌++◌, codes, decimal, flat_map, length}
+use Rattle.dwg_base.specs.Versions.{version_bytes}
 use Rattle.dwg_file.specs.Contents.{Contents, OtherValue}
 use Rattle.dwg_object.specs.Objects.{ObjectValue}
 use Rattle.dwg_text.specs.Classes.{classes_text}
@@ -10,7 +11,7 @@ use Rattle.dwg_show.specs.ObjectText.{object_text}
 -- the version, the code page, and the bytes that are kept without meaning
 unfoldable pub drawing_line : Contents → List ℕ
 drawing_line drawing =
-    line (codes "drawing AC1015 codepage " ++ decimal drawing.code_page ++ codes " lead " ++ bytes_text drawing.lead ++ codes " mark " ++ bytes_text drawing.mark)
+    line (codes "drawing " ++ version_bytes drawing.version ++ codes " codepage " ++ decimal drawing.code_page ++ codes " lead " ++ bytes_text drawing.lead ++ codes " mark " ++ bytes_text drawing.mark)
 
 -- the header variables
 unfoldable pub variables_line : List ℕ → List ℕ

@@ -3,6 +3,7 @@
 ghost use Rattle.std.specs.Prelude.{◌≡◌, ⊤, ◌≤◌, ◌++◌, codes, decimal, flat_map, IsErrOf, IfOk, OnOk, map, string_bytes};
 ghost use Rattle.std.specs.List.{AllByRecursion};
 ghost use Rattle.dwg_base.specs.Devices.{LAST_COUNT, Rose, Sends};
+ghost use Rattle.dwg_base.specs.Versions.{version_bytes};
 ghost use Rattle.dwg_file.specs.Contents.{contents_of, other_value};
 ghost use Rattle.dwg_file.specs.Valid.{IsValid};
 ghost use Rattle.dwg_object.specs.Objects.{value_of};
@@ -13,12 +14,12 @@ ghost use Rattle.dwg_show.specs.FewBits.{HasFewBits};
 ghost use Rattle.dwg_page.specs.Telling.{Tells};
 
 use crate::paragraphs::{Tell, tell_all};
-use dwg_base::Sink;
+use dwg_base::{Sink, Version};
 use dwg_classes::Class;
 use dwg_file::{Drawing, Other, Parts};
 use dwg_object::Object;
 use dwg_page::{Page, ShowFault, tell_bytes};
-use dwg_text::push_class_line;
+use dwg_text::{push_class_line, version_word};
 use std::alloc::{AllocError, Global};
 
 /// The line of a class. The only refusal is want of memory.
@@ -71,17 +72,21 @@ impl Tell for Other<'_> {
 }
 
 /// The front of the line that a drawing begins with.
-fn drawing_front(alloc: Global, code_page: u16) -> Result<String, AllocError>
-    ensures { IfOk result (λ text. string_bytes text ≡ codes "drawing AC1015 codepage " ++ decimal code_page ++ codes " lead ") }
+fn drawing_front(alloc: Global, version: Version, code_page: u16) -> Result<String, AllocError>
+    ensures { IfOk result (λ text. string_bytes text ≡ codes "drawing " ++ version_bytes version ++ codes " codepage " ++ decimal code_page ++ codes " lead ") }
 {
-    format!(in alloc; "drawing AC1015 codepage {code_page} lead ")
+    let version = version_word(version);
+    format!(in alloc; "drawing {version} codepage {code_page} lead ")
 }
 
 /// Tells the version, the code page, and the bytes that are kept without meaning.
 fn tell_drawing_line<W: Sink>(parts: &Parts<'_>, page: &mut Page, sink: &mut W)
     ensures { Tells page.old page.new (W.taken sink.old) (W.taken sink.new) (W.faults sink.old) (W.faults sink.new) (texts.drawing_line (contents_of parts.now)) }
 {
-    page.tell_made(drawing_front(page.alloc, parts.code_page), sink);
+    page.tell_made(
+        drawing_front(page.alloc, parts.version, parts.code_page),
+        sink,
+    );
     tell_bytes(&parts.lead, page, sink);
     page.tell(" mark ", sink);
     tell_bytes(&parts.mark, page, sink);

@@ -14,4 +14,4 @@ pub use notes::{
     too_long_note, unsound_note, usage_note,
 };
 pub use quoted::push_quoted;
-pub use sections::sections_text;
+pub use sections::{sections_text, version_word};

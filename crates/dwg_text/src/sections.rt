@@ -1,11 +1,22 @@
 //! The text of a file's sections.
 
 ghost use Rattle.std.specs.Prelude.{◌≡◌, ◌++◌, IfOk, OnOk, string_bytes};
+ghost use Rattle.dwg_base.specs.Versions.{version_bytes};
 ghost use Rattle.dwg_text.specs.Sections as texts;
 
-use dwg_base::{ByteRun, NoMemory};
+use dwg_base::{ByteRun, NoMemory, Version};
 use dwg_sections::{FileHeader, Locator};
 use std::alloc::{AllocError, Global};
+
+/// The word of a version, as its files begin.
+pub fn version_word(version: Version) -> &'static str
+    ensures { result.now ≡ version_bytes version }
+{
+    match version {
+        Version::Ac1014 => "AC1014",
+        Version::Ac1015 => "AC1015",
+    }
+}
 
 #[tactic(auto, unfolding(crate::specs::Sections::section_line))]
 fn push_section_line(text: &mut String, locator: &Locator) -> Result<(), AllocError>
@@ -26,7 +37,10 @@ fn text_of(alloc: Global, header: &FileHeader) -> Result<String, AllocError>
 {
     let code_page = header.code_page;
     let preview = header.preview;
-    let mut text = format!(in alloc; "version AC1015\ncodepage {code_page}\npreview {preview}\n")?;
+    let version = version_word(header.version);
+    let mut text = format!(in alloc;
+        "version {version}\ncodepage {code_page}\npreview {preview}\n"
+    )?;
     for locator in header.locators.as_slice() {
         push_section_line(&mut text, locator)?;
     }

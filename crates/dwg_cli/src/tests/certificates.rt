@@ -31,7 +31,7 @@ fn together(alloc: Global, certificate: &str, drawing: &str) -> Option<Vec<u8>> 
 }
 
 /// `CERTIFICATE | DRAWING | STATUS | OUTPUT | NOTES`: what `accept` leaves of both, one behind the other.
-struct Accepted;
+pub(crate) struct Accepted;
 
 impl Case for Accepted {
     fn holds(alloc: Global, line: &str) -> bool {

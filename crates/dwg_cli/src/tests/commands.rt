@@ -12,7 +12,7 @@ use std::alloc::Global;
 use std::test::Fail;
 
 /// `INPUT | BYTES`: what an input is.
-struct Spelled;
+pub(crate) struct Spelled;
 
 impl Case for Spelled {
     fn holds(alloc: Global, line: &str) -> bool {
@@ -41,7 +41,7 @@ impl Case for OfEachCommand {
 }
 
 /// A paragraph: an input, and below it the lines that show it.
-struct Shown;
+pub(crate) struct Shown;
 
 impl Case for Shown {
     fn holds(alloc: Global, paragraph: &str) -> bool {

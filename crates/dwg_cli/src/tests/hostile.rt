@@ -34,17 +34,33 @@ fn code_of(alloc: Global, line: &str, input: &str) -> Option<u8> {
     Some(ran(alloc, line, &bytes, in_pieces(PLENTY))?.status.code())
 }
 
-/// The drawing with one object, cut to a length, is refused by `rewrite`, and `recover` says that it is damaged.
+/// Whether a file that is cut to a length is refused by `rewrite`, and `recover` says that it is damaged.
+fn is_cut_told(alloc: Global, file: &str, length: usize) -> Option<bool> {
+    let input = format!(in alloc; "{} #{}", file, length).ok()?;
+    let rewritten = code_of(alloc, "dwg rewrite", input.as_str())?;
+    let recovered = code_of(alloc, "dwg recover", input.as_str())?;
+    Some(rewritten == 3 && recovered == 1)
+}
+
+/// The drawing with one object, cut to a length, is refused and told so.
 struct Cut;
 
 impl Numbered for Cut {
     const WHAT: &'static str = "cut to a length";
 
     fn holds(alloc: Global, number: usize) -> Option<bool> {
-        let input = format!(in alloc; "one_object #{}", number).ok()?;
-        let rewritten = code_of(alloc, "dwg rewrite", input.as_str())?;
-        let recovered = code_of(alloc, "dwg recover", input.as_str())?;
-        Some(rewritten == 3 && recovered == 1)
+        is_cut_told(alloc, "one_object", number)
+    }
+}
+
+/// The same of AC1014.
+struct OlderCut;
+
+impl Numbered for OlderCut {
+    const WHAT: &'static str = "of AC1014, cut to a length";
+
+    fn holds(alloc: Global, number: usize) -> Option<bool> {
+        is_cut_told(alloc, "older_object", number)
     }
 }
 
@@ -93,26 +109,47 @@ impl Numbered for FailingWrite {
     }
 }
 
-/// With a byte changed to its complement, that drawing is refused for the check word of its object, and just the object is lost.
+/// Whether a file of one object, with a byte changed to its complement, is refused for the check word of its object, and just the
+/// object is lost, so that another file is left.
+fn is_damage_told(alloc: Global, file: &str, place: usize, left: &str) -> Option<bool> {
+    let input = format!(in alloc; "{} ~{}", file, place).ok()?;
+    let refused = "Refused 30 0 183 | - | dwg: refused: objects 0 at 183: check";
+    let lost = format!(in alloc;
+        "Found | file {} | dwg: refused: objects 0 at 183: check; lost: object C at 183; kept 0",
+        left
+    )
+    .ok()?;
+    let rewritten = answers_text(alloc, "dwg rewrite", input.as_str(), refused)?;
+    let recovered = answers_text(alloc, "dwg recover", input.as_str(), lost.as_str())?;
+    Some(rewritten && recovered)
+}
+
+/// With a byte changed, that drawing has lost its object.
 struct Damaged;
 
 impl Numbered for Damaged {
     const WHAT: &'static str = "a damaged byte";
 
     fn holds(alloc: Global, number: usize) -> Option<bool> {
-        let input = format!(in alloc; "one_object ~{}", number).ok()?;
-        let refused = "Refused 30 0 183 | - | dwg: refused: objects 0 at 183: check";
-        let lost =
-            "Found | file smallest | dwg: refused: objects 0 at 183: check; lost: object C at 183; kept 0";
-        let rewritten = answers_text(alloc, "dwg rewrite", input.as_str(), refused)?;
-        let recovered = answers_text(alloc, "dwg recover", input.as_str(), lost)?;
-        Some(rewritten && recovered)
+        is_damage_told(alloc, "one_object", number, "smallest")
+    }
+}
+
+/// The same of AC1014.
+struct OlderDamaged;
+
+impl Numbered for OlderDamaged {
+    const WHAT: &'static str = "of AC1014, a damaged byte";
+
+    fn holds(alloc: Global, number: usize) -> Option<bool> {
+        is_damage_told(alloc, "older_object", number, "older_smallest")
     }
 }
 
 #[test]
 fn every_cut_is_told(rt: HostRuntime) -> Result<(), Fail> {
-    every_number::<Cut>(rt.alloc(), 0, 210)
+    every_number::<Cut>(rt.alloc(), 0, 210)?;
+    every_number::<OlderCut>(rt.alloc(), 0, 209)
 }
 
 #[test]
@@ -179,5 +216,6 @@ dwg recover | one_page ~213 ~214 | Found | file two_of_page | dwg: refused: obje
 
 #[test]
 fn every_damaged_byte_is_told(rt: HostRuntime) -> Result<(), Fail> {
-    every_number::<Damaged>(rt.alloc(), 185, 199)
+    every_number::<Damaged>(rt.alloc(), 185, 199)?;
+    every_number::<OlderDamaged>(rt.alloc(), 185, 198)
 }

@@ -12,7 +12,7 @@ use std::alloc::Global;
 use std::test::Fail;
 
 /// `WHAT IS DAMAGED | INPUT | FILE | NOTES`: what recovery of an input that spells no drawing leaves.
-struct Recovered;
+pub(crate) struct Recovered;
 
 impl Case for Recovered {
     fn holds(alloc: Global, line: &str) -> bool {

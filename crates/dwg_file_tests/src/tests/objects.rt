@@ -2,12 +2,13 @@
 
 ghost use Rattle.std.specs.Prelude.{◌≡◌, ◌*◌, ◌^◌, ◌<◌, ◌≤◌, [], length, IfSome};
 ghost use Rattle.dwg_object.specs.Objects.{value_of};
+ghost use Rattle.dwg_base.specs.declared.version.Version.TheVariants.{Ac1015};
 ghost use Rattle.dwg_object.specs.Written.{PartsFit, body_bytes};
 
 use crate::tests::inputs::{classes_of, frame, placed, small};
 use crate::tests::table::{Telling, hold};
 use crate::tests::told;
-use dwg_base::{Fault, Handle, NoMemory};
+use dwg_base::{Fault, Handle, NoMemory, Version};
 use dwg_bits::BitSink;
 use dwg_classes::Class;
 use dwg_codes::BytePart;
@@ -31,7 +32,7 @@ pub(crate) fn frame_at<'a>(
     place: u64,
     classes: &[Class],
 ) -> Result<Found<'a>, Fault> {
-    read_frame(alloc, bytes, place, 7, classes)
+    read_frame(alloc, bytes, place, 7, classes, Version::Ac1015)
 }
 
 /// What is told of what was read.
@@ -190,25 +191,52 @@ fn tell_body(told: &mut String, object: Option<&Object<'_>>) -> Option<()> {
 }
 
 /// What is read of a body, which has less than a hundred bytes.
-fn body_of<'a>(alloc: Global, body: &'a [u8]) -> Result<Option<Object<'a>>, Fault> {
+fn body_of<'a>(
+    alloc: Global,
+    body: &'a [u8],
+    version: Version,
+) -> Result<Option<Object<'a>>, Fault> {
     if body.len() >= 100 {
         return Err(Fault::NoMemory);
     }
-    match read_body(alloc, body, &[]) {
+    match read_body(alloc, body, &[], version) {
         Ok(object) => Ok(object),
         Err(NoMemory) => Err(Fault::NoMemory),
     }
 }
 
 /// Adds what is read of a body.
-fn tell_read(alloc: Global, told: &mut String, body: &[u8]) -> Option<()> {
-    tell_answer::<Bodies, Option<Object<'_>>>(alloc, told, body_of(alloc, body))
+fn tell_read(alloc: Global, told: &mut String, body: &[u8], version: Version) -> Option<()> {
+    tell_answer::<Bodies, Option<Object<'_>>>(alloc, told, body_of(alloc, body, version))
 }
 
 impl Telling for Bodies {
     fn tell(alloc: Global, told: &mut String, input: &str) -> Option<()> {
-        tell_read(alloc, told, &bytes_of(alloc, input)?)
+        tell_read(alloc, told, &bytes_of(alloc, input)?, Version::Ac1015)
     }
+}
+
+/// The same by the rules of AC1014.
+struct OlderBodies;
+
+impl Telling for OlderBodies {
+    fn tell(alloc: Global, told: &mut String, input: &str) -> Option<()> {
+        tell_read(alloc, told, &bytes_of(alloc, input)?, Version::Ac1014)
+    }
+}
+
+#[test]
+fn a_body_is_read_by_the_rules_of_a_version(rt: HostRuntime) -> Result<(), Fail> {
+    // A dictionary as AC1014 and as AC1015 spell it, of which each has no head in the other; one whose bit size is too great.
+    let cases = "\
+        4A8043248000000A004030 => 42 C DICTIONARY typed\n\
+        4A9280000000432A80100C00 => none\n\
+        4A80432F8000000A004030 => 42 C DICTIONARY raw 11\n";
+    hold::<OlderBodies>(&rt, rt.alloc(), cases);
+    let cases = "\
+        4A8043248000000A004030 => none\n";
+    hold::<Bodies>(&rt, rt.alloc(), cases);
+    Ok(())
 }
 
 #[test]
@@ -240,11 +268,11 @@ fn sink_for(alloc: Global, count: u64) -> Option<BitSink>
 
 /// What is written as the frame of an object.
 fn written(alloc: Global, object: &Object<'_>) -> Option<BitSink>
-    requires fits { PartsFit (value_of object.now) }
-    requires few { length (body_bytes (value_of object.now)) < 2 ^ 29 }
+    requires fits { PartsFit Ac1015 (value_of object.now) }
+    requires few { length (body_bytes Ac1015 (value_of object.now)) < 2 ^ 29 }
 {
-    let mut sink = sink_for(alloc, frame_length(object))?;
-    write_frame(object, &mut sink);
+    let mut sink = sink_for(alloc, frame_length(object, Version::Ac1015))?;
+    write_frame(object, Version::Ac1015, &mut sink);
     Some(sink)
 }
 

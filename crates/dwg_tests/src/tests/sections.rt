@@ -6,7 +6,7 @@ ghost use Rattle.dwg_sections.specs.FileHeader.{LocateSections};
 use crate::tests::lines::{Line, Tale, all_hold};
 use crate::tests::sinks::{bytes_in, has_room};
 use crate::tests::told::Told;
-use dwg_base::{Fault, Refusal};
+use dwg_base::{Fault, Refusal, Version};
 use dwg_bits::BitSink;
 use dwg_check::header_word;
 use dwg_samples::bytes_of;
@@ -16,7 +16,7 @@ use dwg_sections::{
 };
 use std::alloc::Global;
 
-/// `: HEADER | lead, preview, mark and code page, and number, place and size of each locator`
+/// `: HEADER | AC1014, where the header is of that version; lead, preview, mark and code page; and number, place and size of each locator`
 struct Headers;
 
 /// Tells the line, the index and the place of a refusal.
@@ -42,8 +42,16 @@ fn tell_locator(locator: &Locator, told: &mut Told) {
     told.hex(u64::from(locator.size));
 }
 
+/// Tells the version, where it is AC1014.
+fn tell_version(version: Version, told: &mut Told) {
+    if version == Version::Ac1014 {
+        told.word("AC1014");
+    }
+}
+
 /// Tells what stands before the locators.
 fn tell_front(header: &FileHeader, told: &mut Told) {
+    tell_version(header.version, told);
     told.bytes(&header.lead);
     told.hex(u64::from(header.preview));
     told.bytes(&header.mark);
@@ -186,6 +194,41 @@ fn every_field_of_a_header_is_read_and_written(rt: HostRuntime) {
     );
 }
 
+#[test]
+fn a_header_of_ac1014_is_read_and_written(rt: HostRuntime) {
+    let alloc = rt.alloc();
+    // The smallest canonical file's, and one with six locators, as above but for the version and the check word.
+    all_hold::<Headers>(
+        &rt,
+        alloc,
+        "\
+        : 414331303134 00000000000000 92000000 0000 0000 03000000 \
+        00 46000000 26000000  01 6C000000 26000000  02 B7000000 04000000 \
+        BC0D 95A04E28 99821AE5 5E41E05F 9D3A4D00 \
+        | AC1014 =00000000000000 x92 =0000 x0 0 x46 x26 1 x6C x26 2 xB7 x4\n\
+        : 414331303134 01020304050607 0A0B0C0D 0809 0E0F 06000000 \
+        05 11121314 15161718  02 21222324 25262728  C8 31323334 35363738 \
+        00 41424344 45464748  03 51525354 55565758  01 61626364 65666768 \
+        8FA8 95A04E28 99821AE5 5E41E05F 9D3A4D00 \
+        | AC1014 =01020304050607 xD0C0B0A =0809 xF0E 5 x14131211 x18171615 2 x24232221 x28272625 200 x34333231 x38373635 \
+        0 x44434241 x48474645 3 x54535251 x58575655 1 x64636261 x68676665",
+    );
+    all_hold::<Places>(
+        &rt,
+        alloc,
+        "\
+        : 414331303134 00000000000000 92000000 0000 0000 03000000 \
+        00 46000000 26000000  01 6C000000 26000000  02 B7000000 04000000 \
+        BC0D 95A04E28 99821AE5 5E41E05F 9D3A4D00 \
+        | x46 x6C xB7 none same\n\
+        : 414331303134 01020304050607 0A0B0C0D 0809 0E0F 06000000 \
+        05 11121314 15161718  02 21222324 25262728  C8 31323334 35363738 \
+        00 41424344 45464748  03 51525354 55565758  01 61626364 65666768 \
+        8FA8 95A04E28 99821AE5 5E41E05F 9D3A4D00 \
+        | x44434241 x64636261 x24232221 x54535251 same",
+    );
+}
+
 /// The header of the smallest canonical file.
 const HEADER: &str = "414331303135 00000000000000 92000000 0000 0000 03000000 \
     00 46000000 26000000  01 6C000000 26000000  02 B7000000 04000000 \
@@ -263,6 +306,39 @@ fn names_the_first_line_of_a_header_that_fails(rt: HostRuntime) {
         mended 25 9 | refused 8 0 21\n\
         mended 34 9 | refused 8 1 21\n\
         mended 43 9 | refused 8 2 21",
+    );
+}
+
+#[test]
+fn no_other_version_is_read(rt: HostRuntime) {
+    let alloc = rt.alloc();
+    // AC1015 and AC1014 with the check word of AC1015; AC1012, AC1018 and others.
+    all_hold::<Changes>(
+        &rt,
+        alloc,
+        "\
+        5 53 | =00000000000000 x92 =0000 x0 0 x46 x26 1 x6C x26 2 xB7 x4\n\
+        5 52 | refused 5 0 52\n\
+        mended 5 52 | AC1014 =00000000000000 x92 =0000 x0 0 x46 x26 1 x6C x26 2 xB7 x4\n\
+        mended 5 50 | refused 2 0 0\n\
+        mended 5 51 | refused 2 0 0\n\
+        mended 5 54 | refused 2 0 0\n\
+        mended 5 56 | refused 2 0 0\n\
+        mended 5 0 | refused 2 0 0\n\
+        mended 4 48 | refused 2 0 0",
+    );
+    // Too few bytes for a version or for what stands before the locators, which comes first; and just as many.
+    all_hold::<Headers>(
+        &rt,
+        alloc,
+        "\
+        : 4143313031 | refused 1 0 5\n\
+        : 414331303134 | refused 1 0 6\n\
+        : 414331303134 00000000000000 92000000 0000 0000 030000 | refused 1 0 24\n\
+        : 414331303132 00000000000000 92000000 0000 0000 030000 | refused 1 0 24\n\
+        : 414331303134 00000000000000 92000000 0000 0000 03000000 | refused 4 0 25\n\
+        : 414331303132 00000000000000 92000000 0000 0000 03000000 | refused 2 0 0\n\
+        : 414331303100 00000000000000 92000000 0000 0000 03000000 | refused 2 0 0",
     );
 }
 

@@ -1,6 +1,6 @@
 //! Texts and notes.
 
-use dwg_base::{ByteRun, Items, NoMemory, Refusal};
+use dwg_base::{ByteRun, Items, NoMemory, Refusal, Version};
 use dwg_classes::Class;
 use dwg_samples::bytes_of;
 use dwg_sections::{FileHeader, Locator};
@@ -29,8 +29,8 @@ fn is_printed(rt: &impl Abort, text: &str, wanted: &str) {
     assert_eq!(rt; text, wanted);
 }
 
-/// A header whose lead and mark aren't printed, with one locator.
-fn header(alloc: Global) -> FileHeader {
+/// A header of a version whose lead and mark aren't printed, with one locator.
+fn header(alloc: Global, version: Version) -> FileHeader {
     let mut locators = Items::new(alloc);
     let _full = locators.push(Locator {
         number: 255,
@@ -38,6 +38,7 @@ fn header(alloc: Global) -> FileHeader {
         size: 1_000,
     });
     FileHeader {
+        version,
         lead: [1; 7],
         preview: 7,
         mark: [2; 2],
@@ -56,10 +57,16 @@ fn note(alloc: Global) -> Result<ByteRun, NoMemory> {
     refusal_note(alloc, refusal)
 }
 
-/// The text of the header, and the notes.
+/// Adds the text of the header of a version.
+fn print_sections(alloc: Global, text: &mut String, version: Version) {
+    print_run(text, sections_text(alloc, &header(alloc, version)));
+}
+
+/// The text of the header of each version, and the notes.
 fn texts(alloc: Global) -> String {
     let mut text = String::new(alloc);
-    print_run(&mut text, sections_text(alloc, &header(alloc)));
+    print_sections(alloc, &mut text, Version::Ac1015);
+    print_sections(alloc, &mut text, Version::Ac1014);
     print_run(&mut text, note(alloc));
     print(&mut text, read_fault_note());
     print(&mut text, too_long_note());
@@ -73,6 +80,10 @@ fn prints_sections_and_notes(rt: HostRuntime) {
         &rt,
         texts(rt.alloc()).as_str(),
         "version AC1015\n\
+        codepage 30\n\
+        preview 7\n\
+        section 255 at 4294967295 size 1000\n\
+        version AC1014\n\
         codepage 30\n\
         preview 7\n\
         section 255 at 4294967295 size 1000\n\

@@ -15,23 +15,23 @@ pub returns-in-Err-read_span-clause-tried : goal.returns-in-Err-read_span-clause
 returns-in-Err-read_span-clause-tried c = λ earlier taken.
     frame_refused c.args.hints.now c.args.bytes.now earlier c.args.index c.args.pair.now c.in-Ok.span c.in-Err-read_span.fault (sym c.in-Ok.ensures.tried)
     (taken c.in-Ok.span.from c.in-Ok.span.end ∙ sym c.shares.ensures ∙ c.if-shares.false)
-    (answered_at_pair c.args.bytes.now c.args.pair.now.place c.in-Ok.span.from c.args.index (Err c.in-Err-read_span.fault) c.in-Ok.ensures.place c.in-Err-read_span.ensures.tried)
+    (answered_at_pair _ c.args.bytes.now c.args.pair.now.place c.in-Ok.span.from c.args.index (Err c.in-Err-read_span.fault) c.of_input.ensures c.in-Ok.ensures.place c.in-Err-read_span.ensures.tried)
 
 pub returns-then-not-has_handle-clause-tried : goal.returns-then-not-has_handle-clause-tried
 returns-then-not-has_handle-clause-tried c = λ earlier taken.
     handle_refused c.args.hints.now c.args.bytes.now earlier c.args.index _ c.args.pair.now c.in-Ok.span c.in-Ok-read_span.found c.refused-then-not-has_handle.result
     (sym c.in-Ok.ensures.tried) (taken c.in-Ok.span.from c.in-Ok.span.end ∙ sym c.shares.ensures ∙ c.if-shares.false)
-    (answered_at_pair c.args.bytes.now _ _ _ (Ok c.in-Ok-read_span.found) c.in-Ok.ensures.place c.in-Ok-read_span.ensures.tried) refl
+    (answered_at_pair _ c.args.bytes.now _ _ _ (Ok c.in-Ok-read_span.found) c.of_input.ensures c.in-Ok.ensures.place c.in-Ok-read_span.ensures.tried) refl
     (λ same. search rules) c.refused-then-not-has_handle.ensures
 
 pub returns-clause-tried : goal.returns-clause-tried
 returns-clause-tried c = λ earlier taken.
     frame_found c.args.hints.now c.args.bytes.now earlier c.args.index _ c.args.pair.now c.in-Ok.span c.in-Ok-read_span.found (λ i. omega (arith, c.type_inv.bytes i))
     (sym c.in-Ok.ensures.tried) c.in-Ok.ensures.found c.in-Ok.ensures.place (taken c.in-Ok.span.from c.in-Ok.span.end ∙ sym c.shares.ensures ∙ c.if-shares.false)
-    (answered_at_pair c.args.bytes.now _ _ _ (Ok c.in-Ok-read_span.found) c.in-Ok.ensures.place c.in-Ok-read_span.ensures.tried)
-    (found_at_pair c.args.bytes.now _ _ _ c.in-Ok-read_span.found c.in-Ok.ensures.place c.in-Ok-read_span.ensures.found) refl (search rules)
+    (answered_at_pair _ c.args.bytes.now _ _ _ (Ok c.in-Ok-read_span.found) c.of_input.ensures c.in-Ok.ensures.place c.in-Ok-read_span.ensures.tried)
+    (found_at_pair _ c.args.bytes.now _ _ _ c.in-Ok-read_span.found c.of_input.ensures c.in-Ok.ensures.place c.in-Ok-read_span.ensures.found) refl (search rules)
 
 pub returns-clause-apart : goal.returns-clause-apart
 returns-clause-apart c =
     frame_apart c.args.bytes.now c.args.taken.now c.args.index c.args.pair.now.place c.in-Ok.span c.in-Ok-read_span.found (λ i. omega (arith, c.type_inv.bytes i)) c.in-Ok.ensures.found
-    c.in-Ok.ensures.place (answered_at_pair c.args.bytes.now _ _ _ (Ok c.in-Ok-read_span.found) c.in-Ok.ensures.place c.in-Ok-read_span.ensures.tried) (sym c.shares.ensures ∙ c.if-shares.false)
+    c.in-Ok.ensures.place (answered_at_pair _ c.args.bytes.now _ _ _ (Ok c.in-Ok-read_span.found) c.of_input.ensures c.in-Ok.ensures.place c.in-Ok-read_span.ensures.tried) (sym c.shares.ensures ∙ c.if-shares.false)

@@ -17,7 +17,7 @@ content_length-content-requires-clause-writable c = subst AreWritable (sym c.as_
 
 pub place_objects-requires-clause-framed : goal.place_objects-requires-clause-framed
 place_objects-requires-clause-framed c =
-    subst (λ (objects : List Object). AllByRecursion CanBeFramed (map value_of objects)) (sym c.as_slice-3.ensures) (valid_framed (contents_of c.args.parts.now) c.requires)
+    subst (λ (objects : List Object). AllByRecursion (CanBeFramed c.args.parts.now.version) (map value_of objects)) (sym c.as_slice-3.ensures) (valid_framed (contents_of c.args.parts.now) c.requires)
 
 pub map_length-requires-clause-ascending : goal.map_length-requires-clause-ascending
 map_length-requires-clause-ascending c =
@@ -36,9 +36,9 @@ pub returns-clause-room : goal.returns-clause-room
 returns-clause-room c =
     let drawing = contents_of c.args.parts.now in
     let part = c.max-2.result in
-    let all = subst (λ (objects : List Object). AllByRecursion (FitsIn c.in_ok-frames.frames.part) (map value_of objects)) c.as_slice-3.ensures c.in_ok-frames.ensures.part in
+    let all = subst (λ (objects : List Object). AllByRecursion (FitsIn c.args.parts.now.version c.in_ok-frames.frames.part) (map value_of objects)) c.as_slice-3.ensures c.in_ok-frames.ensures.part in
     record {
       header = omega (arith, c.max.ensures, c.max-2.ensures, ap length c.as_slice-sections.ensures, length-map c.args.parts.now.others other_value);
       classes = omega (arith, c.max.ensures, c.max-2.ensures, c.content_length-content.ensures, ap (λ (all : List Class). length (class_content all)) c.as_slice-2.ensures);
-      objects = objects_sent c.args.parts.now.classes drawing.objects c.in_ok-frames.frames.part (8 * part) (omega (arith, c.max-2.ensures)) c.requires.objects all;
+      objects = objects_sent c.args.parts.now.version c.args.parts.now.classes drawing.objects c.in_ok-frames.frames.part (8 * part) (omega (arith, c.max-2.ensures)) c.requires.objects all;
     }

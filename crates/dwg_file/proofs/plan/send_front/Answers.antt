@@ -22,7 +22,7 @@ pub returns-in-Err-clause-bytes : goal.returns-in-Err-clause-bytes
 returns-in-Err-clause-bytes g c =
     let drawing = contents_of c.args.parts.now in
     let whole = front_pieces drawing c.args.header.now drawing.objects c.requires.ready.is_header refl in
-    cut_sends _ _ c.args.gathering.now _ c.requires.none (first_cut _ _ _ (header_bytes c.args.header.now) (sections_bytes drawing) (frames_bytes drawing.objects) _ whole c.in-Err.ensures.gives)
+    cut_sends _ _ c.args.gathering.now _ c.requires.none (first_cut _ _ _ (header_bytes c.args.header.now) (sections_bytes drawing) (frames_bytes drawing.version drawing.objects) _ whole c.in-Err.ensures.gives)
 
 pub give_sections-requires-clause-room : goal.give_sections-requires-clause-room
 give_sections-requires-clause-room g c = has_with_more _ _ (contents_of c.args.parts.now) c.in-Ok.ensures.room c.requires.ready.has
@@ -32,21 +32,21 @@ returns-in-Err-give_sections-clause-bytes g c =
     let drawing = contents_of c.args.parts.now in
     let whole = front_pieces drawing c.args.header.now drawing.objects c.requires.ready.is_header refl in
     cut_sends _ _ c.args.gathering.now _ c.requires.none
-    (second_cut _ _ _ _ _ (header_bytes c.args.header.now) (sections_bytes drawing) (frames_bytes drawing.objects) _ whole c.in-Ok.ensures.gives c.in-Err-give_sections.ensures.gives)
+    (second_cut _ _ _ _ _ (header_bytes c.args.header.now) (sections_bytes drawing) (frames_bytes drawing.version drawing.objects) _ whole c.in-Ok.ensures.gives c.in-Err-give_sections.ensures.gives)
 
 pub give_frames-requires : goal.give_frames-requires
 give_frames-requires g c =
     let room = c.give_sections.new.part.spare + length c.give_sections.new.part.written in
-    subst (λ (objects : List Object). AllByRecursion (CanBeSent room) (map value_of objects)) (sym c.as_slice.ensures)
-    (all_with_more _ room (contents_of c.args.parts.now).objects c.in-Ok-give_sections.ensures.room
-    (all_with_more (c.args.part.now.spare + length c.args.part.now.written) _ (contents_of c.args.parts.now).objects c.in-Ok.ensures.room c.requires.ready.has.objects))
+    subst (λ (objects : List Object). AllByRecursion (CanBeSent c.args.parts.now.version room) (map value_of objects)) (sym c.as_slice.ensures)
+    (all_with_more _ _ room (contents_of c.args.parts.now).objects c.in-Ok-give_sections.ensures.room
+    (all_with_more _ (c.args.part.now.spare + length c.args.part.now.written) _ (contents_of c.args.parts.now).objects c.in-Ok.ensures.room c.requires.ready.has.objects))
 
 pub returns-in-Err-give_frames-clause-bytes : goal.returns-in-Err-give_frames-clause-bytes
 returns-in-Err-give_frames-clause-bytes g c =
     let drawing = contents_of c.args.parts.now in
     let whole = front_pieces drawing c.args.header.now drawing.objects c.requires.ready.is_header refl in
     cut_sends _ _ c.args.gathering.now _ c.requires.none
-    (third_cut _ _ _ _ _ _ _ (header_bytes c.args.header.now) (sections_bytes drawing) (frames_bytes drawing.objects) _ whole c.in-Ok.ensures.gives c.in-Ok-give_sections.ensures.gives
+    (third_cut _ _ _ _ _ _ _ (header_bytes c.args.header.now) (sections_bytes drawing) (frames_bytes drawing.version drawing.objects) _ whole c.in-Ok.ensures.gives c.in-Ok-give_sections.ensures.gives
     (rw c.as_slice.ensures at c.in-Err-give_frames.ensures.gives))
 
 pub returns-clause-bytes : goal.returns-clause-bytes
@@ -56,5 +56,5 @@ returns-clause-bytes g c =
     let whole = front_pieces drawing c.args.header.now drawing.objects c.requires.ready.is_header refl in
     let both = given_both _ _ _ _ _ _ header (sections_bytes drawing) (header ++ sections_bytes drawing) refl c.in-Ok.ensures.gives c.in-Ok-give_sections.ensures.gives in
     flushed_sends _ _ _ c.args.gathering.now _ _ _ c.flush.result c.requires.none c.flush.ensures.none
-    (given_both _ _ _ _ _ _ (header ++ sections_bytes drawing) (frames_bytes drawing.objects) _ whole both (rw c.as_slice.ensures at c.in-Ok-give_frames.ensures.gives))
+    (given_both _ _ _ _ _ _ (header ++ sections_bytes drawing) (frames_bytes drawing.version drawing.objects) _ whole both (rw c.as_slice.ensures at c.in-Ok-give_frames.ensures.gives))
     c.flush.ensures.gives

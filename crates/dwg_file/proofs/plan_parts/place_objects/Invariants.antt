@@ -11,9 +11,9 @@ use Rattle.dwg_file.proofs.plan_parts.place_objects.Given as goal
 -- what is placed so far and what is left give the whole; and where what is left fits in as much as those so far, all do
 abbrev pub invariant-along : goal.invariant-along
 invariant-along l = record {
-  counted : AreCounted value_of frame_bytes l.objects (drop l.object-index l.objects) l.fn.from l.place;
-  whole : placed l.fn.from (map value_of l.objects) ≡ l.pairs.items ++ placed l.place (map value_of (drop l.object-index l.objects));
-  framed : AllByRecursion CanBeFramed (map value_of (drop l.object-index l.objects));
-  fit : (most : ℕ) → l.part ≤ most → AllByRecursion (FitsIn most) (map value_of (drop l.object-index l.objects)) → AllByRecursion (FitsIn most) (map value_of l.objects);
+  counted : AreCounted value_of (frame_bytes l.fn.version) l.objects (drop l.object-index l.objects) l.fn.from l.place;
+  whole : placed l.fn.version l.fn.from (map value_of l.objects) ≡ l.pairs.items ++ placed l.fn.version l.place (map value_of (drop l.object-index l.objects));
+  framed : AllByRecursion (CanBeFramed l.fn.version) (map value_of (drop l.object-index l.objects));
+  fit : (most : ℕ) → l.part ≤ most → AllByRecursion (FitsIn l.fn.version most) (map value_of (drop l.object-index l.objects)) → AllByRecursion (FitsIn l.fn.version most) (map value_of l.objects);
   few : l.part < 2 ^ 30;
 }

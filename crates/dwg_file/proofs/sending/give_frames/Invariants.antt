@@ -11,8 +11,8 @@ use Rattle.dwg_file.proofs.sending.give_frames.Given as goal
 -- what is given so far and what is left give the whole
 abbrev pub invariant-along : goal.invariant-along
 invariant-along g l = record {
-  given : AreGiven value_of frame_bytes l.objects (drop l.object-index l.objects) (g.W.Sink.taken l.fn.sink) (g.W.Sink.taken l.sink) l.fn.gathering l.gathering;
+  given : AreGiven value_of (frame_bytes l.fn.version) l.objects (drop l.object-index l.objects) (g.W.Sink.taken l.fn.sink) (g.W.Sink.taken l.sink) l.fn.gathering l.gathering;
   counts : g.W.Sink.faults l.sink ≡ g.W.Sink.faults l.fn.sink;
   room : l.fn.part.spare + length l.fn.part.written ≤ l.part.spare + length l.part.written;
-  can : AllByRecursion (CanBeSent (l.fn.part.spare + length l.fn.part.written)) (map value_of (drop l.object-index l.objects));
+  can : AllByRecursion (CanBeSent l.fn.version (l.fn.part.spare + length l.fn.part.written)) (map value_of (drop l.object-index l.objects));
 }

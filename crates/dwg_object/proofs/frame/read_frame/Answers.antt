@@ -5,7 +5,7 @@ use Rattle.dwg_object.proofs.FrameReading.{refused_span}
 use Rattle.dwg_object.proofs.frame.read_frame.Goals as goal
 
 pub returns-in-Err-clause-tried : goal.returns-in-Err-clause-tried
-returns-in-Err-clause-tried c = refused_span _ _ _ _ (sym c.in-Err.ensures.tried)
+returns-in-Err-clause-tried c = refused_span _ _ _ _ _ (sym c.in-Err.ensures.tried)
 
 pub returns-clause-tried : goal.returns-clause-tried
-returns-clause-tried c = subst (λ (n : ℕ). AnswersFrame c.read_span.result (tried_frame n c.args.index c.args.bytes.now)) c.in-Ok.ensures.place c.read_span.ensures.tried
+returns-clause-tried c = subst (λ (n : ℕ). AnswersFrame c.read_span.result (tried_frame c.args.version n c.args.index c.args.bytes.now)) c.in-Ok.ensures.place c.read_span.ensures.tried

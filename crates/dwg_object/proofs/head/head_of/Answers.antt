@@ -11,5 +11,5 @@ returns-in_default-clause-none c =
 
 pub returns-clause-some : goal.returns-clause-some
 returns-clause-some c =
-    subst (λ (end : ℕ). IsHeadAt (bits c.args.body.now) (parts_of c.in-Some.head) end) (sym c.at.ensures)
+    subst (λ (end : ℕ). IsHeadAt c.args.version (bits c.args.body.now) (parts_of c.in-Some.head) end) (sym c.at.ensures)
     (body_begins c.args.body.now c.new-cursor.result c.read_head.new.cursor _ c.new-cursor.ensures.bytes c.new-cursor.ensures.place c.new-cursor.ensures.end c.read_head.ensures.kept c.in-Some.ensures.parsed)

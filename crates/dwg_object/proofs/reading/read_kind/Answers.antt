@@ -21,11 +21,11 @@ read_untyped-requires-clause-untyped c = λ has.
     elim c.in_default-2.branch [
       | in_default-2-via-in-Some-2+else-is_read_out w ↦
           let clauses = rw w.in-Some-2.is at c.in_ok-value.ensures in
-          own_left_unread c.args.kind own main refs (rest c.parse.new.main) (rest c.parse.new.refs) w.in-Some-2.value (omega (arith, c.value-base.ensures)) clauses.parsed
+          own_left_unread c.args.version c.args.kind own main refs (rest c.parse.new.main) (rest c.parse.new.refs) w.in-Some-2.value (omega (arith, c.value-base.ensures)) clauses.parsed
           (λ none few. let out : w.is_read_out.result ≡ true = w.is_read_out.ensures.1 (none, few) in absurd cc) has
       | in_default-2-via-in_default-2 w ↦
           let clauses = rw w.in_default-2.is at c.in_ok-value.ensures in
-          own_unread c.args.kind own main refs (omega (arith, c.value-base.ensures)) clauses.parsed has
+          own_unread c.args.version c.args.kind own main refs (omega (arith, c.value-base.ensures)) clauses.parsed has
     ]
 
 pub returns-in-Some-2-clause-form : goal.returns-in-Some-2-clause-form
@@ -37,5 +37,5 @@ returns-in-Some-2-clause-form c = λ classes same.
     let cut = rw c.in-Some.is at c.in_ok-front.ensures in
     let clauses = rw c.in-Some-2.is at c.in_ok-value.ensures in
     let ends = c.if-is_read_out.ensures.0 refl in
-    let are = own_read c.args.kind own main refs (rest c.parse.new.main) left c.in-Some-2.value (omega (arith, c.value-base.ensures)) clauses.parsed ends.0 ends.1 in
-    typed_of_own (cut.form classes same) (subst (λ (k : Kind). AreOwn k own c.in-Some-2.value main refs left) same are)
+    let are = own_read c.args.version c.args.kind own main refs (rest c.parse.new.main) left c.in-Some-2.value (omega (arith, c.value-base.ensures)) clauses.parsed ends.0 ends.1 in
+    typed_of_own (cut.form classes same) (subst (λ (k : Kind). AreOwn c.args.version k own c.in-Some-2.value main refs left) same are)

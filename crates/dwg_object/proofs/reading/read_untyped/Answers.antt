@@ -18,8 +18,8 @@ returns-clause-form c = λ classes same.
     let head = c.args.found.now.head in
     let form = c.requires.form classes same in
     let behind = rw c.in-Some.is at c.in_ok-behind.ensures in
-    subst (λ (value : ObjectValue). FormOf classes c.args.body.now value) (sym c.plain_object.ensures.value) (
+    subst (λ (value : ObjectValue). FormOf c.args.version classes c.args.body.now value) (sym c.plain_object.ensures.value) (
       plain_of_cut (λ unknown. behind.known (same ∙ unknown))
-          (subst (λ (own : List Bool). CommonForm classes c.args.body.now head.number head.own c.args.front.common own (rest c.args.front.refs)) (sym behind.bits) form) behind.refs.1,
+          (subst (λ (own : List Bool). CommonForm c.args.version classes c.args.body.now head.number head.own c.args.front.common own (rest c.args.front.refs)) (sym behind.bits) form) behind.refs.1,
       untyped (has_common form) same c.requires.untyped,
     )

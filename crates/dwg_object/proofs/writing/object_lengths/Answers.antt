@@ -6,10 +6,10 @@ use Rattle.dwg_object.proofs.writing.object_lengths.Goals as goal
 
 pub returns-clause-bytes : goal.returns-clause-bytes
 returns-clause-bytes g c =
-    let own = g.P.Part.main c.args.handle c.args.own.now in
-    let own_refs = g.P.Part.refs c.args.handle c.args.own.now in
-    let refs : c.lengths-shared.result.refs + c.lengths-owned.result.refs ≡ length (refs_bits c.args.handle c.args.common.now own_refs) =
-    omega (arith, refs_long c.args.handle c.args.common.now own_refs, c.lengths-shared.ensures.refs, c.lengths-owned.ensures.refs) in
-    let front : c.head_length.result + c.lengths-shared.result.main + c.lengths-owned.result.main ≡ length (front_bits c.args.number c.args.handle c.args.common.now own) =
-    omega (arith, front_long c.args.number c.args.handle c.args.common.now own, c.lengths-shared.ensures.main, c.lengths-owned.ensures.main, c.head_length.ensures.length) in
-    omega (arith, c.div_ceil.ensures, object_counted c.args.number c.args.handle c.args.common.now own own_refs _ _ front refs)
+    let own = g.P.Part.main c.args.version c.args.handle c.args.own.now in
+    let own_refs = g.P.Part.refs c.args.version c.args.handle c.args.own.now in
+    let refs : c.lengths-shared.result.refs + c.lengths-owned.result.refs ≡ length (refs_bits c.args.version c.args.handle c.args.common.now own_refs) =
+    omega (arith, refs_long c.args.version c.args.handle c.args.common.now own_refs, c.lengths-shared.ensures.refs, c.lengths-owned.ensures.refs) in
+    let front : c.head_length.result + c.lengths-shared.result.main + c.lengths-owned.result.main ≡ length (front_bits c.args.version c.args.number c.args.handle c.args.common.now own) =
+    omega (arith, front_long c.args.version c.args.number c.args.handle c.args.common.now own, c.lengths-shared.ensures.main, c.lengths-owned.ensures.main, c.head_length.ensures.length) in
+    omega (arith, c.div_ceil.ensures, object_counted c.args.version c.args.number c.args.handle c.args.common.now own own_refs _ _ front refs)

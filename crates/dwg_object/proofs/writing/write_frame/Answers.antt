@@ -9,6 +9,6 @@ pub returns : goal.returns
 returns c =
     let value = value_of c.args.object.now in
     let both = c.write_sized_body.ensures.written in
-    let are = sized_are_bytes (body_bytes value) c.write_sized_body.ensures.bytes c.requires.few in
+    let are = sized_are_bytes (body_bytes c.args.version value) c.write_sized_body.ensures.bytes c.requires.few in
     let behind = written_behind _ _ _ _ c.requires.aligned (ap (λ (n : ℕ). n / 8) c.length-from.ensures) are both in
-    frame_written _ _ _ value c.to_le_bytes.result c.word_behind-word.result (c.word_behind-word.ensures ∙ ap (check_word FRAME_START) behind) c.to_le_bytes.ensures both c.push_bytes.ensures
+    frame_written _ _ _ c.args.version value c.to_le_bytes.result c.word_behind-word.result (c.word_behind-word.ensures ∙ ap (check_word FRAME_START) behind) c.to_le_bytes.ensures both c.push_bytes.ensures

@@ -14,11 +14,11 @@ read_body_hinted-requires c = short_body c.args.bytes.now c.span_body.result.now
 
 pub unreachable-requires-in-None : goal.unreachable-requires-in-None
 unreachable-requires-in-None c =
-    is_read c.args.bytes.now c.span_body.result.now c.in-Ok.span c.span_body.ensures
-    (subst IsSome (sym (own_found c.args.bytes.now c.args.frame.now c.in-Ok.span c.requires c.in-Ok.ensures.tried)) refl)
+    is_read _ c.args.bytes.now c.span_body.result.now c.in-Ok.span c.span_body.ensures
+    (subst IsSome (sym (own_found c.args.bytes.now c.args.frame.now c.in-Ok.span c.requires c.in-Ok.ensures.tried)) refl) c.of_input.ensures
     (c.read_body_hinted.ensures.none (c.in_ok-object.was ∙ ap Ok c.in-None.is))
 
 pub returns : goal.returns
 returns c =
     let clauses = rw c.in-Some.is at c.in_ok-object.ensures in
-    object_read c.args.hints.now c.args.bytes.now c.args.frame.now c.in-Ok.span c.span_body.result.now (value_of c.in-Some.object) c.requires c.in-Ok.ensures.tried c.span_body.ensures clauses.form
+    object_read _ c.args.hints.now c.args.bytes.now c.args.frame.now c.in-Ok.span c.span_body.result.now (value_of c.in-Some.object) c.requires c.in-Ok.ensures.tried c.span_body.ensures c.of_input.ensures clauses.form

@@ -22,4 +22,4 @@ returns g c =
 
 pub tell_objects-requires : goal.tell_objects-requires
 tell_objects-requires g c =
-    subst (λ objects. AllByRecursion HasFewBits (map value_of objects)) (sym c.as_slice-4.ensures) (few_of_objects c.args.parts.now.classes _ c.requires.objects)
+    subst (λ objects. AllByRecursion HasFewBits (map value_of objects)) (sym c.as_slice-4.ensures) (few_of_objects c.args.parts.now.version c.args.parts.now.classes _ c.requires.objects)
