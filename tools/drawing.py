@@ -32,12 +32,11 @@ from typing import IO, Any, Callable, Dict, Iterable, Iterator, List, NoReturn, 
 # How many bytes an input and a canonical file have at the most (docs/FORMAT.md, Limits).
 LIMIT = 33_554_432
 
-# The version that the program reads, and how the others are called, by the first six bytes.
-OURS = b"AC1015"
+# The versions that the program reads, and how the others are called, by the first six bytes. What begins as none of these is read as the last.
+OURS = (b"AC1014", b"AC1015")
 VERSIONS = {
     b"AC1009": "R12",
     b"AC1012": "R13",
-    b"AC1014": "R14",
     b"AC1018": "2004",
     b"AC1021": "2007",
     b"AC1024": "2010",
@@ -390,6 +389,18 @@ def _file_of_notes() -> IO[bytes]:
         return tempfile.TemporaryFile()
     except OSError as fault:
         raise ProgramFailed(f"no temporary file: {fault.strerror}") from None
+
+
+# How many bytes a file header has at the most.
+MOST_HEADER = 97
+
+
+def version_of_rest(program: Program, front: bytes) -> Optional[str]:
+    """The version that a file header is of by all but its first six bytes, where these are others: its check word is right with one alone."""
+    for version in OURS:
+        if version != front[:6] and program.run(["sections"], version + front[6:MOST_HEADER]).status == Status.DONE:
+            return version.decode()
+    return None
 
 
 def ready_program(given: Optional[str]) -> Program:

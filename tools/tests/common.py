@@ -47,14 +47,14 @@ def made_entities(count: int, seed: int) -> Iterator[Tuple[int, str, str, Dict[s
 
 
 def foreign() -> Dict[str, bytes]:
-    """Files that are no drawing of this version, by a name."""
+    """Files that are no drawing that is read, by a name."""
     return {
         "empty": b"",
         "text": b"This is a text.\r\n" * 40,
         "jpeg": b"\xff\xd8\xff\xe0\x00\x10JFIF\x00\x01" + bytes(400),
         "png": b"\x89PNG\r\n\x1a\n" + bytes(400),
         "dxf": b"  0\r\nSECTION\r\n  2\r\nHEADER\r\n",
-        **{version.decode(): version + made(3, 1)[6:] for version in (b"AC1009", b"AC1012", b"AC1014", b"AC1018", b"AC1032")},
+        **{version.decode(): version + made(3, 1)[6:] for version in (b"AC1009", b"AC1012", b"AC1018", b"AC1032")},
         "random": random.Random(5).randbytes(3000) if hasattr(random.Random, "randbytes") else bytes(range(256)) * 12,
     }
 

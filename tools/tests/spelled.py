@@ -76,6 +76,8 @@ class Drawing:
     classes: str = ""
     last: int = 0x100
 
+    # The version, which the file begins with.
+    VERSION = b"AC1015"
     # The handles of what every such drawing has.
     LAYER0, WALLS, STYLE, CONTINUOUS, MODEL, PAPER = 0x10, 0x11, 0x12, 0x13, 0x14, 0x15
 
@@ -242,6 +244,7 @@ class Drawing:
             frames += one
             place += len(one)
         data = bytearray(base.in_order(frames, places, self.classes))
+        data[:6] = self.VERSION
         data[19:21] = code_page.to_bytes(2, "little")
         end = 25 + 9 * int.from_bytes(data[21:25], "little")
         data[end : end + 2] = (base.check(0, data[:end]) ^ base.HEADER_MASKS[3]).to_bytes(2, "little")

@@ -182,7 +182,8 @@ def add_lost_header(files: Files, data: bytes) -> None:
     """Drawings whose first bytes are others, so that they don't look like drawings."""
     rest = "header 0 at 0: version (the rest of the header is that of AC1015)"
     for place in range(6):
-        files.add(f"version {place}.dwg", flipped(data, place, 1), damaged(rest, version=""))
+        # (5 and 4 differ in one bit: then the check word tells)
+        files.add(f"version {place}.dwg", flipped(data, place, 1), damaged(rest if place < 5 else rest.replace("0: version", "52: check"), version=""))
     files.add("no version.dwg", hole(data, 0, 6), damaged(rest, version=""))
     files.add("no header.dwg", hole(data, 0, 70), damaged("header 0 at 0: version (header variables at 70)", version=""))
     files.add("no variables.dwg", hole(data, 0, 108), damaged("header 0 at 0: version (classes at 108)", version=""))
@@ -192,8 +193,8 @@ def add_lost_header(files: Files, data: bytes) -> None:
 
 
 def add_others(files: Files) -> None:
-    """Files that are no drawings of R2000."""
-    names = {"1009": "R12", "1012": "R13", "1014": "R14", "1018": "2004", "1021": "2007", "1024": "2010", "1027": "2013", "1032": "2018"}
+    """Files that are no drawings that are read."""
+    names = {"1009": "R12", "1012": "R13", "1018": "2004", "1021": "2007", "1024": "2010", "1027": "2013", "1032": "2018"}
     for number, name in names.items():
         version = f"AC{number}"
         files.add(f"{version}.dwg", version.encode() + bytes(5) + noise(500, int(number)), expected("other version", f"{version} {name}", version=version))

@@ -93,7 +93,7 @@ class Recover(unittest.TestCase):
         told = self.report(DATA)
         self.assertEqual((told["whole"], told["refusal"], told["audit"]["sound"], told["chains"], told["before"]), (True, None, True, [], None))
         kinds, layers = counts_of(ALL)
-        self.assertEqual(told["kept"], {"objects": len(OBJECTS), "kinds": kinds, "layers": layers})
+        self.assertEqual(told["kept"], {"objects": len(OBJECTS), "raw": 0, "kinds": kinds, "layers": layers})
         self.assertEqual((self.out.read_bytes(), self.notes.read_bytes()), (DATA, b""))
         text = self.words()
         self.assertIn("is a drawing: nothing of it was lost", text)
@@ -132,7 +132,7 @@ class Recover(unittest.TestCase):
         index = next(at for at, frame in enumerate(PARTS.frames) if frame.handle == 0x40)
         self.assertEqual(told["refusal"], {"part": "objects", "index": index, "place": PLACES[0x40], "reason": "check"})
         kinds, layers = counts_of(ALL - set(lost))
-        self.assertEqual(told["kept"], {"objects": len(ALL) - 3, "kinds": kinds, "layers": layers})
+        self.assertEqual(told["kept"], {"objects": len(ALL) - 3, "raw": 0, "kinds": kinds, "layers": layers})
         said = told["lost"]
         self.assertEqual((said["entries"], said["map_whole"], said["header"], said["map_end"]), (len(ALL), True, False, None))
         self.assertEqual(said["objects"], [{"handle": f"{handle:X}", "place": PLACES[handle]} for handle in lost])
@@ -229,9 +229,12 @@ class Recover(unittest.TestCase):
         self.assertIn("  the file header: ", self.words())
 
     def test_another_version(self) -> None:
-        told = self.report(b"AC1014" + DATA[6:])
-        self.assertEqual(told["version"], "AC1014 (R14)")
-        self.assertIn("It says that it is of version AC1014 (R14), which dwg doesn't read", self.words())
+        told = self.report(b"AC1018" + flipped(DATA, 60)[6:])
+        self.assertEqual((told["version"], told["rest_of_header"], told["kept"]["objects"]), ("AC1018 (2004)", None, len(ALL)))
+        self.assertIn("It says that it is of version AC1018 (2004), which dwg doesn't read: what is kept was read as AC1015.\n", self.words())
+        told = self.report(b"AC1018" + DATA[6:])
+        self.assertEqual((told["version"], told["rest_of_header"]), ("AC1018 (2004)", "AC1015"))
+        self.assertIn("The rest of its header is that of AC1015: put AC1015 in place of its first six bytes, and recover it again.\n", self.words())
 
     def refused(self, status: int, *words: object, **more: str) -> bytes:
         """A run that ends with a status, says why in a line, and changes nothing."""
@@ -276,7 +279,7 @@ class Recover(unittest.TestCase):
         for data in (b"", b"\xff\xd8\xff\xe0 picture", bytes(5000)):
             self.source.write_bytes(data)
             self.assertIn(b"no object was kept", self.refused(65, self.source, self.out))
-        self.assertEqual(self.report(b"", "--even-empty")["kept"], {"objects": 0, "kinds": {}, "layers": {}})
+        self.assertEqual(self.report(b"", "--even-empty")["kept"], {"objects": 0, "raw": 0, "kinds": {}, "layers": {}})
         # A drawing without objects is whole.
         self.assertTrue(self.report((made.DATA / "smallest.dwg").read_bytes())["whole"])
 

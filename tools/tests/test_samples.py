@@ -15,6 +15,14 @@ from made import TOP
 SAMPLES = TOP / "samples"
 
 
+def copy(folder: pathlib.Path) -> None:
+    """Copies the samples, and what one of them is made by."""
+    shutil.copytree(SAMPLES, folder / "samples")
+    for path in ("tools/tests/older.py", "tools/tests/spelled.py", "bench/make_inputs.py"):
+        (folder / path).parent.mkdir(parents=True, exist_ok=True)
+        shutil.copy(TOP / path, folder / path)
+
+
 class Samples(unittest.TestCase):
     """The samples are made in a folder of their own."""
 
@@ -22,7 +30,7 @@ class Samples(unittest.TestCase):
         made.needs_program()
         folder = pathlib.Path(tempfile.mkdtemp(prefix="dwg samples "))
         self.addCleanup(shutil.rmtree, folder)
-        shutil.copytree(SAMPLES, folder / "samples")
+        copy(folder)
         for path in folder.glob("samples/*.dwg"):
             path.unlink()
         subprocess.run([str(folder / "samples" / "make")], check=True, env={**os.environ, "DWG": made.PROGRAM})
@@ -30,7 +38,7 @@ class Samples(unittest.TestCase):
 
     def check(self, folder: pathlib.Path) -> None:
         """Those that were made in a folder are those of this tree."""
-        for name in ("hole.dwg", "cut.dwg", "flip.dwg"):
+        for name in ("hole.dwg", "cut.dwg", "flip.dwg", "r14.dwg"):
             self.assertEqual((folder / "samples" / name).read_bytes(), (SAMPLES / name).read_bytes())
             (folder / "samples" / name).unlink()
 
@@ -38,7 +46,7 @@ class Samples(unittest.TestCase):
         """Neither the folder that it is called from, nor one in which the shell looks for folders, leads it elsewhere."""
         folder = pathlib.Path(tempfile.mkdtemp(prefix="dwg samples "))
         self.addCleanup(shutil.rmtree, folder)
-        shutil.copytree(SAMPLES, folder / "samples")
+        copy(folder)
         (folder / "elsewhere" / "samples").mkdir(parents=True)
         (folder / "elsewhere" / "samples" / "plan.dwg").touch()
         (folder / "dwg").symlink_to(made.PROGRAM)

@@ -1,0 +1,191 @@
+"""Every tool over drawings of AC1014, which no command makes: they are spelled after docs/FORMAT.md, and what is expected is worked out from that."""
+
+from __future__ import annotations
+
+import json
+import re
+import unittest
+from typing import Any, Dict, List
+
+import common
+import older
+import spelled
+from made import dwg, flipped, hole, layout, needs_program, shown, tool
+
+needs_program()
+
+PLAN = dwg("rewrite", given=older.Plan().file()).stdout
+COUNT = 30
+
+
+def without_version(data: bytes, version: bytes) -> bytes:
+    """A file that begins as another version."""
+    return version + data[6:]
+
+
+class Program(unittest.TestCase):
+    """What the tests below stand on: what is spelled is read by all its fields, and written as AC1014."""
+
+    def test_read_and_written(self) -> None:
+        objects = shown(older.Plan().file())
+        self.assertEqual((len(objects), shown(PLAN)), (COUNT, objects))
+        forms = re.findall(r"(?m)^object \w+ (.+) (typed|plain|raw) \d+$", dwg("show", given=PLAN).stdout.decode())
+        self.assertEqual([kind for kind, form in forms if form != "typed"], ["ELLIPSE"])
+        self.assertEqual((PLAN[:6], dwg("audit", given=PLAN).stdout, dwg("rewrite", given=PLAN).stdout), (b"AC1014", b"audit yes\n", PLAN))
+
+    def test_what_is_not_spelled_has_fixed_values(self) -> None:
+        fields = {handle: lines for handle, _, lines in shown(PLAN)}
+        self.assertLessEqual({"linetype_flag 0", "plotstyle_flag 0", "lineweight 0"}, set(fields[0x31]))
+        self.assertLessEqual({"values 0", "plotstyle 5.0"}, set(fields[older.Plan.WALLS]))
+        self.assertLessEqual({"loaded 0", "layout 5.0"}, set(fields[older.Plan.DOOR]))
+
+
+class Tools(common.InFolder):
+    """Each tool."""
+
+    maxDiff = None
+
+    def rows(self, *files: object) -> List[List[str]]:
+        """What dwg-check says: verdict, detail, findings, trailing bytes and version of each file."""
+        lines = tool("dwg-check", "--quiet", *files).stdout.decode().splitlines()[1:]
+        return [words[1:4] + words[5:] for words in (line.split("\t") for line in lines)]
+
+    def test_check(self) -> None:
+        header = "header 0 at 0: version"
+        front = len(older.Plan().frames[0][1]) + 183
+        cases: Dict[bytes, List[str]] = {
+            PLAN: ["sound", "", "0", "0", "AC1014"],
+            PLAN + bytes(5): ["trailing bytes", f"5 from {len(PLAN)}, all 0; sound", "0", "5", "AC1014"],
+            older.Drawing().file() + b"x": ["trailing bytes", "", "", "1", "AC1014"],
+            PLAN[:-1]: ["damaged", f"map 1 at {len(PLAN) - 4}: short", "", "", "AC1014"],
+            flipped(PLAN, front - 3): ["damaged", "objects 0 at 183: check", "", "", "AC1014"],
+            bytes([3] * 40) + PLAN: ["no drawing", "AC1014 begins at 40", "", "", ""],
+            bytes([3] * 40) + b"AC1014" + bytes([3] * 9) + spelled.Drawing().file(): ["no drawing", "AC1015 begins at 55", "", "", ""],
+            without_version(PLAN, b"AC1015"): ["damaged", "header 0 at 52: check (the rest of the header is that of AC1014)", "", "", ""],
+            without_version(PLAN, b"AC1018"): ["damaged", f"{header} (the rest of the header is that of AC1014)", "", "", ""],
+            hole(PLAN, 0, 6): ["damaged", f"{header} (the rest of the header is that of AC1014)", "", "", ""],
+            hole(PLAN, 0, 70): ["damaged", f"{header} (header variables at 70)", "", "", ""],
+            hole(PLAN, 0, 183): ["damaged", f"{header} (recover keeps {COUNT} objects of AC1014)", "", "", ""],
+            flipped(PLAN, 60): ["damaged", "header 0 at 54: sentinel", "", "", "AC1014"],
+        }
+        rows = self.rows(*(self.file(f"{index}.dwg", data) for index, data in enumerate(cases)))
+        unsound = rows.pop(2)
+        self.assertEqual((unsound[0], unsound[3], unsound[4]), ("trailing bytes", "1", "AC1014"))
+        self.assertEqual(rows, [row for index, row in enumerate(cases.values()) if index != 2])
+
+    def report(self, data: bytes, *words: object) -> Dict[str, Any]:
+        """What dwg-recover tells."""
+        ran = tool("dwg-recover", "--json", "--force", *words, self.file("in.dwg", data), self.folder / "out.dwg")
+        self.assertEqual((ran.returncode in (0, 1), ran.stderr), (True, b""))
+        told: Dict[str, Any] = json.loads(ran.stdout)
+        return told
+
+    def said(self, *words: object) -> str:
+        """The same in words."""
+        return tool("dwg-recover", "--force", *words, self.folder / "in.dwg", self.folder / "out.dwg").stdout.decode()
+
+    def test_recover(self) -> None:
+        told = self.report(PLAN)
+        self.assertEqual((told["version"], told["whole"], told["kept"]["objects"], (self.folder / "out.dwg").read_bytes()), ("AC1014", True, COUNT, PLAN))
+        frame = next(one for one in layout(PLAN).frames if one.handle == 0x32)
+        damaged = flipped(PLAN, frame.place + 2 + frame.size // 2)
+        told = self.report(damaged, "--before", self.file("whole.dwg", PLAN))
+        self.assertEqual((told["version"], told["rest_of_header"], told["kept"]["objects"], told["kept"]["raw"]), ("AC1014", None, COUNT - 1, 0))
+        self.assertEqual(([one["handle"] for one in told["lost"]["objects"]], told["before"]["kinds"]), (["32"], {"CIRCLE": 1}))
+        self.assertEqual((self.folder / "out.dwg").read_bytes()[:6], b"AC1014")
+        # Without its header it is read as what its first six bytes say.
+        told = self.report(flipped(PLAN, 60))
+        self.assertEqual((told["version"], told["lost"]["header"], told["kept"]["objects"]), ("AC1014", True, COUNT))
+
+    def test_recover_by_the_other_version(self) -> None:
+        """One bit makes 5 of 4. Then the rules of the other version find nothing, and what the rest of the header is of is told."""
+        hint = "The rest of its header is that of AC1014: put AC1014 in place of its first six bytes, and recover it again.\n"
+        for version, reason in ((b"AC1015", "header 0 at 52: check"), (bytes(6), "header 0 at 0: version")):
+            told = self.report(without_version(PLAN, version), "--even-empty")
+            self.assertEqual((told["version"], told["rest_of_header"], told["kept"]["objects"]), ("AC1015", "AC1014", 0))
+            self.assertIn(hint, self.said("--even-empty"))
+            ran = tool("dwg-recover", "--force", self.folder / "in.dwg", self.folder / "out.dwg")
+            self.assertEqual(ran.returncode, 65)
+            self.assertTrue(ran.stderr.decode().endswith(f"{reason}: no object was kept, so nothing is written; the rest of the header is that of AC1014\n"))
+        told = self.report(without_version(spelled.Drawing().file(), b"AC1014"), "--even-empty")
+        self.assertEqual((told["version"], told["rest_of_header"]), ("AC1014", "AC1015"))
+
+    def test_mostly_raw(self) -> None:
+        """Where most of what is kept is raw, and no header tells the version, it is said by which it was read."""
+        one = older.Drawing()
+        for _ in range(20):
+            one.sized(300, one.free(), "", "1", "")
+        data = one.file()
+        told = self.report(flipped(data, in_first_body(data)))
+        self.assertEqual((told["kept"]["raw"], told["rest_of_header"]), (20, None))
+        self.assertGreater(2 * told["kept"]["raw"], told["kept"]["objects"])
+        self.assertIn("Of those kept 20 are raw: they were read as AC1014, which is wrong where the first six bytes are damaged.\n", self.said())
+        self.report(data)
+        self.assertNotIn("are raw", self.said())
+
+    def test_json(self) -> None:
+        head, *lines = [json.loads(line) for line in tool("dwg-json", given=PLAN).stdout.splitlines()]
+        self.assertEqual((head["drawing"], head["codepage"], head["objects"], len(lines)), ("AC1014", 30, COUNT, COUNT))
+        found = {one["object"]: one for one in lines}
+        line, text, ellipse = found["31"], found["36"], found["35"]
+        self.assertEqual((line["kind"], line["form"], line["start"], line["end"], line["extrusion"]), ("LINE", "typed", [250.0, 0.0, 0.0], [250.0, 300.0, 0.0], [0.0, 0.0, 1.0]))
+        self.assertEqual((line["layer"]["name"], line["colour"], line["lineweight"]), ("WALLS", "by-layer", 0))
+        self.assertEqual((text["text"], text["height"], text["alignment"], text["style"]["name"]), ("ROOM 1", 25.0, [0.0, 0.0], "STANDARD"))
+        self.assertEqual((ellipse["kind"], ellipse["form"], ellipse["linetype"]["name"]), ("ELLIPSE", "plain", "CONTINUOUS"))
+        self.assertEqual(found["34"]["block"]["name"], "DOOR")
+
+    def test_diff(self) -> None:
+        old, other = self.file("old.dwg", PLAN), older.Plan()
+        self.assertEqual(tool("dwg-diff", old, self.file("new.dwg", older.Plan().file())).stdout, b"")
+        other.frames = [frame for frame in other.frames if frame[0] != 0x33]
+        other.point((325.0, 151.0, 0.0), handle=0x33, colour=1)
+        ran = tool("dwg-diff", old, self.file("new.dwg", other.file()))
+        lines = ["changed object 33 POINT on \"0\"", "  place: 325.0 150.0 0.0 -> 325.0 151.0 0.0", "objects: 0 added, 0 removed, 1 changed"]
+        self.assertEqual((ran.returncode, ran.stdout.decode().splitlines()), (1, lines))
+
+    def test_diff_of_versions(self) -> None:
+        """Two files of one content are two drawings where their versions differ."""
+        drawings = []
+        for kind in (older.Drawing, spelled.Drawing):
+            one = kind()
+            one.line((0, 0, 0), (1, 2, 3))
+            drawings.append(self.file(f"{len(drawings)}.dwg", one.file()))
+        ran = tool("dwg-diff", *drawings, "--ignore", "lineweight")
+        self.assertEqual((ran.returncode, ran.stdout.decode().splitlines()[:2]), (1, ["changed header", '  version: "AC1014" -> "AC1015"']))
+        self.assertEqual(tool("dwg-diff", *drawings, "--ignore", "lineweight", "version").stdout, b"")
+
+    def test_picture(self) -> None:
+        """What both versions can say is drawn alike. The lineweight that AC1014 has is 0."""
+        pictures = []
+        for one, said in ((older.Drawing(), {}), (spelled.Drawing(), {"weight": 0})):
+            more: Dict[str, Any] = said
+            one.line((0, 0, 0), (10, 5, 0), layer=one.WALLS, **more)
+            one.point((1, 2, 0), **more)
+            one.circle((5, 5, 0), 2.0, colour=3, **more)
+            one.arc((5, 5, 0), 3.0, 0.0, 1.5, **more)
+            one.polyline([(0, 0), (4, 0), (4, 4)], bulges=[0.5, 0.0, 0.0], closed=True, **more)
+            one.polyline([(0, 6), (4, 6), (4, 9)], widths=[(0.1, 0.5), (0.5, 0.2), (0.0, 0.0)], **more)
+            one.text(b"Gr\xfc\xdfe", (1, 7), 1.5, {"rotation": 0.25, "alignment": (9.0, 7.0), "horizontal": 5}, **more)
+            block = one.free()
+            one.block(block, b"DOOR")
+            one.line((0, 0, 0), (1, 1, 0), owner=block, **more)
+            one.insert(block, (7, 1, 0), (2.0, 2.0, 2.0), 0.5, **more)
+            ran = tool("dwg-picture", given=one.file())
+            self.assertEqual((ran.returncode, ran.stderr), (0, b""))
+            pictures.append(ran.stdout)
+        self.assertEqual(pictures[0], pictures[1])
+        self.assertIn("Grüße".encode(), pictures[0])
+
+    def test_picture_tells_kinds_without_a_body(self) -> None:
+        ran = tool("dwg-picture", given=PLAN)
+        self.assertEqual((ran.returncode, ran.stderr), (0, b"dwg-picture: not drawn: 1 ELLIPSE (not read by all its fields)\n"))
+
+
+def in_first_body(data: bytes) -> int:
+    """A byte in the body of the object that stands behind the classes."""
+    place, size = (int.from_bytes(data[at : at + 4], "little") for at in (35, 39))
+    return place + size + 3
+
+
+if __name__ == "__main__":
+    unittest.main()
