@@ -3,6 +3,10 @@
 from __future__ import annotations
 
 
+# The versions (File header).
+OLDER, NEWER = b"AC1014", b"AC1015"
+
+
 def little(value: int, size: int) -> bytes:
     """A number, the least significant byte first."""
     return value.to_bytes(size, "little")
@@ -38,14 +42,16 @@ def handle_code(code: int, value: int) -> str:
     return f"{code:04b}{count:04b}" + bits(value.to_bytes(count, "big"))
 
 
-def dictionary(handle: int) -> str:
+def dictionary(handle: int, version: bytes = NEWER) -> str:
     """The bits of a DICTIONARY without items whose owner and extension dictionary are null, with their padding (Objects, Common parts and bodies)."""
     number, own = short(42), handle_code(0, handle)
     no_applications, no_reactors, no_items, cloning, hard_owner = "10", "10", "10", short(0), bits(little(0, 1))
-    main = own + no_applications + no_reactors + no_items + cloning + hard_owner
-    size = bits(little(len(number) + 32 + len(main), 4))
     references = handle_code(4, 0) + handle_code(3, 0)
-    unpadded = number + size + main + references
+    if version == OLDER:
+        before, behind = number + own + no_applications, no_reactors + no_items + hard_owner
+    else:
+        before, behind = number, own + no_applications + no_reactors + no_items + cloning + hard_owner
+    unpadded = before + bits(little(len(before) + 32 + len(behind), 4)) + behind + references
     return unpadded + "0" * (-len(unpadded) % 8)
 
 
@@ -82,9 +88,9 @@ def page(pairs: bytes) -> bytes:
     return sized + check_word(0xC0C1, sized).to_bytes(2, "big")
 
 
-def header(preview_place: int, *locators: bytes) -> bytes:
+def header(version: bytes, preview_place: int, *locators: bytes) -> bytes:
     """The file header of three locators (File header)."""
-    front = b"AC1015" + bytes(7) + little(preview_place, 4) + bytes(2) + little(0, 2) + little(len(locators), 4) + b"".join(locators)
+    front = version + bytes(7) + little(preview_place, 4) + bytes(2) + little(0, 2) + little(len(locators), 4) + b"".join(locators)
     return front + little(check_word(0, front) ^ 0xA598, 2) + bytes.fromhex("95 A0 4E 28 99 82 1A E5 5E 41 E0 5F 9D 3A 4D 00")
 
 
@@ -93,11 +99,11 @@ def locator(number: int, place: int, part: bytes) -> bytes:
     return little(number, 1) + little(place, 4) + little(len(part), 4)
 
 
-def file_of(handle: int) -> bytes:
+def file_of(handle: int, version: bytes = NEWER) -> bytes:
     """The canonical file of a drawing with that DICTIONARY alone (Drawings)."""
     variables = framed("CF 7B 1F 23 FD DE 38 A9 5F 7C 68 B8 4E 6D 33 5F")
     classes = framed("8D A1 C4 B8 C4 A9 F8 C5 C0 DC F4 5F E7 CF B6 8A")
-    shown, one = preview(), frame(dictionary(handle))
+    shown, one = preview(), frame(dictionary(handle, version))
     begin = 43 + 9 * 3
     classes_at = begin + len(variables)
     preview_at = classes_at + len(classes)
@@ -105,4 +111,4 @@ def file_of(handle: int) -> bytes:
     map_at = object_at + len(one)
     pages = page(modular(handle, 128) + modular(object_at, 64)) + page(b"")
     locators = locator(0, begin, variables), locator(1, classes_at, classes), locator(2, map_at, pages)
-    return header(preview_at, *locators) + variables + classes + shown + one + pages
+    return header(version, preview_at, *locators) + variables + classes + shown + one + pages

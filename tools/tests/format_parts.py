@@ -34,6 +34,8 @@ class Part(NamedTuple):
 # Both versions of a part; where AC1014 has no such body, the second is none and the first isn't told.
 Both = Tuple[Part, Optional[Part]]
 UNTOLD = Part([], [], [])
+# What no page tells: the definitions give a kind a body in AC1014 and the code doesn't, or the other way round.
+UNCLEAR = Part(["unclear"], [], [])
 
 # ---------------------------------------------------------------------------------------------------------------------
 # Definitions
@@ -272,10 +274,15 @@ def clauses_of(text: str) -> Dict[str, List[Tuple[str, str]]]:
 
 def own_bodies(objects: str) -> Dict[str, str]:
     """The name of the body of each kind, by the kind's variant."""
-    found = dict(re.findall(r"^own_body (?:version )?kinds\.(\w+) base = .*\((\w+_body)\b[^()]*\)$", objects, re.M))
+    found = dict(re.findall(r"^own_body version kinds\.(\w+) base = .*?\((?:only_1015 version \()?(\w+_body)\b[^()]*\)+$", objects, re.M))
     if len(found) != len(re.findall(r"^own_body .*variant bodies", objects, re.M)):
         raise ValueError("a body isn't understood")
     return found
+
+
+def newer_alone(objects: str) -> Set[str]:
+    """The variants of the kinds whose body AC1015 alone has."""
+    return set(re.findall(r"^own_body version kinds\.(\w+) base = .*\(only_1015 version ", objects, re.M))
 
 
 def bodies_of(kinds: str, objects: str) -> Dict[str, Tuple[str, str]]:
@@ -285,10 +292,12 @@ def bodies_of(kinds: str, objects: str) -> Dict[str, Tuple[str, str]]:
 
 
 def defined_parts(definitions: Definitions, kinds: str, objects: str, code: str) -> Dict[str, Both]:
-    """Both versions of each part that AC1014 has, by the definitions; for each other kind with a body none."""
-    older = set(re.findall(r"^impl BodyCode14 for (\w+)", code, re.M))
-    bodies = bodies_of(kinds, objects).items()
-    return {name: (definitions.part(body, NEWER), definitions.part(body, OLDER)) if struct in older else (UNTOLD, None) for name, (struct, body) in bodies}
+    """Both versions of each part that AC1014 has, by the definitions and by the code; for each other kind with a body none."""
+    older, newer = set(re.findall(r"^impl BodyCode14 for (\w+)", code, re.M)), newer_alone(objects)
+    found: Dict[str, Both] = {}
+    for name, (struct, body) in bodies_of(kinds, objects).items():
+        found[name] = (definitions.part(body, NEWER), definitions.part(body, OLDER)) if struct in older - newer else (UNTOLD, None if struct in newer - older else UNCLEAR)
+    return found
 
 
 def defined_fixed(definitions: Definitions, kinds: str, objects: str, code: str) -> Dict[str, Set[str]]:

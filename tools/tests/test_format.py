@@ -185,6 +185,8 @@ PLANTED = [
     Planted("versions", "entries", "in_version version layer_flags bs", "bs"),
     Planted("versions", "entries", "worth two 2 + worth four 4", "worth two 4 + worth four 2"),
     Planted("versions", "code", "impl BodyCode14 for Circle ", "impl BodyCode15 for Circle "),
+    Planted("versions", "objects", "(only_1015 version (ray_body base))", "(ray_body base)"),
+    Planted("versions", "objects", "(circle_body version base)", "(only_1015 version (circle_body base))"),
 ]
 
 
@@ -230,6 +232,19 @@ class Example(unittest.TestCase):
         said = tables.rows(SOURCES.page, "An example", "bits", "meaning")
         self.assertEqual("".join(part.strip("`") for part, _ in said), by_format.dictionary(1))
 
+    def test_older(self) -> None:
+        """The other version's example has the bytes that differ, and its words have the rest."""
+        heading, written = "The same in AC1014", by_format.file_of(1, by_format.OLDER)
+        for place, part, _ in tables.rows(SOURCES.page, heading, "place", "bytes", "meaning"):
+            self.assertEqual(written[int(place) :][: len(bytes.fromhex(part))], bytes.fromhex(part))
+        bits = "".join(part.strip("`") for part, _ in tables.rows(SOURCES.page, heading, "bits", "meaning"))
+        self.assertEqual(bits, by_format.dictionary(1, by_format.OLDER))
+        said = tables.section(SOURCES.page, heading).replace("\n", " ")
+        word = written[52:54].hex(" ").upper()
+        self.assertIn(f"The file has {len(written)} bytes, and what differs is this. The check word at 52 is {word}, the map begins at {written[44]},", said)
+        newer = bytearray(by_format.file_of(1))
+        self.assertEqual((written[6:44], written[54:183], written[198:]), (newer[6:44], newer[54:183], newer[199:]))
+
 
 class Written(unittest.TestCase):
     """The program takes what is written by the page alone for what it would write itself."""
@@ -242,9 +257,10 @@ class Written(unittest.TestCase):
 
     def test_rewritten(self) -> None:
         for handle in (1, 0x7F, 0x80, 0x1234, 2**63 - 1):
-            written = by_format.file_of(handle)
-            ran = self.dwg("rewrite", given=written)
-            self.assertEqual((ran.returncode, ran.stdout, ran.stderr), (0, written, b""))
+            for version in (by_format.OLDER, by_format.NEWER):
+                written = by_format.file_of(handle, version)
+                ran = self.dwg("rewrite", given=written)
+                self.assertEqual((ran.returncode, ran.stdout, ran.stderr), (0, written, b""))
 
     def test_shown(self) -> None:
         ran = self.dwg("show", given=by_format.file_of(0x1F))
