@@ -1,4 +1,4 @@
-"""Other programs that read R2000 drawings, for bench/peers and bench/damage: what Debian has of them, their versions, and what they read.
+"""Other programs that read drawings of R14 and R2000, for bench/peers and bench/damage: what Debian has of them, their versions, and what they read.
 
 None of their code stands here: the packages are installed, and libdxfrw is compiled out of the source package of LibreCAD.
 """
@@ -24,6 +24,9 @@ import header_variables  # noqa: E402  pylint: disable=wrong-import-position
 TOP = Path(__file__).resolve().parents[1]
 sys.path.insert(0, str(TOP / "tools"))
 
+sys.path.insert(0, str(TOP / "tools" / "tests"))
+
+import older  # noqa: E402  pylint: disable=wrong-import-position
 from drawing import find_program  # noqa: E402  pylint: disable=wrong-import-position
 
 PACKAGES = {"ogrinfo": "gdal-bin", "g++": "g++", "dpkg-source": "dpkg-dev"}
@@ -92,6 +95,16 @@ def make_drawing(program: str, folder: Path, entities: int, seed: int) -> Path:
     ran = run([program, "rewrite"], other, path)
     if ran.status:
         raise RuntimeError(f"the made drawing can't be written again: {ran.words()}")
+    return path
+
+
+def make_older(program: str, folder: Path) -> Path:
+    """A drawing of AC1014 with header variables and a class, spelled by the writer of the tests, and written by `rewrite`."""
+    path, other = folder / "older.dwg", folder / "spelled.dwg"
+    other.write_bytes(header_variables.completed(older.Plan().file(), header_variables.OLDER_ORDER, older.Plan.NAMED))
+    ran = run([program, "rewrite"], other, path)
+    if ran.status:
+        raise RuntimeError(f"the drawing of AC1014 can't be written again: {ran.words()}")
     return path
 
 

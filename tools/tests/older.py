@@ -96,14 +96,21 @@ class Drawing(spelled.Drawing):
 class Plan(Drawing):
     """A plan whose references hold together: tables, both spaces, a block and an insert of it, and some entities of the model space."""
 
-    # The block of a door, what stands in it, and the first and the last of the model space.
-    DOOR, LEAF, SWING, FIRST, LAST = 0x1C, 0x1F, 0x20, 0x30, 0x36
+    # The block of a door, what stands in it, the first and the last of the model space, linetypes, and an application.
+    DOOR, LEAF, SWING, FIRST, LAST, BY_BLOCK, BY_LAYER, ACAD = 0x1C, 0x1F, 0x20, 0x30, 0x36, 0x16, 0x17, 0x21
+    # How many entities there are but those that begin and end blocks, and what header variables name.
+    ENTITIES = 9
+    NAMED = {
+        "seed": 0xFFFF, "layer": Drawing.LAYER0, "style": Drawing.STYLE, "by_layer": BY_LAYER, "by_block": BY_BLOCK, "continuous": Drawing.CONTINUOUS,
+        "blocks": 1, "layers": 2, "styles": 3, "linetypes": 5, "applications": 9, "names": 0xC, "paper": Drawing.PAPER, "model": Drawing.MODEL,
+    }  # fmt: skip
 
     def __post_init__(self) -> None:
         self.object(48, 0x1, long(1), [(2, self.DOOR), (3, self.MODEL), (3, self.PAPER)], owner=0)
         self.control(50, 0x2, self.LAYER0, self.WALLS)
         self.control(52, 0x3, self.STYLE)
-        self.object(56, 0x5, long(1), [(2, self.CONTINUOUS), (3, 0x16), (3, 0x17)], owner=0)
+        self.object(56, 0x5, long(1), [(2, self.CONTINUOUS), (3, self.BY_BLOCK), (3, self.BY_LAYER)], owner=0)
+        self.control(66, 0x9, self.ACAD)
         self.dictionary(0xC, 0, [(b"NOTES", 0xD)])
         self.dictionary(0xD, 0xC, [])
         self.table_entries()
@@ -121,12 +128,13 @@ class Plan(Drawing):
         return self.object(number, handle, text(name) + "0" + short(0) + "0" + main, references, owner)
 
     def table_entries(self) -> None:
-        """Layers, a text style and linetypes."""
+        """Layers, a text style, linetypes and an application."""
         for handle, name, colour in ((self.LAYER0, b"0", 7), (self.WALLS, b"WALLS", 1)):
             self.of_table(51, handle, 0x2, name, "0000" + short(colour), (5, 0), (5, self.CONTINUOUS))
         self.of_table(53, self.STYLE, 0x3, b"STANDARD", "00" + reals([0, 1, 0]) + byte(0) + real(0) + text(b"txt") + text(b""), (5, 0))
-        for handle, name in ((self.CONTINUOUS, b"CONTINUOUS"), (0x16, b"BYBLOCK"), (0x17, b"BYLAYER")):
+        for handle, name in ((self.CONTINUOUS, b"CONTINUOUS"), (self.BY_BLOCK, b"BYBLOCK"), (self.BY_LAYER, b"BYLAYER")):
             self.of_table(57, handle, 0x5, name, text(b"") + real(0) + byte(65) + byte(0) + "0" * 2048, (5, 0))
+        self.of_table(67, self.ACAD, 0x9, b"ACAD", byte(0), (5, 0))
 
     def whole_block(self, handle: int, name: bytes, begin: int, members: Sequence[int], owner: int = 0, mode: int = 2) -> None:
         """A block with its BLOCK and its ENDBLK, the handle behind it."""

@@ -15,7 +15,7 @@ from made import dwg, flipped, hole, layout, needs_program, shown, tool
 needs_program()
 
 PLAN = dwg("rewrite", given=older.Plan().file()).stdout
-COUNT = 30
+COUNT = 32
 
 
 def without_version(data: bytes, version: bytes) -> bytes:
