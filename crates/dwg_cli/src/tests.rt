@@ -8,6 +8,7 @@ mod drill;
 mod hostile;
 mod inputs;
 mod older;
+mod older_files;
 mod recover;
 mod references;
 mod runs;

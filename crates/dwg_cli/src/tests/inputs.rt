@@ -1,6 +1,6 @@
 //! Inputs of the program, for tests: each is named by a text.
 
-use crate::tests::older;
+use crate::tests::older_files;
 use crate::tests::runs::{PLENTY, written};
 use dwg_samples::{bytes_of, file_of, frame_of, framed, with_header_word};
 use std::alloc::Global;
@@ -346,7 +346,7 @@ fn certificate_of(alloc: Global, name: &str) -> Option<Vec<u8>> {
 
 /// A canonical file of AC1014 by its name, or `nothing`.
 fn listed_older(alloc: Global, name: &str) -> Option<Vec<u8>> {
-    match paragraph(older::FILES, name) {
+    match paragraph(older_files::FILES, name) {
         Some(text) => dwg_samples::older(alloc, &canonical(alloc, text)?),
         None if name == "nothing" => Some(Vec::new(alloc)),
         None => None,
