@@ -1,6 +1,6 @@
 //! The forms of objects: all fields where the kind has a body, the common part where it doesn't, the bytes where that fails too.
 
-use crate::tests::objects::{Classed, Frames};
+use crate::tests::objects::{Classed, Frames, OlderFrames};
 use crate::tests::table::hold;
 use std::test::Fail;
 
@@ -58,6 +58,54 @@ fn ellipses_faces_polylines_in_space_and_groups_are_read_by_their_fields(
         35 80 : ENTITY A9 AA 59 / 3.0 5.10 3.0 => 35 80 ELLIPSE plain 24 1 22\n\
         16 80 : ENTITY 00 01 / 3.0 5.10 4.81 4.82 => 16 80 POLYLINE 3D plain 16 2 24\n";
     hold::<Frames>(&rt, rt.alloc(), cases);
+    Ok(())
+}
+
+#[test]
+fn layers_and_headers_of_blocks_are_read_with_what_ac1014_fixes(
+    rt: HostRuntime,
+) -> Result<(), Fail> {
+    // A layer, whose values are four bits; the header of a block, and of one that is an xref; a dictionary and a record without cloning.
+    let cases = "\
+        51 90 : '10 size '10 '01 01 30 '0 '10 '0 '1111 '01 07 / 4.0 3.0 5.0 5.16 => 51 90 LAYER typed 22\n\
+        49 90 : '10 size '10 '01 01 41 '0 '10 '0 '0 '0 '0 '0 '10 '10 '10 '10 / 4.0 3.0 5.0 3.20 4.0 4.0 3.21 => 49 90 BLOCK HEADER typed 25\n\
+        49 90 : '10 size '10 '01 01 41 '0 '10 '0 '0 '0 '1 '0 '10 '10 '10 '01 01 70 / 4.0 3.0 5.0 3.20 3.21 => 49 90 BLOCK HEADER typed 25\n\
+        42 90 : '10 size '10 '10 00 / 4.0 3.0 => 42 90 DICTIONARY typed 15\n\
+        79 90 : '10 size '10 '10 / 4.0 3.0 4.10 5.0 => 79 90 XRECORD typed 17\n";
+    hold::<OlderFrames>(&rt, rt.alloc(), cases);
+    // The layer with a plot style among its references, and with values as AC1015 has them; the header with a layout, and with all that
+    // AC1015 has; the dictionary with cloning.
+    let cases = "\
+        51 90 : '10 size '10 '01 01 30 '0 '10 '0 '0101 '01 07 / 4.0 3.0 5.0 5.0 5.16 => 51 90 LAYER plain 36 3 23\n\
+        51 90 : '10 size '10 '01 01 30 '0 '10 '0 '10 '01 07 / 4.0 3.0 5.0 5.0 5.16 => 51 90 LAYER plain 34 3 22\n\
+        49 90 : '10 size '10 '01 01 41 '0 '10 '0 '0 '0 '0 '0 '10 '10 '10 '10 / 4.0 3.0 5.0 3.20 4.0 4.0 3.21 5.0 \
+            => 49 90 BLOCK HEADER plain 34 6 26\n\
+        49 90 : '10 size '10 '01 01 41 '0 '10 '0 '0 '0 '0 '0 '0 '10 '10 '10 '10 00 '10 '10 / 4.0 3.0 5.0 3.20 4.0 4.0 3.21 5.0 \
+            => 49 90 BLOCK HEADER plain 47 6 28\n\
+        42 90 : '10 size '10 '10 '10 00 / 4.0 3.0 => 42 90 DICTIONARY plain 12 0 16\n";
+    hold::<OlderFrames>(&rt, rt.alloc(), cases);
+    Ok(())
+}
+
+#[test]
+fn kinds_of_ac1015_alone_are_plain_in_ac1014(rt: HostRuntime) -> Result<(), Fail> {
+    // What AC1015 reads by its fields are own bits and references here; a line, which both read by them; an entity and an object that
+    // neither does.
+    let cases = "\
+        35 80 : OLDER A9 AA 59 / 3.0 5.10 => 35 80 ELLIPSE plain 24 0 20\n\
+        8 80 : OLDER '10 '10 '10 '11 '10 '10 '10 '01 '0 '01 02 '01 03 '01 '10 / 3.0 5.10 5.12 => 8 80 MINSERT plain 41 1 24\n\
+        11 80 : OLDER 20 '01 '10 '10 / 3.0 5.10 => 11 80 VERTEX 3D plain 14 0 18\n\
+        16 80 : OLDER 00 01 / 3.0 5.10 4.81 4.82 3.83 => 16 80 POLYLINE 3D plain 16 3 25\n\
+        28 80 : OLDER '1 '1 000000000000F03F 0000000000000000 '000000 '000000 '000000 / 3.0 5.10 => 28 80 3DFACE plain 148 0 35\n\
+        31 80 : OLDER '1 '10 / 3.0 5.10 => 31 80 SOLID plain 3 0 17\n\
+        32 80 : OLDER '1 '10 / 3.0 5.10 => 32 80 TRACE plain 3 0 17\n\
+        40 80 : OLDER '10 '10 '10 '01 '10 '10 / 3.0 5.10 => 40 80 RAY plain 12 0 18\n\
+        41 80 : OLDER '10 '10 '10 '01 '10 '10 / 3.0 5.10 => 41 80 XLINE plain 12 0 18\n\
+        72 90 : '10 size '10 '01 01 47 '01 01 '10 '01 02 / 4.0 3.0 5.80 5.0 => 72 90 GROUP plain 40 2 22\n\
+        19 80 : OLDER A9 AA '1001 / 3.0 5.10 => 19 80 LINE typed 0 0 0 3FF0000000000000 0 0 19\n\
+        45 80 : OLDER '101 / 3.0 5.10 => 45 80 ENTITY plain 3 0 17\n\
+        200 80 : OLDER '101 / 3.0 5.10 => 200 80 UNKNOWN raw 13 17\n";
+    hold::<OlderFrames>(&rt, rt.alloc(), cases);
     Ok(())
 }
 

@@ -25,6 +25,9 @@ pub(crate) fn placed(alloc: Global, text: &str) -> Option<(u64, Vec<u8>)> {
 /// both flags 0, invisible 0, line weight 29.
 const ENTITY: &str = "'10 '0 '10 '10 '1 '11 '01 '00 '00 '10 1D ";
 
+/// The same of AC1014, with the bit size, and with the linetype by layer.
+const OLDER: &str = "'10 '0 size '10 '10 '1 '1 '11 '01 '10 ";
+
 /// Adds the texts of a linetype, 256 zero bytes.
 fn push_texts(whole: &mut String) -> Option<()> {
     for _ in 0..256u32 {
@@ -33,10 +36,11 @@ fn push_texts(whole: &mut String) -> Option<()> {
     Some(())
 }
 
-/// Adds what stands for a word: for `ENTITY` and `TEXTS` these bits, for `;` a line end, for any other the word and a blank.
+/// Adds what stands for a word: for `ENTITY`, `OLDER` and `TEXTS` these bits, for `;` a line end, for any other the word and a blank.
 fn push_word(whole: &mut String, word: &str) -> Option<()> {
     match word {
         "ENTITY" => whole.push_str(ENTITY).ok(),
+        "OLDER" => whole.push_str(OLDER).ok(),
         "TEXTS" => push_texts(whole),
         ";" => whole.push_str("\n").ok(),
         _ => push_itself(whole, word),

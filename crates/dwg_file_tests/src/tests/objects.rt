@@ -2,7 +2,6 @@
 
 ghost use Rattle.std.specs.Prelude.{◌≡◌, ◌*◌, ◌^◌, ◌<◌, ◌≤◌, [], length, IfSome};
 ghost use Rattle.dwg_object.specs.Objects.{value_of};
-ghost use Rattle.dwg_base.specs.declared.version.Version.TheVariants.{Ac1015};
 ghost use Rattle.dwg_object.specs.Written.{PartsFit, body_bytes};
 
 use crate::tests::inputs::{classes_of, frame, placed, small};
@@ -25,7 +24,7 @@ fn tell_found(told: &mut String, found: &Found<'_>) -> Option<()> {
     told::number(told, found.end)
 }
 
-/// What is read of the frame at a place, of the pair 7.
+/// What is read of the frame at a place by the rules of AC1015, of the pair 7.
 pub(crate) fn frame_at<'a>(
     alloc: Global,
     bytes: &'a [u8],
@@ -67,6 +66,12 @@ fn tell_frame(
     tell_answer::<Frames, Found<'_>>(alloc, told, frame_at(alloc, bytes, place, classes))
 }
 
+/// Adds what is read of the frame at a place by the rules of AC1014, of the pair 7.
+fn tell_older_frame(alloc: Global, told: &mut String, bytes: &[u8], place: u64) -> Option<()> {
+    let found = read_frame(alloc, bytes, place, 7, &[], Version::Ac1014);
+    tell_answer::<Frames, Found<'_>>(alloc, told, found)
+}
+
 /// `PLACE | BYTES => NUMBER HANDLE KIND FORM END`: what is read of the frame at a place: type number, own handle, kind and form of the object
 /// (`told::object`), and the frame's end; or `refused LINE INDEX PLACE`.
 struct Placed;
@@ -76,6 +81,36 @@ impl Telling for Placed {
         let (place, bytes) = placed(alloc, input)?;
         tell_frame(alloc, told, &bytes, place, &[])
     }
+}
+
+/// The same by the rules of AC1014.
+struct OlderPlaced;
+
+impl Telling for OlderPlaced {
+    fn tell(alloc: Global, told: &mut String, input: &str) -> Option<()> {
+        let (place, bytes) = placed(alloc, input)?;
+        tell_older_frame(alloc, told, &bytes, place)
+    }
+}
+
+#[test]
+fn a_frame_is_read_by_the_rules_of_a_version(rt: HostRuntime) -> Result<(), Fail> {
+    // The frames of a dictionary in AC1014 and in AC1015, each behind the bytes of both versions: these tell nothing.
+    let cases = "\
+        6 | 414331303134 0B00 4A8043248000000A004030 FCA7 => 42 C DICTIONARY typed 21\n\
+        6 | 414331303135 0B00 4A8043248000000A004030 FCA7 => 42 C DICTIONARY typed 21\n\
+        6 | 414331303134 0C00 4A9280000000432A80100C00 1F49 => refused 31 7 6\n\
+        6 | 414331303135 0C00 4A9280000000432A80100C00 1F49 => refused 31 7 6\n\
+        6 | 414331303134 0B00 4A8043248000000A004030 FCA8 => refused 30 7 6\n\
+        6 | 414331303134 0B00 4A8043248000000A004030 FC => refused 28 7 6\n";
+    hold::<OlderPlaced>(&rt, rt.alloc(), cases);
+    let cases = "\
+        6 | 414331303134 0B00 4A8043248000000A004030 FCA7 => refused 31 7 6\n\
+        6 | 414331303135 0B00 4A8043248000000A004030 FCA7 => refused 31 7 6\n\
+        6 | 414331303134 0C00 4A9280000000432A80100C00 1F49 => 42 C DICTIONARY typed 22\n\
+        6 | 414331303135 0C00 4A9280000000432A80100C00 1F49 => 42 C DICTIONARY typed 22\n";
+    hold::<Placed>(&rt, rt.alloc(), cases);
+    Ok(())
 }
 
 #[test]
@@ -139,6 +174,15 @@ impl Words<Found<'_>> for Frames {
 impl Telling for Frames {
     fn tell(alloc: Global, told: &mut String, input: &str) -> Option<()> {
         tell_frame(alloc, told, &frame(alloc, input)?, 0, &[])
+    }
+}
+
+/// `FRAME => NUMBER HANDLE KIND FORM END`: the same by the rules of AC1014.
+pub(crate) struct OlderFrames;
+
+impl Telling for OlderFrames {
+    fn tell(alloc: Global, told: &mut String, input: &str) -> Option<()> {
+        tell_older_frame(alloc, told, &frame(alloc, input)?, 0)
     }
 }
 
@@ -240,6 +284,33 @@ fn a_body_is_read_by_the_rules_of_a_version(rt: HostRuntime) -> Result<(), Fail>
 }
 
 #[test]
+fn a_bit_size_within_or_before_what_it_counts_leaves_a_raw_object(
+    rt: HostRuntime,
+) -> Result<(), Fail> {
+    // A dictionary with application data, which end in front of bit 62; its bit size is 106. It says 0, an end within these, one within
+    // itself, the place behind itself, one bit less than is right, sixteen more, and as much as it can.
+    let cases = "\
+        4A80431015112419A800000280100C00 => 42 C DICTIONARY typed\n\
+        4A804310151124180000000280100C00 => 42 C DICTIONARY raw 16\n\
+        4A80431015112418E400000280100C00 => 42 C DICTIONARY raw 16\n\
+        4A804310151124197400000280100C00 => 42 C DICTIONARY raw 16\n\
+        4A804310151124197800000280100C00 => 42 C DICTIONARY raw 16\n\
+        4A80431015112419A400000280100C00 => 42 C DICTIONARY raw 16\n\
+        4A80431015112419E800000280100C00 => 42 C DICTIONARY raw 16\n\
+        4A8043101511241BFFFFFFFE80100C00 => 42 C DICTIONARY raw 16\n";
+    hold::<OlderBodies>(&rt, rt.alloc(), cases);
+    // A line with a picture, which ends in front of bit 77; its bit size is 141. The same of it but for the first and the last two.
+    let cases = "\
+        44C0602810000003BBC4680000057B54D549828880 => 19 80 LINE typed 0 0 0 3FF0000000000000 0 0\n\
+        44C0602810000003BBC2280000057B54D549828880 => 19 80 LINE raw 21\n\
+        44C0602810000003BBC3600000057B54D549828880 => 19 80 LINE raw 21\n\
+        44C0602810000003BBC3680000057B54D549828880 => 19 80 LINE raw 21\n\
+        44C0602810000003BBC4600000057B54D549828880 => 19 80 LINE raw 21\n";
+    hold::<OlderBodies>(&rt, rt.alloc(), cases);
+    Ok(())
+}
+
+#[test]
 fn a_body_without_a_head_is_no_object(rt: HostRuntime) -> Result<(), Fail> {
     // No byte; too few; the own handle 0; a whole one; and one of a number that no kind has.
     let cases = "\
@@ -266,18 +337,22 @@ fn sink_for(alloc: Global, count: u64) -> Option<BitSink>
     }
 }
 
-/// What is written as the frame of an object.
-fn written(alloc: Global, object: &Object<'_>) -> Option<BitSink>
-    requires fits { PartsFit Ac1015 (value_of object.now) }
-    requires few { length (body_bytes Ac1015 (value_of object.now)) < 2 ^ 29 }
+/// What is written as the frame of an object in a version, if that is as long as is said before.
+fn written(alloc: Global, object: &Object<'_>, version: Version) -> Option<BitSink>
+    requires fits { PartsFit version (value_of object.now) }
+    requires few { length (body_bytes version (value_of object.now)) < 2 ^ 29 }
 {
-    let mut sink = sink_for(alloc, frame_length(object, Version::Ac1015))?;
-    write_frame(object, Version::Ac1015, &mut sink);
+    let length = frame_length(object, version);
+    let mut sink = sink_for(alloc, length)?;
+    write_frame(object, version, &mut sink);
+    if sink.length() != 8 * length {
+        return None;
+    }
     Some(sink)
 }
 
-/// What is written as the frame of an object of number 42 that keeps a body of less than 100,000 bytes as it is.
-fn raw_written(alloc: Global, handle: Handle, body: &[u8]) -> Option<BitSink> {
+/// What is written in a version as the frame of an object of number 42 that keeps a body of less than 100,000 bytes as it is.
+fn raw_written(alloc: Global, handle: Handle, body: &[u8], version: Version) -> Option<BitSink> {
     if handle.value() == 0 || body.len() >= 100_000 {
         return None;
     }
@@ -286,28 +361,99 @@ fn raw_written(alloc: Global, handle: Handle, body: &[u8]) -> Option<BitSink> {
         handle,
         bytes: BytePart::Lent(body),
     });
-    let sink = written(alloc, &object);
+    let sink = written(alloc, &object, version);
     let_go(object);
     sink
 }
 
-/// The bytes that are written as the frame of the object C with that body.
-fn frame_written(alloc: Global, body: &[u8]) -> Option<Vec<u8>> {
-    let sink = raw_written(alloc, Handle::new(12)?, body)?;
+/// The whole bytes of a sink.
+fn bytes_in(alloc: Global, sink: &BitSink) -> Option<Vec<u8>> {
     if sink.length() % 8 != 0 {
         return None;
     }
     Vec::from_slice(alloc, sink.as_bytes()).ok()
 }
 
-/// `BODY => FRAME`: the frame that is written of a body.
+/// The bytes that are written in a version as the frame of the object C with that body.
+fn frame_written(alloc: Global, body: &[u8], version: Version) -> Option<Vec<u8>> {
+    bytes_in(alloc, &raw_written(alloc, Handle::new(12)?, body, version)?)
+}
+
+/// `BODY => FRAME FRAME`: the frame that is written of a body in AC1015, and in AC1014.
 struct WrittenFrames;
 
 impl Telling for WrittenFrames {
     fn tell(alloc: Global, told: &mut String, input: &str) -> Option<()> {
-        let frame = frame_written(alloc, &bytes_of(alloc, input)?)?;
-        told::bytes(told, &frame)
+        let body = bytes_of(alloc, input)?;
+        told::bytes(told, &frame_written(alloc, &body, Version::Ac1015)?)?;
+        told::bytes(told, &frame_written(alloc, &body, Version::Ac1014)?)
     }
+}
+
+/// What is written in a version of the object of a frame of that version, which has less than a thousand bytes.
+fn written_anew(alloc: Global, bytes: &[u8], version: Version) -> Option<BitSink> {
+    if bytes.len() >= 1_000 {
+        return None;
+    }
+    match read_frame(alloc, bytes, 0, 0, &[], version) {
+        Ok(found) => {
+            let sink = written(alloc, &found.object, version);
+            let_go(found);
+            sink
+        }
+        Err(_) => None,
+    }
+}
+
+/// Adds how long the frame is that is written in a version of the object of a frame, and whether it is another frame, of a text
+/// `FRAME | FRAME`.
+fn tell_rewritten(alloc: Global, told: &mut String, input: &str, version: Version) -> Option<()> {
+    let (before, after) = input.split_once(" | ")?;
+    let sink = written_anew(alloc, &frame(alloc, before)?, version)?;
+    let frame_now = bytes_in(alloc, &sink)?;
+    told::number(told, frame_now.len() as u64)?;
+    told::same(told, &frame_now, &frame(alloc, after)?)
+}
+
+/// `FRAME | FRAME => LENGTH same`: the same of AC1015.
+struct Rewritten;
+
+impl Telling for Rewritten {
+    fn tell(alloc: Global, told: &mut String, input: &str) -> Option<()> {
+        tell_rewritten(alloc, told, input, Version::Ac1015)
+    }
+}
+
+/// `FRAME | FRAME => LENGTH same`: the same of AC1014.
+struct OlderRewritten;
+
+impl Telling for OlderRewritten {
+    fn tell(alloc: Global, told: &mut String, input: &str) -> Option<()> {
+        tell_rewritten(alloc, told, input, Version::Ac1014)
+    }
+}
+
+#[test]
+fn a_frame_is_written_by_the_rules_of_a_version(rt: HostRuntime) -> Result<(), Fail> {
+    frame_laws();
+    // A dictionary, a line and an ellipse by longer spellings, and an object of a number that no kind has, which is kept as it is; in
+    // AC1014 with ones behind the references of the ellipse.
+    let cases = "\
+        42 C : '00 0000 size '00 00000000 '10 00 / 420000 3.0 | 42 C : '10 size '10 '10 00 / 4.0 3.0 => 15 same\n\
+        19 80 : '00 0000 '0 size '10 '00 00000000 '1 '1 '00 0001 '00 000000000000F03F '01 00 A9 AA '1001 / 320000 520010 \
+            | 19 80 : OLDER A9 AA '1001 / 3.0 5.10 => 19 same\n\
+        35 80 : OLDER A9 AA 59 / 33000000 5.10 '1111111 | 35 80 : OLDER A9 AA 59 / 3.0 5.10 => 20 same\n\
+        200 80 : 5A size A5 / '11 | 200 80 : 5A size A5 / '11 => 14 same\n";
+    hold::<OlderRewritten>(&rt, rt.alloc(), cases);
+    let cases = "\
+        42 C : '10 '00 00000000 '10 '00 0000 00 / 420000 3.0 | 42 C : '10 '10 '10 '10 00 / 4.0 3.0 => 16 same\n\
+        19 80 : ENTITY '0 0000000000000000 '11 000000000000F03F 0000000000000000 '00 0000000000000000 '00 '0 '10 '0 '10 '10 '01 \
+            / 320000 5.10 \
+            | 19 80 : ENTITY '1 0000000000000000 '11 000000000000F03F 0000000000000000 '00 '1 '1 / 3.0 5.10 => 43 same\n\
+        35 80 : ENTITY '10 '10 '10 '00 000000000000F03F '10 '10 '10 '10 '01 '01 '10 '01 / 3.0 5.10 | 35 80 : ENTITY A9 AA 59 / 3.0 5.10 => 21 same\n\
+        200 80 : 5AA5 / '11 | 200 80 : 5AA5 / '11 => 14 same\n";
+    hold::<Rewritten>(&rt, rt.alloc(), cases);
+    Ok(())
 }
 
 /// `LENGTH => BEGIN WHAT`: of a body of that length, which begins as one of a number that no kind has and goes on with bytes 55, the begin
@@ -325,7 +471,7 @@ fn long_body(alloc: Global, length: u16) -> Option<Vec<u8>> {
 
 /// The frame that is written of it.
 fn long_frame(alloc: Global, length: u16) -> Option<Vec<u8>> {
-    frame_written(alloc, &long_body(alloc, length)?)
+    frame_written(alloc, &long_body(alloc, length)?, Version::Ac1015)
 }
 
 impl Telling for LongBodies {
@@ -339,7 +485,7 @@ impl Telling for LongBodies {
 #[test]
 fn a_frame_is_written_by_the_shortest_length(rt: HostRuntime) -> Result<(), Fail> {
     let cases = "\
-        4A9280000000432A80100C00 => 0C004A9280000000432A80100C001F49\n";
+        4A9280000000432A80100C00 => 0C004A9280000000432A80100C001F49 0C004A9280000000432A80100C001F49\n";
     hold::<WrittenFrames>(&rt, rt.alloc(), cases);
     // A length of two units.
     let cases = "\
