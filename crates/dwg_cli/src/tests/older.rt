@@ -45,6 +45,25 @@ object C DICTIONARY typed 42
   cloning 0
   hard_owner 0
 
+older_hostile_items
+drawing AC1014 codepage 0 lead 00000000000000 mark 0000
+variables -
+classes 0
+objects 1
+object C DICTIONARY plain 42
+  owner 4.0
+  xdict 3.0
+  bits 42
+  rest 3fffffffc000
+
+older_hostile_reactors
+drawing AC1014 codepage 0 lead 00000000000000 mark 0000
+variables -
+classes 0
+objects 1
+object C DICTIONARY raw 42
+  bytes 4a80432680000003fffffffe004030
+
 older_either
 drawing AC1014 codepage 0 lead 00000000000000 mark 0000
 variables -

@@ -9,6 +9,7 @@
 /// - `older_short` has a dictionary and a line, and `older_long` the same by longer spellings, so that it isn't canonical.
 /// - `older_forms` has an ellipse, of which the common part alone is known in AC1014, an object of a number that no kind has, and a
 ///   dictionary; `older_found` has the first and the last of them.
+/// - `older_hostile_items` and `older_hostile_reactors` have a dictionary that counts 2^32 - 1 items, or reactors, of which none is there.
 /// - `older_either` has a dictionary with application data. By the rules of AC1015 it has a head, with the same handle, and a bit size
 ///   that is far too great.
 /// - `older_drawing` has the fixed objects of the made drawing and, behind these, in its model space:
@@ -81,6 +82,16 @@ older_found
 -
 35 1 : '10 '0 size '10 '10 '1 '1 '11 '01 '10 A9 AA 59 / 3.0 5.10
 42 C : '10 size '10 '10 00 / 4.0 3.0
+
+older_hostile_items
+-
+-
+42 C : '10 size '10 '00 FFFFFFFF 00 / 4.0 3.0
+
+older_hostile_reactors
+-
+-
+42 C : '10 size '00 FFFFFFFF '10 00 / 4.0 3.0
 
 older_either
 -
