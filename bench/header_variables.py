@@ -21,7 +21,7 @@ H.blocks 1, H.layers 1, H.styles 1, H.linetypes 1, H 3, H.applications 1, H 4, H
 H.paper 1, H.model 1, H.by_layer 1, H.by_block 1, H.continuous 1, BS 4
 """
 
-# And those of R14, of which the order is by heart and was tried by no other program.
+# And those of R14.
 OLDER_ORDER = """
 BD.first 1, BD.one 3, TV 4, BL 2, BS 1, H 1, B 26, BS 31, BD.one 9, BD.one 12, TV 1, BL 8, BS.colour 1, H.seed 1, H.layer 1, H.style 1, H.by_layer 1,
 H 2, BD 9, RD 4, BD 1, BD 9, H 1,
