@@ -21,6 +21,8 @@ class Drawing(spelled.Drawing):
     """A drawing of AC1014."""
 
     VERSION = b"AC1014"
+    # The four bits of each layer.
+    LAYER_BITS = "0000"
 
     def sized(self, number: int, handle: int, before: str, behind: str, references: str) -> int:
         """An object by its main bits before the bit size and behind it, and by its references."""
@@ -130,7 +132,7 @@ class Plan(Drawing):
     def table_entries(self) -> None:
         """Layers, a text style, linetypes and an application."""
         for handle, name, colour in ((self.LAYER0, b"0", 7), (self.WALLS, b"WALLS", 1)):
-            self.of_table(51, handle, 0x2, name, "0000" + short(colour), (5, 0), (5, self.CONTINUOUS))
+            self.of_table(51, handle, 0x2, name, self.LAYER_BITS + short(colour), (5, 0), (5, self.CONTINUOUS))
         self.of_table(53, self.STYLE, 0x3, b"STANDARD", "00" + reals([0, 1, 0]) + byte(0) + real(0) + text(b"txt") + text(b""), (5, 0))
         for handle, name in ((self.CONTINUOUS, b"CONTINUOUS"), (self.BY_BLOCK, b"BYBLOCK"), (self.BY_LAYER, b"BYLAYER")):
             self.of_table(57, handle, 0x5, name, text(b"") + real(0) + byte(65) + byte(0) + "0" * 2048, (5, 0))

@@ -176,6 +176,16 @@ class Tools(common.InFolder):
         self.assertEqual(pictures[0], pictures[1])
         self.assertIn("Grüße".encode(), pictures[0])
 
+    def test_picture_of_layers_that_are_off_or_on(self) -> None:
+        """Which value of the second bit means on isn't known well enough to leave anything out."""
+
+        class Other(older.Plan):
+            LAYER_BITS = "0100"
+
+        other = Other().file()
+        self.assertIn("values 2", [line for _, _, lines in shown(other) for line in lines])
+        self.assertEqual(tool("dwg-picture", given=other).stdout, tool("dwg-picture", given=PLAN).stdout)
+
     def test_picture_tells_kinds_without_a_body(self) -> None:
         ran = tool("dwg-picture", given=PLAN)
         self.assertEqual((ran.returncode, ran.stderr), (0, b"dwg-picture: not drawn: 1 ELLIPSE (not read by all its fields)\n"))
