@@ -12,6 +12,7 @@ mod lines;
 mod lists;
 mod modular;
 mod pieces;
+mod previews;
 mod sections;
 mod sinks;
 mod text;

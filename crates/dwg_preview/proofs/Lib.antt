@@ -1,0 +1,5 @@
+pub mod Entries
+pub mod Contents
+pub mod PreviewParts
+pub mod Moving
+pub mod PreviewWriting

@@ -1,0 +1,14 @@
+//! The preview section: read where it stands, and written elsewhere. Pictures are never decoded.
+#![tactic(auto)]
+
+mod laws;
+mod places;
+mod preview;
+mod reading;
+mod sentinels;
+mod writing;
+
+pub use laws::preview_laws;
+pub use preview::{Preview, preview_length};
+pub use reading::read_preview;
+pub use writing::write_preview;
