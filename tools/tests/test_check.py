@@ -2,6 +2,7 @@
 
 from __future__ import annotations
 
+import contextlib
 import errno
 import gzip
 import hashlib
@@ -20,7 +21,7 @@ import types
 import unittest
 import unittest.mock
 import zipfile
-from typing import Any, Dict, List, Optional, Tuple
+from typing import Any, Dict, Iterator, List, Optional, Tuple
 
 import made
 from made import TOOLS, WRITER, flipped, hole, layout, program_that, tool, unescaped
@@ -400,6 +401,23 @@ class Check(Base):
         for words, given in (([self.folder / "nothing", "--quiet"], b""), (["-", "--quiet"], b""), (["--quiet", "--resume", self.folder / "log", self.folder / "nothing"], b"")):
             ran = tool("dwg-check", *words, given=given)
             self.assertEqual((ran.returncode, ran.stderr), (66, said))
+
+    def test_an_entry_that_nothing_is_told_of_hides_no_other(self) -> None:
+        self.some(["a.dwg", "b.dwg", "c.dwg"])
+        broken = unittest.mock.Mock(path=str(self.folder / "b.dwg"))
+        broken.name = "b.dwg"
+        broken.is_dir.side_effect = broken.is_symlink.side_effect = OSError(errno.EIO, "Input/output error")
+        # The listing of such a file system has no types, so that each is asked for.
+        listed = os.scandir
+
+        @contextlib.contextmanager
+        def scandir(folder: str) -> Iterator[Iterator[Any]]:
+            with listed(folder) as entries:
+                yield iter([broken if entry.name == "b.dwg" else entry for entry in entries])
+
+        with unittest.mock.patch("os.scandir", scandir):
+            found = list(CHECK.walked(str(self.folder), False))
+        self.assertEqual(found, [CHECK.Named(str(self.folder / name)) for name in ("a.dwg", "b.dwg", "c.dwg")])
 
     def test_order(self) -> None:
         paths = self.some([f"{index:02}.dwg" for index in range(40)], 1)
