@@ -647,10 +647,14 @@ def kept(file: IO[bytes], begin: bytes = b"") -> IO[bytes]:
     return found
 
 
-def _state_of(file: IO[bytes]) -> Tuple[int, int]:
-    """The size of an open file and the time of its last change."""
+# What is said of an input whose state isn't the one that it had.
+CHANGED = "it was changed while it was read"
+
+
+def state_of(file: IO[bytes]) -> Optional[Tuple[int, int]]:
+    """The size of an open file and the time of its last change; None of a pipe, of which nobody changes what was read."""
     told = os.fstat(file.fileno())
-    return told.st_size, told.st_mtime_ns
+    return (told.st_size, told.st_mtime_ns) if stat.S_ISREG(told.st_mode) else None
 
 
 def _status_at(path: Optional[str], stream: int) -> Optional[os.stat_result]:
@@ -1223,7 +1227,7 @@ class Drawing:
         self.program = program
         self.name = input_name(path)
         self.file = open_input(path) if file is None else file
-        self._state = _state_of(self.file)
+        self._state = state_of(self.file)
 
     @contextlib.contextmanager
     def show(self, lists: Lists = Lists.TEXT) -> Iterator[Tuple[Front, Iterator[Object]]]:
@@ -1249,8 +1253,8 @@ class Drawing:
                     bad = fault
             for _ in lines:
                 pass
-        if _state_of(self.file) != self._state:
-            raise ToolError("it was changed while it was read", Status.READ_FAULT)
+        if state_of(self.file) != self._state:
+            raise ToolError(CHANGED, Status.READ_FAULT)
         if bad or not first:
             raise ToolError(f"the text of `show` isn't as it should be: {bad or 'it is empty'}", Exit.FAILURE)
 

@@ -14,10 +14,12 @@ import tempfile
 import time
 import unittest
 import unittest.mock
-from typing import Any, Dict, Iterable, List, Optional, Tuple
+from typing import Any, Dict, Iterable, Iterator, List, Optional, Tuple
 
 import made
 from made import TOOLS, dwg, flipped, layout, program_that, shown, tool
+
+import drawing
 
 made.needs_program()
 
@@ -309,6 +311,33 @@ class Recover(unittest.TestCase):
         stand_in = program_that(self.folder, "stand-in", [f'[ "$1" != recover ] || echo precious >"{self.out}"', 'exec "$REAL" "$@"'])
         ran = tool("dwg-recover", "--program", stand_in, self.source, self.out)
         self.assertEqual((ran.returncode, self.out.read_bytes()), (73, b"precious\n"))
+
+    def test_an_input_that_changes_meanwhile(self) -> None:
+        self.source.write_bytes(without([0x40]))
+        for line in ('echo more >>"$IN"', 'touch "$IN"'):
+            stand_in = program_that(self.folder, "stand-in", [f'IN="{self.source}"', f'[ "$1" != recover ] || {line}', 'exec "$REAL" "$@"'])
+            for out in (self.out, "-"):
+                ran = tool("dwg-recover", "--program", stand_in, self.source, out)
+                said = f"dwg-recover: {self.source}: it was changed while it was read\n".encode()
+                self.assertEqual((ran.returncode, ran.stdout, ran.stderr), (4, b"", said))
+                self.assertEqual(sorted(os.listdir(self.folder)), ["in.dwg", "stand-in"])
+
+    def test_an_older_state_that_changes_meanwhile(self) -> None:
+        text = self.folder / "text"
+        whole = dwg("show", given=DATA).stdout
+        read_front = drawing.read_front
+
+        def changed(lines: Iterator[bytes]) -> drawing.Front:
+            with open(text, "ab") as file:
+                file.write(b"more\n")
+            return read_front(lines)
+
+        # One that is written still is no text, and that isn't its fault.
+        for data in (whole, whole[:1000]):
+            text.write_bytes(data)
+            with unittest.mock.patch("drawing.read_front", changed), self.assertRaises(drawing.ToolError) as raised:
+                RECOVER.survey_before(drawing.Program(made.PROGRAM), str(text))
+            self.assertEqual((str(raised.exception), raised.exception.status), (f"{text}: it was changed while it was read", 4))
 
     def test_interrupted(self) -> None:
         self.source.write_bytes(without([0x40]))
