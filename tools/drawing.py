@@ -279,6 +279,15 @@ class NotBuilt(ToolError):
         super().__init__(read_note(notes.decode("utf-8", "replace").splitlines()[-1]).text, Exit.NO_PROGRAM)
 
 
+# The runs of the program that have begun: what a signal leaves of them, the end of the tool ends.
+_running: Set["subprocess.Popen[bytes]"] = set()
+
+
+def _end_running() -> None:
+    for ran in list(_running):
+        ran.kill()
+
+
 class Program:
     """Runs the program. Several threads may run it at once; `stop` ends all that runs."""
 
@@ -286,7 +295,6 @@ class Program:
         self.path = path
         # The launcher's answers without a proof take a minute each.
         os.environ["DWG_PROVED_ONLY"] = "1"
-        self._running: Set["subprocess.Popen[bytes]"] = set()
         self._lock = threading.Lock()
         self._stopped = False
 
@@ -351,7 +359,7 @@ class Program:
                     raise
         finally:
             with self._lock:
-                self._running.discard(ran)
+                _running.discard(ran)
 
     def _begun(self, words: Sequence[str], stdin: Any, stdout: Any, stderr: Any) -> "subprocess.Popen[bytes]":
         """A run that has begun. Where there is no room for another process it waits for the other runs, though not for ever."""
@@ -361,13 +369,14 @@ class Program:
                 if self._stopped:
                     raise ProgramFailed("stopped")
                 try:
-                    ran = subprocess.Popen([self.path, *words], stdin=stdin, stdout=stdout, stderr=stderr)
-                except OSError as fault:
-                    if fault.errno != errno.EAGAIN or not self._running or time.monotonic() > end:
-                        raise ProgramFailed(str(fault.strerror)) from None
-                else:
-                    self._running.add(ran)
+                    # What has begun and isn't among those that run, no signal's end of the tool would end.
+                    with uninterrupted():
+                        ran = subprocess.Popen([self.path, *words], stdin=stdin, stdout=stdout, stderr=stderr)
+                        _running.add(ran)
                     return ran
+                except OSError as fault:
+                    if fault.errno != errno.EAGAIN or not _running or time.monotonic() > end:
+                        raise ProgramFailed(str(fault.strerror)) from None
             time.sleep(0.02)
 
     @property
@@ -379,7 +388,7 @@ class Program:
         """Ends all runs, and lets none begin."""
         with self._lock:
             self._stopped = True
-            for ran in self._running:
+            for ran in _running:
                 ran.kill()
 
 
@@ -473,24 +482,39 @@ def one_message(text: str) -> str:
 # ---------------------------------------------------------------------------------------------------------------------
 
 
+# How many of `uninterrupted` the main thread, which alone takes signals, is in; and the signals that came meanwhile.
+_depth: List[None] = []
+_waiting: List[int] = []
+
+
 @contextlib.contextmanager
 def uninterrupted() -> Iterator[None]:
-    """Lets no interrupt between two steps that belong together; it is delivered behind them."""
-    kept = signal.pthread_sigmask(signal.SIG_BLOCK, {signal.SIGINT, signal.SIGTERM, signal.SIGHUP})
+    """Lets no signal end the tool between steps that belong together; it ends it behind them.
+
+    No signal is blocked: a program that begins meanwhile would have it blocked for ever.
+    """
+    if threading.current_thread() is not threading.main_thread():
+        yield
+        return
+    _depth.append(None)
     try:
         yield
     finally:
-        signal.pthread_sigmask(signal.SIG_SETMASK, kept)
+        _depth.pop()
+        if _waiting and not _depth:
+            _end(_waiting[0], None)
 
 
-# Files that were begun and don't have their name yet: what an interrupt leaves of them, the end of the tool removes.
-_unplaced: Set[str] = set()
+# Files that were begun and don't have their name yet, each by its folder's descriptor and its name there: what an interrupt leaves of them,
+# the end of the tool removes.
+_unplaced: Set[Tuple[int, str]] = set()
 
 
 def _remove_unplaced() -> None:
     while _unplaced:
+        folder, name = _unplaced.pop()
         with contextlib.suppress(OSError):
-            os.unlink(_unplaced.pop())
+            os.unlink(name, dir_fd=folder)
 
 
 class WholeFile:
@@ -506,14 +530,18 @@ class WholeFile:
         self.path, self.force = path, force
         self._folder = os.path.dirname(path) or "."
         self._temporary = ""
+        # The folder may be moved, and the file is removed where it is then.
+        self._at = -1
 
     def __enter__(self) -> "WholeFile":
         # A letter has four bytes at the most, and a name 255.
         front = f".{os.path.basename(self.path)[:25]}."
         try:
             with uninterrupted():
+                # (a folder need not be readable for this, where the system has a way)
+                self._at = os.open(self._folder, getattr(os, "O_PATH", os.O_RDONLY))
                 handle, self._temporary = tempfile.mkstemp(prefix=front, suffix=".part", dir=self._folder)
-                _unplaced.add(self._temporary)
+                _unplaced.add((self._at, os.path.basename(self._temporary)))
                 self.file = os.fdopen(handle, "w+b")
         except BaseException:
             self.__exit__()
@@ -577,9 +605,13 @@ class WholeFile:
             with contextlib.suppress(OSError, AttributeError):
                 self.file.close()
             if self._temporary:
+                name = os.path.basename(self._temporary)
                 with contextlib.suppress(OSError):
-                    os.unlink(self._temporary)
-                _unplaced.discard(self._temporary)
+                    os.unlink(name, dir_fd=self._at)
+                _unplaced.discard((self._at, name))
+            if self._at >= 0:
+                os.close(self._at)
+                self._at = -1
 
 
 def _mask() -> int:
@@ -1295,6 +1327,7 @@ class Parser(argparse.ArgumentParser):
         table = "\n".join(f"  {int(number):<5}{meaning}" for number, meaning in statuses)
         end = f"{more.strip()}\n\n" if more.strip() else ""
         super().__init__(
+            prog=own_name(),
             description=description,
             epilog=f"{end}exit status:\n{table}\n\n{TESTED}",
             formatter_class=argparse.RawDescriptionHelpFormatter,
@@ -1336,10 +1369,15 @@ def commit() -> str:
     return ""
 
 
+def own_name() -> str:
+    """How the tool is called: a link to it may have any name."""
+    return one_line(os.path.basename(sys.argv[0]))
+
+
 def tell(message: str) -> None:
     """Says a message of one line on standard error; where nobody can read it, it is lost, and nothing else."""
     with contextlib.suppress(OSError, ValueError):
-        print(f"{os.path.basename(sys.argv[0])}: {one_message(message)}", file=sys.stderr, flush=True)
+        print(f"{own_name()}: {one_message(message)}", file=sys.stderr, flush=True)
 
 
 def open_missing_streams() -> None:
@@ -1372,9 +1410,14 @@ _ENDING = (signal.SIGINT, signal.SIGTERM, signal.SIGHUP)
 _interrupted: List[bool] = []
 
 
+def _pass(_number: int, _frame: object) -> None:
+    """Does nothing. Of a signal that waits to be handled and is ignored meanwhile Python would print a fault."""
+
+
 def _ignore_signals() -> None:
     for number in _ENDING:
-        signal.signal(number, signal.SIG_IGN)
+        if signal.getsignal(number) != signal.SIG_IGN:
+            signal.signal(number, _pass)
 
 
 class _Ended(BaseException):
@@ -1385,8 +1428,11 @@ class _Ended(BaseException):
         self.status = 128 + number
 
 
-def _end(number: int, _: object) -> NoReturn:
-    """Ends the tool once: a second signal doesn't disturb what the first makes it tidy."""
+def _end(number: int, _: object) -> None:
+    """Ends the tool once: a second signal doesn't disturb what the first makes it tidy. What may not be parted is done before."""
+    if _depth:
+        _waiting.append(number)
+        return
     _ignore_signals()
     if number == signal.SIGINT:
         _interrupted.append(True)
@@ -1455,6 +1501,7 @@ def run_tool(main: Callable[[], int]) -> NoReturn:
         status = Exit.INTERRUPTED
     except _Ended as end:
         status = end.status
+    _end_running()
     _remove_unplaced()
     # The end of Python itself would write what is left of the output: it waits where nobody reads, and has a status of its own where that fails.
     os._exit(int(status))

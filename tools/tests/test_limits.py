@@ -195,6 +195,63 @@ class Threads(Checked):
         self.assertEqual((ran.returncode, ran.stderr), (130, b""))
 
 
+# Interrupts the tool when a run has begun, and before anybody has it.
+INTERRUPTED = """
+import os, pathlib, signal
+popen = drawing.subprocess.Popen
+def start(words, **more):
+    ran = popen(words, **more)
+    if words[1] != "drill":
+        while not pathlib.Path({begun!r}).exists():
+            time.sleep(0.01)
+        os.kill(os.getpid(), signal.SIGINT)
+        time.sleep(0.01)
+    return ran
+drawing.subprocess.Popen = start
+"""
+
+# Tells of each signal that ends a tool what handles it once it ends.
+HANDLED = """
+import signal
+signal.signal(signal.SIGHUP, signal.SIG_IGN)
+def ended():
+    drawing._ignore_signals()
+    print(*(callable(signal.getsignal(number)) and signal.getsignal(number) != signal.SIG_IGN for number in drawing._ENDING))
+    return 0
+tool.main = ended
+"""
+
+
+def is_running(number: int) -> bool:
+    """Whether a process runs; one that ended, and of which nobody took note, doesn't."""
+    try:
+        return Path(f"/proc/{number}/stat").read_text().rpartition(")")[2].split()[0] != "Z"
+    except FileNotFoundError:
+        return False
+
+
+class Signals(Checked):
+    """A signal ends the tool once, and all that it began."""
+
+    def test_a_run_that_begins_is_ended_too(self) -> None:
+        path, begun = self.drawings(1)[0], self.folder / "begun"
+        endless = self.refusing(f'grep SigBlk /proc/self/status >"{self.folder}/blocked"', f'echo $$ >"{begun}.part"; mv "{begun}.part" "{begun}"; exec sleep 60')
+        for name, words in (("dwg-json", [path]), ("dwg-recover", [path, "-"]), ("dwg-check", [path])):
+            few = FEW_THREADS.format(count=0) if name == "dwg-check" else ""
+            ran = otherwise(name, few + INTERRUPTED.format(begun=str(begun)), "--program", endless, *words)
+            self.assertEqual((ran.returncode, ran.stderr), (130, b""), name)
+            self.assertFalse(is_running(int(begun.read_text())), name)
+            # (nor is anything blocked for what was begun)
+            if (self.folder / "blocked").read_bytes():
+                self.assertEqual(int((self.folder / "blocked").read_text().split()[1], 16), 0)
+            begun.unlink()
+
+    def test_a_second_signal_is_no_fault_of_python(self) -> None:
+        # Of one that is ignored while it waits, Python tells by a traceback. One that was ignored from the begin stays so.
+        ran = otherwise("dwg-json", HANDLED)
+        self.assertEqual((ran.returncode, ran.stdout, ran.stderr), (0, b"True True False\n", b""))
+
+
 class Streams(Checked):
     """Nothing is written into what is read, not even by standard error."""
 

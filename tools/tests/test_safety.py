@@ -134,6 +134,16 @@ class Outputs(common.InFolder):
                     (self.folder / left).unlink() if ran.returncode < 2 and (self.folder / left).exists() else None
                 self.assertEqual(os.listdir(self.folder), ["a.dwg"], (name, size))
 
+    def test_a_folder_that_is_moved_keeps_no_temporary_file(self) -> None:
+        path = self.file("a.dwg", drawn(3, 1))
+        moving = program_that(self.folder, "moving", [f'[ "$1" = drill ] || mv "{self.folder}/new" "{self.folder}/moved" 2>/dev/null', 'exec "$REAL" "$@"'])
+        for name, words in WRITERS.items():
+            for force in ([], ["--force"]):
+                (self.folder / "new").mkdir()
+                ran = tool(name, "--program", moving, *words(path, self.folder / "new/out"), *force)
+                self.assertEqual((ran.returncode, os.listdir(self.folder / "moved")), (5, []), (name, force, ran.stderr))
+                (self.folder / "moved").rmdir()
+
     def test_long_names(self) -> None:
         path = self.file("a.dwg", drawn(3, 1))
         for name, out in (("dwg-json", "\u6587" * 85), ("dwg-picture", "x" * 255), ("dwg-recover", "\u6587" * 83), ("dwg-json", "\U0001f4d0" * 63)):
@@ -306,6 +316,14 @@ class Ends(common.InFolder):
                     self.assertFalse(set(letters) & set(said.decode()), (name, said))
         line = tool("dwg-check", path).stdout.decode().splitlines()[1].split("\t")[0]
         self.assertEqual(made.unescaped(line), os.fsencode(path))
+
+    def test_the_name_of_a_tool_colours_no_terminal(self) -> None:
+        for name in ALL:
+            called = self.folder / f"{name}\x1b[31m"
+            called.symlink_to(TOOLS / name)
+            for words in (["--nonsense"], [self.folder / "none", self.folder / "out"], ["--version"], ["--help"]):
+                ran = subprocess.run([str(called), *map(str, words)], capture_output=True, check=False, env={**os.environ, "DWG": made.PROGRAM})
+                self.assertNotIn(b"\x1b", ran.stdout + ran.stderr, (name, words))
 
     def test_a_name_in_a_drawing_turns_and_colours_no_terminal(self) -> None:
         letters = "\x1b]0;t\x07\n\x9b"
