@@ -8,7 +8,7 @@ from dataclasses import dataclass
 from typing import Iterator, List
 from xml.sax.saxutils import escape
 
-from drawing import decoded
+from drawing import DIRECTIONS, decoded
 from plane import Affine, Point, plain, seen, turned
 from shapes import FILLED, Context, Fields, Figure, Frame, Undrawable, checked_map
 
@@ -19,7 +19,9 @@ CAPITAL, DEPTH = 0.72 * FONT, 0.24 * FONT
 
 SIGNS = {"d": "\u00b0", "c": "\u2300", "p": "\u00b1", "%": "%", "u": "", "o": "", "k": ""}
 _SIGN = re.compile(r"%%(\d{3}|[dcpuok%])|\\U\+([0-9A-Fa-f]{4})", re.IGNORECASE)
-_UNSAID = re.compile("[\x00-\x08\x0b\x0c\x0e-\x1f\ufffe\uffff\ud800-\udfff]")
+_UNSAID = re.compile("[\x00-\x08\x0b\x0c\x0e-\x1f\x7f-\x9f\ufffe\uffff\ud800-\udfff]")
+# What is written as a number, since it turns the direction of a terminal: a picture needs it.
+_NUMBERED = {letter: f"&#{ord(letter)};" for letter in DIRECTIONS}
 
 
 def readable(text: bytes, page: str) -> str:
@@ -88,7 +90,7 @@ class Writing(Figure):
             return ""
         anchored = "" if self.anchor == "start" else f' text-anchor="{self.anchor}"'
         fitted = f' textLength="{plain(breadth(self.content))}" lengthAdjust="spacingAndGlyphs"' if self.is_fitted else ""
-        return f"<text{upright.attribute()}{anchored}{fitted}{FILLED}>{escape(self.content)}</text>"
+        return f"<text{upright.attribute()}{anchored}{fitted}{FILLED}>{escape(self.content, _NUMBERED)}</text>"
 
     def around(self, frame: Frame) -> List[Point]:
         seat = frame.seat(self.letters)

@@ -625,6 +625,16 @@ class Pictures(common.InFolder):
         answer = tool("dwg-picture", given=one.file())
         self.assertEqual((answer.returncode, answer.stderr), (0, b"dwg-picture: not drawn: 1 TEXT (no height)\n"))
 
+    def test_texts_that_no_terminal_should_have(self) -> None:
+        one = spelled.Drawing()
+        one.text(b"a\x7fb\\U+009Bc%%127d", (0, 0), 0.72)
+        one.text(b"e\\U+202Ef\\U+2066g\\U+200Fh", (0, 0), 0.72)
+        seen = {found.text for found in self.picture(one).seen}
+        self.assertEqual(seen, {"a\ufffdb\ufffdc\ufffdd", "e\u202ef\u2066g\u200fh"})
+        said = tool("dwg-picture", given=one.file()).stdout.decode()
+        self.assertFalse(set("\x7f\x9b\u202e\u2066\u200f") & set(said))
+        self.assertIn("e&#8238;f&#8294;g&#8207;h", said)
+
     def test_texts(self) -> None:
         one = spelled.Drawing()
         one.text(b"plain", (1, 2), 0.72)
