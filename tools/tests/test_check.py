@@ -545,7 +545,7 @@ class Check(Base):
         self.assertEqual(writer.returncode, 0)
 
     def test_words(self) -> None:
-        for words in ([], ["--nothing", "x"], ["--jobs", "0", "x"], ["--jobs", "many", "x"], ["--al", "x"], ["--verify", "x"], ["--json", "--print0", "damaged", "x"], ["--print0", "nothing", "x"]):
+        for words in ([], ["--nothing", "x"], ["--jobs", "0", "x"], ["--jobs", "many", "x"], ["--al", "x"], ["--verify", "x"], ["--json", "--print0", "damaged", "x"], ["--print0", "nothing", "x"], ["--resume=", "x"]):
             ran = tool("dwg-check", *words)
             self.assertEqual((ran.returncode, ran.stdout), (64, b""), words)
         for number in ("\u00b2", "\u0663", "-1", "1001", "9" * 5000):
@@ -894,6 +894,15 @@ class Logs(Base):
             ran = tool("dwg-check", "--resume", self.folder / name, "--program", made.PROGRAM, self.folder / "d")
             self.assertEqual((ran.returncode, ran.stdout, ran.stderr), (73, b"", f"dwg-check: {self.folder / name}: another run writes into it\n".encode()))
         self.assertEqual(self.log.read_bytes(), kept)
+
+    def test_log_that_goes_while_it_is_written(self) -> None:
+        said = f"dwg-check: {self.log} was removed or replaced while it was written; what was added to it is lost\n".encode()
+        for line in ('rm "$LOG"', 'cp "$LOG" "$LOG.new"; mv "$LOG.new" "$LOG"', 'mv "$LOG" "$LOG.old"'):
+            for left in self.folder.glob("log*"):
+                left.unlink()
+            going = program_that(self.folder, "going", [f'LOG="{self.log}"', f'[ "$1" != audit ] || {{ {line}; }}', 'exec "$REAL" "$@"'])
+            ran = tool("dwg-check", "--quiet", "--jobs", "1", "--program", going, "--resume", self.log, *self.some(["d/a.dwg"]))
+            self.assertEqual((ran.returncode, self.verdicts(ran), ran.stderr), (70, [["a.dwg", "sound", ""]], said), line)
 
     def test_log_where_there_are_no_locks(self) -> None:
         check = made.module(TOOLS / "dwg-check", "dwg_check")

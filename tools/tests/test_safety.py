@@ -7,6 +7,7 @@ import os
 import random
 import re
 import resource
+import shutil
 import signal
 import socket
 import stat
@@ -228,6 +229,12 @@ class Ends(common.InFolder):
         for name, words in ALL.items():
             self.assertEqual(in_bash(f'{name} "$@" >/dev/full 2>/dev/full', *words(path)).returncode, statuses[name], name)
         self.assertEqual(in_bash('dwg-json "$1" 2>/dev/full', self.folder / "none").returncode, 4)
+        # OUT is there where its report can't be said.
+        ran = in_bash('dwg-recover "$1" "$2" >/dev/full', path, self.folder / "out.dwg")
+        said = f"dwg-recover: standard output can't be written: No space left on device; {self.folder}/out.dwg is there\n"
+        self.assertEqual((ran.returncode, ran.stderr.decode(), (self.folder / "out.dwg").read_bytes()), (5, said, path.read_bytes()))
+        ran = in_bash('dwg-recover "$1" - 2>/dev/full', path)
+        self.assertEqual((ran.returncode, ran.stdout), (5, path.read_bytes()))
         # What can't be said of a picture takes nothing of it away.
         one = spelled.Drawing()
         one.entity(39, "1" * 30)
@@ -245,6 +252,36 @@ class Ends(common.InFolder):
             for variable, value in variables.items():
                 ran = tool(name, *words(path), **{variable: value})
                 self.assertEqual((ran.returncode, ran.stdout, ran.stderr), (0, expected.stdout, expected.stderr), (name, variable))
+
+    def test_standard_input_that_is_a_folder(self) -> None:
+        path = self.file("a.dwg", drawn(3, 1))
+        for name, words in ALL.items():
+            # Who doesn't read it doesn't care.
+            ran = in_bash(f'{name} "$@" < /tmp', *words(path))
+            self.assertEqual((ran.returncode, ran.stdout), (0, tool(name, *words(path)).stdout), (name, ran.stderr))
+        for script, status in (("dwg-json", 4), ("dwg-picture", 4), ('dwg-diff - "$1"', 2), ("dwg-recover - -", 4), ("dwg-check -", 70)):
+            ran = in_bash(f"{script} < /tmp", path)
+            self.assertEqual((ran.returncode, ran.stdout), (status, b""), script)
+            self.assertIn(b": standard input: ", ran.stderr)
+            self.assertEqual(ran.stderr.count(b"\n"), 1, ran.stderr)
+
+    @unittest.skipUnless(shutil.which("localedef"), "names in a locale of Latin-1, as there is no localedef")
+    def test_names_are_the_same_in_each_locale(self) -> None:
+        locales = self.folder / "locales"
+        locales.mkdir()
+        if subprocess.run(["localedef", "-i", "en_US", "-f", "ISO-8859-1", str(locales / "en_US")], capture_output=True, check=False).returncode:
+            self.skipTest("names in a locale of Latin-1, as localedef makes none")
+        path = self.file("a\u00e9\u20ac.dwg", drawn(3, 1))
+        latin = {"LOCPATH": str(locales), "LC_ALL": "en_US", "PYTHONUTF8": "0"}
+        for name, words in ALL.items():
+            for source in (path, self.folder / "none\u00e9"):
+                told = [tool(name, *words(source), **more) for more in ({"LC_ALL": "C.UTF-8"}, latin)]
+                self.assertEqual(*((ran.returncode, ran.stdout, ran.stderr) for ran in told))
+        # One file is one in LOG.
+        log = self.folder / "log"
+        tables = [tool("dwg-check", "--quiet", "--resume", log, path, **more).stdout for more in ({"LC_ALL": "C.UTF-8"}, latin)]
+        self.assertEqual(tables[0], tables[1])
+        self.assertEqual(len(log.read_bytes().splitlines()), 2)
 
     def end_of(self, name: str, words: Sequence[object], wait: float, to_all: bool) -> int:
         """The status of a tool that is interrupted after a time."""
