@@ -708,9 +708,9 @@ def _stream_file(stream: int) -> Optional[os.stat_result]:
     return there if there is not None and stat.S_ISREG(there.st_mode) else None
 
 
-def is_new_output(path: str) -> bool:
-    """Whether a file has nothing yet, and is where standard output or error goes."""
-    return any(own is not None and not own.st_size and is_one_file(own, _status_at(path, 0)) for own in map(_stream_file, (1, 2)))
+def outputs(is_new: bool) -> List[os.stat_result]:
+    """The regular files that standard output and error go to: those that have nothing yet, or those that have something."""
+    return [own for own in map(_stream_file, (1, 2)) if own is not None and is_new == (not own.st_size)]
 
 
 def refuse_streams(sources: Sequence[Optional[str]]) -> None:

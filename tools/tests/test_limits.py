@@ -10,10 +10,11 @@ import struct
 import subprocess
 import sys
 import termios
+import time
 import unittest
 import unittest.mock
 from pathlib import Path
-from typing import List, Sequence, Tuple
+from typing import Any, List, Sequence, Tuple
 
 import common
 import made
@@ -22,6 +23,8 @@ from made import TOOLS, program_that
 import drawing
 import plane
 import shapes
+
+CHECK = made.module(TOOLS / "dwg-check", "dwg_check")
 
 # A tool in a Python in which something is otherwise: the lines run first, and its module is `tool`.
 OTHERWISE = """
@@ -250,6 +253,107 @@ class Signals(Checked):
         # Of one that is ignored while it waits, Python tells by a traceback. One that was ignored from the begin stays so.
         ran = otherwise("dwg-json", HANDLED)
         self.assertEqual((ran.returncode, ran.stdout, ran.stderr), (0, b"True True False\n", b""))
+
+
+class Stream:
+    """A stream of so many pieces, of which it is counted how many were taken."""
+
+    def __init__(self, piece: bytes, count: int) -> None:
+        self.piece, self.left, self.taken = piece, count, 0
+
+    def read1(self, _: int) -> bytes:
+        """The next piece."""
+        if not self.left:
+            return b""
+        self.left, self.taken = self.left - 1, self.taken + 1
+        return self.piece
+
+
+class Coming(Checked):
+    """Names from standard input are taken as they come, and a pipe when its turn comes."""
+
+    def begun(self, words: Sequence[object], **more: Any) -> "subprocess.Popen[bytes]":
+        """dwg-check over what it is told while it runs."""
+        said = [str(TOOLS / "dwg-check"), "--quiet", "--jobs", "2", "--program", str(self.refusing()), *map(str, words)]
+        started = subprocess.Popen(said, stdout=subprocess.PIPE, stderr=subprocess.PIPE, **more)
+        self.addCleanup(started.kill)
+        return started
+
+    def line_of(self, path: Path) -> bytes:
+        """The line of a file that is refused."""
+        return f"{path}\tdamaged\theader 0 at 9: short\t\t{path.stat().st_size}\t\tAC1015\n".encode()
+
+    def test_each_name_has_its_line_at_once(self) -> None:
+        paths = self.drawings(3)
+        with self.begun([paths[0], "-", paths[0]], stdin=subprocess.PIPE) as started:
+            assert started.stdin and started.stdout and started.stderr
+            self.assertEqual([started.stdout.readline() for _ in range(2)][1:], [self.line_of(paths[0])])
+            for path in (paths[1], paths[2], paths[1]):
+                started.stdin.write(os.fsencode(path) + b"\n")
+                started.stdin.flush()
+                self.assertEqual(started.stdout.readline(), self.line_of(path))
+            # (the last one has no line end)
+            started.stdin.write(os.fsencode(paths[2]))
+            started.stdin.close()
+            rest = b"".join(map(self.line_of, (paths[2], paths[0])))
+            self.assertEqual((started.stdout.read(), started.stderr.read(), started.wait(timeout=30)), (rest, b"", 1))
+
+    def test_names_without_an_end(self) -> None:
+        path = self.drawings(1)[0]
+        with subprocess.Popen(["yes", str(path)], stdout=subprocess.PIPE) as endless:
+            with self.begun(["-"], stdin=endless.stdout) as started:
+                assert started.stdout
+                self.assertEqual([started.stdout.readline() for _ in range(20)][1:], [self.line_of(path)] * 19)
+                started.send_signal(signal.SIGINT)
+                self.assertEqual(started.wait(timeout=30), 130)
+            endless.kill()
+
+    def test_memory_of_names(self) -> None:
+        names, endless = Stream(b"a\nb\nc", 2), Stream(b"n" * 60_000, 2000)
+        found = CHECK.names_from(names, b"\n")
+        self.assertEqual((next(found), names.taken, list(found)), ("a", 1, ["b", "ca", "b", "c"]))
+        self.assertEqual(list(CHECK.names_from(endless, b"\n")), ["n" * CHECK.MOST_NAME])
+        # No more is read ahead than there is room for, and all comes in its order.
+        with unittest.mock.patch.object(CHECK, "MOST_AHEAD", 5 * CHECK.ONE_NAMED):
+            taken: List[int] = []
+            files = CHECK.Coming(taken.append(index) or CHECK.Named(str(index)) for index in range(100))  # type: ignore[func-returns-value]
+            time.sleep(0.3)
+            self.assertLess(len(taken), 10)
+            self.assertEqual([one.path for one in files], [str(index) for index in range(100)])
+        self.assertEqual((files.count, files.is_whole), (100, True))
+        with unittest.mock.patch.object(CHECK, "MOST_HELD", 5 * CHECK.ONE_NAMED), self.assertRaises(drawing.ToolError) as raised:
+            list(CHECK.held(CHECK.Named(str(index)) for index in range(100)))
+        self.assertEqual(raised.exception.status, 64)
+
+    def test_a_table_that_is_named_too(self) -> None:
+        path = self.drawings(1)[0]
+        table = self.folder / "table.dwg"
+        for data, status in ((b"", 1), (path.read_bytes(), 73)):
+            table.write_bytes(data)
+            with open(table, "ab") as file:
+                words = [str(TOOLS / "dwg-check"), "--quiet", "--program", str(self.refusing()), "-"]
+                ran = subprocess.run(words, input=f"{path}\n{table}\n{path}\n".encode(), stdout=file, stderr=subprocess.PIPE, check=False)
+            self.assertEqual(ran.returncode, status, ran.stderr)
+            lines = table.read_bytes().splitlines(keepends=True)[1:]
+            self.assertEqual(lines if status == 1 else table.read_bytes(), [self.line_of(path)] * 2 if status == 1 else data)
+
+    def test_a_pipe_without_an_end_holds_up_what_is_behind_it_alone(self) -> None:
+        paths = self.drawings(2)
+        for is_ended in (True, False):
+            end, begin = os.pipe()
+            with self.begun([*paths, f"/dev/fd/{end}", paths[0]], stdin=subprocess.DEVNULL, pass_fds=[end]) as started:
+                os.close(end)
+                assert started.stdout and started.stderr
+                self.assertEqual([started.stdout.readline() for _ in range(3)][1:], list(map(self.line_of, paths)))
+                if is_ended:
+                    os.write(begin, paths[0].read_bytes())
+                    os.close(begin)
+                    self.assertEqual([line.split(b"\t")[1] for line in started.stdout.read().splitlines()], [b"damaged"] * 2)
+                    self.assertEqual(started.wait(timeout=30), 1)
+                else:
+                    started.send_signal(signal.SIGINT)
+                    self.assertEqual((started.wait(timeout=30), started.stderr.read()), (130, b""))
+                    os.close(begin)
 
 
 class Streams(Checked):
