@@ -113,6 +113,10 @@ class Loss:
     place: Optional[int] = None
 
 
+# The sorts of losses.
+LOSSES = ("file header", "header variables", "classes", "section", "map page", "map end", "object")
+
+
 @dataclass(frozen=True)
 class Found:
     """An object that `recover` kept without an entry of the map."""
@@ -180,33 +184,58 @@ def read_notes(notes: bytes) -> List[Note]:
     return [read_note(line) for line in notes.decode("utf-8", "replace").splitlines()]
 
 
-@dataclass
 class Recovery:
-    """What the notes of `recover` say. Without a refusal the input was a drawing, and nothing was lost."""
+    """What the notes of `recover` say, which stay in their file, since there may be millions. Without a refusal the input was a drawing, and
+    nothing was lost."""
 
-    refusal: Optional[Refusal] = None
-    losses: List[Loss] = field(default_factory=list)
-    found: List[Found] = field(default_factory=list)
-    kept: Optional[int] = None
+    def __init__(self, notes: IO[bytes]) -> None:
+        self.notes = notes
+        self.refusal: Optional[Refusal] = None
+        self.kept: Optional[int] = None
+        # How many losses there are of each sort, and how many objects were found without an entry of the map.
+        self.lost: Dict[str, int] = dict.fromkeys(LOSSES, 0)
+        self.found = 0
+
+    def lines(self) -> Iterator[bytes]:
+        """The lines of the notes, one behind the other: who takes them takes none elsewhere meanwhile."""
+        self.notes.seek(0)
+        yield from iter(lambda: self.notes.readline(MOST_NOTES), b"")
+
+    def losses(self, *sorts: str) -> Iterator[Loss]:
+        """The losses of some sorts, in their order."""
+        return (value for value in self._values(*(f"lost: {sort}" for sort in sorts)) if isinstance(value, Loss))
+
+    def all_found(self) -> Iterator[Found]:
+        """The objects that were found without an entry of the map, in their order."""
+        return (value for value in self._values("found: ") if isinstance(value, Found))
+
+    def _values(self, *begins: str) -> Iterator[Note]:
+        begin = tuple(one.encode("ascii") for one in begins)
+        return (_note_of(line) for line in self.lines() if line.startswith(begin))
 
 
-def read_recovery(notes: bytes) -> Recovery:
+def _note_of(line: bytes) -> Note:
+    return read_note(line.decode("utf-8", "replace").rstrip("\n"))
+
+
+def read_recovery(notes: IO[bytes]) -> Recovery:
     """What the notes of `recover` say. Raises ValueError where they aren't whole: none at all, or a refusal first and `kept` last."""
-    told = Recovery()
-    values = read_notes(notes)
-    if not values:
-        return told
-    first, last = values[0], values[-1]
-    if not isinstance(first, Refusal) or not isinstance(last, Kept):
-        raise ValueError("the notes of `recover` aren't whole")
-    told.refusal, told.kept = first, last.count
-    for value in values[1:-1]:
-        if isinstance(value, Loss):
-            told.losses.append(value)
+    told = Recovery(notes)
+    for value in map(_note_of, told.lines()):
+        if told.refusal is None and isinstance(value, Refusal):
+            told.refusal = value
+        elif told.refusal is None or told.kept is not None:
+            raise ValueError("the notes of `recover` aren't whole")
+        elif isinstance(value, Loss):
+            told.lost[value.what] += 1
         elif isinstance(value, Found):
-            told.found.append(value)
+            told.found += 1
+        elif isinstance(value, Kept):
+            told.kept = value.count
         else:
             raise ValueError(f"no note of `recover`: {value}")
+    if told.refusal is not None and told.kept is None:
+        raise ValueError("the notes of `recover` aren't whole")
     return told
 
 
@@ -306,23 +335,32 @@ class Program:
         os.environ["DWG_BUILT"] = "1"
 
     def run(
-        self, words: Sequence[str], source: Union[int, IO[bytes], bytes, None] = None, output: Optional[IO[bytes]] = None, seconds: Optional[float] = None
+        self,
+        words: Sequence[str],
+        source: Union[int, IO[bytes], bytes, None] = None,
+        output: Optional[IO[bytes]] = None,
+        seconds: Optional[float] = None,
+        notes: Optional[IO[bytes]] = None,
     ) -> Answer:
-        """Runs the program on words, for so many seconds at the most. The source is a file, a descriptor, bytes, or nothing; the output goes to a
-        file where one is given."""
+        """Runs the program on words, for so many seconds at the most. The source is a file, a descriptor, bytes, or nothing; output and notes go to
+        files where these are given, and of such notes the answer has the begin."""
         given = source if isinstance(source, bytes) else None
         stdin = subprocess.PIPE if given is not None else subprocess.DEVNULL if source is None else source
-        with self._started(words, stdin, output if output is not None else subprocess.PIPE) as ran:
+        stdout, stderr = (subprocess.PIPE if file is None else file for file in (output, notes))
+        with self._started(words, stdin, stdout, stderr) as ran:
             try:
-                out, notes = ran.communicate(given, seconds)
+                out, said = ran.communicate(given, seconds)
             except subprocess.TimeoutExpired:
                 raise TookTooLong(f"`{words[0]}` takes more than {seconds} seconds") from None
-        return Answer(_status_of(ran.returncode, notes), out or b"", notes)
+        if notes is not None:
+            notes.seek(0)
+            said = notes.read(MOST_NOTES)
+        return Answer(_status_of(ran.returncode, said), out or b"", said)
 
     def tally(self, words: Sequence[str], source: Union[int, IO[bytes]]) -> Tally:
         """Runs the program and counts the lines of its output, of which no more than a piece is held."""
         first, last, count = b"", b"", 0
-        with _file_of_notes() as notes, self._started(words, source, subprocess.PIPE, notes) as ran:
+        with file_of_notes() as notes, self._started(words, source, subprocess.PIPE, notes) as ran:
             assert ran.stdout is not None
             for piece in iter(lambda: ran.stdout.read(MOST_NOTES), b""):  # type: ignore[union-attr]
                 first = (first + piece)[:MOST_NOTES] if b"\n" not in first else first
@@ -392,7 +430,7 @@ class Program:
                 ran.kill()
 
 
-def _file_of_notes() -> IO[bytes]:
+def file_of_notes() -> IO[bytes]:
     """A file without a name for notes; ProgramFailed where there is no place for one, since that says nothing of the file that is read."""
     try:
         return tempfile.TemporaryFile()

@@ -2,6 +2,7 @@
 
 from __future__ import annotations
 
+import io
 import os
 import pathlib
 import shutil
@@ -44,13 +45,15 @@ class Notes(unittest.TestCase):
 
     def test_recovery(self) -> None:
         notes = b"dwg: refused: objects 0 at 183: check\nlost: classes\nlost: object C at 183\nfound: object D at 9\nkept 1\n"
-        told = read_recovery(notes)
+        told = read_recovery(io.BytesIO(notes))
         self.assertEqual((told.refusal, told.kept), (Refusal("objects", 0, 183, "check"), 1))
-        self.assertEqual((told.losses, told.found), ([Loss("classes"), Loss("object", handle=12, place=183)], [Found(13, 9)]))
-        self.assertEqual((read_recovery(b"").refusal, read_recovery(b"").kept), (None, None))
+        self.assertEqual((list(told.losses("classes", "object")), list(told.all_found())), ([Loss("classes"), Loss("object", handle=12, place=183)], [Found(13, 9)]))
+        self.assertEqual(({sort: count for sort, count in told.lost.items() if count}, told.found), ({"classes": 1, "object": 1}, 1))
+        nothing = read_recovery(io.BytesIO())
+        self.assertEqual((nothing.refusal, nothing.kept), (None, None))
         for cut in (notes[:-7], b"kept 3\n", notes.replace(b"lost: classes", b"lost: nothing")):
             with self.assertRaises(ValueError):
-                read_recovery(cut)
+                read_recovery(io.BytesIO(cut))
 
 
 class Names(unittest.TestCase):

@@ -606,6 +606,38 @@ class Memory(common.InFolder):
         self.assertFalse((self.folder / "made").exists())
 
 
+class Notes(common.InFolder):
+    """The notes of a recovery may be millions, which are told without being held."""
+
+    COUNT = 300_000
+
+    def test_memory_of_notes(self) -> None:
+        source, peak = self.file("a.dwg", b"AC1015"), self.folder / "peak"
+        notes = ["dwg: refused: objects 0 at 183: check", "lost: classes", *(f"lost: map page {index} at {index + 7}" for index in range(3))]
+        notes += [f"lost: object {index:X} at {index + 9}" for index in range(1, self.COUNT + 1)]
+        notes += [f"found: object {index:X} at {index + 8}" for index in range(1, self.COUNT + 1)] + ["kept 1"]
+        told = self.file("told", "".join(note + "\n" for note in notes).encode())
+        whole = self.file("whole.dwg", made.made(1))
+        telling = program_that(self.folder, "telling", [f'[ "$1" != recover ] || {{ cat "{whole}"; cat "{told}" >&2; exit 1; }}', 'exec "$REAL" "$@"'])
+        peaks = []
+        for words in (["--json"], []):
+            out = self.folder / "out"
+            ran = otherwise("dwg-recover", MEASURED.format(peak=str(peak)), "--force", "--program", telling, *words, source, out)
+            self.assertEqual((ran.returncode, ran.stderr), (1, b""))
+            self.assertEqual(Path(f"{out}.notes").read_bytes(), told.read_bytes())
+            peaks.append(int(peak.read_text().split("VmHWM:")[1].split()[0]))
+            if words:
+                report = json.loads(ran.stdout)
+                self.assertEqual((report["lost"]["pages"], report["lost"]["sections"], report["lost"]["classes"]), ([{"index": index, "place": index + 7} for index in range(3)], [], True))
+                self.assertEqual(report["lost"]["objects"], [{"handle": f"{index:X}", "place": index + 9} for index in range(1, self.COUNT + 1)])
+                self.assertEqual(report["found"], [{"handle": f"{index:X}", "place": index + 8} for index in range(1, self.COUNT + 1)])
+            else:
+                self.assertIn(f"found without an entry of the map: {self.COUNT} objects".encode(), ran.stdout)
+                self.assertIn(b": 1, 2, 3, 4, 5, 6, 7, 8, 9, A and %d more" % (self.COUNT - 10), ran.stdout)
+        # (a Python without anything has ten)
+        self.assertLess(max(peaks), 60_000)
+
+
 class Unbuffered(unittest.TestCase):
     """What a tool writes where Python was told not to buffer."""
 
