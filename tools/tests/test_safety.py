@@ -261,7 +261,8 @@ class Ends(common.InFolder):
             self.assertEqual((ran.returncode, ran.stdout), (0, tool(name, *words(path)).stdout), (name, ran.stderr))
         for script, status in (("dwg-json", 4), ("dwg-picture", 4), ('dwg-diff - "$1"', 2), ("dwg-recover - -", 4), ("dwg-check -", 70)):
             ran = in_bash(f"{script} < /tmp", path)
-            self.assertEqual((ran.returncode, ran.stdout), (status, b""), script)
+            # (a table may have begun before its first name is read)
+            self.assertEqual((ran.returncode, ran.stdout.count(b"\n")), (status, int(script == "dwg-check -")), script)
             self.assertIn(b": standard input: ", ran.stderr)
             self.assertEqual(ran.stderr.count(b"\n"), 1, ran.stderr)
 
