@@ -360,7 +360,7 @@ class Program:
     def tally(self, words: Sequence[str], source: Union[int, IO[bytes]]) -> Tally:
         """Runs the program and counts the lines of its output, of which no more than a piece is held."""
         first, last, count = b"", b"", 0
-        with file_of_notes() as notes, self._started(words, source, subprocess.PIPE, notes) as ran:
+        with _file_of_notes() as notes, self._started(words, source, subprocess.PIPE, notes) as ran:
             assert ran.stdout is not None
             for piece in iter(lambda: ran.stdout.read(MOST_NOTES), b""):  # type: ignore[union-attr]
                 first = (first + piece)[:MOST_NOTES] if b"\n" not in first else first
@@ -430,7 +430,7 @@ class Program:
                 ran.kill()
 
 
-def file_of_notes() -> IO[bytes]:
+def _file_of_notes() -> IO[bytes]:
     """A file without a name for notes; ProgramFailed where there is no place for one, since that says nothing of the file that is read."""
     try:
         return tempfile.TemporaryFile()
