@@ -5,6 +5,7 @@ from __future__ import annotations
 import fcntl
 import json
 import os
+import shutil
 import signal
 import struct
 import subprocess
@@ -636,6 +637,22 @@ class Notes(common.InFolder):
                 self.assertIn(b": 1, 2, 3, 4, 5, 6, 7, 8, 9, A and %d more" % (self.COUNT - 10), ran.stdout)
         # (a Python without anything has ten)
         self.assertLess(max(peaks), 60_000)
+
+
+class FullDisk(common.InFolder):
+    """Tools that begin for the first time where nothing can be written."""
+
+    def test_each_tool_begins_again_where_there_is_room(self) -> None:
+        tools = self.folder / "tools"
+        tools.mkdir()
+        names = [path for path in TOOLS.iterdir() if path.name.startswith("dwg-") or path.suffix == ".py"]
+        for path in names:
+            shutil.copy(path, tools)
+        for tool in sorted(tools.glob("dwg-*")):
+            with self.subTest(tool.name):
+                # (two blocks of 512 bytes hold no compiled module)
+                subprocess.run(["sh", "-c", 'ulimit -f 2; exec "$0" "$@"', tool, "--version"], stdout=subprocess.DEVNULL, stderr=subprocess.DEVNULL, check=False)
+                self.assertEqual(subprocess.run([tool, "--version"], stdout=subprocess.DEVNULL, check=False).returncode, 0)
 
 
 class Unbuffered(unittest.TestCase):
