@@ -1,12 +1,14 @@
 -- A content that is moved: its entries as they are at the other place.
-use Rattle.std.proofs.Common.{◌≡◌, ℕ, zero, suc, ◌+◌, ◌-◌, ◌*◌, ◌^◌, ◌<◌, ◌≤◌, List, [], ◌∷◌, ◌++◌, length, map, drop, sym, ap, ap₂, subst, ◌∙◌, refl, arith, drop_at}
-use Rattle.std.specs.Prelude.{if◌then◌else◌, nat_lt}
+use Rattle.std.proofs.Common.{◌≡◌, ℕ, zero, suc, ◌+◌, ◌-◌, ◌*◌, ◌^◌, ◌<◌, ◌≤◌, List, [], ◌∷◌, ◌++◌, length, map, take, drop, sym, ap, ap₂, subst, ◌∙◌, refl, w32, arith, append_assoc, length-append, length-drop, drop_at}
+use Rattle.std.specs.Prelude.{if◌then◌else◌, nat_lt, slice_index}
 use Rattle.std.specs.List.{AllByRecursion, flat_map}
+use Rattle.std.specs.Int.{to_le_bytes}
 use Rattle.std.proofs.lemmas.List.{length-map}
 use Rattle.std.proofs.lemmas.Bool.{lt-ltb}
-use Rattle.dwg_preview.specs.Previews.{Entry, IsContent, IsEntry, LiesBetween, WITHOUT_CONTENT, content_bytes, entries_moved, entry_at, entry_bytes, moved, moved_entry}
-use Rattle.dwg_preview.specs.PreviewLaws.{EntriesAreMoved, MovedIsContent, MovedStays, MovedTwiceIsMoved}
-use Rattle.dwg_preview.proofs.Contents.{length_of_content}
+use Rattle.dwg_sections.specs.Framed.{complemented}
+use Rattle.dwg_preview.specs.Previews.{Entry, IsContent, IsEntry, LiesBetween, PREVIEW_SENTINEL, WITHOUT_CONTENT, content_bytes, entries_moved, entry_at, entry_bytes, front_bytes, further_bytes, moved, moved_entry}
+use Rattle.dwg_preview.specs.PreviewLaws.{EntriesAreMoved, MovedIsContent, MovedStays, MovedTwiceIsMoved, SectionIsPieces}
+use Rattle.dwg_preview.proofs.Contents.{content_reads, first_byte, length_of_content}
 use Rattle.dwg_preview.proofs.Entries.{entries_at, entries_read, length_of_entries, same_entry}
 
 -- entries that are moved as they are read are those that are read, moved
@@ -131,3 +133,31 @@ moved_twice_is_moved from by to content is below =
 -- what is moved to where it stands already stays as it is
 pub moved_stays : MovedStays
 moved_stays from to content is below = moved_twice_is_moved from to to content is below
+
+-- so many entries that are moved have nine times so many bytes
+length_of_entries_moved : (from to count : ℕ) (content : List ℕ) (place : ℕ) → length (entries_moved from to count content place) ≡ 9 * count
+unfolding entries_moved
+length_of_entries_moved from to zero content place = refl
+length_of_entries_moved from to (suc count) content place = omega (arith, length_of_entries_moved from to count content (place + 9))
+
+-- a section has so many bytes before its further bytes
+pub length_of_front : (from to : ℕ) (content : List ℕ) → 0 < length content → length (front_bytes from to content) ≡ 21 + 9 * slice_index content 0
+length_of_front from to content some =
+    let entries = entries_moved from to (slice_index content 0) content 1 in
+    omega (arith, length-append (take 1 content) entries, ap length (first_byte content some), length_of_entries_moved from to (slice_index content 0) content 1)
+
+-- with its further bytes these are twenty, and those of its content
+pub pieces_counted : (from to : ℕ) (content : List ℕ) → IsContent from content → length (front_bytes from to content) + length (further_bytes content) ≡ 20 + length content
+pieces_counted from to content is =
+    let reads = content_reads from (slice_index content 0) content is refl in
+    omega (arith, reads.within, length_of_front from to content reads.some, length-drop (1 + 9 * slice_index content 0) content)
+
+-- the section is what stands before its further bytes, these, and the end sentinel
+pub section_is_pieces : SectionIsPieces
+unfolding moved
+section_is_pieces from to content is below =
+    let front = PREVIEW_SENTINEL ++ to_le_bytes w32 (length content) in
+    let entries = take 1 content ++ entries_moved from to (slice_index content 0) content 1 in
+    let counted = sym (moved_is_content from to content is below).0 in
+    ap (λ bytes. bytes ++ complemented PREVIEW_SENTINEL)
+    (append_assoc front entries (further_bytes content) ∙ ap (λ n. PREVIEW_SENTINEL ++ to_le_bytes w32 n ++ moved from to content) counted)

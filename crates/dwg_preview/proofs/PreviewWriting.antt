@@ -1,15 +1,17 @@
 -- A preview section that is written piece by piece.
-use Rattle.std.proofs.Common.{◌≡◌, ℕ, zero, suc, ◌+◌, ◌*◌, ◌^◌, ◌<◌, List, [], ◌∷◌, ◌++◌, length, take, drop, sym, ap, ap₂, subst, ◌∙◌, w32, arith, append_assoc, append-nil}
+use Rattle.std.proofs.Common.{◌≡◌, ℕ, zero, suc, ◌+◌, ◌*◌, ◌^◌, ◌<◌, List, [], ◌∷◌, ◌++◌, length, take, sym, ap, ap₂, subst, ◌∙◌, w32, arith, append_assoc, append-nil}
 use Rattle.std.specs.Prelude.{slice_index}
 use Rattle.std.specs.Int.{to_le_bytes}
 use Rattle.dwg_bits.specs.Bits.{bits}
 use Rattle.dwg_bits.specs.Sink.{Written, Extends}
+use Rattle.dwg_bits.proofs.BitLaws.{bits_joined}
+use Rattle.dwg_bits.proofs.SinkLemmas.{extends_by_both}
 use Rattle.dwg_sections.specs.Framed.{complemented}
 use Rattle.dwg_sections.specs.Writing.{Puts}
 use Rattle.dwg_sections.proofs.BytePuts.{puts_none, puts_both}
-use Rattle.dwg_preview.specs.Previews.{Entry, IsContent, PREVIEW_SENTINEL, WITHOUT_CONTENT, entries_moved, entry_at, entry_bytes, moved, moved_entry, preview_bytes}
+use Rattle.dwg_preview.specs.Previews.{Entry, IsContent, PREVIEW_SENTINEL, WITHOUT_CONTENT, entries_moved, entry_at, entry_bytes, front_bytes, further_bytes, moved, moved_entry, preview_bytes}
 use Rattle.dwg_preview.proofs.Contents.{first_byte}
-use Rattle.dwg_preview.proofs.Moving.{moved_is_content}
+use Rattle.dwg_preview.proofs.Moving.{section_is_pieces}
 
 -- a sink that grew by the code, the place and the size grew by the entry
 pub entry_written : (first second third fourth : Written) (entry : Entry) (place size : List ℕ) → place ≡ to_le_bytes w32 entry.place → size ≡ to_le_bytes w32 entry.size
@@ -45,27 +47,27 @@ pub one_entry_written : (old mid new : Written) (from to i : ℕ) (content : Lis
 one_entry_written old mid new from to i content so_far next =
     subst (Puts old new) (sym (entries_moved_more from to i content 1)) (puts_both old mid new (entries_moved from to i content 1) _ so_far next)
 
--- a sink that grew by the count, the entries and the further bytes grew by the content
-pub content_written : (first second third fourth : Written) (from to count : ℕ) (content further : List ℕ) → count ≡ slice_index content 0 → 0 < length content → further ≡ drop (1 + 9 * count) content
-    → Puts first second (count ∷ []) → Puts second third (entries_moved from to count content 1) → Puts third fourth further
-    → Puts first fourth (moved from to content)
-unfolding moved
-content_written first second third fourth from to count content further counted some behind one two three =
-    let to_further = puts_both first second third (count ∷ []) (entries_moved from to count content 1) one two in
-    let all = puts_both first third fourth (count ∷ [] ++ entries_moved from to count content 1) further to_further three in
-    let begin : count ∷ [] ≡ take 1 content = ap (λ n. n ∷ []) counted ∙ sym (first_byte content some) in
-    let middle = ap (λ n. entries_moved from to n content 1) counted in
-    subst (Puts first fourth) (ap₂ ◌++◌ (ap₂ ◌++◌ begin middle) (behind ∙ ap (λ n. drop (1 + 9 * n) content) counted)) all
+-- a sink that grew by the begin sentinel, the size, the count and the entries grew by what stands before the further bytes
+pub front_written : (first second third fourth fifth : Written) (from to count : ℕ) (content begin size : List ℕ) → begin ≡ PREVIEW_SENTINEL → size ≡ to_le_bytes w32 (length content) → count ≡ slice_index content 0 → 0 < length content
+    → Puts first second begin → Puts second third size → Puts third fourth (count ∷ []) → Puts fourth fifth (entries_moved from to count content 1)
+    → Extends first fifth (bits (front_bytes from to content))
+front_written first second third fourth fifth from to count content begin size begins sized counted some one two three four =
+    let to_count = puts_both first second third begin size one two in
+    let behind = puts_both third fourth fifth (count ∷ []) (entries_moved from to count content 1) three four in
+    let all = puts_both first third fifth (begin ++ size) (count ∷ [] ++ entries_moved from to count content 1) to_count behind in
+    let head : count ∷ [] ≡ take 1 content = ap (λ n. n ∷ []) counted ∙ sym (first_byte content some) in
+    let entries = ap (λ n. entries_moved from to n content 1) counted in
+    subst (λ bytes. Extends first fifth (bits bytes)) (ap₂ ◌++◌ (ap₂ ◌++◌ begins sized) (ap₂ ◌++◌ head entries)) all.written
 
--- a sink that grew by the sentinels, the size and the content grew by the section
-pub preview_written : (first second third fourth fifth : Written) (from to : ℕ) (content begin size end : List ℕ) → IsContent from content → to + WITHOUT_CONTENT + length content < 2 ^ 32
-    → begin ≡ PREVIEW_SENTINEL → size ≡ to_le_bytes w32 (length content) → end ≡ complemented PREVIEW_SENTINEL
-    → Puts first second begin → Puts second third size → Puts third fourth (moved from to content) → Puts fourth fifth end
-    → Extends first fifth (bits (preview_bytes (moved from to content)))
-preview_written first second third fourth fifth from to content begin size end is below begins sized ends one two three four =
-    let to_content = puts_both first second third begin size one two in
-    let to_end = puts_both first third fourth (begin ++ size) (moved from to content) to_content three in
-    let all = puts_both first fourth fifth (begin ++ size ++ moved from to content) end to_end four in
-    let right : size ≡ to_le_bytes w32 (length (moved from to content)) = sized ∙ ap (to_le_bytes w32) (sym (moved_is_content from to content is below).0) in
-    let front = ap (λ front. front ++ moved from to content) (ap₂ ◌++◌ begins right) in
-    subst (λ bytes. Extends first fifth (bits bytes)) (ap₂ ◌++◌ front ends) all.written
+-- a sink that grew by the pieces of a section grew by the section
+pub preview_written : (first second third fourth : Written) (from to : ℕ) (content further end : List ℕ) → IsContent from content → to + WITHOUT_CONTENT + length content < 2 ^ 32
+    → further ≡ further_bytes content → end ≡ complemented PREVIEW_SENTINEL
+    → Extends first second (bits (front_bytes from to content)) → Puts second third further → Puts third fourth end
+    → Extends first fourth (bits (preview_bytes (moved from to content)))
+preview_written first second third fourth from to content further end is below behind ends one two three =
+    let front = front_bytes from to content in
+    let to_end = extends_by_both first second third (bits front) (bits further) one two.written in
+    let all = extends_by_both first third fourth (bits front ++ bits further) (bits end) to_end three.written in
+    let joined = ap (λ some. some ++ bits end) (sym (bits_joined front further)) ∙ sym (bits_joined (front ++ further) end) in
+    let pieces = ap₂ (λ further end. front ++ further ++ end) behind ends ∙ section_is_pieces from to content is below in
+    subst (Extends first fourth) (joined ∙ ap bits pieces) all

@@ -1,6 +1,7 @@
 -- Laws of preview sections.
-use Rattle.std.specs.Prelude.{◌≡◌, ℕ, ◌+◌, ◌^◌, ◌<◌, List, length, map}
-use Rattle.dwg_preview.specs.Previews.{IsContent, PreviewAt, WITHOUT_CONTENT, content_bytes, moved, moved_entry, preview_bytes}
+use Rattle.std.specs.Prelude.{◌≡◌, ℕ, ◌+◌, ◌^◌, ◌<◌, List, ◌++◌, length, map}
+use Rattle.dwg_sections.specs.Framed.{complemented}
+use Rattle.dwg_preview.specs.Previews.{IsContent, PREVIEW_SENTINEL, PreviewAt, WITHOUT_CONTENT, content_bytes, front_bytes, further_bytes, moved, moved_entry, preview_bytes}
 
 -- at a place of an input stands a section of one content at the most
 abbrev pub PreviewIsOne : Type 0
@@ -31,3 +32,9 @@ abbrev pub MovedStays : Type 0
 MovedStays =
     (from to : ℕ) (content : List ℕ) → IsContent from content → to + WITHOUT_CONTENT + length content < 2 ^ 32
     → moved to to (moved from to content) ≡ moved from to content
+
+-- a section at another place is what stands before its further bytes, these, and the end sentinel
+abbrev pub SectionIsPieces : Type 0
+SectionIsPieces =
+    (from to : ℕ) (content : List ℕ) → IsContent from content → to + WITHOUT_CONTENT + length content < 2 ^ 32
+    → front_bytes from to content ++ further_bytes content ++ complemented PREVIEW_SENTINEL ≡ preview_bytes (moved from to content)

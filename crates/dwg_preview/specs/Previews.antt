@@ -73,3 +73,12 @@ entries_moved from to (suc count) content place = entry_bytes (moved_entry from 
 -- a content of a section that stood at one place as it is in a section at another
 unfoldable pub moved : ℕ → ℕ → List ℕ → List ℕ
 moved from to content = take 1 content ++ entries_moved from to (slice_index content 0) content 1 ++ drop (1 + 9 * slice_index content 0) content
+
+-- the further bytes of a content, behind its entries
+abbrev pub further_bytes : List ℕ → List ℕ
+further_bytes content = drop (1 + 9 * slice_index content 0) content
+
+-- a section that stood at one place as it is at another, up to its further bytes
+abbrev pub front_bytes : ℕ → ℕ → List ℕ → List ℕ
+front_bytes from to content =
+    PREVIEW_SENTINEL ++ to_le_bytes w32 (length content) ++ (take 1 content ++ entries_moved from to (slice_index content 0) content 1)

@@ -2,6 +2,7 @@
 #![tactic(auto)]
 
 mod laws;
+mod pieces;
 mod places;
 mod preview;
 mod reading;
@@ -9,6 +10,8 @@ mod sentinels;
 mod writing;
 
 pub use laws::preview_laws;
+pub use pieces::{front_length, further};
 pub use preview::{Preview, preview_length};
 pub use reading::read_preview;
-pub use writing::write_preview;
+pub use sentinels::end_sentinel;
+pub use writing::{write_front, write_preview};

@@ -1,6 +1,6 @@
 //! What stands where in a preview section (Open Design Specification, "R13 to R2000 file layout").
 
-ghost use Rattle.std.specs.Prelude.{◌≡◌, ◌<◌, length, slice_index};
+ghost use Rattle.std.specs.Prelude.{◌≡◌, ◌+◌, ◌*◌, ◌<◌, length, slice_index};
 
 /// Where the size of the content stands in a section.
 pub const SIZE_PLACE: usize = 16;
@@ -29,4 +29,12 @@ pub fn entry_count(content: &[u8]) -> u8
     ensures { result ≡ slice_index content.now 0 }
 {
     content[0]
+}
+
+/// Where the further bytes stand in a content: behind its entries.
+pub fn further_place(content: &[u8]) -> usize
+    requires { 0 < length content.now }
+    ensures { result ≡ 1 + 9 * slice_index content.now 0 }
+{
+    ENTRIES_PLACE + ENTRY_SIZE * entry_count(content) as usize
 }

@@ -1,11 +1,12 @@
 //! Writing the preview section.
 
-ghost use Rattle.std.specs.Prelude.{◌≡◌, ℕ, ◌+◌, ◌-◌, ◌*◌, ◌%◌, ◌^◌, ◌<◌, ◌≤◌, drop, if◌then◌else◌, length, nat_lt};
+ghost use Rattle.std.specs.Prelude.{◌≡◌, ℕ, ◌+◌, ◌-◌, ◌*◌, ◌%◌, ◌^◌, ◌<◌, ◌≤◌, if◌then◌else◌, length, nat_lt};
 ghost use Rattle.dwg_bits.specs.Bits.{bits};
 ghost use Rattle.dwg_bits.specs.Sink.{Extends};
 ghost use Rattle.dwg_sections.specs.Writing.{Puts};
-ghost use Rattle.dwg_preview.specs.Previews.{IsContent, LiesBetween, WITHOUT_CONTENT, entries_moved, entry_at, entry_bytes, moved, moved_entry, preview_bytes};
+ghost use Rattle.dwg_preview.specs.Previews.{IsContent, LiesBetween, WITHOUT_CONTENT, entries_moved, entry_at, entry_bytes, front_bytes, moved, moved_entry, preview_bytes};
 
+use crate::pieces::further;
 use crate::places::{ENTRIES_PLACE, ENTRY_SIZE, PICTURE_PLACE, PICTURE_SIZE_PLACE, entry_count};
 use crate::preview::Preview;
 use crate::sentinels::{begin_sentinel, end_sentinel};
@@ -18,14 +19,6 @@ fn put(bytes: &[u8], sink: &mut BitSink)
     ensures { Puts sink.old sink.new bytes.now }
 {
     sink.push_bytes(bytes);
-}
-
-/// The bytes from a place on.
-fn bytes_from(bytes: &[u8], place: usize) -> &[u8]
-    requires { place ≤ length bytes.now }
-    ensures { result.now ≡ drop place bytes.now }
-{
-    &bytes[place..]
 }
 
 /// The place of a picture of so many bytes, once the section that stood at one place stands at another; 0 where it has no byte.
@@ -76,18 +69,23 @@ fn write_entries(content: &[u8], count: u8, from: u32, to: u32, sink: &mut BitSi
     }
 }
 
-/// Writes a content as it is once the section that stood at one place stands at another.
-fn write_content(content: &[u8], from: u32, to: u32, sink: &mut BitSink)
-    requires read { IsContent from content.now }
-    requires within { to + WITHOUT_CONTENT + length content.now < 2 ^ 32 }
-    requires room { 8 * length content.now ≤ sink.old.spare }
-    ensures { Puts sink.old sink.new (moved from to content.now) }
+/// Writes what stands before the further bytes of a preview section as it is at a place: the begin sentinel, the size, the count,
+/// and the entries, the place of each that names a picture counted from the begin of the file that is written, and that of each
+/// other entry 0. The caller sees to it that the preview was read, that the section ends below 2^32 at that place, that the sink
+/// holds whole bytes, and that it has the spare.
+pub fn write_front(preview: &Preview<'_>, place: u32, sink: &mut BitSink)
+    requires read { IsContent preview.now.place preview.now.content.now }
+    requires within { place + WITHOUT_CONTENT + length preview.now.content.now < 2 ^ 32 }
+    requires aligned { length sink.old.written % 8 ≡ 0 }
+    requires room { 8 * length (front_bytes preview.now.place place preview.now.content.now) ≤ sink.old.spare }
+    ensures { Extends sink.old sink.new (bits (front_bytes preview.now.place place preview.now.content.now)) }
 {
-    let count = entry_count(content);
-    let entries_end = ENTRIES_PLACE + ENTRY_SIZE * count as usize;
+    let length = preview.content.len() as u32;
+    let count = entry_count(preview.content);
+    put(&begin_sentinel(), sink);
+    put(&length.to_le_bytes(), sink);
     put(&[count], sink);
-    write_entries(content, count, from, to, sink);
-    put(bytes_from(content, entries_end), sink);
+    write_entries(preview.content, count, preview.place, place, sink);
 }
 
 /// Writes a preview section as it is at a place: the place of each entry that names a picture is counted from the begin of the file
@@ -100,9 +98,7 @@ pub fn write_preview(preview: &Preview<'_>, place: u32, sink: &mut BitSink)
     requires room { 8 * (WITHOUT_CONTENT + length preview.now.content.now) ≤ sink.old.spare }
     ensures { Extends sink.old sink.new (bits (preview_bytes (moved preview.now.place place preview.now.content.now))) }
 {
-    let length = preview.content.len() as u32;
-    put(&begin_sentinel(), sink);
-    put(&length.to_le_bytes(), sink);
-    write_content(preview.content, preview.place, place, sink);
+    write_front(preview, place, sink);
+    put(further(preview), sink);
     put(&end_sentinel(), sink);
 }

@@ -7,13 +7,20 @@ use crate::tests::lines::{Line, Tale, all_hold};
 use crate::tests::sinks::{has_room, tell_sink};
 use crate::tests::told::Told;
 use dwg_bits::BitSink;
-use dwg_preview::{Preview, preview_laws, preview_length, read_preview, write_preview};
+use dwg_preview::{
+    Preview, end_sentinel, front_length, further, preview_laws, preview_length, read_preview,
+    write_front, write_preview,
+};
 use dwg_samples::Bits;
 use std::alloc::Global;
 
 /// `READ WRITTEN : SECTION | the place and the content of the preview section at the place READ of an input that has the section at 146,
 /// and the section as it is written at the place WRITTEN`
 struct Previews;
+
+/// `READ WRITTEN : SECTION | how many bytes stand before the further bytes, what they are at the place WRITTEN, the further bytes, and the
+/// end sentinel, of the preview section at the place READ of an input that has the section at 146`
+struct Pieces;
 
 /// 146 bytes without meaning, and a section behind them. None is want of memory.
 fn input_of(alloc: Global, section: &[u8]) -> Option<Vec<u8>> {
@@ -72,6 +79,61 @@ impl Tale for Previews {
             tell_preview(alloc, bytes.as_slice(), place, to, told);
         }
     }
+}
+
+/// Writes what stands before the further bytes.
+fn push_front(sink: &mut BitSink, preview: &Preview<'_>, place: u64)
+    requires read { IsContent preview.now.place preview.now.content.now }
+    requires aligned { length sink.old.written % 8 ≡ 0 }
+{
+    if place > 1_000 || preview_length(preview) > 1_000 {
+        return;
+    }
+    if has_room(sink, 8 * front_length(preview)) {
+        write_front(preview, place as u32, sink);
+    }
+}
+
+/// Tells the pieces of a section as it is written at a place.
+fn tell_pieces(alloc: Global, preview: &Preview<'_>, place: u64, told: &mut Told)
+    requires { IsContent preview.now.place preview.now.content.now }
+{
+    let mut sink = BitSink::new(alloc);
+    push_front(&mut sink, preview, place);
+    told.number(front_length(preview));
+    tell_sink(&sink, told);
+    told.bytes(further(preview));
+    told.bytes(&end_sentinel());
+}
+
+impl Tale for Pieces {
+    fn tell(alloc: Global, line: &Line<'_>, told: &mut Told) {
+        let [place, to, _, _, _] = line.numbers;
+        if let Some(bytes) = input_of(alloc, line.bytes()) {
+            match preview_at(bytes.as_slice(), place) {
+                Some(preview) => tell_pieces(alloc, &preview, to, told),
+                None => told.word("none"),
+            }
+        }
+    }
+}
+
+#[test]
+fn a_preview_is_written_in_pieces(rt: HostRuntime) {
+    // Where it stood, without further bytes and without entries; and two entries at another place.
+    all_hold::<Pieces>(
+        &rt,
+        rt.alloc(),
+        "\
+        146 146 : 1F256D07D43628289D57CA3F9D44102B 0A000000 01 02 B0000000 00000000 E0DA92F82BC9D7D762A835C062BBEFD4 \
+        | 30 =1F256D07D43628289D57CA3F9D44102B0A00000001020000000000000000 = =E0DA92F82BC9D7D762A835C062BBEFD4\n\
+        146 146 : 1F256D07D43628289D57CA3F9D44102B 03000000 00 AABB E0DA92F82BC9D7D762A835C062BBEFD4 \
+        | 21 =1F256D07D43628289D57CA3F9D44102B0300000000 =AABB =E0DA92F82BC9D7D762A835C062BBEFD4\n\
+        146 46 : 1F256D07D43628289D57CA3F9D44102B 15000000 02 01 00000000 00000000 03 B9000000 02000000 AABB \
+        E0DA92F82BC9D7D762A835C062BBEFD4 \
+        | 39 =1F256D07D43628289D57CA3F9D44102B15000000020100000000000000000355000000\
+        02000000 =AABB =E0DA92F82BC9D7D762A835C062BBEFD4",
+    );
 }
 
 #[test]

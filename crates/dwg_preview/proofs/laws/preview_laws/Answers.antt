@@ -1,5 +1,5 @@
 use Rattle.dwg_preview.proofs.PreviewParts.{preview_is_counted, preview_is_one}
-use Rattle.dwg_preview.proofs.Moving.{entries_are_moved, moved_is_content, moved_stays, moved_twice_is_moved}
+use Rattle.dwg_preview.proofs.Moving.{entries_are_moved, moved_is_content, moved_stays, moved_twice_is_moved, section_is_pieces}
 use Rattle.dwg_preview.proofs.laws.preview_laws.Goals as goal
 
 pub returns-clause-one : goal.returns-clause-one
@@ -19,3 +19,6 @@ returns-clause-twice c = moved_twice_is_moved
 
 pub returns-clause-stays : goal.returns-clause-stays
 returns-clause-stays c = moved_stays
+
+pub returns-clause-pieces : goal.returns-clause-pieces
+returns-clause-pieces c = section_is_pieces
