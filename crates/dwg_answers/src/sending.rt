@@ -4,7 +4,7 @@ ghost use Rattle.std.specs.Prelude.{◌≡◌, ◌≤◌, ◌⊎◌, ℕ, List, 
 ghost use Rattle.std.specs.Io.KnownBytes.{Appends};
 ghost use Rattle.dwg_base.specs.Devices.{AppendsFront, Rose};
 ghost use Rattle.dwg_file.specs.Contents.{contents_of};
-ghost use Rattle.dwg_file.specs.Canonical.{canonical};
+ghost use Rattle.dwg_file.specs.Canonical.{canonical_with};
 ghost use Rattle.dwg_show.specs.DrawingText.{show_text};
 ghost use Rattle.dwg_app_text.specs.AppText.{appdata_text};
 ghost use Rattle.dwg_answers.specs.Outcome.{filed, noted, printed, verdict_status};
@@ -106,7 +106,7 @@ fn send_plan<W: Sink, N: Sink>(
     output: &mut W,
     notes: &mut N,
 ) -> Status
-    ensures { Sent (record { output = canonical plan.old; note = note.now; status = status }) result
+    ensures { Sent (record { output = canonical_with plan.old.carried plan.old.drawing; note = note.now; status = status }) result
         (sinks W.taken W.faults output.old N.taken N.faults notes.old) (sinks W.taken W.faults output.new N.taken N.faults notes.new) }
 {
     match plan.write_to(output) {

@@ -4,7 +4,7 @@ ghost use Rattle.std.specs.Prelude.{◌≡◌, ◌≤◌, ◌<◌, ◌⊎◌, �
 ghost use Rattle.dwg_base.specs.Devices.{MOST_BYTES};
 ghost use Rattle.dwg_drill.specs.Drilled.{DRILL_SEED};
 ghost use Rattle.dwg_file.specs.Contents.{contents_of};
-ghost use Rattle.dwg_file.specs.Canonical.{canonical, size_of};
+ghost use Rattle.dwg_file.specs.Canonical.{canonical, canonical_with, size_of};
 ghost use Rattle.dwg_make.specs.Made.{MOST_ENTITIES, made};
 
 use crate::fault::DrillFault;
@@ -34,7 +34,7 @@ fn make_drawing(alloc: Global, n: u32) -> Result<Drawing<'static>, DrillFault>
 /// Sends the file of a plan into memory. The only refusal is want of memory: the sink has the room and fails in no call, so no run
 /// comes to a fault of it.
 fn send(alloc: Global, plan: &mut Plan<'_, '_>) -> Result<ByteRun, NoMemory>
-    ensures { IfOk result (λ file. file ≡ canonical plan.old) }
+    ensures { IfOk result (λ file. file ≡ canonical_with plan.old.carried plan.old.drawing) }
 {
     let room = plan.size() as usize;
     let mut sink = MemSink::new(alloc, room, usize::MAX, Items::new(alloc))?;

@@ -7,7 +7,7 @@ use Rattle.dwg_base.specs.Devices.{MOST_BYTES}
 use Rattle.dwg_sections.specs.declared.header.Locator.{Locator}
 use Rattle.dwg_sections.specs.FileHeader.{locator_numbers, IsLocator, LocateSections, IsFileHeader}
 use Rattle.dwg_file.specs.Contents.{OtherValue, Contents}
-use Rattle.dwg_file.specs.Canonical.{class_content, others_bytes, map_of, variables_place, classes_place, map_place, others_place, size_of, others_located, header_of}
+use Rattle.dwg_file.specs.Canonical.{Carried, class_content, others_bytes, map_with, variables_place, classes_place, map_place_with, others_place_with, size_with, others_located, header_with}
 use Rattle.dwg_file.specs.Valid.{IsOther, IsValid}
 
 -- what holds of all pairs holds of the first member and each later one
@@ -90,33 +90,33 @@ first_three numbers (suc (suc zero)) small = (2, omega arith, refl)
 first_three numbers (suc (suc (suc number))) small = absurd (omega arith)
 
 -- the locators locate the sections
-located_sections : (drawing : Contents) → IsValid drawing → LocateSections (header_of drawing).locators
-located_sections drawing is = record {
+located_sections : (carried : Carried) (drawing : Contents) → IsValid drawing → LocateSections (header_with carried drawing).locators
+located_sections carried drawing is = record {
   count = (omega (arith, counted), omega (arith, counted, is.few));
   distinct = λ i j before inside.
       subst (λ numbers. AreDistinct (0 ∷ 1 ∷ 2 ∷ numbers)) (sym numbered)
       (all_apart (map (λ (other : OtherValue). other.number) drawing.others)
       (λ k within. number_is_least drawing.others is.others k (omega (arith, length-map drawing.others (λ (other : OtherValue). other.number))))
       (others_apart drawing.others is.distinct))
-      i j before (omega (arith, length-map (others_located (others_place drawing) drawing.others) (λ (locator : Locator). locator.number)));
-  located = first_three (locator_numbers (others_located (others_place drawing) drawing.others));
+      i j before (omega (arith, length-map (others_located (others_place_with carried drawing) drawing.others) (λ (locator : Locator). locator.number)));
+  located = first_three (locator_numbers (others_located (others_place_with carried drawing) drawing.others));
 }
   where
-    counted : length (others_located (others_place drawing) drawing.others) ≡ length drawing.others
-    counted = length_of_located drawing.others (others_place drawing)
+    counted : length (others_located (others_place_with carried drawing) drawing.others) ≡ length drawing.others
+    counted = length_of_located drawing.others (others_place_with carried drawing)
 
-    numbered : locator_numbers (others_located (others_place drawing) drawing.others) ≡ map (λ (other : OtherValue). other.number) drawing.others
-    numbered = numbers_of_located drawing.others (others_place drawing)
+    numbered : locator_numbers (others_located (others_place_with carried drawing) drawing.others) ≡ map (λ (other : OtherValue). other.number) drawing.others
+    numbered = numbers_of_located drawing.others (others_place_with carried drawing)
 
 -- the header of a drawing that isn't too large is one
-pub header_fits : (drawing : Contents) → IsValid drawing → size_of drawing ≤ MOST_BYTES → IsFileHeader (header_of drawing)
-header_fits drawing is small = record {
+pub header_fits : (carried : Carried) (drawing : Contents) → IsValid drawing → size_with carried drawing ≤ MOST_BYTES → IsFileHeader (header_with carried drawing)
+header_fits carried drawing is small = record {
   lead = is.lead;
   preview = omega arith;
   mark = is.mark;
   code_page = is.code_page;
-  locators = (variables, (classes, (mapped, located_fit drawing.others (others_place drawing) is.others (omega arith))));
-  sections = located_sections drawing is;
+  locators = (variables, (classes, (mapped, located_fit drawing.others (others_place_with carried drawing) is.others (omega arith))));
+  sections = located_sections carried drawing is;
 }
   where
     variables : IsLocator (record { number = 0; place = variables_place drawing; size = 38 + length drawing.variables })
@@ -125,5 +125,5 @@ header_fits drawing is small = record {
     classes : IsLocator (record { number = 1; place = classes_place drawing; size = 38 + length (class_content drawing.classes) })
     classes = record { number = omega arith; place = omega arith; size = omega arith }
 
-    mapped : IsLocator (record { number = 2; place = map_place drawing; size = length (map_of drawing) })
+    mapped : IsLocator (record { number = 2; place = map_place_with carried drawing; size = length (map_with carried drawing) })
     mapped = record { number = omega arith; place = omega arith; size = omega arith }

@@ -1,6 +1,6 @@
 -- The parts of the canonical file: how long each is, and that its letters are bytes.
-use Rattle.std.proofs.Common.{◌≡◌, refl, ℕ, ◌+◌, ◌*◌, ◌%◌, ◌^◌, ◌<◌, Bool, true, List, [], ◌∷◌, ◌++◌, length, length-append, arith}
-use Rattle.std.specs.Prelude.{flat_map, nat_lt, ◌&&◌}
+use Rattle.std.proofs.Common.{◌≡◌, refl, ◌∙◌, ap, take, drop, zero, suc, ℕ, ◌+◌, ◌*◌, ◌%◌, ◌^◌, ◌<◌, Bool, true, List, [], ◌∷◌, ◌++◌, length, length-append, arith}
+use Rattle.std.specs.Prelude.{flat_map, nat_lt, ◌&&◌, slice_index}
 use Rattle.std.proofs.lemmas.Bool.Decides.{nat_tests}
 use Rattle.std.specs.Int.{w16, w32, to_le_bytes}
 use Rattle.std.specs.List.{AllByRecursion}
@@ -27,8 +27,12 @@ use Rattle.dwg_sections.specs.declared.header.Locator.{Locator}
 use Rattle.dwg_sections.specs.declared.header.FileHeader.{FileHeader}
 use Rattle.dwg_sections.specs.FileHeader.{HEADER_SENTINEL, locator_bytes, header_front, header_bytes, IsLocator, IsFileHeader}
 use Rattle.dwg_sections.specs.Framed.{VARIABLES_SENTINEL, CLASSES_SENTINEL, begin_sentinel, end_sentinel, complemented, sized_content, framed_bytes}
-use Rattle.dwg_file.specs.Canonical.{PREVIEW, class_content}
-use Rattle.dwg_file.proofs.SevenPieces.{length_of_seven, seven_are_bytes}
+use Rattle.dwg_file.specs.Canonical.{Carried, IsCarried, NO_PICTURE, class_content, preview_at, preview_size}
+use Rattle.dwg_preview.specs.Previews.{PREVIEW_SENTINEL, entries_moved, entry_at, entry_bytes, front_bytes, moved, moved_entry, preview_bytes}
+use Rattle.dwg_preview.proofs.Moving.{moved_is_content}
+use Rattle.dwg_preview.proofs.PreviewParts.{preview_is_counted}
+use Rattle.dwg_sections.proofs.BytePieces.{are_bytes_at, byte_at_below}
+use Rattle.dwg_file.proofs.SevenPieces.{seven_are_bytes}
 
 -- each number is below 256
 abbrev all_small : List ℕ → Bool
@@ -107,13 +111,65 @@ framed_is_bytes which content are =
     (bytes_of_number 0 2 (check_word FRAME_START (sized_content content))))
     (sentinels_are_bytes which).1
 
--- a preview without a picture has 37 bytes
-pub length_of_preview : length PREVIEW ≡ 37
-length_of_preview = refl
+-- a preview section has 36 bytes, and those of its content
+pub length_of_preview : (carried : Carried) (place : ℕ) → IsCarried carried → place + 36 + length carried.content < 2 ^ 32 → length (preview_at carried place) ≡ preview_size carried
+length_of_preview carried place is below =
+    preview_is_counted (moved carried.place place carried.content) ∙ ap (λ n. 36 + n) (moved_is_content carried.place place carried.content is.is below).0
 
--- and they are bytes
-pub preview_is_bytes : AreBytes PREVIEW
-preview_is_bytes = tested_bytes PREVIEW refl
+-- entries are written in bytes wherever they stand
+entries_are_bytes : (from to count : ℕ) (content : List ℕ) (place : ℕ) → AreBytes content → AreBytes (entries_moved from to count content place)
+unfolding entries_moved
+entries_are_bytes from to zero content place are = tt
+entries_are_bytes from to (suc count) content place are =
+    let entry = moved_entry from to (entry_at content place) in
+    bytes_joined (entry_bytes entry) (entries_moved from to count content (place + 9))
+    (byte_at_below content place are, bytes_joined (to_le_bytes w32 entry.place) (to_le_bytes w32 entry.size) (bytes_of_number 0 4 entry.place) (bytes_of_number 0 4 entry.size))
+    (entries_are_bytes from to count content (place + 9) are)
+
+-- so is what stands before the further bytes
+pub front_is_bytes : (carried : Carried) (place : ℕ) → AreBytes carried.content → AreBytes (front_bytes carried.place place carried.content)
+front_is_bytes carried place are =
+    let content = carried.content in
+    let entries = entries_moved carried.place place (slice_index content 0) content 1 in
+    bytes_joined (PREVIEW_SENTINEL ++ to_le_bytes w32 (length content)) (take 1 content ++ entries)
+    (bytes_joined PREVIEW_SENTINEL (to_le_bytes w32 (length content)) (tested_bytes PREVIEW_SENTINEL refl) (bytes_of_number 0 4 (length content)))
+    (bytes_joined (take 1 content) entries (are_bytes_at content 0 1 are) (entries_are_bytes carried.place place (slice_index content 0) content 1 are))
+
+-- and so is a content
+moved_is_bytes : (from to : ℕ) (content : List ℕ) → AreBytes content → AreBytes (moved from to content)
+unfolding moved
+moved_is_bytes from to content are =
+    let count = slice_index content 0 in
+    bytes_joined (take 1 content ++ entries_moved from to count content 1) (drop (1 + 9 * count) content)
+    (bytes_joined (take 1 content) (entries_moved from to count content 1) (are_bytes_at content 0 1 are) (entries_are_bytes from to count content 1 are))
+    (dropped_are_bytes (1 + 9 * count) content are)
+  where
+    dropped_are_bytes : (count : ℕ) (bytes : List ℕ) → AreBytes bytes → AreBytes (drop count bytes)
+    dropped_are_bytes zero bytes all = all
+    dropped_are_bytes (suc count) [] all = tt
+    dropped_are_bytes (suc count) (byte ∷ bytes) all = dropped_are_bytes count bytes all.1
+
+-- so is a preview section
+pub preview_is_bytes : (carried : Carried) (place : ℕ) → IsCarried carried → AreBytes (preview_at carried place)
+preview_is_bytes carried place is =
+    let content = moved carried.place place carried.content in
+    bytes_joined (PREVIEW_SENTINEL ++ to_le_bytes w32 (length content) ++ content) (complemented PREVIEW_SENTINEL)
+    (bytes_joined (PREVIEW_SENTINEL ++ to_le_bytes w32 (length content)) content
+    (bytes_joined PREVIEW_SENTINEL (to_le_bytes w32 (length content)) (tested_bytes PREVIEW_SENTINEL refl) (bytes_of_number 0 4 (length content)))
+    (moved_is_bytes carried.place place carried.content is.are))
+    (tested_bytes (complemented PREVIEW_SENTINEL) refl)
+
+-- a preview without a picture is one
+pub no_picture : IsCarried NO_PICTURE
+no_picture = record {
+  is = record { size = omega arith; entries = []; further = []; few = omega arith; are = tt; whole = refl; within = tt };
+  are = (omega arith, tt);
+}
+
+-- and stays as it is
+pub none_is_empty : (place : ℕ) → preview_at NO_PICTURE place ≡ preview_bytes (0 ∷ [])
+unfolding moved entries_moved
+none_is_empty place = refl
 
 -- what is written of classes, padded, ends at a whole byte
 pub padded_whole : (classes : List Class) → length (padded classes) % 8 ≡ 0

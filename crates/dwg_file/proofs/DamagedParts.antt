@@ -20,13 +20,13 @@ use Rattle.dwg_sections.specs.declared.framed.Framed.TheVariants.{Variables, Cla
 use Rattle.dwg_sections.specs.FileHeader.{BeginsWithHeader, header_bytes}
 use Rattle.dwg_sections.specs.Framed.{FramedAt, framed_bytes}
 use Rattle.dwg_sections.proofs.HeaderComplete.{header_tells_version}
-use Rattle.dwg_file.specs.Canonical.{canonical, class_content, classes_place, frames_bytes, header_of, map_of, map_place, objects_place, others_place, placed, preview_place, size_of, variables_place}
+use Rattle.dwg_file.specs.Canonical.{NO_PICTURE, canonical, class_content, classes_place, frames_bytes, header_of, map_of, map_place, objects_place, others_place, placed, preview_place, size_of, variables_place}
 use Rattle.dwg_file.specs.CanonicalFrames.{canonical_frames, frames_from}
 use Rattle.dwg_file.proofs.CanonicalFrames.{frames_apart, frames_stand, pairs_of_frames}
 use Rattle.dwg_file.proofs.CanonicalHeader.{header_fits}
 use Rattle.dwg_file.proofs.CanonicalLaws.{canonical_ascends, canonical_is_counted, canonical_version, header_reaches, parts_stand}
 use Rattle.dwg_file.specs.CanonicalBytes.{HasPart}
-use Rattle.dwg_file.proofs.CanonicalParts.{length_of_framed}
+use Rattle.dwg_file.proofs.CanonicalParts.{length_of_framed, no_picture}
 use Rattle.dwg_file.specs.Contents.{Contents}
 use Rattle.dwg_file.specs.ShortDamage.{AllElseIsSame, IsDamagedShortly}
 use Rattle.dwg_file.specs.Spelled.{PairFrame, IsFrameOfPair, AreApart}
@@ -107,8 +107,8 @@ pub record DamagedStands (drawing : Contents) (bytes : List ℕ) : Type 0 where
 pub damaged_stands : (drawing : Contents) (bytes : List ℕ) (earlier : List PairFrame) (frame : PairFrame) (later : List PairFrame) → IsValid drawing → size_of drawing ≤ MOST_BYTES
     → canonical_frames drawing ≡ earlier ++ frame ∷ later → IsDamagedShortly drawing frame bytes → DamagedStands drawing bytes
 damaged_stands drawing bytes earlier frame later is small whole damaged =
-    let fits = header_fits drawing is small in
-    let stand = parts_stand drawing fits in
+    let fits = header_fits NO_PICTURE drawing is small in
+    let stand = parts_stand NO_PICTURE drawing no_picture small fits in
     let from : ℕ = length damaged.differ.before in
     let to : ℕ = length damaged.differ.before + length damaged.differ.here in
     let among = lies_among drawing.version drawing.objects (objects_place drawing) earlier frame later whole in
@@ -119,7 +119,7 @@ damaged_stands drawing bytes earlier frame later is small whole damaged =
     let variables : List ℕ = framed_bytes Variables drawing.variables in
     let classes : List ℕ = framed_bytes Classes (class_content drawing.classes) in
     let first : StandsAt (canonical drawing) 0 header = record { before = []; behind = stand.begins.0; whole = stand.begins.1; far = refl } in
-    let front : StandsAt bytes 0 header = still 0 header first (inl (omega (arith, ahead, header_reaches drawing fits))) in
+    let front : StandsAt bytes 0 header = still 0 header first (inl (omega (arith, ahead, header_reaches NO_PICTURE drawing fits))) in
     record {
       begins = record { in_range = fits; stands = (front.behind, drop_stands bytes 0 header front) };
       variables = record {
@@ -131,7 +131,7 @@ damaged_stands drawing bytes earlier frame later is small whole damaged =
         stands = still (classes_place drawing) classes stand.classes (inl (omega (arith, ahead, length_of_framed Classes (class_content drawing.classes))));
       };
       mapped =
-          map_is_written (map_place drawing) bytes (placed drawing.version (objects_place drawing) drawing.objects) (canonical_ascends drawing is)
+          map_is_written (map_place drawing) bytes (placed drawing.version (objects_place drawing) drawing.objects) (canonical_ascends NO_PICTURE drawing no_picture is)
           (still (map_place drawing) (map_of drawing) stand.mapped (inr past));
     }
 
@@ -173,10 +173,10 @@ pub record EarlierStand (drawing : Contents) (bytes : List ℕ) (earlier : List 
 pub earlier_stand : (drawing : Contents) (bytes : List ℕ) (earlier : List PairFrame) (frame : PairFrame) (later : List PairFrame) → IsValid drawing → size_of drawing ≤ MOST_BYTES
     → canonical_frames drawing ≡ earlier ++ frame ∷ later → IsDamagedShortly drawing frame bytes → EarlierStand drawing bytes earlier frame later
 earlier_stand drawing bytes earlier frame later is small whole damaged =
-    let fits = header_fits drawing is small in
-    let stand = parts_stand drawing fits in
+    let fits = header_fits NO_PICTURE drawing is small in
+    let stand = parts_stand NO_PICTURE drawing no_picture small fits in
     let among = lies_among drawing.version drawing.objects (objects_place drawing) earlier frame later whole in
-    let own = canonical_version drawing fits in
+    let own = canonical_version NO_PICTURE drawing no_picture small fits in
     let same : version_at (canonical drawing) ≡ version_at bytes =
     sym own ∙ header_tells_version bytes (header_of drawing) (damaged_stands drawing bytes earlier frame later is small whole damaged).begins in
     let all = frames_stand drawing.version drawing.classes (canonical drawing) drawing.objects (objects_place drawing) own is.objects stand.frames in

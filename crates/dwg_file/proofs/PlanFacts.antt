@@ -15,7 +15,7 @@ use Rattle.dwg_file.proofs.PlanLoops.{left_at}
 use Rattle.dwg_objmap.specs.declared.pair.Pair.{Pair}
 use Rattle.dwg_objmap.specs.Writing.{Ascend}
 use Rattle.dwg_file.specs.Contents.{Contents}
-use Rattle.dwg_file.specs.Canonical.{class_content, frames_bytes, placed, objects_place}
+use Rattle.dwg_file.specs.Canonical.{Carried, IsCarried, class_content, frames_bytes, placed, objects_place_with}
 use Rattle.dwg_file.proofs.CanonicalLaws.{canonical_ascends}
 use Rattle.dwg_file.proofs.CanonicalParts.{content_is_classes}
 use Rattle.dwg_file.specs.Plans.{CanBeFramed, CanBeSent, FitsIn, HasRoom, IsPlan, room_of_frame}
@@ -43,10 +43,10 @@ placed_few version (object ∷ objects) place =
     omega (arith, placed_few version objects (place + length (frame_bytes version object)), length_of_frame version object, length-append (frame_bytes version object) (frames_bytes version objects))
 
 -- its pairs ascend
-pub pairs_ascend_from : (drawing : Contents) (from : ℕ) (objects : List ObjectValue) (pairs : List Pair) → IsValid drawing → from ≡ objects_place drawing → objects ≡ drawing.objects → pairs ≡ placed drawing.version from objects
+pub pairs_ascend_from : (carried : Carried) (drawing : Contents) (from : ℕ) (objects : List ObjectValue) (pairs : List Pair) → IsCarried carried → IsValid drawing → from ≡ objects_place_with carried drawing → objects ≡ drawing.objects → pairs ≡ placed drawing.version from objects
     → Ascend 0 pairs
-pairs_ascend_from drawing from objects pairs is there these same =
-    subst (Ascend 0) (sym (same ∙ ap₂ (placed drawing.version) there these)) (canonical_ascends drawing is)
+pairs_ascend_from carried drawing from objects pairs one is there these same =
+    subst (Ascend 0) (sym (same ∙ ap₂ (placed drawing.version) there these)) (canonical_ascends carried drawing one is)
 
 -- and are few
 pub pairs_few : (drawing : Contents) (from : ℕ) (objects : List ObjectValue) (pairs : List Pair) → IsValid drawing → objects ≡ drawing.objects → pairs ≡ placed drawing.version from objects → length pairs < 2 ^ 58
@@ -95,20 +95,21 @@ all_with_more version room more [] within can = tt
 all_with_more version room more (object ∷ objects) within can = (sent_with_more version room more object within can.0, all_with_more version room more objects within can.1)
 
 -- and room for each part is there with more
-pub has_with_more : (room more : ℕ) (drawing : Contents) → room ≤ more → HasRoom room drawing → HasRoom more drawing
-has_with_more room more drawing within has = record {
+pub has_with_more : (carried : Carried) (room more : ℕ) (drawing : Contents) → room ≤ more → HasRoom carried room drawing → HasRoom carried more drawing
+has_with_more carried room more drawing within has = record {
   header = omega (arith, within, has.header);
+  preview = omega (arith, within, has.preview);
   classes = omega (arith, within, has.classes);
   objects = all_with_more drawing.version room more drawing.objects within has.objects;
 }
 
 -- a plan with some room is one with more
-pub plan_with_more : (drawing : Contents) (pairs : List Pair) (size : ℕ) (header : FileHeader) (room more : ℕ) → room ≤ more → IsPlan drawing pairs size header room
-    → IsPlan drawing pairs size header more
-plan_with_more drawing pairs size header room more within plan =
+pub plan_with_more : (carried : Carried) (drawing : Contents) (pairs : List Pair) (size : ℕ) (header : FileHeader) (room more : ℕ) → room ≤ more → IsPlan carried drawing pairs size header room
+    → IsPlan carried drawing pairs size header more
+plan_with_more carried drawing pairs size header room more within plan =
     let ready = plan.ready in
     record {
-      ready = record { valid = ready.valid; small = ready.small; is_header = ready.is_header; has = has_with_more room more drawing within ready.has };
+      ready = record { valid = ready.valid; is = ready.is; small = ready.small; is_header = ready.is_header; has = has_with_more carried room more drawing within ready.has };
       are_placed = plan.are_placed;
       is_size = plan.is_size;
     }

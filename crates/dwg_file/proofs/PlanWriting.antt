@@ -12,29 +12,29 @@ use Rattle.dwg_sections.specs.FileHeader.{header_bytes}
 use Rattle.dwg_sections.specs.Framed.{framed_bytes}
 use Rattle.dwg_object.specs.Objects.{ObjectValue}
 use Rattle.dwg_file.specs.Contents.{Contents}
-use Rattle.dwg_file.specs.Canonical.{PREVIEW, class_content, frames_bytes, others_bytes, variables_place, others_place, map_of, header_of, canonical}
+use Rattle.dwg_file.specs.Canonical.{Carried, canonical_with, class_content, frames_bytes, header_with, map_with, others_bytes, others_place_with, preview_at, preview_place, variables_place}
 use Rattle.dwg_file.proofs.CanonicalHeader.{length_of_located}
 use Rattle.dwg_file.specs.Gathering.{IsGiven, GivesFront, Gives}
 use Rattle.dwg_file.proofs.GivenBytes.{given_both, gives_both, cut_before, cut_behind}
-use Rattle.dwg_file.specs.Plans.{front_bytes, sections_bytes}
+use Rattle.dwg_file.specs.Plans.{before_map, sections_bytes}
 
 -- there is room for the header
-pub header_room : (drawing : Contents) (header : FileHeader) (room : ℕ) → header ≡ header_of drawing → 8 * variables_place drawing ≤ room → 344 + 72 * length header.locators ≤ room
-header_room drawing header room same within =
-    omega (arith, within, ap (λ (one : FileHeader). length one.locators) same, length_of_located drawing.others (others_place drawing))
+pub header_room : (carried : Carried) (drawing : Contents) (header : FileHeader) (room : ℕ) → header ≡ header_with carried drawing → 8 * variables_place drawing ≤ room → 344 + 72 * length header.locators ≤ room
+header_room carried drawing header room same within =
+    omega (arith, within, ap (λ (one : FileHeader). length one.locators) same, length_of_located drawing.others (others_place_with carried drawing))
 
 -- the sections, by the parts of a drawing
-pub sections_pieces : (drawing : Contents) (variables : List ℕ) (classes : List Class) → variables ≡ drawing.variables → classes ≡ drawing.classes
-    → framed_bytes Variables variables ++ framed_bytes Classes (class_content classes) ++ PREVIEW ≡ sections_bytes drawing
-sections_pieces drawing variables classes held declared =
-    ap₂ (λ all (some : List Class). framed_bytes Variables all ++ framed_bytes Classes (class_content some) ++ PREVIEW) held declared
+pub sections_pieces : (carried : Carried) (drawing : Contents) (variables : List ℕ) (classes : List Class) → variables ≡ drawing.variables → classes ≡ drawing.classes
+    → framed_bytes Variables variables ++ framed_bytes Classes (class_content classes) ++ preview_at carried (preview_place drawing) ≡ sections_bytes carried drawing
+sections_pieces carried drawing variables classes held declared =
+    ap₂ (λ all (some : List Class). framed_bytes Variables all ++ framed_bytes Classes (class_content some) ++ preview_at carried (preview_place drawing)) held declared
 
 -- and the front
-pub front_pieces : (drawing : Contents) (header : FileHeader) (objects : List ObjectValue) → header ≡ header_of drawing → objects ≡ drawing.objects
-    → header_bytes header ++ sections_bytes drawing ++ frames_bytes drawing.version objects ≡ front_bytes drawing
-unfolding front_bytes
-front_pieces drawing header objects heads all =
-    ap₂ (λ (one : FileHeader) (some : List ObjectValue). header_bytes one ++ sections_bytes drawing ++ frames_bytes drawing.version some) heads all
+pub front_pieces : (carried : Carried) (drawing : Contents) (header : FileHeader) (objects : List ObjectValue) → header ≡ header_with carried drawing → objects ≡ drawing.objects
+    → header_bytes header ++ sections_bytes carried drawing ++ frames_bytes drawing.version objects ≡ before_map carried drawing
+unfolding before_map
+front_pieces carried drawing header objects heads all =
+    ap₂ (λ (one : FileHeader) (some : List ObjectValue). header_bytes one ++ sections_bytes carried drawing ++ frames_bytes drawing.version some) heads all
 
 -- three pieces that are given one behind the other: where one is cut off, so are all
 pub first_cut : (a b : Option (List ℕ)) (waited x y z whole : List ℕ) → x ++ y ++ z ≡ whole → GivesFront a b waited x → GivesFront a b waited whole
@@ -53,14 +53,15 @@ three_given a b c d waited one two waiting x y z whole result same first second 
     gives_both a c d waited two waiting (x ++ y) z whole result same (given_both a b c waited one two x y (x ++ y) refl first second) last
 
 -- what stands before the map, the map, and what stands behind it are the canonical file
-pub canonical_thirds : (drawing : Contents) → front_bytes drawing ++ map_of drawing ++ others_bytes drawing.others ≡ canonical drawing
-unfolding canonical front_bytes
-canonical_thirds drawing =
-    let head = header_bytes (header_of drawing) in
+pub canonical_thirds : (carried : Carried) (drawing : Contents) → before_map carried drawing ++ map_with carried drawing ++ others_bytes drawing.others ≡ canonical_with carried drawing
+unfolding canonical_with before_map
+canonical_thirds carried drawing =
+    let head = header_bytes (header_with carried drawing) in
+    let preview = preview_at carried (preview_place drawing) in
     let variables = framed_bytes Variables drawing.variables in
     let classes = framed_bytes Classes (class_content drawing.classes) in
-    ap (λ front. front ++ frames_bytes drawing.version drawing.objects ++ map_of drawing ++ others_bytes drawing.others)
-    (sym (append_assoc head (variables ++ classes) PREVIEW) ∙ ap (λ front. front ++ PREVIEW) (sym (append_assoc head variables classes)))
+    ap (λ front. front ++ frames_bytes drawing.version drawing.objects ++ map_with carried drawing ++ others_bytes drawing.others)
+    (sym (append_assoc head (variables ++ classes) preview) ∙ ap (λ front. front ++ preview) (sym (append_assoc head variables classes)))
 
 -- three pieces that are sent one behind the other: where one is cut off, so are all
 pub first_short : (a b : Option (List ℕ)) (x y z whole : List ℕ) → x ++ y ++ z ≡ whole → AppendsFront a b x → AppendsFront a b whole

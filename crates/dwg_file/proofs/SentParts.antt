@@ -1,5 +1,5 @@
 -- Parts of the canonical file that are made in the room of one, or sent around bytes that are held.
-use Rattle.std.proofs.Common.{◌≡◌, refl, sym, ◌∙◌, ap, ap₂, ℕ, ◌%◌, List, [], ◌++◌, length, append_assoc, append-nil, arith}
+use Rattle.std.proofs.Common.{◌≡◌, refl, sym, ◌∙◌, ap, ap₂, ℕ, ◌+◌, ◌^◌, ◌<◌, ◌%◌, List, [], ◌++◌, length, append_assoc, append-nil, arith}
 use Rattle.dwg_base.specs.declared.version.Version.{Version}
 use Rattle.std.specs.Int.{w16, to_le_bytes}
 use Rattle.dwg_base.specs.Bytes.{AreBytes}
@@ -13,6 +13,10 @@ use Rattle.dwg_check.proofs.CheckWordLaws.{check_word_append}
 use Rattle.dwg_grammar.specs.ModularCodes.{ms}
 use Rattle.dwg_object.specs.Frames.{frame_bytes, framed_body}
 use Rattle.dwg_object.specs.Objects.ObjectValue.{RawValue}
+use Rattle.dwg_preview.specs.Previews.{PREVIEW_SENTINEL, front_bytes, further_bytes}
+use Rattle.dwg_preview.proofs.Moving.{section_is_pieces}
+use Rattle.dwg_sections.specs.Framed.{complemented}
+use Rattle.dwg_file.specs.Canonical.{Carried, IsCarried, preview_at}
 
 -- what was made in an empty room is whole bytes
 pub part_aligned : (cleared made : Written) (bytes : List ℕ) → cleared.written ≡ [] → Extends cleared made (bits bytes) → length made.written % 8 ≡ 0
@@ -26,6 +30,16 @@ part_bytes cleared made bytes held empty grew are same =
 -- three pieces that are given one behind the other
 pub three_given : (a b c : List ℕ) → a ++ (b ++ (c ++ [])) ≡ a ++ b ++ c
 three_given a b c = ap (λ rest. a ++ (b ++ rest)) (append-nil c) ∙ sym (append_assoc a b c)
+
+-- so are those of a preview
+pub preview_given : (carried : Carried) (place : ℕ) (begun behind end ended : List ℕ) → IsCarried carried → place + 36 + length carried.content < 2 ^ 32
+    → begun ≡ front_bytes carried.place place carried.content → behind ≡ further_bytes carried.content → ended ≡ end → end ≡ complemented PREVIEW_SENTINEL
+    → begun ++ (behind ++ (ended ++ [])) ≡ preview_at carried place
+preview_given carried place begun behind end ended is below starts goes_on stops ends =
+    three_given begun behind ended
+    ∙ ap₂ (λ first (second : List ℕ). first ++ second ++ ended) starts goes_on
+    ∙ ap (λ last. front_bytes carried.place place carried.content ++ further_bytes carried.content ++ last) (stops ∙ ends)
+    ∙ section_is_pieces carried.place place carried.content is.is below
 
 -- and five, the second and the third together
 pub five_given : (a b c d e : List ℕ) → a ++ (b ++ (c ++ (d ++ (e ++ [])))) ≡ a ++ (b ++ c) ++ d ++ e

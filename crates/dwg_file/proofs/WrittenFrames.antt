@@ -12,11 +12,12 @@ use Rattle.dwg_object.specs.Frames.{frame_bytes}
 use Rattle.dwg_object.specs.Objects.{ObjectValue, handle_of}
 use Rattle.dwg_object.proofs.StandingLemmas.{stands_first, stands_next}
 use Rattle.dwg_object.specs.Written.{IsValidObject, body_bytes}
-use Rattle.dwg_file.specs.Canonical.{canonical, frames_bytes, objects_place, size_of}
+use Rattle.dwg_file.specs.Canonical.{NO_PICTURE, canonical, frames_bytes, objects_place, size_of}
 use Rattle.dwg_file.specs.CanonicalFrames.{canonical_frames, frames_from}
 use Rattle.dwg_file.proofs.CanonicalFrames.{frames_behind}
 use Rattle.dwg_file.proofs.CanonicalHeader.{header_fits, pairs_head, pairs_tail}
 use Rattle.dwg_file.proofs.CanonicalLaws.{parts_stand}
+use Rattle.dwg_file.proofs.CanonicalParts.{no_picture}
 use Rattle.dwg_file.specs.Contents.{Contents}
 use Rattle.dwg_file.specs.Spelled.{PairFrame}
 use Rattle.dwg_file.specs.Valid.{IsValid}
@@ -42,7 +43,7 @@ frames_written version classes bytes (object ∷ objects) place are stands = (
 pub canonical_written : (drawing : Contents) → IsValid drawing → size_of drawing ≤ MOST_BYTES
     → AllByRecursion (IsWritten drawing.version drawing.classes (canonical drawing)) (canonical_frames drawing)
 canonical_written drawing is small =
-    frames_written drawing.version drawing.classes (canonical drawing) drawing.objects (objects_place drawing) is.objects (parts_stand drawing (header_fits drawing is small)).frames
+    frames_written drawing.version drawing.classes (canonical drawing) drawing.objects (objects_place drawing) is.objects (parts_stand NO_PICTURE drawing no_picture small (header_fits NO_PICTURE drawing is small)).frames
 
 -- the frames before one of those that stand one behind the other end before it, and those behind it begin behind its end
 pub record LiesAmong (version : Version) (place : ℕ) (objects : List ObjectValue) (earlier : List PairFrame) (frame : PairFrame) (later : List PairFrame) : Type 0 where

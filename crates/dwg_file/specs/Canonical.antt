@@ -1,6 +1,7 @@
 -- The canonical file of a drawing: its parts one behind the other without gaps. A rule of this project, over the layout of the Open Design Specification, "R13 to R2000 file layout".
-use Rattle.std.specs.Prelude.{ℕ, ◌+◌, ◌*◌, List, [], ◌∷◌, ◌++◌, length, flat_map}
+use Rattle.std.specs.Prelude.{ℕ, ◌+◌, ◌*◌, List, [], ◌∷◌, ◌++◌, length, flat_map, Option, Some, None}
 use Rattle.dwg_base.specs.declared.version.Version.{Version}
+use Rattle.dwg_base.specs.Bytes.{AreBytes}
 use Rattle.dwg_bits.specs.Sink.{padding}
 use Rattle.dwg_bits.specs.WholeBytes.{whole_bytes}
 use Rattle.dwg_classes.specs.declared.class.Class.{Class}
@@ -14,20 +15,41 @@ use Rattle.dwg_sections.specs.declared.framed.Framed.TheVariants.{Variables, Cla
 use Rattle.dwg_sections.specs.declared.header.Locator.{Locator}
 use Rattle.dwg_sections.specs.declared.header.FileHeader.{FileHeader}
 use Rattle.dwg_sections.specs.FileHeader.{OF_LOCATOR, WITHOUT_LOCATORS, header_bytes}
-use Rattle.dwg_sections.specs.Framed.{WITHOUT_CONTENT, complemented, framed_bytes}
+use Rattle.dwg_preview.specs.declared.preview.Preview.{Preview}
+use Rattle.dwg_preview.specs.Previews.{IsContent, moved, preview_bytes}
+use Rattle.dwg_sections.specs.Framed.{WITHOUT_CONTENT, framed_bytes}
 use Rattle.dwg_file.specs.Contents.{OtherValue, Contents}
 
--- the sixteen bytes before the size of the preview
-abbrev pub PREVIEW_SENTINEL : List ℕ
-PREVIEW_SENTINEL = 0x1F ∷ 0x25 ∷ 0x6D ∷ 0x07 ∷ 0xD4 ∷ 0x36 ∷ 0x28 ∷ 0x28 ∷ 0x9D ∷ 0x57 ∷ 0xCA ∷ 0x3F ∷ 0x9D ∷ 0x44 ∷ 0x10 ∷ 0x2B ∷ []
+-- a preview section that a file carries: where it stood, and its content
+pub record Carried : Type 0 where
+  pub place : ℕ
+  pub content : List ℕ
 
--- a preview section without a picture: begin sentinel, RL 1, RC 0, end sentinel
-abbrev pub PREVIEW : List ℕ
-PREVIEW = PREVIEW_SENTINEL ++ (1 ∷ 0 ∷ 0 ∷ 0 ∷ 0 ∷ []) ++ complemented PREVIEW_SENTINEL
+-- one without a picture, wherever it stood: RC 0
+abbrev pub NO_PICTURE : Carried
+NO_PICTURE = record { place = 0; content = 0 ∷ [] }
+
+-- the one that was read
+abbrev pub carried_by : Preview → Carried
+carried_by preview = record { place = preview.place; content = preview.content.now }
+
+-- the one that is handed over, or none
+abbrev pub carried_of : Option Preview → Carried
+carried_of None = NO_PICTURE
+carried_of (Some preview) = carried_by preview
+
+-- it is one, of bytes
+pub record IsCarried (carried : Carried) : Type 0 where
+  pub is : IsContent carried.place carried.content
+  pub are : AreBytes carried.content
+
+-- the preview section as it is at a place
+abbrev pub preview_at : Carried → ℕ → List ℕ
+preview_at carried place = preview_bytes (moved carried.place place carried.content)
 
 -- how many bytes it has
-abbrev pub OF_PREVIEW : ℕ
-OF_PREVIEW = 37
+abbrev pub preview_size : Carried → ℕ
+preview_size carried = 36 + length carried.content
 
 -- the content of the classes: what is written of them, padded with zero bits to a byte
 abbrev pub class_content : List Class → List ℕ
@@ -56,22 +78,22 @@ classes_place drawing = variables_place drawing + WITHOUT_CONTENT + length drawi
 abbrev pub preview_place : Contents → ℕ
 preview_place drawing = classes_place drawing + WITHOUT_CONTENT + length (class_content drawing.classes)
 
-abbrev pub objects_place : Contents → ℕ
-objects_place drawing = preview_place drawing + OF_PREVIEW
+abbrev pub objects_place_with : Carried → Contents → ℕ
+objects_place_with carried drawing = preview_place drawing + preview_size carried
 
-abbrev pub map_place : Contents → ℕ
-map_place drawing = objects_place drawing + length (frames_bytes drawing.version drawing.objects)
+abbrev pub map_place_with : Carried → Contents → ℕ
+map_place_with carried drawing = objects_place_with carried drawing + length (frames_bytes drawing.version drawing.objects)
 
 -- the bytes of the map
-abbrev pub map_of : Contents → List ℕ
-map_of drawing = map_bytes (placed drawing.version (objects_place drawing) drawing.objects)
+abbrev pub map_with : Carried → Contents → List ℕ
+map_with carried drawing = map_bytes (placed drawing.version (objects_place_with carried drawing) drawing.objects)
 
-abbrev pub others_place : Contents → ℕ
-others_place drawing = map_place drawing + length (map_of drawing)
+abbrev pub others_place_with : Carried → Contents → ℕ
+others_place_with carried drawing = map_place_with carried drawing + length (map_with carried drawing)
 
--- the size of the canonical file: the sum of the lengths of its parts
-abbrev pub size_of : Contents → ℕ
-size_of drawing = others_place drawing + length (others_bytes drawing.others)
+-- the size of the canonical file with a preview: the sum of the lengths of its parts
+abbrev pub size_with : Carried → Contents → ℕ
+size_with carried drawing = others_place_with carried drawing + length (others_bytes drawing.others)
 
 -- the locators of unknown sections that stand one behind the other from a place
 abbrev pub others_located : ℕ → List OtherValue → List Locator
@@ -80,8 +102,8 @@ others_located place (other ∷ others) =
     record { number = other.number; place = place; size = length other.bytes } ∷ others_located (place + length other.bytes) others
 
 -- the file header: the locators of header variables and classes count whole sections, that of the map all pages
-abbrev pub header_of : Contents → FileHeader
-header_of drawing = record {
+abbrev pub header_with : Carried → Contents → FileHeader
+header_with carried drawing = record {
   version = drawing.version;
   lead = drawing.lead;
   preview = preview_place drawing;
@@ -90,12 +112,34 @@ header_of drawing = record {
   locators =
       record { number = 0; place = variables_place drawing; size = WITHOUT_CONTENT + length drawing.variables }
       ∷ record { number = 1; place = classes_place drawing; size = WITHOUT_CONTENT + length (class_content drawing.classes) }
-      ∷ record { number = 2; place = map_place drawing; size = length (map_of drawing) }
-      ∷ others_located (others_place drawing) drawing.others;
+      ∷ record { number = 2; place = map_place_with carried drawing; size = length (map_with carried drawing) }
+      ∷ others_located (others_place_with carried drawing) drawing.others;
 }
 
--- the canonical file
-unfoldable pub canonical : Contents → List ℕ
-canonical drawing =
-    header_bytes (header_of drawing) ++ framed_bytes Variables drawing.variables ++ framed_bytes Classes (class_content drawing.classes) ++ PREVIEW
-    ++ frames_bytes drawing.version drawing.objects ++ map_of drawing ++ others_bytes drawing.others
+-- the canonical file with a preview
+unfoldable pub canonical_with : Carried → Contents → List ℕ
+canonical_with carried drawing =
+    header_bytes (header_with carried drawing) ++ framed_bytes Variables drawing.variables ++ framed_bytes Classes (class_content drawing.classes)
+    ++ preview_at carried (preview_place drawing) ++ frames_bytes drawing.version drawing.objects ++ map_with carried drawing ++ others_bytes drawing.others
+
+-- all that of the canonical file of a drawing alone, whose preview has no picture
+abbrev pub objects_place : Contents → ℕ
+objects_place drawing = objects_place_with NO_PICTURE drawing
+
+abbrev pub map_place : Contents → ℕ
+map_place drawing = map_place_with NO_PICTURE drawing
+
+abbrev pub map_of : Contents → List ℕ
+map_of drawing = map_with NO_PICTURE drawing
+
+abbrev pub others_place : Contents → ℕ
+others_place drawing = others_place_with NO_PICTURE drawing
+
+abbrev pub size_of : Contents → ℕ
+size_of drawing = size_with NO_PICTURE drawing
+
+abbrev pub header_of : Contents → FileHeader
+header_of drawing = header_with NO_PICTURE drawing
+
+abbrev pub canonical : Contents → List ℕ
+canonical drawing = canonical_with NO_PICTURE drawing

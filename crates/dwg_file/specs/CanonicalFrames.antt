@@ -4,7 +4,7 @@ use Rattle.dwg_base.specs.declared.version.Version.{Version}
 use Rattle.dwg_object.specs.Written.{body_bytes}
 use Rattle.dwg_object.specs.Frames.{frame_bytes}
 use Rattle.dwg_object.specs.Objects.{ObjectValue, handle_of}
-use Rattle.dwg_file.specs.Canonical.{objects_place}
+use Rattle.dwg_file.specs.Canonical.{Carried, NO_PICTURE, objects_place_with}
 use Rattle.dwg_file.specs.Contents.{Contents}
 use Rattle.dwg_file.specs.Spelled.{PairFrame}
 
@@ -18,6 +18,10 @@ frames_from version place (object ∷ objects) = record {
   object = object;
 } ∷ frames_from version (place + length (frame_bytes version object)) objects
 
--- the frames of the canonical file, in the order of its map
+-- the frames of the canonical file with a preview, in the order of its map
+abbrev pub canonical_frames_with : Carried → Contents → List PairFrame
+canonical_frames_with carried drawing = frames_from drawing.version (objects_place_with carried drawing) drawing.objects
+
+-- and of the one of a drawing alone
 abbrev pub canonical_frames : Contents → List PairFrame
-canonical_frames drawing = frames_from drawing.version (objects_place drawing) drawing.objects
+canonical_frames drawing = canonical_frames_with NO_PICTURE drawing

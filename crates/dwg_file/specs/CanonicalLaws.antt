@@ -1,14 +1,47 @@
 -- The canonical file of a valid drawing that isn't too large spells it, has the size that is counted, and is bytes.
-use Rattle.std.proofs.Common.{◌≡◌, ℕ, ◌≤◌, List, length, None}
+use Rattle.std.proofs.Common.{◌≡◌, ℕ, ◌≤◌, List, [], ◌∷◌, length, None}
 use Rattle.dwg_base.specs.Bytes.{AreBytes}
 use Rattle.dwg_base.specs.Devices.{MOST_BYTES}
 use Rattle.dwg_base.specs.Refusals.{first_fault}
 use Rattle.dwg_file.specs.Contents.{Contents}
-use Rattle.dwg_file.specs.Canonical.{size_of, canonical}
+use Rattle.dwg_file.specs.Canonical.{Carried, IsCarried, NO_PICTURE, canonical, canonical_with, header_with, preview_at, preview_place, size_of, size_with}
+use Rattle.dwg_preview.specs.Previews.{PreviewAt, moved, preview_bytes}
 use Rattle.dwg_file.specs.DrawingAt.{drawing_at}
 use Rattle.dwg_file.specs.FileLines.{ALL_LINES}
 use Rattle.dwg_file.specs.Spelled.{Spelled}
 use Rattle.dwg_file.specs.Valid.{IsValid}
+
+-- with each preview the canonical file of a valid drawing that isn't too large spells it
+abbrev pub CarryingSpells : Type 0
+CarryingSpells =
+    (carried : Carried) (drawing : Contents) → IsCarried carried → IsValid drawing → size_with carried drawing ≤ MOST_BYTES → Spelled drawing (canonical_with carried drawing)
+
+-- it has the size that is counted, and is bytes
+abbrev pub CarryingIsCounted : Type 0
+CarryingIsCounted =
+    (carried : Carried) (drawing : Contents) → IsCarried carried → IsValid drawing → size_with carried drawing ≤ MOST_BYTES
+    → (length (canonical_with carried drawing) ≡ size_with carried drawing) × AreBytes (canonical_with carried drawing)
+
+-- it spells no other drawing
+abbrev pub CarryingSpellsNoOther : Type 0
+CarryingSpellsNoOther =
+    (carried : Carried) (drawing other : Contents) → IsCarried carried → IsValid drawing → size_with carried drawing ≤ MOST_BYTES → Spelled other (canonical_with carried drawing) → other ≡ drawing
+
+-- the preview stands where its header says, with the places of its pictures moved there
+abbrev pub PreviewIsCarried : Type 0
+PreviewIsCarried =
+    (carried : Carried) (drawing : Contents) → IsCarried carried → IsValid drawing → size_with carried drawing ≤ MOST_BYTES
+    → PreviewAt (canonical_with carried drawing) (header_with carried drawing).preview (moved carried.place (header_with carried drawing).preview carried.content)
+
+-- carrying it once more gives the same file
+abbrev pub CarryingIsDoneOnce : Type 0
+CarryingIsDoneOnce =
+    (carried : Carried) (drawing : Contents) → IsCarried carried → size_with carried drawing ≤ MOST_BYTES
+    → canonical_with (record { place = preview_place drawing; content = moved carried.place (preview_place drawing) carried.content }) drawing ≡ canonical_with carried drawing
+
+-- where none is carried it is a section of one byte, the count of no entries
+abbrev pub NoneIsEmpty : Type 0
+NoneIsEmpty = (place : ℕ) → preview_at NO_PICTURE place ≡ preview_bytes (0 ∷ [])
 
 -- the canonical file of a valid drawing that isn't too large spells it
 abbrev pub CanonicalSpells : Type 0

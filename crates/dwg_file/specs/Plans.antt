@@ -17,7 +17,8 @@ use Rattle.dwg_sections.specs.declared.framed.Framed.TheVariants.{Variables, Cla
 use Rattle.dwg_sections.specs.FileHeader.{header_bytes}
 use Rattle.dwg_sections.specs.Framed.{framed_bytes}
 use Rattle.dwg_file.specs.declared.layout.Layout.{Layout}
-use Rattle.dwg_file.specs.Canonical.{PREVIEW, class_content, frames_bytes, placed, variables_place, classes_place, preview_place, objects_place, map_place, others_place, header_of, size_of}
+use Rattle.dwg_file.specs.Canonical.{Carried, IsCarried, class_content, frames_bytes, placed, preview_at, variables_place, classes_place, preview_place, objects_place_with, map_place_with, others_place_with, header_with, size_with}
+use Rattle.dwg_preview.specs.Previews.{front_bytes}
 use Rattle.dwg_file.specs.Contents.{Contents}
 use Rattle.dwg_file.specs.Valid.{IsValid}
 
@@ -47,39 +48,46 @@ pub record IsPut (old now : Option (List ℕ)) (page : OpenPage) (left : List Pa
 abbrev pub FitsIn : Version → ℕ → ObjectValue → Type 0
 FitsIn version part value = room_of_frame version value ≤ part
 
--- with room for so many bits each part of a drawing's canonical file can be made that isn't held elsewhere: the file header, which ends where the header variables stand, the content of the classes, and each frame
-pub record HasRoom (room : ℕ) (drawing : Contents) : Type 0 where
+-- with room for so many bits each part of a drawing's canonical file can be made that isn't held elsewhere: the file header, which ends where the header variables stand, the preview up to its further bytes, the content of the classes, and each frame
+pub record HasRoom (carried : Carried) (room : ℕ) (drawing : Contents) : Type 0 where
   pub header : 8 * variables_place drawing ≤ room
+  pub preview : 8 * length (front_bytes carried.place (preview_place drawing) carried.content) ≤ room
   pub classes : 8 * length (class_content drawing.classes) ≤ room
   pub objects : AllByRecursion (CanBeSent drawing.version room) drawing.objects
 
 -- where the parts of a drawing's canonical file stand, and its size
-pub record IsLayout (layout : Layout) (drawing : Contents) : Type 0 where
+pub record IsLayout (layout : Layout) (carried : Carried) (drawing : Contents) : Type 0 where
   pub variables : layout.variables ≡ variables_place drawing
   pub classes : layout.classes ≡ classes_place drawing
   pub preview : layout.preview ≡ preview_place drawing
-  pub pairs : layout.pairs ≡ placed drawing.version (objects_place drawing) drawing.objects
-  pub map : layout.map ≡ map_place drawing
-  pub others : layout.others ≡ others_place drawing
-  pub size : layout.size ≡ size_of drawing
+  pub pairs : layout.pairs ≡ placed drawing.version (objects_place_with carried drawing) drawing.objects
+  pub map : layout.map ≡ map_place_with carried drawing
+  pub others : layout.others ≡ others_place_with carried drawing
+  pub size : layout.size ≡ size_with carried drawing
 
 -- a drawing whose canonical file can be sent: it is valid and isn't too large, this is its header, and there is room for each part
-pub record IsReady (drawing : Contents) (header : FileHeader) (room : ℕ) : Type 0 where
+pub record IsReady (carried : Carried) (drawing : Contents) (header : FileHeader) (room : ℕ) : Type 0 where
   pub valid : IsValid drawing
-  pub small : size_of drawing ≤ MOST_BYTES
-  pub is_header : header ≡ header_of drawing
-  pub has : HasRoom room drawing
+  pub is : IsCarried carried
+  pub small : size_with carried drawing ≤ MOST_BYTES
+  pub is_header : header ≡ header_with carried drawing
+  pub has : HasRoom carried room drawing
 
 -- what is at hand to write a drawing: all that sending takes, a pair for each object, and the size of the file
-pub record IsPlan (drawing : Contents) (pairs : List Pair) (size : ℕ) (header : FileHeader) (room : ℕ) : Type 0 where
-  pub ready : IsReady drawing header room
-  pub are_placed : pairs ≡ placed drawing.version (objects_place drawing) drawing.objects
-  pub is_size : size ≡ size_of drawing
+pub record IsPlan (carried : Carried) (drawing : Contents) (pairs : List Pair) (size : ℕ) (header : FileHeader) (room : ℕ) : Type 0 where
+  pub ready : IsReady carried drawing header room
+  pub are_placed : pairs ≡ placed drawing.version (objects_place_with carried drawing) drawing.objects
+  pub is_size : size ≡ size_with carried drawing
 
 -- the sections before the frames: header variables, classes, preview
-abbrev pub sections_bytes : Contents → List ℕ
-sections_bytes drawing = framed_bytes Variables drawing.variables ++ framed_bytes Classes (class_content drawing.classes) ++ PREVIEW
+abbrev pub sections_bytes : Carried → Contents → List ℕ
+sections_bytes carried drawing = framed_bytes Variables drawing.variables ++ framed_bytes Classes (class_content drawing.classes) ++ preview_at carried (preview_place drawing)
+
+-- what is planned: a drawing, and the preview that its file carries
+pub record Planned : Type 0 where
+  pub drawing : Contents
+  pub carried : Carried
 
 -- the canonical file up to the map: the file header, these sections, the frames
-unfoldable pub front_bytes : Contents → List ℕ
-front_bytes drawing = header_bytes (header_of drawing) ++ sections_bytes drawing ++ frames_bytes drawing.version drawing.objects
+unfoldable pub before_map : Carried → Contents → List ℕ
+before_map carried drawing = header_bytes (header_with carried drawing) ++ sections_bytes carried drawing ++ frames_bytes drawing.version drawing.objects

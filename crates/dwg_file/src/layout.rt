@@ -2,7 +2,7 @@
 
 ghost use Rattle.std.specs.Prelude.{◌≡◌, ◌+◌, ◌*◌, ◌^◌, ◌<◌, ◌≤◌, ◌++◌, ◌∷◌, [], length, map, IfOk, OnOk};
 ghost use Rattle.dwg_base.specs.Devices.{MOST_BYTES};
-ghost use Rattle.dwg_file.specs.Canonical.{others_bytes, others_located, header_of, size_of};
+ghost use Rattle.dwg_file.specs.Canonical.{IsCarried, carried_by, others_bytes, others_located, header_with, size_with};
 ghost use Rattle.dwg_file.specs.Contents.{other_value, contents_of};
 ghost use Rattle.dwg_file.specs.Plans.{HasRoom, IsLayout};
 ghost use Rattle.dwg_file.specs.Valid.{IsValid};
@@ -11,18 +11,18 @@ use crate::parts::{Other, Parts};
 use crate::plan_parts::{content_length, others_length, place_objects};
 use dwg_base::{Items, NoMemory};
 use dwg_objmap::{Pair, map_length};
+use dwg_preview::{Preview, front_length, preview_length};
 use dwg_sections::{
     CLASSES_NUMBER, FRAMED_SIZE, FileHeader, HEADER_SIZE, LOCATOR_SIZE, Locator, OBJECT_MAP_NUMBER,
     VARIABLES_NUMBER,
 };
 use std::alloc::Global;
 
-/// How many bytes the preview has.
-const PREVIEW_SIZE: u64 = 37;
-
 /// Where the parts of a drawing's canonical file stand, and its size in bytes.
 #[derive(Drop)]
-pub(crate) struct Layout {
+pub(crate) struct Layout<'a> {
+    /// The preview that it carries.
+    pub carried: Preview<'a>,
     /// The place of the header variables.
     pub variables: u64,
     /// The place of the classes.
@@ -41,11 +41,17 @@ pub(crate) struct Layout {
     pub part: u64,
 }
 
-/// Lays out the canonical file of valid parts. The only refusal is want of memory.
-pub(crate) fn layout_of(alloc: Global, parts: &Parts<'_>) -> Result<Layout, NoMemory>
-    requires { IsValid (contents_of parts.now) }
-    ensures places { IfOk result (λ layout. IsLayout layout (contents_of parts.now)) }
-    ensures room { IfOk result (λ layout. HasRoom (8 * layout.part) (contents_of parts.now)) }
+/// Lays out the canonical file of valid parts with a preview. The only refusal is want of memory.
+pub(crate) fn layout_of<'a>(
+    alloc: Global,
+    parts: &Parts<'_>,
+    carried: Preview<'a>,
+) -> Result<Layout<'a>, NoMemory>
+    requires valid { IsValid (contents_of parts.now) }
+    requires carried { IsCarried (carried_by carried) }
+    ensures carried { IfOk result (λ layout. layout.carried ≡ carried.entry) }
+    ensures places { IfOk result (λ layout. IsLayout layout (carried_by carried.entry) (contents_of parts.now)) }
+    ensures room { IfOk result (λ layout. HasRoom (carried_by carried.entry) (8 * layout.part) (contents_of parts.now)) }
     ensures few { IfOk result (λ layout. layout.part < 2 ^ 58) }
 {
     let sections = parts.others.as_slice();
@@ -57,11 +63,12 @@ pub(crate) fn layout_of(alloc: Global, parts: &Parts<'_>) -> Result<Layout, NoMe
         alloc,
         parts.version,
         parts.objects.as_slice(),
-        preview + PREVIEW_SIZE,
+        preview + preview_length(&carried),
     )?;
     let others = frames.end + map_length(frames.pairs.as_slice());
     let size = others + others_length(sections);
     Ok(Layout {
+        carried,
         variables,
         classes,
         preview,
@@ -69,7 +76,10 @@ pub(crate) fn layout_of(alloc: Global, parts: &Parts<'_>) -> Result<Layout, NoMe
         map: frames.end,
         others,
         size,
-        part: variables.max(content).max(frames.part),
+        part: variables
+            .max(front_length(&carried))
+            .max(content)
+            .max(frames.part),
     })
 }
 
@@ -116,11 +126,11 @@ fn locate_others(
 fn locators_of(
     alloc: Global,
     parts: &Parts<'_>,
-    layout: &Layout,
+    layout: &Layout<'_>,
 ) -> Result<Items<Locator>, NoMemory>
-    requires layout { IsLayout layout.now (contents_of parts.now) }
-    requires small { size_of (contents_of parts.now) ≤ MOST_BYTES }
-    ensures { IfOk result (λ all. all ≡ (header_of (contents_of parts.now)).locators) }
+    requires layout { IsLayout layout.now (carried_by layout.now.carried) (contents_of parts.now) }
+    requires small { size_with (carried_by layout.now.carried) (contents_of parts.now) ≤ MOST_BYTES }
+    ensures { IfOk result (λ all. all ≡ (header_with (carried_by layout.now.carried) (contents_of parts.now)).locators) }
 {
     let mut locators = Items::new(alloc);
     add_locator(
@@ -149,11 +159,11 @@ fn locators_of(
 pub(crate) fn header_of(
     alloc: Global,
     parts: &Parts<'_>,
-    layout: &Layout,
+    layout: &Layout<'_>,
 ) -> Result<FileHeader, NoMemory>
-    requires layout { IsLayout layout.now (contents_of parts.now) }
-    requires small { size_of (contents_of parts.now) ≤ MOST_BYTES }
-    ensures { IfOk result (λ header. header ≡ header_of (contents_of parts.now)) }
+    requires layout { IsLayout layout.now (carried_by layout.now.carried) (contents_of parts.now) }
+    requires small { size_with (carried_by layout.now.carried) (contents_of parts.now) ≤ MOST_BYTES }
+    ensures { IfOk result (λ header. header ≡ header_with (carried_by layout.now.carried) (contents_of parts.now)) }
 {
     let locators = locators_of(alloc, parts, layout)?;
     Ok(FileHeader {

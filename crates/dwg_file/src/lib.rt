@@ -29,4 +29,4 @@ pub use plan::{Plan, PlanFault};
 pub use reading::{FramedDrawing, read_drawing, read_with_frames};
 pub use sections::classes_of_file;
 pub use taken::Taken;
-pub use written_laws::canonical_laws;
+pub use written_laws::{canonical_laws, carrying_laws};

@@ -1,21 +1,25 @@
 //! Writing drawings: the canonical file is measured, and then sent part after part.
 
-ghost use Rattle.std.specs.Prelude.{◌≡◌, ℕ, ◌+◌, ◌*◌, ◌^◌, ◌<◌, ◌≤◌, [], length, IfOk, OnOk, Err};
+ghost use Rattle.std.specs.Prelude.{◌≡◌, ℕ, ◌+◌, ◌*◌, ◌^◌, ◌<◌, ◌≤◌, [], length, IfOk, IfSome, OnOk, Err};
 ghost use Rattle.dwg_base.specs.Devices.{MOST_BYTES, Counts, Sends};
-ghost use Rattle.dwg_file.specs.Canonical.{canonical, others_bytes, size_of};
+ghost use Rattle.dwg_preview.specs.Previews.{IsContent};
+ghost use Rattle.dwg_file.specs.Canonical.{IsCarried, NO_PICTURE, canonical_with, carried_by, carried_of, others_bytes, preview_place, size_of, size_with};
 ghost use Rattle.dwg_file.specs.Contents.{contents_of};
 ghost use Rattle.dwg_file.specs.Gathering.{Gives};
-ghost use Rattle.dwg_file.specs.Plans.{HasRoom, IsLayout, IsReady, front_bytes, sections_bytes};
+ghost use Rattle.dwg_file.specs.Plans.{HasRoom, IsLayout, IsReady, before_map, sections_bytes};
 ghost use Rattle.dwg_file.specs.Valid.{IsValid};
 
 use crate::drawing::Drawing;
 use crate::gathering::Gathering;
 use crate::layout::{Layout, header_of, layout_of};
 use crate::parts::Parts;
-use crate::sending::{give_classes, give_framed, give_frames, give_header, give_others, send_map};
-use dwg_base::{Items, LIMIT, NoMemory, Sink, WriteFault};
+use crate::sending::{
+    give_classes, give_framed, give_frames, give_header, give_others, give_preview, send_map,
+};
+use dwg_base::{Items, LIMIT, NoMemory, Sink, WriteFault, bounded_bytes};
 use dwg_bits::BitSink;
 use dwg_objmap::{PageWriter, Pair};
+use dwg_preview::Preview;
 use dwg_sections::{FileHeader, Framed};
 use std::alloc::Global;
 use std::marker::Model;
@@ -35,24 +39,39 @@ pub enum PlanFault {
     },
 }
 
-/// A preview without a picture: begin sentinel, RL 1, RC 0, end sentinel.
-const PREVIEW_BYTES: [u8; 37] = [
-    0x1F, 0x25, 0x6D, 0x07, 0xD4, 0x36, 0x28, 0x28, 0x9D, 0x57, 0xCA, 0x3F, 0x9D, 0x44, 0x10, 0x2B,
-    0x01, 0x00, 0x00, 0x00, 0x00, 0xE0, 0xDA, 0x92, 0xF8, 0x2B, 0xC9, 0xD7, 0xD7, 0x62, 0xA8, 0x35,
-    0xC0, 0x62, 0xBB, 0xEF, 0xD4,
-];
+/// The preview that is handed over, or one without a picture, wherever that stood.
+fn carried_or_none<'a>(preview: Option<Preview<'a>>) -> Preview<'a>
+    requires read { IfSome preview (λ preview. IsContent preview.place preview.content.now) }
+    ensures is { IsCarried (carried_by result) }
+    ensures carried { carried_by result ≡ carried_of preview.entry }
+{
+    match preview {
+        Some(preview) => Preview {
+            place: preview.place,
+            content: bounded_bytes(preview.content),
+        },
+        None => Preview {
+            place: 0,
+            content: &[0],
+        },
+    }
+}
 
-/// Gives the sections before the frames: header variables, classes, and a preview without a picture.
+/// Gives the sections before the frames: header variables, classes, and a preview at its place.
 fn give_sections<W: Sink>(
     parts: &Parts<'_>,
+    carried: &Preview<'_>,
+    place: u32,
     part: &mut BitSink,
     gathering: &mut Gathering,
     sink: &mut W,
 ) -> Result<(), WriteFault>
     requires valid { IsValid (contents_of parts.now) }
-    requires small { size_of (contents_of parts.now) ≤ MOST_BYTES }
-    requires room { HasRoom (part.old.spare + length part.old.written) (contents_of parts.now) }
-    ensures gives { Gives (W.taken sink.old) (W.taken sink.new) gathering.old gathering.new (sections_bytes (contents_of parts.now)) result }
+    requires carried { IsCarried (carried_by carried.now) }
+    requires place { place ≡ preview_place (contents_of parts.now) }
+    requires small { size_with (carried_by carried.now) (contents_of parts.now) ≤ MOST_BYTES }
+    requires room { HasRoom (carried_by carried.now) (part.old.spare + length part.old.written) (contents_of parts.now) }
+    ensures gives { Gives (W.taken sink.old) (W.taken sink.new) gathering.old gathering.new (sections_bytes (carried_by carried.now) (contents_of parts.now)) result }
     ensures counts { Counts (W.faults sink.old) (W.faults sink.new) result }
     ensures room { part.old.spare + length part.old.written ≤ part.new.spare + length part.new.written }
 {
@@ -69,20 +88,21 @@ fn give_sections<W: Sink>(
         Ok(()) => {}
         Err(WriteFault) => return Err(WriteFault),
     }
-    gathering.give(&PREVIEW_BYTES, sink)
+    give_preview(carried, place, part, gathering, sink)
 }
 
 /// Sends the parts of the canonical file before the map.
 fn send_front<W: Sink>(
     parts: &Parts<'_>,
+    carried: &Preview<'_>,
     header: &FileHeader,
     part: &mut BitSink,
     gathering: &mut Gathering,
     sink: &mut W,
 ) -> Result<(), WriteFault>
-    requires ready { IsReady (contents_of parts.now) header.now (part.old.spare + length part.old.written) }
+    requires ready { IsReady (carried_by carried.now) (contents_of parts.now) header.now (part.old.spare + length part.old.written) }
     requires none { gathering.old ≡ [] }
-    ensures bytes { Sends (W.taken sink.old) (W.taken sink.new) (front_bytes (contents_of parts.now)) result }
+    ensures bytes { Sends (W.taken sink.old) (W.taken sink.new) (before_map (carried_by carried.now) (contents_of parts.now)) result }
     ensures counts { Counts (W.faults sink.old) (W.faults sink.new) result }
     ensures room { part.old.spare + length part.old.written ≤ part.new.spare + length part.new.written }
     ensures none { OnOk result (gathering.new ≡ []) }
@@ -91,7 +111,7 @@ fn send_front<W: Sink>(
         Ok(()) => {}
         Err(WriteFault) => return Err(WriteFault),
     }
-    match give_sections(parts, part, gathering, sink) {
+    match give_sections(parts, carried, header.preview, part, gathering, sink) {
         Ok(()) => {}
         Err(WriteFault) => return Err(WriteFault),
     }
@@ -137,10 +157,12 @@ fn room_for_part(alloc: Global, bytes: u64) -> Result<BitSink, NoMemory>
     Ok(part)
 }
 
-/// A drawing with what its writing needs: where its parts stand, and room for one of them. Contracts see the drawing.
+/// A drawing with what its writing needs: the preview that the file carries, where its parts stand, and room for one of them.
+/// Contracts see the drawing and the preview.
 #[derive(Drop)]
 pub struct Plan<'d, 'a> {
     drawing: &'d Drawing<'a>,
+    carried: Preview<'a>,
     // For each object its handle and the place of its frame, and the size of the file.
     pairs: Items<Pair>,
     size: u64,
@@ -153,27 +175,29 @@ pub struct Plan<'d, 'a> {
 
 impl<'d, 'a> Model for Plan<'d, 'a> {
     ghost use Rattle.std.specs.Prelude.{◌+◌, length};
-    ghost use Rattle.dwg_file.specs.Contents.{Contents, contents_of};
-    ghost use Rattle.dwg_file.specs.Plans.{IsPlan};
+    ghost use Rattle.dwg_file.specs.Canonical.{carried_by};
+    ghost use Rattle.dwg_file.specs.Contents.{contents_of};
+    ghost use Rattle.dwg_file.specs.Plans.{IsPlan, Planned};
 
-    ghost Value = { Contents };
+    ghost Value = { Planned };
 
-    ghost view = { λ plan. contents_of plan.drawing.now };
+    ghost view = { λ plan. record { drawing = contents_of plan.drawing.now; carried = carried_by plan.carried } };
 
-    ghost invariant = { λ plan. IsPlan (contents_of plan.drawing.now) plan.pairs plan.size plan.header (plan.part.spare + length plan.part.written) };
+    ghost invariant = { λ plan. IsPlan (carried_by plan.carried) (contents_of plan.drawing.now) plan.pairs plan.size plan.header (plan.part.spare + length plan.part.written) };
 }
 
 /// What the writing of a laid out drawing needs. The only refusal is want of memory.
 fn plan_of<'d, 'a>(
     alloc: Global,
     drawing: &'d Drawing<'a>,
-    layout: Layout,
+    layout: Layout<'a>,
 ) -> Result<Plan<'d, 'a>, NoMemory>
-    requires layout { IsLayout layout (contents_of drawing.now) }
-    requires small { size_of (contents_of drawing.now) ≤ MOST_BYTES }
-    requires room { HasRoom (8 * layout.part) (contents_of drawing.now) }
+    requires carried { IsCarried (carried_by layout.carried) }
+    requires layout { IsLayout layout (carried_by layout.carried) (contents_of drawing.now) }
+    requires small { size_with (carried_by layout.carried) (contents_of drawing.now) ≤ MOST_BYTES }
+    requires room { HasRoom (carried_by layout.carried) (8 * layout.part) (contents_of drawing.now) }
     requires few { layout.part < 2 ^ 58 }
-    ensures { IfOk result (λ plan. plan ≡ contents_of drawing.now) }
+    ensures { IfOk result (λ plan. plan ≡ record { drawing = contents_of drawing.now; carried = carried_by layout.entry.carried }) }
 {
     let header = header_of(alloc, drawing.parts(), &layout)?;
     let part = room_for_part(alloc, layout.part)?;
@@ -181,6 +205,7 @@ fn plan_of<'d, 'a>(
     let pages = PageWriter::new(alloc)?;
     Ok(Plan {
         drawing,
+        carried: layout.carried,
         pairs: layout.pairs,
         size: layout.size,
         header,
@@ -196,12 +221,29 @@ impl<'d, 'a> Plan<'d, 'a> {
     /// each section, the largest part that isn't held elsewhere, a page of the map and a pair in it, and the least that goes out in
     /// one piece.
     pub fn prepare(alloc: Global, drawing: &'d Drawing<'a>) -> Result<Plan<'d, 'a>, PlanFault>
-        ensures plan { IfOk result (λ plan. plan ≡ contents_of drawing.now) }
+        ensures plan { IfOk result (λ plan. plan ≡ record { drawing = contents_of drawing.now; carried = NO_PICTURE }) }
         ensures within { OnOk result (size_of (contents_of drawing.now) ≤ MOST_BYTES) }
         ensures too_large { (size : ℕ) → result ≡ Err (PlanFault.TooLarge size) → MOST_BYTES < size_of (contents_of drawing.now) }
         ensures with_size { (size : ℕ) → result ≡ Err (PlanFault.TooLarge size) → size ≡ size_of (contents_of drawing.now) }
     {
-        let layout = match layout_of(alloc, drawing.parts()) {
+        Plan::prepare_with(alloc, drawing, None)
+    }
+
+    /// Measures the canonical file of a drawing that carries a preview, or where there is none one without a picture; else as
+    /// `prepare`. The caller sees to it that the preview was read. It takes no memory for the preview but for what stands before its
+    /// further bytes.
+    pub fn prepare_with(
+        alloc: Global,
+        drawing: &'d Drawing<'a>,
+        preview: Option<Preview<'a>>,
+    ) -> Result<Plan<'d, 'a>, PlanFault>
+        requires read { IfSome preview (λ preview. IsContent preview.place preview.content.now) }
+        ensures plan { IfOk result (λ plan. plan ≡ record { drawing = contents_of drawing.now; carried = carried_of preview.entry }) }
+        ensures within { OnOk result (size_with (carried_of preview.entry) (contents_of drawing.now) ≤ MOST_BYTES) }
+        ensures too_large { (size : ℕ) → result ≡ Err (PlanFault.TooLarge size) → MOST_BYTES < size_with (carried_of preview.entry) (contents_of drawing.now) }
+        ensures with_size { (size : ℕ) → result ≡ Err (PlanFault.TooLarge size) → size ≡ size_with (carried_of preview.entry) (contents_of drawing.now) }
+    {
+        let layout = match layout_of(alloc, drawing.parts(), carried_or_none(preview)) {
             Ok(layout) => layout,
             Err(NoMemory) => return Err(PlanFault::NoMemory),
         };
@@ -216,7 +258,7 @@ impl<'d, 'a> Plan<'d, 'a> {
 
     /// The size of the canonical file in bytes.
     pub fn size(&self) -> u64
-        ensures size { result ≡ size_of self.now }
+        ensures size { result ≡ size_with self.now.carried self.now.drawing }
         ensures within { result ≤ MOST_BYTES }
     {
         self.size
@@ -229,7 +271,7 @@ impl<'d, 'a> Plan<'d, 'a> {
     /// out in one piece, from where it is filled. What is held elsewhere takes no room of its own, and what of it is left behind a
     /// piece goes out as it is held, if it has as many bytes.
     pub fn write_to<W: Sink>(&mut self, sink: &mut W) -> Result<(), WriteFault>
-        ensures bytes { Sends (W.taken sink.old) (W.taken sink.new) (canonical self.old) result }
+        ensures bytes { Sends (W.taken sink.old) (W.taken sink.new) (canonical_with self.old.carried self.old.drawing) result }
         ensures counts { Counts (W.faults sink.old) (W.faults sink.new) result }
         ensures kept { self.new ≡ self.old }
     {
@@ -237,6 +279,7 @@ impl<'d, 'a> Plan<'d, 'a> {
         self.gathering.clear();
         match send_front(
             parts,
+            &self.carried,
             &self.header,
             &mut self.part,
             &mut self.gathering,

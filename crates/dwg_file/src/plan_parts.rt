@@ -71,7 +71,7 @@ pub(crate) fn place_objects(
     from: u64,
 ) -> Result<Placed, NoMemory>
     requires framed { AllByRecursion (CanBeFramed version) (map value_of objects.now) }
-    requires few { from + length (frames_bytes version (map value_of objects.now)) < 2 ^ 58 }
+    requires few { from + length (frames_bytes version (map value_of objects.now)) < 2 ^ 59 }
     ensures pairs { IfOk result (λ all. all.pairs ≡ placed version from (map value_of objects.now)) }
     ensures end { IfOk result (λ all. all.end ≡ from + length (frames_bytes version (map value_of objects.now))) }
     ensures part { IfOk result (λ all. AllByRecursion (FitsIn version all.part) (map value_of objects.now)) }

@@ -10,9 +10,10 @@ ghost use Rattle.dwg_grammar.specs.ModularCodes.{ms};
 ghost use Rattle.dwg_object.specs.Frames.{frame_bytes, framed_body};
 ghost use Rattle.dwg_object.specs.Objects.{value_of};
 ghost use Rattle.dwg_objmap.specs.Writing.{Ascend, map_bytes, map_behind};
+ghost use Rattle.dwg_preview.specs.Previews.{IsContent, WITHOUT_CONTENT, front_bytes};
 ghost use Rattle.dwg_sections.specs.FileHeader.{IsFileHeader, header_bytes};
 ghost use Rattle.dwg_sections.specs.Framed.{framed_bytes};
-ghost use Rattle.dwg_file.specs.Canonical.{class_content, frames_bytes, others_bytes};
+ghost use Rattle.dwg_file.specs.Canonical.{IsCarried, carried_by, class_content, frames_bytes, others_bytes, preview_at};
 ghost use Rattle.dwg_file.specs.Contents.{other_value};
 ghost use Rattle.dwg_file.specs.Gathering.{Gives};
 ghost use Rattle.dwg_file.specs.Plans.{CanBeSent, IsPut};
@@ -26,6 +27,7 @@ use dwg_classes::{Class, write_classes};
 use dwg_codes::write_ms;
 use dwg_object::{Object, write_frame};
 use dwg_objmap::{PageWriter, Pair};
+use dwg_preview::{Preview, end_sentinel, further, write_front};
 use dwg_sections::{FileHeader, Framed, framed_pieces, write_file_header};
 
 /// The bytes of a sink that holds whole bytes.
@@ -111,6 +113,28 @@ pub(crate) fn give_classes<W: Sink>(
     part.clear();
     write_classes(classes, part);
     give_framed(Framed::Classes, bytes_of(part), gathering, sink)
+}
+
+/// Gives a preview section as it is at a place; what of it stands before its further bytes is made in the room of a part.
+pub(crate) fn give_preview<W: Sink>(
+    carried: &Preview<'_>,
+    place: u32,
+    part: &mut BitSink,
+    gathering: &mut Gathering,
+    sink: &mut W,
+) -> Result<(), WriteFault>
+    requires carried { IsCarried (carried_by carried.now) }
+    requires within { place + WITHOUT_CONTENT + length carried.now.content.now < 2 ^ 32 }
+    requires room { 8 * length (front_bytes carried.now.place place carried.now.content.now) ≤ part.old.spare + length part.old.written }
+    ensures gives { Gives (W.taken sink.old) (W.taken sink.new) gathering.old gathering.new (preview_at (carried_by carried.now) place) result }
+    ensures counts { Counts (W.faults sink.old) (W.faults sink.new) result }
+    ensures room { part.old.spare + length part.old.written ≤ part.new.spare + length part.new.written }
+{
+    part.clear();
+    write_front(carried, place, part);
+    let end = end_sentinel();
+    let pieces = [bytes_of(part), further(carried), end.as_slice()];
+    give_all(&pieces, gathering, sink)
 }
 
 /// Gives the frame of a Raw object around its body; its length is made in the room of a part.

@@ -1,6 +1,6 @@
 //! Laws of the canonical file, as the contract of a function without code of its own.
 
-ghost use Rattle.dwg_file.specs.CanonicalLaws.{CanonicalSpells, CanonicalIsCounted, CanonicalSpellsNoOther, CanonicalTellsDrawing, CanonicalIsRead, RewritingIsDoneOnce};
+ghost use Rattle.dwg_file.specs.CanonicalLaws.{CarryingSpells, CarryingIsCounted, CarryingSpellsNoOther, CarryingIsDoneOnce, PreviewIsCarried, NoneIsEmpty, CanonicalSpells, CanonicalIsCounted, CanonicalSpellsNoOther, CanonicalTellsDrawing, CanonicalIsRead, RewritingIsDoneOnce};
 
 use crate::laws::drawing_laws;
 
@@ -14,6 +14,20 @@ pub fn canonical_laws()
     ensures counted { CanonicalIsCounted }
     ensures read { CanonicalIsRead }
     ensures once { RewritingIsDoneOnce }
+{
+    drawing_laws();
+}
+
+/// What holds of the canonical file that carries a preview, where the drawing is valid and the file has at most `LIMIT` bytes: it
+/// spells the drawing and no other, has the size that is counted, and is bytes. The preview stands where the header says, with the
+/// places of its pictures moved there; carrying it once more gives the same file. Without one it has no entry.
+pub fn carrying_laws()
+    ensures spells { CarryingSpells }
+    ensures no_other { CarryingSpellsNoOther }
+    ensures counted { CarryingIsCounted }
+    ensures preview { PreviewIsCarried }
+    ensures once { CarryingIsDoneOnce }
+    ensures none { NoneIsEmpty }
 {
     drawing_laws();
 }

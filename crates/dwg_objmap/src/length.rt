@@ -67,7 +67,8 @@ fn count_pair(count: &Count, pair: &Pair) -> Count
 fn count_end(count: &Count) -> u64
     requires size { 2 + count.now.size ≤ MOST_PAGE }
     requires sent { count.now.sent < 2 ^ 63 }
-    ensures { result ≡ count.now.sent + length_behind count.now.size count.now.last [] }
+    ensures length { result ≡ count.now.sent + length_behind count.now.size count.now.last [] }
+    ensures within { result ≤ count.now.sent + count.now.size + 8 }
 {
     if count.size == 0 {
         return count.sent + 4;
@@ -79,7 +80,8 @@ fn count_end(count: &Count) -> u64
 pub fn map_length(pairs: &[Pair]) -> u64
     requires ascending { Ascend 0 pairs.now }
     requires few { length pairs.now < 2 ^ 58 }
-    ensures { result ≡ length (map_bytes pairs.now) }
+    ensures length { result ≡ length (map_bytes pairs.now) }
+    ensures within { result ≤ 24 * length pairs.now + 8 }
 {
     let mut count = Count {
         sent: 0,

@@ -14,12 +14,12 @@ use Rattle.dwg_bits.specs.Bits.{bits}
 use Rattle.dwg_classes.specs.declared.class.Class.{Class}
 use Rattle.dwg_classes.specs.Class.{AreClasses}
 use Rattle.dwg_file.specs.CanonicalFrames.{canonical_frames}
-use Rattle.dwg_file.specs.Canonical.{canonical, class_content, classes_place, header_of as canonical_header, map_of, map_place, objects_place, others_place, placed, preview_place, size_of, variables_place}
+use Rattle.dwg_file.specs.Canonical.{NO_PICTURE, canonical, class_content, classes_place, header_of as canonical_header, map_of, map_place, objects_place, others_place, placed, preview_place, size_of, variables_place}
 use Rattle.dwg_file.proofs.CanonicalFrames.{frames_stand, objects_of_frames, pairs_of_frames as placed_pairs}
 use Rattle.dwg_file.proofs.CanonicalHeader.{header_fits}
 use Rattle.dwg_file.proofs.CanonicalLaws.{canonical_ascends, canonical_begins, canonical_version, header_reaches, parts_stand}
 use Rattle.dwg_file.specs.CanonicalBytes.{HasPart}
-use Rattle.dwg_file.proofs.CanonicalParts.{length_of_framed}
+use Rattle.dwg_file.proofs.CanonicalParts.{length_of_framed, no_picture}
 use Rattle.dwg_file.specs.Contents.{Contents}
 use Rattle.dwg_file.proofs.ReadingLemmas.{SectionLaws}
 use Rattle.dwg_file.specs.Spelled.{PairFrame}
@@ -64,18 +64,18 @@ stands_also bytes others piece from to long stands reaches same =
 -- the canonical file has its parts at their places
 pub canonical_parts_stand : CanonicalPartsStand
 canonical_parts_stand drawing is small =
-    let fits = header_fits drawing is small in
-    let stand = parts_stand drawing fits in
+    let fits = header_fits NO_PICTURE drawing is small in
+    let stand = parts_stand NO_PICTURE drawing no_picture small fits in
     record {
-      begins = canonical_begins drawing fits;
-      reaches = header_reaches drawing fits;
+      begins = canonical_begins NO_PICTURE drawing no_picture small fits;
+      reaches = header_reaches NO_PICTURE drawing fits;
       pages = stand.mapped;
       classes = record { size = omega arith; stands = stand.classes };
       mapped =
           subst (MapOf (canonical drawing) (map_place drawing)) (placed_pairs drawing.version drawing.objects (objects_place drawing))
-          (map_is_written (map_place drawing) (canonical drawing) (placed drawing.version (objects_place drawing) drawing.objects) (canonical_ascends drawing is) stand.mapped);
+          (map_is_written (map_place drawing) (canonical drawing) (placed drawing.version (objects_place drawing) drawing.objects) (canonical_ascends NO_PICTURE drawing no_picture is) stand.mapped);
       objects = objects_of_frames drawing.version drawing.objects (objects_place drawing);
-      stand = frames_stand drawing.version drawing.classes (canonical drawing) drawing.objects (objects_place drawing) (canonical_version drawing fits) is.objects stand.frames;
+      stand = frames_stand drawing.version drawing.classes (canonical drawing) drawing.objects (objects_place drawing) (canonical_version NO_PICTURE drawing no_picture small fits) is.objects stand.frames;
     }
 
 -- the header and the map of an input that is partly intact
@@ -86,11 +86,11 @@ pub record IntactParts (drawing : Contents) (bytes : List ℕ) : Type 0 where
 -- they are those of the canonical file
 pub parts_are_intact : (drawing : Contents) (bytes : List ℕ) → IsValid drawing → size_of drawing ≤ MOST_BYTES → IsPartlyIntact drawing bytes → IntactParts drawing bytes
 parts_are_intact drawing bytes is small intact =
-    let fits = header_fits drawing is small in
-    let stand = parts_stand drawing fits in
+    let fits = header_fits NO_PICTURE drawing is small in
+    let stand = parts_stand NO_PICTURE drawing no_picture small fits in
     let header : List ℕ = header_bytes (canonical_header drawing) in
     let first : StandsAt (canonical drawing) 0 header = record { before = []; behind = stand.begins.0; whole = stand.begins.1; far = refl } in
-    let reaches : variables_place drawing ≡ 0 + length header = omega (arith, header_reaches drawing fits) in
+    let reaches : variables_place drawing ≡ 0 + length header = omega (arith, header_reaches NO_PICTURE drawing fits) in
     let front : StandsAt bytes 0 header = stands_also bytes (canonical drawing) header 0 (variables_place drawing) intact.long first reaches intact.header in
     let pages : StandsAt bytes (map_place drawing) (map_of drawing) =
     stands_also bytes (canonical drawing) (map_of drawing) (map_place drawing) (others_place drawing) intact.long stand.mapped refl intact.mapped in
@@ -98,7 +98,7 @@ parts_are_intact drawing bytes is small intact =
       begins = record { in_range = fits; stands = (front.behind, drop_stands bytes 0 header front) };
       mapped =
           subst (MapOf bytes (map_place drawing)) (placed_pairs drawing.version drawing.objects (objects_place drawing))
-          (map_is_written (map_place drawing) bytes (placed drawing.version (objects_place drawing) drawing.objects) (canonical_ascends drawing is) pages);
+          (map_is_written (map_place drawing) bytes (placed drawing.version (objects_place drawing) drawing.objects) (canonical_ascends NO_PICTURE drawing no_picture is) pages);
     }
 
 -- so it is read by the version of the drawing
@@ -109,7 +109,7 @@ intact_version drawing bytes parts = header_tells_version bytes (canonical_heade
 pub classes_are_intact : (drawing : Contents) (bytes : List ℕ) → IsValid drawing → size_of drawing ≤ MOST_BYTES → IsPartlyIntact drawing bytes
     → HasPart drawing bytes (classes_place drawing) (preview_place drawing) → FramedAt bytes (classes_place drawing) framed.Classes (class_content drawing.classes)
 classes_are_intact drawing bytes is small intact same =
-    let stand = parts_stand drawing (header_fits drawing is small) in
+    let stand = parts_stand NO_PICTURE drawing no_picture small (header_fits NO_PICTURE drawing is small) in
     let section : List ℕ = framed_bytes framed.Classes (class_content drawing.classes) in
     let reaches : preview_place drawing ≡ classes_place drawing + length section = omega (arith, length_of_framed framed.Classes (class_content drawing.classes)) in
     record { size = omega arith; stands = stands_also bytes (canonical drawing) section (classes_place drawing) (preview_place drawing) intact.long stand.classes reaches same }
@@ -118,7 +118,7 @@ classes_are_intact drawing bytes is small intact same =
 pub variables_are_intact : (drawing : Contents) (bytes : List ℕ) → IsValid drawing → size_of drawing ≤ MOST_BYTES → IsPartlyIntact drawing bytes
     → HasPart drawing bytes (variables_place drawing) (classes_place drawing) → FramedAt bytes (variables_place drawing) framed.Variables drawing.variables
 variables_are_intact drawing bytes is small intact same =
-    let stand = parts_stand drawing (header_fits drawing is small) in
+    let stand = parts_stand NO_PICTURE drawing no_picture small (header_fits NO_PICTURE drawing is small) in
     let section : List ℕ = framed_bytes framed.Variables drawing.variables in
     let reaches : classes_place drawing ≡ variables_place drawing + length section = omega (arith, length_of_framed framed.Variables drawing.variables) in
     record { size = omega arith; stands = stands_also bytes (canonical drawing) section (variables_place drawing) (classes_place drawing) intact.long stand.variables reaches same }

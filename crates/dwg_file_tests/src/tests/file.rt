@@ -1,5 +1,8 @@
 //! Whole drawings: read, and written by their canonical file.
 
+ghost use Rattle.std.specs.Prelude.{IfSome};
+ghost use Rattle.dwg_preview.specs.Previews.{IsContent};
+
 use crate::tests::inputs::canonical_file;
 use crate::tests::objmap::{long_map, sink};
 use crate::tests::table::{Telling, hold};
@@ -8,10 +11,11 @@ use dwg_base::{Items, LIMIT, MemSink};
 use dwg_check::check;
 use dwg_classes::Class;
 use dwg_file::{
-    Drawing, Other, Parts, Plan, PlanFault, canonical_laws, classes_of_file, drawing_laws,
-    read_drawing, short_damage_laws,
+    Drawing, Other, Parts, Plan, PlanFault, canonical_laws, carrying_laws, classes_of_file,
+    drawing_laws, read_drawing, short_damage_laws,
 };
 use dwg_object::Object;
+use dwg_preview::{Preview, read_preview};
 use dwg_samples::{bytes_of, frame_of};
 use dwg_sections::read_file_header;
 use std::alloc::Global;
@@ -29,6 +33,8 @@ use std::test::Fail;
 ///   without a preview, with slack behind the class, and with a map whose first page has the greater handle by a spelling longer than is
 ///   needed;
 /// - the plain and the typed objects from above, spelled longer than is needed, with ones behind references;
+/// - the smallest file with a picture; the same with the picture's place 0, so that no preview stands there; that with three entries, of
+///   which the second is of no picture, as it is written, and with its preview at the end; and that with a picture in AC1014;
 /// - the begin of a file whose two unknown sections begin with it and have 17,000,000 bytes each;
 /// - the header of a file of 1,100 dictionaries; and of one that has an unknown section too, the first 9,000 bytes of it.
 const FILES: &str = "\
@@ -89,6 +95,31 @@ const FILES: &str = "\
       000040660301DB9095A04E2899821AE55E41E05F9D3A4D00CF7B1F23FDDE38A95F7C68B84E6D335F000000003DC03084E0DC0221C756A0839747B192CCA08DA1 \
       C4B8C4A9F8C5C0DCF45FE7CFB68A000000003DC0725E3B473B56073A3F230BA0183049751F256D07D43628289D57CA3F9D44102B0100000000E0DA92F82BC9D7 \
       D762A835C062BBEFD4000201D0\n\
+    picture | \
+      41433130313500000000000000920000000000000003000000004600000026000000016C0000002600000002C20000000400000016BA95A04E2899821AE55E41 \
+      E05F9D3A4D00CF7B1F23FDDE38A95F7C68B84E6D335F000000003DC03084E0DC0221C756A0839747B192CCA08DA1C4B8C4A9F8C5C0DCF45FE7CFB68A00000000 \
+      3DC0725E3B473B56073A3F230BA0183049751F256D07D43628289D57CA3F9D44102B0C0000000102B000000002000000AABBE0DA92F82BC9D7D762A835C062BB \
+      EFD4000201D0\n\
+    picture placed at the begin | \
+      41433130313500000000000000920000000000000003000000004600000026000000016C0000002600000002C20000000400000016BA95A04E2899821AE55E41 \
+      E05F9D3A4D00CF7B1F23FDDE38A95F7C68B84E6D335F000000003DC03084E0DC0221C756A0839747B192CCA08DA1C4B8C4A9F8C5C0DCF45FE7CFB68A00000000 \
+      3DC0725E3B473B56073A3F230BA0183049751F256D07D43628289D57CA3F9D44102B0C00000001020000000002000000AABBE0DA92F82BC9D7D762A835C062BB \
+      EFD4000201D0\n\
+    three pictures at the end | \
+      41433130313500000000000000960000000000000003000000004600000026000000016C0000002600000002920000000400000035B695A04E2899821AE55E41 \
+      E05F9D3A4D00CF7B1F23FDDE38A95F7C68B84E6D335F000000003DC03084E0DC0221C756A0839747B192CCA08DA1C4B8C4A9F8C5C0DCF45FE7CFB68A00000000 \
+      3DC0725E3B473B56073A3F230BA018304975000201D01F256D07D43628289D57CA3F9D44102B200000000301C600000001000000024D0000000000000003C700 \
+      000003000000AABBCCDDE0DA92F82BC9D7D762A835C062BBEFD4\n\
+    three pictures | \
+      41433130313500000000000000920000000000000003000000004600000026000000016C0000002600000002D600000004000000164595A04E2899821AE55E41 \
+      E05F9D3A4D00CF7B1F23FDDE38A95F7C68B84E6D335F000000003DC03084E0DC0221C756A0839747B192CCA08DA1C4B8C4A9F8C5C0DCF45FE7CFB68A00000000 \
+      3DC0725E3B473B56073A3F230BA0183049751F256D07D43628289D57CA3F9D44102B200000000301C20000000100000002000000000000000003C30000000300 \
+      0000AABBCCDDE0DA92F82BC9D7D762A835C062BBEFD4000201D0\n\
+    picture of AC1014 | \
+      41433130313400000000000000920000000000000003000000004600000026000000016C0000002600000002C2000000040000007B1695A04E2899821AE55E41 \
+      E05F9D3A4D00CF7B1F23FDDE38A95F7C68B84E6D335F000000003DC03084E0DC0221C756A0839747B192CCA08DA1C4B8C4A9F8C5C0DCF45FE7CFB68A00000000 \
+      3DC0725E3B473B56073A3F230BA0183049751F256D07D43628289D57CA3F9D44102B0C0000000102B000000002000000AABBE0DA92F82BC9D7D762A835C062BB \
+      EFD4000201D0\n\
     header of a long map | \
       41433130313500000000000000920000000000000003000000004600000026000000016C0000002600000002C4480000A8080000FE0695A04E2899821AE55E41 \
       E05F9D3A4D00\n\
@@ -405,6 +436,81 @@ fn a_drawing_is_read_and_written(rt: HostRuntime) -> Result<(), Fail> {
         one object and more | one object => same\n\
         long | long => same\n\
         long with a section | again => same\n";
+    hold::<Drawings>(&rt, rt.alloc(), cases);
+    Ok(())
+}
+
+/// The preview where the header of a file says, if one stands there.
+fn preview_of(alloc: Global, bytes: &[u8]) -> Option<Preview<'_>>
+    ensures { IfSome result (λ preview. IsContent preview.place preview.content.now) }
+{
+    let header = read_file_header(alloc, bytes).ok()?;
+    read_preview(bytes, header.preview)
+}
+
+/// Adds whether the canonical file of a drawing that carries a preview is that of a name, or its size, where it is too large.
+fn tell_carrying<'a>(
+    alloc: Global,
+    told: &mut String,
+    drawing: &Drawing<'a>,
+    preview: Option<Preview<'a>>,
+    name: &str,
+) -> Option<()>
+    requires { IfSome preview (λ preview. IsContent preview.place preview.content.now) }
+{
+    match Plan::prepare_with(alloc, drawing, preview) {
+        Ok(plan) => {
+            let mut plan = plan;
+            tell_sent(alloc, told, &mut plan, name)
+        }
+        Err(PlanFault::TooLarge { size }) => told::number(told, size),
+        Err(PlanFault::NoMemory) => None,
+    }
+}
+
+/// Adds that of the drawing that bytes spell, with the preview that they have.
+fn tell_carried(alloc: Global, told: &mut String, bytes: &[u8], name: &str) -> Option<()> {
+    if bytes.len() as u64 > LIMIT {
+        return None;
+    }
+    match read_drawing(alloc, bytes) {
+        Ok(drawing) => { tell_carrying(alloc, told, &drawing, preview_of(alloc, bytes), name) }
+        Err(_) => None,
+    }
+}
+
+/// `FILE | NAME => same`: whether the canonical file of the drawing that a file spells is, with the preview that the file has, that of
+/// another name; or its size, where it is too large.
+struct Carried;
+
+impl Telling for Carried {
+    fn tell(alloc: Global, told: &mut String, input: &str) -> Option<()> {
+        let (name, other) = input.split_once(" | ")?;
+        tell_carried(alloc, told, &named(alloc, name)?, other)
+    }
+}
+
+#[test]
+fn a_preview_is_carried(rt: HostRuntime) -> Result<(), Fail> {
+    carrying_laws();
+    let cases = "\
+        picture | picture => same\n\
+        picture placed at the begin | smallest => same\n\
+        three pictures at the end | three pictures => same\n\
+        three pictures | three pictures => same\n\
+        picture of AC1014 | picture of AC1014 => same\n\
+        smallest | smallest => same\n\
+        every part otherwise | every part => same\n\
+        two large sections | smallest => 34000205\n";
+    hold::<Carried>(&rt, rt.alloc(), cases);
+    Ok(())
+}
+
+#[test]
+fn no_preview_is_carried_unasked(rt: HostRuntime) -> Result<(), Fail> {
+    let cases = "\
+        picture | smallest => same\n\
+        three pictures at the end | smallest => same\n";
     hold::<Drawings>(&rt, rt.alloc(), cases);
     Ok(())
 }

@@ -1,8 +1,9 @@
-use Rattle.std.proofs.Common.{refl, sym, subst}
+use Rattle.std.proofs.Common.{refl, sym, subst, ap, length, arith}
 use Rattle.dwg_classes.specs.WrittenClasses.{AreWritable}
 use Rattle.dwg_sections.specs.declared.framed.Framed.TheVariants.{Variables, Classes}
 use Rattle.dwg_sections.specs.Framed.{framed_bytes}
-use Rattle.dwg_file.specs.Canonical.{PREVIEW, class_content}
+use Rattle.dwg_preview.specs.Previews.{front_bytes}
+use Rattle.dwg_file.specs.Canonical.{carried_by, class_content, preview_at, preview_place}
 use Rattle.dwg_file.specs.Contents.{contents_of}
 use Rattle.dwg_file.proofs.PlanFacts.{valid_writable}
 use Rattle.dwg_file.proofs.PlanWriting.{sections_pieces, first_cut, second_cut, three_given}
@@ -11,8 +12,10 @@ use Rattle.dwg_file.proofs.plan.give_sections.Goals as goal
 pub returns-in-Err-clause-gives : goal.returns-in-Err-clause-gives
 returns-in-Err-clause-gives g c =
     let drawing = contents_of c.args.parts.now in
-    let whole = sections_pieces drawing c.as_slice.result.now drawing.classes c.as_slice.ensures refl in
-    first_cut _ _ _ (framed_bytes Variables c.as_slice.result.now) (framed_bytes Classes (class_content drawing.classes)) PREVIEW _ whole c.in-Err.ensures.gives
+    let carried = carried_by c.args.carried.now in
+    let preview = preview_at carried (preview_place drawing) in
+    let whole = sections_pieces carried drawing c.as_slice.result.now drawing.classes c.as_slice.ensures refl in
+    first_cut _ _ _ (framed_bytes Variables c.as_slice.result.now) (framed_bytes Classes (class_content drawing.classes)) preview _ whole c.in-Err.ensures.gives
 
 pub give_classes-requires-clause-writable : goal.give_classes-requires-clause-writable
 give_classes-requires-clause-writable g c = subst AreWritable (sym c.as_slice-2.ensures) (valid_writable (contents_of c.args.parts.now) c.requires.valid)
@@ -20,13 +23,25 @@ give_classes-requires-clause-writable g c = subst AreWritable (sym c.as_slice-2.
 pub returns-in-Err-give_classes-clause-gives : goal.returns-in-Err-give_classes-clause-gives
 returns-in-Err-give_classes-clause-gives g c =
     let drawing = contents_of c.args.parts.now in
-    let whole = sections_pieces drawing c.as_slice.result.now c.as_slice-2.result.now c.as_slice.ensures c.as_slice-2.ensures in
-    second_cut _ _ _ _ _ (framed_bytes Variables c.as_slice.result.now) (framed_bytes Classes (class_content c.as_slice-2.result.now)) PREVIEW _ whole c.in-Ok.ensures.gives
+    let carried = carried_by c.args.carried.now in
+    let preview = preview_at carried (preview_place drawing) in
+    let whole = sections_pieces carried drawing c.as_slice.result.now c.as_slice-2.result.now c.as_slice.ensures c.as_slice-2.ensures in
+    second_cut _ _ _ _ _ (framed_bytes Variables c.as_slice.result.now) (framed_bytes Classes (class_content c.as_slice-2.result.now)) preview _ whole c.in-Ok.ensures.gives
     c.in-Err-give_classes.ensures.gives
 
 pub returns-clause-gives : goal.returns-clause-gives
 returns-clause-gives g c =
     let drawing = contents_of c.args.parts.now in
-    let whole = sections_pieces drawing c.as_slice.result.now c.as_slice-2.result.now c.as_slice.ensures c.as_slice-2.ensures in
-    three_given _ _ _ _ _ _ _ _ (framed_bytes Variables c.as_slice.result.now) (framed_bytes Classes (class_content c.as_slice-2.result.now)) PREVIEW _ c.give.result whole c.in-Ok.ensures.gives
-    c.in-Ok-give_classes.ensures.gives c.give.ensures.gives
+    let carried = carried_by c.args.carried.now in
+    let preview = preview_at carried (preview_place drawing) in
+    let whole = sections_pieces carried drawing c.as_slice.result.now c.as_slice-2.result.now c.as_slice.ensures c.as_slice-2.ensures in
+    three_given _ _ _ _ _ _ _ _ (framed_bytes Variables c.as_slice.result.now) (framed_bytes Classes (class_content c.as_slice-2.result.now)) preview _ c.give_preview.result whole c.in-Ok.ensures.gives
+    c.in-Ok-give_classes.ensures.gives (rw c.requires.place at c.give_preview.ensures.gives)
+
+pub give_preview-requires-clause-within : goal.give_preview-requires-clause-within
+give_preview-requires-clause-within g c = omega (arith, c.requires.place, c.requires.small)
+
+pub give_preview-requires-clause-room : goal.give_preview-requires-clause-room
+give_preview-requires-clause-room g c =
+    let carried = carried_by c.args.carried.now in
+    omega (arith, c.in-Ok-give_classes.ensures.room, c.requires.room.preview, ap (λ place. length (front_bytes carried.place place carried.content)) c.requires.place)

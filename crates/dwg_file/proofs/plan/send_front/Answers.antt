@@ -3,7 +3,7 @@ use Rattle.std.specs.List.{AllByRecursion}
 use Rattle.dwg_object.specs.declared.object.Object.{Object}
 use Rattle.dwg_object.specs.Objects.{value_of}
 use Rattle.dwg_sections.specs.FileHeader.{IsFileHeader, header_bytes}
-use Rattle.dwg_file.specs.Canonical.{frames_bytes}
+use Rattle.dwg_file.specs.Canonical.{carried_by, frames_bytes}
 use Rattle.dwg_file.specs.Contents.{contents_of}
 use Rattle.dwg_file.specs.Plans.{CanBeSent, sections_bytes}
 use Rattle.dwg_file.proofs.CanonicalHeader.{header_fits}
@@ -13,26 +13,26 @@ use Rattle.dwg_file.proofs.PlanWriting.{header_room, front_pieces, first_cut, se
 use Rattle.dwg_file.proofs.plan.send_front.Goals as goal
 
 pub give_header-requires-clause-header : goal.give_header-requires-clause-header
-give_header-requires-clause-header g c = subst IsFileHeader (sym c.requires.ready.is_header) (header_fits (contents_of c.args.parts.now) c.requires.ready.valid c.requires.ready.small)
+give_header-requires-clause-header g c = subst IsFileHeader (sym c.requires.ready.is_header) (header_fits (carried_by c.args.carried.now) (contents_of c.args.parts.now) c.requires.ready.valid c.requires.ready.small)
 
 pub give_header-requires-clause-room : goal.give_header-requires-clause-room
-give_header-requires-clause-room g c = header_room (contents_of c.args.parts.now) c.args.header.now _ c.requires.ready.is_header c.requires.ready.has.header
+give_header-requires-clause-room g c = header_room (carried_by c.args.carried.now) (contents_of c.args.parts.now) c.args.header.now _ c.requires.ready.is_header c.requires.ready.has.header
 
 pub returns-in-Err-clause-bytes : goal.returns-in-Err-clause-bytes
 returns-in-Err-clause-bytes g c =
     let drawing = contents_of c.args.parts.now in
-    let whole = front_pieces drawing c.args.header.now drawing.objects c.requires.ready.is_header refl in
-    cut_sends _ _ c.args.gathering.now _ c.requires.none (first_cut _ _ _ (header_bytes c.args.header.now) (sections_bytes drawing) (frames_bytes drawing.version drawing.objects) _ whole c.in-Err.ensures.gives)
+    let whole = front_pieces (carried_by c.args.carried.now) drawing c.args.header.now drawing.objects c.requires.ready.is_header refl in
+    cut_sends _ _ c.args.gathering.now _ c.requires.none (first_cut _ _ _ (header_bytes c.args.header.now) (sections_bytes (carried_by c.args.carried.now) drawing) (frames_bytes drawing.version drawing.objects) _ whole c.in-Err.ensures.gives)
 
 pub give_sections-requires-clause-room : goal.give_sections-requires-clause-room
-give_sections-requires-clause-room g c = has_with_more _ _ (contents_of c.args.parts.now) c.in-Ok.ensures.room c.requires.ready.has
+give_sections-requires-clause-room g c = has_with_more (carried_by c.args.carried.now) _ _ (contents_of c.args.parts.now) c.in-Ok.ensures.room c.requires.ready.has
 
 pub returns-in-Err-give_sections-clause-bytes : goal.returns-in-Err-give_sections-clause-bytes
 returns-in-Err-give_sections-clause-bytes g c =
     let drawing = contents_of c.args.parts.now in
-    let whole = front_pieces drawing c.args.header.now drawing.objects c.requires.ready.is_header refl in
+    let whole = front_pieces (carried_by c.args.carried.now) drawing c.args.header.now drawing.objects c.requires.ready.is_header refl in
     cut_sends _ _ c.args.gathering.now _ c.requires.none
-    (second_cut _ _ _ _ _ (header_bytes c.args.header.now) (sections_bytes drawing) (frames_bytes drawing.version drawing.objects) _ whole c.in-Ok.ensures.gives c.in-Err-give_sections.ensures.gives)
+    (second_cut _ _ _ _ _ (header_bytes c.args.header.now) (sections_bytes (carried_by c.args.carried.now) drawing) (frames_bytes drawing.version drawing.objects) _ whole c.in-Ok.ensures.gives c.in-Err-give_sections.ensures.gives)
 
 pub give_frames-requires : goal.give_frames-requires
 give_frames-requires g c =
@@ -44,17 +44,17 @@ give_frames-requires g c =
 pub returns-in-Err-give_frames-clause-bytes : goal.returns-in-Err-give_frames-clause-bytes
 returns-in-Err-give_frames-clause-bytes g c =
     let drawing = contents_of c.args.parts.now in
-    let whole = front_pieces drawing c.args.header.now drawing.objects c.requires.ready.is_header refl in
+    let whole = front_pieces (carried_by c.args.carried.now) drawing c.args.header.now drawing.objects c.requires.ready.is_header refl in
     cut_sends _ _ c.args.gathering.now _ c.requires.none
-    (third_cut _ _ _ _ _ _ _ (header_bytes c.args.header.now) (sections_bytes drawing) (frames_bytes drawing.version drawing.objects) _ whole c.in-Ok.ensures.gives c.in-Ok-give_sections.ensures.gives
+    (third_cut _ _ _ _ _ _ _ (header_bytes c.args.header.now) (sections_bytes (carried_by c.args.carried.now) drawing) (frames_bytes drawing.version drawing.objects) _ whole c.in-Ok.ensures.gives c.in-Ok-give_sections.ensures.gives
     (rw c.as_slice.ensures at c.in-Err-give_frames.ensures.gives))
 
 pub returns-clause-bytes : goal.returns-clause-bytes
 returns-clause-bytes g c =
     let drawing = contents_of c.args.parts.now in
     let header = header_bytes c.args.header.now in
-    let whole = front_pieces drawing c.args.header.now drawing.objects c.requires.ready.is_header refl in
-    let both = given_both _ _ _ _ _ _ header (sections_bytes drawing) (header ++ sections_bytes drawing) refl c.in-Ok.ensures.gives c.in-Ok-give_sections.ensures.gives in
+    let whole = front_pieces (carried_by c.args.carried.now) drawing c.args.header.now drawing.objects c.requires.ready.is_header refl in
+    let both = given_both _ _ _ _ _ _ header (sections_bytes (carried_by c.args.carried.now) drawing) (header ++ sections_bytes (carried_by c.args.carried.now) drawing) refl c.in-Ok.ensures.gives c.in-Ok-give_sections.ensures.gives in
     flushed_sends _ _ _ c.args.gathering.now _ _ _ c.flush.result c.requires.none c.flush.ensures.none
-    (given_both _ _ _ _ _ _ (header ++ sections_bytes drawing) (frames_bytes drawing.version drawing.objects) _ whole both (rw c.as_slice.ensures at c.in-Ok-give_frames.ensures.gives))
+    (given_both _ _ _ _ _ _ (header ++ sections_bytes (carried_by c.args.carried.now) drawing) (frames_bytes drawing.version drawing.objects) _ whole both (rw c.as_slice.ensures at c.in-Ok-give_frames.ensures.gives))
     c.flush.ensures.gives
