@@ -18,6 +18,7 @@ HEADER_MASKS = {3: 0xA598, 4: 0x8101, 5: 0x3CC4, 6: 0x8461}
 HEADER_SENTINEL = bytes.fromhex("95A04E2899821AE55E41E05F9D3A4D00")
 VARIABLES = bytes.fromhex("CF7B1F23FDDE38A95F7C68B84E6D335F")
 CLASSES = bytes.fromhex("8DA1C4B8C4A9F8C5C0DCF45FE7CFB68A")
+PREVIEW = bytes.fromhex("1F256D07D43628289D57CA3F9D44102B")
 
 
 def check(word, data):
@@ -39,6 +40,27 @@ def header(locators):
         front += bytes([number]) + place.to_bytes(4, "little") + size.to_bytes(4, "little")
     word = check(0, front) ^ HEADER_MASKS[len(locators)]
     return front + word.to_bytes(2, "little") + HEADER_SENTINEL
+
+
+def with_preview_at(data, place):
+    """A file whose header says that the preview is elsewhere, with its check word mended."""
+    count = int.from_bytes(data[21:25], "little")
+    front = data[:13] + place.to_bytes(4, "little") + data[17 : 25 + 9 * count]
+    word = check(0, front) ^ HEADER_MASKS[count]
+    return front + word.to_bytes(2, "little") + data[27 + 9 * count :]
+
+
+def preview(entries, further):
+    """A preview section of entries, each a code, a place and a size, and of further bytes."""
+    content = bytes([len(entries)])
+    content += b"".join(bytes([code]) + place.to_bytes(4, "little") + size.to_bytes(4, "little") for code, place, size in entries)
+    content += further
+    return PREVIEW + len(content).to_bytes(4, "little") + content + bytes(255 - byte for byte in PREVIEW)
+
+
+def with_picture(data, picture):
+    """A file with a preview section behind its end, whose one entry names a picture."""
+    return with_preview_at(data, len(data)) + preview([(2, len(data) + 30, len(picture))], picture)
 
 
 def modular(value):

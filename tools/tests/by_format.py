@@ -68,7 +68,7 @@ def framed(sentinel: str) -> bytes:
 
 
 def preview() -> bytes:
-    """A preview section without a picture (Drawings)."""
+    """A preview section without a picture (Preview section)."""
     begin = bytes.fromhex("1F 25 6D 07 D4 36 28 28 9D 57 CA 3F 9D 44 10 2B")
     return begin + little(1, 4) + little(0, 1) + complemented(begin)
 

@@ -439,6 +439,7 @@ def names(said: str) -> Tuple[str, ...]:
 
 # The notes with which a run of each status ends, where it isn't `recover`.
 NOTES: Mapping[str, Sequence[str]] = {
+    "Done": ["preview_dropped_note"],
     "Found": ["unsound_note"],
     "Usage": ["usage_note", "size_note"],
     "Refused": ["refusal_note"],

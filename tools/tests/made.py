@@ -50,6 +50,12 @@ def is_built() -> bool:
     return dwg("drill", "1").returncode == 0
 
 
+@lru_cache(maxsize=None)
+def knows(command: str) -> bool:
+    """Whether the program's usage note has a command."""
+    return command in dwg().stderr.decode().replace("|", " ").split()
+
+
 def needs_program() -> None:
     """Skips a test, or where a file of tests is read the whole file, if the program isn't built."""
     if not is_built():
@@ -147,10 +153,7 @@ def hole(data: bytes, place: int, size: int) -> bytes:
 
 def with_preview_at(data: bytes, place: int) -> bytes:
     """A file whose header says that the preview is elsewhere, with its check word mended."""
-    count = int.from_bytes(data[21:25], "little")
-    front = data[:13] + place.to_bytes(4, "little") + data[17 : 25 + 9 * count]
-    word = WRITER.check(0, front) ^ WRITER.HEADER_MASKS[count]
-    return front + word.to_bytes(2, "little") + data[27 + 9 * count :]
+    return bytes(WRITER.with_preview_at(data, place))
 
 
 def program_that(folder: pathlib.Path, name: str, lines: Sequence[str]) -> pathlib.Path:

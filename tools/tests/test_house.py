@@ -81,6 +81,7 @@ class House(unittest.TestCase):
             (self.folder / name).touch()
         (self.folder / "plans").mkdir()
         self.assertEqual(self.completed("dwg", "re"), ["recover", "rewrite"])
+        self.assertEqual(self.completed("dwg", "c"), ["carry", "certify", "classes"])
         self.assertEqual(self.completed("dwg", "make", ""), [])
         self.assertEqual(self.completed("dwg-check", "--j"), ["--jobs", "--json"])
         self.assertEqual(self.completed("dwg-recover", "--"), ["--before", "--even-empty", "--force", "--help", "--json", "--program", "--version"])

@@ -351,7 +351,8 @@ class Unproved(InTree):
         self.assertEqual(list(self.temporary.iterdir()), [])
 
     def test_answers_at_once(self) -> None:
-        self.expect_unproved(self.run_it("show"), "show", "input")
+        for word in ("show", "carry"):
+            self.expect_unproved(self.run_it(word), word, "input")
         self.assertEqual((self.count_of_runs(), self.program.parent.exists()), (0, False))
 
     def test_what_reads_nothing_is_not_kept_waiting(self) -> None:

@@ -5,7 +5,7 @@ use Rattle.std.specs.Option.{is_some}
 use Rattle.dwg_answers.specs.declared.words.Command.{Command}
 use Rattle.dwg_answers.specs.declared.words.Command.TheVariants as commands
 use Rattle.dwg_answers.specs.declared.words.Reading.{Reading}
-use Rattle.dwg_answers.specs.declared.words.Reading.TheVariants.{Sections, Classes, Show, Rewrite, Audit, Recover, Appdata, Certify, Accept}
+use Rattle.dwg_answers.specs.declared.words.Reading.TheVariants.{Sections, Classes, Show, Rewrite, Audit, Recover, Appdata, Certify, Accept, Carry}
 use Rattle.dwg_answers.specs.Words.{IsReading, IsUsage, reading_in, reads}
 
 -- a command that reads is read back
@@ -19,6 +19,7 @@ reads_back Recover = refl
 reads_back Appdata = refl
 reads_back Certify = refl
 reads_back Accept = refl
+reads_back Carry = refl
 
 -- it isn't one that doesn't read
 pub reads_no : (reading : Reading) (command : Command) → reading_in command ≡ None → reads reading ≡ command → ⊥
@@ -41,6 +42,7 @@ heeded commands.Recover reading is usage = usage
 heeded commands.Appdata reading is usage = usage
 heeded commands.Certify reading is usage = usage
 heeded commands.Accept reading is usage = usage
+heeded commands.Carry reading is usage = usage
 heeded (commands.Make n seed) reading is usage = absurd cc
 heeded (commands.Drill n) reading is usage = absurd cc
 

@@ -6,8 +6,8 @@ use Rattle.dwg_base.specs.Devices.{MOST_BYTES}
 use Rattle.dwg_answers.specs.declared.status.Status.{Status}
 use Rattle.dwg_answers.specs.declared.status.Status.TheVariants.{TooLarge}
 use Rattle.dwg_answers.specs.declared.answer.Answer.{Answer}
-use Rattle.dwg_answers.specs.Outcome.{noted, filed}
-use Rattle.dwg_file.specs.Canonical.{NO_PICTURE, size_of, canonical, canonical_with}
+use Rattle.dwg_answers.specs.Outcome.{noted, filed_with}
+use Rattle.dwg_file.specs.Canonical.{Carried, canonical_with, size_with}
 use Rattle.dwg_file.specs.Contents.{Contents}
 use Rattle.dwg_file.specs.Plans.{Planned}
 use Rattle.dwg_text.specs.Notes.{too_large_note}
@@ -18,21 +18,21 @@ pub sent_same : (answer told : Answer) (status : Status) (before behind : Sinks)
 sent_same answer told status before behind is sent = subst (λ (one : Answer). Sent one status before behind) is sent
 
 -- the file of a drawing that is within the limit, and of one that isn't
-pub sent_within : (drawing : Contents) (other : Planned) (note : List ℕ) (ends status : Status) (before behind : Sinks) → size_of drawing ≤ MOST_BYTES
-    → other ≡ record { drawing = drawing; carried = NO_PICTURE }
-    → Sent (record { output = canonical_with other.carried other.drawing; note = note; status = ends }) status before behind → Sent (filed drawing note ends) status before behind
-unfolding filed
-sent_within drawing other note ends status before behind few same sent =
-    let within : nat_lt MOST_BYTES (size_of drawing) ≡ false = grind (arith, nat_tests) in
+pub sent_within : (carried : Carried) (drawing : Contents) (other : Planned) (note : List ℕ) (ends status : Status) (before behind : Sinks) → size_with carried drawing ≤ MOST_BYTES
+    → other ≡ record { drawing = drawing; carried = carried }
+    → Sent (record { output = canonical_with other.carried other.drawing; note = note; status = ends }) status before behind → Sent (filed_with carried drawing note ends) status before behind
+unfolding filed_with
+sent_within carried drawing other note ends status before behind few same sent =
+    let within : nat_lt MOST_BYTES (size_with carried drawing) ≡ false = grind (arith, nat_tests) in
     sent_same _ _ status before behind
     (ap (λ (one : Planned). record { output = canonical_with one.carried one.drawing; note = note; status = ends }) same
-    ∙ sym (ap (λ test. if test then noted (too_large_note (size_of drawing)) (TooLarge (size_of drawing)) else record { output = canonical drawing; note = note; status = ends }) within)) sent
+    ∙ sym (ap (λ test. if test then noted (too_large_note (size_with carried drawing)) (TooLarge (size_with carried drawing)) else record { output = canonical_with carried drawing; note = note; status = ends }) within)) sent
 
-pub sent_too_large : (drawing : Contents) (size : ℕ) (note : List ℕ) (ends status : Status) (before behind : Sinks) → MOST_BYTES < size_of drawing → size ≡ size_of drawing
-    → Sent (noted (too_large_note size) (TooLarge size)) status before behind → Sent (filed drawing note ends) status before behind
-unfolding filed
-sent_too_large drawing size note ends status before behind many same sent =
-    let over : nat_lt MOST_BYTES (size_of drawing) ≡ true = grind (arith, nat_tests) in
+pub sent_too_large : (carried : Carried) (drawing : Contents) (size : ℕ) (note : List ℕ) (ends status : Status) (before behind : Sinks) → MOST_BYTES < size_with carried drawing → size ≡ size_with carried drawing
+    → Sent (noted (too_large_note size) (TooLarge size)) status before behind → Sent (filed_with carried drawing note ends) status before behind
+unfolding filed_with
+sent_too_large carried drawing size note ends status before behind many same sent =
+    let over : nat_lt MOST_BYTES (size_with carried drawing) ≡ true = grind (arith, nat_tests) in
     sent_same _ _ status before behind
     (ap (λ one. noted (too_large_note one) (TooLarge one)) same
-    ∙ sym (ap (λ test. if test then noted (too_large_note (size_of drawing)) (TooLarge (size_of drawing)) else record { output = canonical drawing; note = note; status = ends }) over)) sent
+    ∙ sym (ap (λ test. if test then noted (too_large_note (size_with carried drawing)) (TooLarge (size_with carried drawing)) else record { output = canonical_with carried drawing; note = note; status = ends }) over)) sent

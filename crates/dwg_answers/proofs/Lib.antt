@@ -13,4 +13,5 @@ pub mod ShortDamage
 pub mod ItemAnswers
 pub mod OwnCertificate
 pub mod CertificateReplies
+pub mod CarryAnswers
 pub mod CertificateAnswers

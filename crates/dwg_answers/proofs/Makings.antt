@@ -5,7 +5,7 @@ use Rattle.std.specs.Prelude.{Bool, ◌||◌, ◌==◌, ◌⊎◌, nat_lt, if◌
 use Rattle.dwg_base.specs.Devices.{MOST_BYTES}
 use Rattle.dwg_answers.specs.declared.answer.Answer.{Answer}
 use Rattle.dwg_answers.specs.declared.status.Status.TheVariants.{Usage, TooLarge}
-use Rattle.dwg_answers.specs.Outcome.{noted, printed, filed, written, made_answer}
+use Rattle.dwg_answers.specs.Outcome.{noted, printed, filed, filed_with, written, made_answer}
 use Rattle.dwg_answers.specs.Run.{IsSettled}
 use Rattle.dwg_file.specs.Canonical.{size_of, canonical}
 use Rattle.dwg_file.specs.Contents.{Contents}
@@ -28,7 +28,7 @@ of_no_size n seed none =
 
 -- a file that is written or refused is neither a fault nor a note on usage
 settled_written : (drawing : Contents) → IsSettled (written drawing).status × ((written drawing).status ≡ Usage → ⊥)
-unfolding filed
+unfolding filed_with
 settled_written drawing = of_test (nat_lt MOST_BYTES (size_of drawing))
   where
     of_test : (test : Bool) → let answer : Answer = if test then noted (too_large_note (size_of drawing)) (TooLarge (size_of drawing)) else printed (canonical drawing) in

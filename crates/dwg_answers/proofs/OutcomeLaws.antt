@@ -10,7 +10,7 @@ use Rattle.dwg_base.specs.Devices.{MOST_BYTES}
 use Rattle.dwg_base.specs.Refusals.{first_fault}
 use Rattle.dwg_base.specs.declared.refusal.Refusal.{Refusal}
 use Rattle.dwg_audit.specs.Auditable.{ValidIsAuditable}
-use Rattle.dwg_file.specs.Canonical.{size_of, canonical}
+use Rattle.dwg_file.specs.Canonical.{Carried, NO_PICTURE, canonical, canonical_with, size_of, size_with}
 use Rattle.dwg_file.specs.CanonicalLaws.{CanonicalSpells, CanonicalIsCounted, CanonicalSpellsNoOther}
 use Rattle.dwg_file.specs.Contents.{Contents}
 use Rattle.dwg_file.specs.DrawingAt.{drawing_at}
@@ -31,7 +31,7 @@ use Rattle.dwg_answers.specs.declared.status.Status.TheVariants.{Done, Found, To
 use Rattle.dwg_answers.specs.declared.words.Reading.{Reading}
 use Rattle.dwg_answers.specs.declared.words.Reading.TheVariants.{Show, Rewrite, Audit, Recover}
 use Rattle.dwg_answers.specs.Lines.{lines_of}
-use Rattle.dwg_answers.specs.Outcome.{noted, refused_or, printed, filed, written, audited, verdict_status, recovery_notes, recovery_status, recovered_answer, answer_within, outcome_within, outcome_of}
+use Rattle.dwg_answers.specs.Outcome.{noted, refused_or, printed, filed, filed_with, written, audited, verdict_status, recovery_notes, recovery_status, recovered_answer, answer_within, outcome_within, outcome_of}
 use Rattle.dwg_answers.specs.OutcomeLaws.{IsInput, SpellsNone, said, Rewrites, TellsSound, NoDrawingIsRefused, ShowPrintsDrawing, RewriteWritesDrawing, RewriteTellsSize, AuditTellsSound, RecoverRewritesDrawing, RecoverWritesFrames}
 use Rattle.dwg_answers.specs.Words.{command_of, reading_of, reads}
 use Rattle.dwg_answers.proofs.CommandsRead.{reads_back}
@@ -116,17 +116,28 @@ rewrite_is_written laws drawing bytes input spelled =
     rewrite_said bytes input ∙ passed Rewrite bytes (laws.passes bytes drawing input.are spelled) ∙ ap written (read_is laws drawing bytes input.are spelled)
 
 -- a file within the limit, and one that isn't
+pub carried_within : (carried : Carried) (drawing : Contents) (note : List ℕ) (status : Status) → size_with carried drawing ≤ MOST_BYTES
+    → filed_with carried drawing note status ≡ record { output = canonical_with carried drawing; note = note; status = status }
+unfolding filed_with
+carried_within carried drawing note status small =
+    let size = size_with carried drawing in
+    let within : nat_lt MOST_BYTES size ≡ false = grind (arith, nat_tests) in
+    ap (λ test. if test then noted (too_large_note size) (TooLarge size) else record { output = canonical_with carried drawing; note = note; status = status }) within
+
+pub carried_large : (carried : Carried) (drawing : Contents) (note : List ℕ) (status : Status) → MOST_BYTES < size_with carried drawing
+    → filed_with carried drawing note status ≡ noted (too_large_note (size_with carried drawing)) (TooLarge (size_with carried drawing))
+unfolding filed_with
+carried_large carried drawing note status large =
+    let size = size_with carried drawing in
+    let over : nat_lt MOST_BYTES size ≡ true = grind (arith, nat_tests) in
+    ap (λ test. if test then noted (too_large_note size) (TooLarge size) else record { output = canonical_with carried drawing; note = note; status = status }) over
+
+-- one without a picture
 pub filed_within : (drawing : Contents) (note : List ℕ) (status : Status) → size_of drawing ≤ MOST_BYTES → filed drawing note status ≡ record { output = canonical drawing; note = note; status = status }
-unfolding filed
-filed_within drawing note status small =
-    let within : nat_lt MOST_BYTES (size_of drawing) ≡ false = grind (arith, nat_tests) in
-    ap (λ test. if test then noted (too_large_note (size_of drawing)) (TooLarge (size_of drawing)) else record { output = canonical drawing; note = note; status = status }) within
+filed_within = carried_within NO_PICTURE
 
 pub filed_large : (drawing : Contents) (note : List ℕ) (status : Status) → MOST_BYTES < size_of drawing → filed drawing note status ≡ noted (too_large_note (size_of drawing)) (TooLarge (size_of drawing))
-unfolding filed
-filed_large drawing note status large =
-    let over : nat_lt MOST_BYTES (size_of drawing) ≡ true = grind (arith, nat_tests) in
-    ap (λ test. if test then noted (too_large_note (size_of drawing)) (TooLarge (size_of drawing)) else record { output = canonical drawing; note = note; status = status }) over
+filed_large = carried_large NO_PICTURE
 
 -- the canonical file of a valid drawing is rewritten as it is
 written_rewrites : DrawingLaws → FileLaws → (drawing : Contents) → IsValid drawing → size_of drawing ≤ MOST_BYTES → Rewrites drawing (record { output = canonical drawing; note = []; status = Done })

@@ -16,17 +16,17 @@ use Rattle.dwg_text.specs.Notes.{usage_note, unsound_note, too_long_note, too_la
 use Rattle.dwg_answers.specs.declared.words.Command.{Command}
 use Rattle.dwg_answers.specs.declared.words.Command.TheVariants as commands
 use Rattle.dwg_answers.specs.declared.words.Reading.{Reading}
-use Rattle.dwg_answers.specs.declared.words.Reading.TheVariants.{Sections, Classes, Show, Rewrite, Audit, Recover, Appdata, Certify, Accept}
+use Rattle.dwg_answers.specs.declared.words.Reading.TheVariants.{Sections, Classes, Show, Rewrite, Audit, Recover, Appdata, Certify, Accept, Carry}
 use Rattle.dwg_answers.specs.declared.status.Status.{Status}
 use Rattle.dwg_answers.specs.declared.status.Status.TheVariants.{Done, Found, Usage, TooLong, TooLarge}
 use Rattle.dwg_answers.specs.declared.answer.Answer.{Answer}
 use Rattle.dwg_answers.specs.declared.request.Request.{Request}
 use Rattle.dwg_file.specs.Contents.{Contents}
 use Rattle.dwg_file.specs.DrawingAt.{drawing_at}
-use Rattle.dwg_file.specs.Canonical.{size_of, canonical}
+use Rattle.dwg_file.specs.Canonical.{Carried, NO_PICTURE, size_of, size_with, canonical_with}
 use Rattle.dwg_answers.specs.CertifiedInput.{cert_in, drawing_bytes}
 use Rattle.dwg_answers.specs.Lines.{lines_of}
-use Rattle.dwg_answers.specs.Outcome.{noted, printed, refused_or, filed, certified, acceptance, accepted, made_answer, drill_answer, audited, items_told, verdict_status, recovery_notes, recovery_status, recovered_answer, answer_within, outcome_within, outcome_of_input, outcome_read, outcome_of}
+use Rattle.dwg_answers.specs.Outcome.{noted, printed, refused_or, carried_in, carrying_note, content_in, filed_with, certified, acceptance, accepted, made_answer, drill_answer, audited, items_told, verdict_status, recovery_notes, recovery_status, recovered_answer, answer_within, outcome_within, outcome_of_input, outcome_read, outcome_of}
 use Rattle.dwg_recover.specs.Recovering.{RecoveredValue, recovered}
 use Rattle.dwg_answers.specs.Words.{reading_in}
 use Rattle.dwg_answers.specs.Requests.{asked}
@@ -39,19 +39,19 @@ refused_or_is_drained (Some refusal) answer drained = tt
 refused_or_is_drained None answer drained = drained
 
 -- so does the file of a drawing, with a status that does
-filed_is_drained : (drawing : Contents) (note : List ℕ) (status : Status) → IsDrained status → IsDrained (filed drawing note status).status
-unfolding filed
-filed_is_drained drawing note status drained = of_test (nat_lt MOST_BYTES (size_of drawing))
+filed_is_drained : (carried : Carried) (drawing : Contents) (note : List ℕ) (status : Status) → IsDrained status → IsDrained (filed_with carried drawing note status).status
+unfolding filed_with
+filed_is_drained carried drawing note status drained = of_test (nat_lt MOST_BYTES (size_with carried drawing))
   where
     of_test : (test : Bool)
-        → IsDrained (if test then noted (too_large_note (size_of drawing)) (TooLarge (size_of drawing)) else record { output = canonical drawing; note = note; status = status }).status
+        → IsDrained (if test then noted (too_large_note (size_with carried drawing)) (TooLarge (size_with carried drawing)) else record { output = canonical_with carried drawing; note = note; status = status }).status
     of_test true = tt
     of_test false = drained
 
 -- and what is recovered
 recovered_is_drained : (value : RecoveredValue) → IsDrained (recovered_answer value).status
 unfolding recovered_answer
-recovered_is_drained value = filed_is_drained value.drawing (recovery_notes value.refusal value.losses value.kept) (recovery_status value.refusal) (of_refusal value.refusal)
+recovered_is_drained value = filed_is_drained NO_PICTURE value.drawing (recovery_notes value.refusal value.losses value.kept) (recovery_status value.refusal) (of_refusal value.refusal)
   where
     of_refusal : (refusal : Option Refusal) → IsDrained (recovery_status refusal)
     of_refusal None = tt
@@ -94,12 +94,13 @@ unfolding answer_within
 answer_is_drained Sections bytes = tt
 answer_is_drained Classes bytes = tt
 answer_is_drained Show bytes = tt
-answer_is_drained Rewrite bytes = filed_is_drained (drawing_at bytes) [] Done tt
+answer_is_drained Rewrite bytes = filed_is_drained NO_PICTURE (drawing_at bytes) [] Done tt
 answer_is_drained Audit bytes = audited_is_drained (drawing_at bytes)
 answer_is_drained Recover bytes = recovered_is_drained (recovered bytes)
 answer_is_drained Appdata bytes = items_are_drained (drawing_at bytes)
 answer_is_drained Certify bytes = certified_is_drained (drawing_at bytes)
 answer_is_drained Accept bytes = accepted_is_drained (drawing_at (drawing_bytes bytes)) (cert_in bytes)
+answer_is_drained Carry bytes = filed_is_drained (carried_in bytes) (drawing_at bytes) (carrying_note (content_in bytes)) Done tt
 
 pub outcome_is_drained : (reading : Reading) (bytes : List ℕ) → IsDrained (outcome_within reading bytes).status
 unfolding outcome_within
@@ -163,6 +164,7 @@ read_by commands.Recover reading bytes is = ap (λ (some : Option Reading). outc
 read_by commands.Appdata reading bytes is = ap (λ (some : Option Reading). outcome_read some bytes) (sym is)
 read_by commands.Certify reading bytes is = ap (λ (some : Option Reading). outcome_read some bytes) (sym is)
 read_by commands.Accept reading bytes is = ap (λ (some : Option Reading). outcome_read some bytes) (sym is)
+read_by commands.Carry reading bytes is = ap (λ (some : Option Reading). outcome_read some bytes) (sym is)
 read_by (commands.Make n seed) reading bytes is = absurd cc
 read_by (commands.Drill n) reading bytes is = absurd cc
 

@@ -5,7 +5,7 @@ use Rattle.dwg_cert.specs.CertificateLines.{CERTIFICATE_LINES}
 use Rattle.dwg_sections.specs.HeaderLines.{HEADER_LINES}
 use Rattle.dwg_file.specs.FileLines.{ALL_LINES, classes_section_row, classes_row}
 use Rattle.dwg_answers.specs.declared.words.Reading.{Reading}
-use Rattle.dwg_answers.specs.declared.words.Reading.TheVariants.{Sections, Classes, Show, Rewrite, Audit, Recover, Appdata, Certify, Accept}
+use Rattle.dwg_answers.specs.declared.words.Reading.TheVariants.{Sections, Classes, Show, Rewrite, Audit, Recover, Appdata, Certify, Accept, Carry}
 use Rattle.dwg_answers.specs.CertifiedInput.{drawing_row}
 
 -- the lines that a command that reads tries, in their order: `classes` those on the file header, on the section of the classes, and on the classes, and `accept` those on the certificate and then those on the drawing behind it
@@ -19,3 +19,4 @@ lines_of Recover = []
 lines_of Appdata = ALL_LINES
 lines_of Certify = ALL_LINES
 lines_of Accept = CERTIFICATE_LINES ++ drawing_row ∷ []
+lines_of Carry = ALL_LINES

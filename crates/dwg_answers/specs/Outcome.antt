@@ -21,20 +21,21 @@ use Rattle.dwg_report.specs.AuditText.{audit_text}
 use Rattle.dwg_drill.specs.DrillText.{drill_text}
 use Rattle.dwg_show.specs.DrawingText.{show_text}
 use Rattle.dwg_text.specs.Acceptance.{accept_yes, accept_no}
-use Rattle.dwg_text.specs.Notes.{usage_note, unsound_note, size_note, refusal_note, too_long_note, too_large_note}
+use Rattle.dwg_text.specs.Notes.{usage_note, unsound_note, preview_dropped_note, size_note, refusal_note, too_long_note, too_large_note}
 use Rattle.dwg_text.specs.Sections.{sections_text}
 use Rattle.dwg_text.specs.Classes.{classes_text}
 use Rattle.dwg_answers.specs.declared.words.Command.{Command}
 use Rattle.dwg_answers.specs.declared.words.Command.TheVariants as commands
 use Rattle.dwg_answers.specs.declared.words.Reading.{Reading}
-use Rattle.dwg_answers.specs.declared.words.Reading.TheVariants.{Sections, Classes, Show, Rewrite, Audit, Recover, Appdata, Certify, Accept}
+use Rattle.dwg_answers.specs.declared.words.Reading.TheVariants.{Sections, Classes, Show, Rewrite, Audit, Recover, Appdata, Certify, Accept, Carry}
 use Rattle.dwg_answers.specs.declared.status.Status.{Status}
 use Rattle.dwg_answers.specs.declared.status.Status.TheVariants.{Done, Found, Usage, Refused, TooLong, TooLarge}
 use Rattle.dwg_answers.specs.declared.answer.Answer.{Answer}
 use Rattle.dwg_answers.specs.Words.{command_of, reading_in}
 use Rattle.dwg_file.specs.Contents.{Contents}
 use Rattle.dwg_file.specs.DrawingAt.{classes_at, drawing_at}
-use Rattle.dwg_file.specs.Canonical.{size_of, canonical}
+use Rattle.dwg_file.specs.Canonical.{Carried, NO_PICTURE, canonical_with, size_with}
+use Rattle.dwg_preview.specs.ContentAt.{content_at}
 use Rattle.dwg_answers.specs.CertifiedInput.{cert_in, drawing_bytes}
 use Rattle.dwg_answers.specs.Lines.{lines_of}
 
@@ -51,13 +52,18 @@ abbrev pub refused_or : Option Refusal → Answer → Answer
 refused_or (Some refusal) answer = noted (refusal_note refusal) (Refused refusal)
 refused_or None answer = answer
 
--- an answer over the canonical file of a drawing, unless that would be longer than the limit
-abbrev pub unless_large : Contents → Answer → Answer
-unless_large drawing answer = if nat_lt MOST_BYTES (size_of drawing) then noted (too_large_note (size_of drawing)) (TooLarge (size_of drawing)) else answer
+-- an answer over the canonical file of a drawing with a preview, unless that would be longer than the limit
+abbrev pub unless_large : Carried → Contents → Answer → Answer
+unless_large carried drawing answer =
+    if nat_lt MOST_BYTES (size_with carried drawing) then noted (too_large_note (size_with carried drawing)) (TooLarge (size_with carried drawing)) else answer
 
--- the canonical file of a drawing, with a note and a status
-unfoldable pub filed : Contents → List ℕ → Status → Answer
-filed drawing note status = unless_large drawing (record { output = canonical drawing; note = note; status = status })
+-- the canonical file of a drawing with a preview, with a note and a status
+unfoldable pub filed_with : Carried → Contents → List ℕ → Status → Answer
+filed_with carried drawing note status = unless_large carried drawing (record { output = canonical_with carried drawing; note = note; status = status })
+
+-- that without a picture
+abbrev pub filed : Contents → List ℕ → Status → Answer
+filed drawing note status = filed_with NO_PICTURE drawing note status
 
 -- the canonical file of a drawing
 abbrev pub written : Contents → Answer
@@ -73,7 +79,7 @@ made_answer n seed = unless_no_size n (written (made n seed))
 
 -- what a drill over the drawing of a number finds out
 unfoldable pub drilled_answer : ℕ → Answer
-drilled_answer n = unless_large (made n DRILL_SEED) (printed (drill_text (drilled n)))
+drilled_answer n = unless_large NO_PICTURE (made n DRILL_SEED) (printed (drill_text (drilled n)))
 
 -- what `drill` answers: the size note where there is no such drawing
 unfoldable pub drill_answer : ℕ → Answer
@@ -129,6 +135,23 @@ acceptance is = record { output = acceptance_line is; note = []; status = accept
 unfoldable pub accepted : Contents → List Entry → Answer
 accepted drawing cert = acceptance (is_accepted drawing.objects cert)
 
+-- the content of the preview section that stands where the file header of an input says, if one does
+abbrev pub content_in : List ℕ → Option (List ℕ)
+content_in bytes = content_at bytes (header_at bytes).preview
+
+-- what the canonical file carries of it
+abbrev pub carried_from : ℕ → Option (List ℕ) → Carried
+carried_from place None = NO_PICTURE
+carried_from place (Some content) = record { place = place; content = content }
+
+abbrev pub carried_in : List ℕ → Carried
+carried_in bytes = carried_from (header_at bytes).preview (content_in bytes)
+
+-- what is noted where none stands there
+abbrev pub carrying_note : Option (List ℕ) → List ℕ
+carrying_note None = preview_dropped_note
+carrying_note (Some content) = []
+
 -- what a command that reads answers to an input within the limit in which none of its lines fails
 unfoldable pub answer_within : Reading → List ℕ → Answer
 answer_within Sections bytes = printed (sections_text (header_at bytes))
@@ -140,6 +163,7 @@ answer_within Recover bytes = recovered_answer (recovered bytes)
 answer_within Appdata bytes = items_told (drawing_at bytes)
 answer_within Certify bytes = certified (drawing_at bytes)
 answer_within Accept bytes = accepted (drawing_at (drawing_bytes bytes)) (cert_in bytes)
+answer_within Carry bytes = filed_with (carried_in bytes) (drawing_at bytes) (carrying_note (content_in bytes)) Done
 
 -- what it answers to any input within the limit
 unfoldable pub outcome_within : Reading → List ℕ → Answer

@@ -17,13 +17,14 @@ use Rattle.dwg_cert.specs.declared.entry.Entry.{Entry}
 use Rattle.dwg_classes.specs.Class.{AreClasses}
 use Rattle.dwg_classes.specs.declared.class.Class.{Class}
 use Rattle.dwg_file.specs.CanonicalFrames.{canonical_frames}
-use Rattle.dwg_file.specs.Canonical.{size_of, canonical}
+use Rattle.dwg_file.specs.Canonical.{Carried, NO_PICTURE, size_of, size_with, canonical, canonical_with}
 use Rattle.dwg_file.specs.Contents.{Contents}
 use Rattle.dwg_file.specs.FileLines.{ALL_LINES, classes_row, classes_section_row}
 use Rattle.dwg_file.specs.ShortDamage.{IsDamagedShortly}
 use Rattle.dwg_file.specs.Spelled.{PairFrame, Spelled}
 use Rattle.dwg_file.specs.Valid.{IsValid}
 use Rattle.dwg_graph.specs.Sound.{IsSound}
+use Rattle.dwg_preview.specs.Previews.{PreviewAt}
 use Rattle.dwg_recover.specs.declared.loss.Loss.TheVariants.{Object}
 use Rattle.dwg_recover.specs.ListMembers.{IsOneOf}
 use Rattle.dwg_recover.specs.Recovering.{RecoveredValue, recovered}
@@ -39,7 +40,7 @@ use Rattle.dwg_sections.specs.HeaderLines.{HEADER_LINES, place_of}
 use Rattle.dwg_show.specs.DrawingText.{show_text}
 use Rattle.dwg_text.specs.Classes.{classes_text}
 use Rattle.dwg_text.specs.Lines.{line}
-use Rattle.dwg_text.specs.Notes.{refusal_note, too_large_note, unsound_note}
+use Rattle.dwg_text.specs.Notes.{preview_dropped_note, refusal_note, too_large_note, unsound_note}
 use Rattle.dwg_text.specs.Sections.{sections_text}
 use Rattle.dwg_answers.specs.declared.answer.Answer.{Answer}
 use Rattle.dwg_answers.specs.declared.status.Status.TheVariants.{Done, Found, Refused, TooLarge}
@@ -126,6 +127,35 @@ abbrev pub RewriteTellsSize : Type 0
 RewriteTellsSize =
     (drawing : Contents) (bytes : List ℕ) → IsInput bytes → Spelled drawing bytes → MOST_BYTES < size_of drawing
     → said (codes "rewrite") bytes ≡ record { output = []; note = too_large_note (size_of drawing); status = TooLarge (size_of drawing) }
+
+-- an answer writes the canonical file of a drawing with a preview and this note: it spells that drawing and no other, and is carried as it is, without a note
+pub record Carries (carried : Carried) (drawing : Contents) (note : List ℕ) (answer : Answer) : Type 0 where
+  pub answers : answer ≡ record { output = canonical_with carried drawing; note = note; status = Done }
+  pub spells : Spelled drawing answer.output
+  pub no_other : (other : Contents) → Spelled other answer.output → other ≡ drawing
+  pub once : said (codes "carry") answer.output ≡ record { output = answer.output; note = []; status = Done }
+
+-- `carry` writes that of the drawing that an input spells with the preview that stands where its header says, where that is within the limit
+abbrev pub CarryWritesPreview : Type 0
+CarryWritesPreview =
+    (header : FileHeader) (drawing : Contents) (content bytes : List ℕ) → IsInput bytes → Spelled drawing bytes → BeginsWithHeader bytes header
+    → PreviewAt bytes header.preview content
+    → let carried : Carried = record { place = header.preview; content = content } in
+    (size_with carried drawing ≤ MOST_BYTES → Carries carried drawing [] (said (codes "carry") bytes))
+    × (MOST_BYTES < size_with carried drawing
+    → said (codes "carry") bytes ≡ record { output = []; note = too_large_note (size_with carried drawing); status = TooLarge (size_with carried drawing) })
+
+-- where none stands there it writes what `rewrite` does, and notes that
+abbrev pub CarryNotesNone : Type 0
+CarryNotesNone =
+    (header : FileHeader) (drawing : Contents) (bytes : List ℕ) → IsInput bytes → Spelled drawing bytes → BeginsWithHeader bytes header
+    → ((content : List ℕ) → PreviewAt bytes header.preview content → ⊥)
+    → (size_of drawing ≤ MOST_BYTES → Carries NO_PICTURE drawing preview_dropped_note (said (codes "carry") bytes))
+    × (MOST_BYTES < size_of drawing → said (codes "carry") bytes ≡ record { output = []; note = too_large_note (size_of drawing); status = TooLarge (size_of drawing) })
+
+-- and it refuses an input that spells no drawing by the first line that fails
+abbrev pub NoneIsCarried : Type 0
+NoneIsCarried = (bytes : List ℕ) → IsInput bytes → SpellsNone bytes → Refuses bytes (said (codes "carry") bytes)
 
 -- an answer tells whether the references of a drawing hold together: its status does, it prints the findings, which are the line `audit yes` alone exactly where they do, and it notes nothing
 pub record TellsSound (drawing : Contents) (answer : Answer) : Type 0 where

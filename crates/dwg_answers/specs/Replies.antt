@@ -8,7 +8,7 @@ use Rattle.dwg_answers.specs.declared.reply.Reply.{Reply}
 use Rattle.dwg_answers.specs.declared.reply.Reply.TheVariants.{Whole, Note, Text, Items, File}
 use Rattle.dwg_answers.specs.declared.words.Reading.{Reading}
 use Rattle.dwg_answers.specs.Lines.{lines_of}
-use Rattle.dwg_answers.specs.Outcome.{filed, noted, printed, verdict_status}
+use Rattle.dwg_answers.specs.Outcome.{filed_with, noted, printed, verdict_status}
 use Rattle.dwg_app_text.specs.AppText.{appdata_text}
 use Rattle.dwg_show.specs.DrawingText.{show_text}
 
@@ -18,7 +18,7 @@ answer_of (Whole answer) = answer
 answer_of (Note note status) = noted note.now status
 answer_of (Text drawing) = printed (show_text (contents_of drawing))
 answer_of (Items drawing findings) = record { output = appdata_text (contents_of drawing).objects findings; note = []; status = verdict_status findings }
-answer_of (File drawing note status) = filed (contents_of drawing) note status
+answer_of (File drawing carried note status) = filed_with carried (contents_of drawing) note status
 
 -- a fault tells the first of a command's lines that fails, which is one of the table's
 abbrev pub IsRefused : Reading → List ℕ → Fault → Type 0

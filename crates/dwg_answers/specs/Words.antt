@@ -7,7 +7,7 @@ use Rattle.std.specs.Str.Parse.{digits_value}
 use Rattle.dwg_answers.specs.declared.words.Command.{Command}
 use Rattle.dwg_answers.specs.declared.words.Command.TheVariants as commands
 use Rattle.dwg_answers.specs.declared.words.Reading.{Reading}
-use Rattle.dwg_answers.specs.declared.words.Reading.TheVariants.{Sections, Classes, Show, Rewrite, Audit, Recover, Appdata, Certify, Accept}
+use Rattle.dwg_answers.specs.declared.words.Reading.TheVariants.{Sections, Classes, Show, Rewrite, Audit, Recover, Appdata, Certify, Accept, Carry}
 use Rattle.dwg_make.specs.Made.{MOST_ENTITIES}
 
 -- the words as lists of bytes
@@ -44,7 +44,8 @@ reading_of word =
     else (if bytes_eq word (codes "recover") then Some Recover
     else (if bytes_eq word (codes "appdata") then Some Appdata
     else (if bytes_eq word (codes "certify") then Some Certify
-    else (if bytes_eq word (codes "accept") then Some Accept else None))))))))
+    else (if bytes_eq word (codes "accept") then Some Accept
+    else (if bytes_eq word (codes "carry") then Some Carry else None)))))))))
 
 -- the command that is each of those
 abbrev pub reads : Reading → Command
@@ -57,6 +58,7 @@ reads Recover = commands.Recover
 reads Appdata = commands.Appdata
 reads Certify = commands.Certify
 reads Accept = commands.Accept
+reads Carry = commands.Carry
 
 -- and the other way round: how a command reads, if it does
 abbrev pub reading_in : Command → Option Reading
@@ -69,6 +71,7 @@ reading_in commands.Recover = Some Recover
 reading_in commands.Appdata = Some Appdata
 reading_in commands.Certify = Some Certify
 reading_in commands.Accept = Some Accept
+reading_in commands.Carry = Some Carry
 reading_in (commands.Make n seed) = None
 reading_in (commands.Drill n) = None
 
@@ -97,5 +100,6 @@ IsUsage (Some commands.Recover) = ⊥
 IsUsage (Some commands.Appdata) = ⊥
 IsUsage (Some commands.Certify) = ⊥
 IsUsage (Some commands.Accept) = ⊥
+IsUsage (Some commands.Carry) = ⊥
 IsUsage (Some (commands.Make n seed)) = (n ≡ 0) ⊎ (MOST_ENTITIES < n)
 IsUsage (Some (commands.Drill n)) = (n ≡ 0) ⊎ (MOST_ENTITIES < n)

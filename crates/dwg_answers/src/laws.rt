@@ -1,12 +1,15 @@
 //! Laws of what is answered, as the contract of a function without code of its own.
 
-ghost use Rattle.dwg_answers.specs.OutcomeLaws.{AcceptTellsAccepted, AppdataTellsItems, AuditTellsSound, CertifiedIsAccepted, ClassesPrintsClasses, NoCertificateIsRefused, NoClassesAreRefused, NoDrawingBehindIsRefused, NoDrawingIsRefused, NoHeaderIsRefused, NoItemsAreTold, NoneIsCertified, RecoverRewritesDrawing, RecoverWritesFrames, RewriteTellsSize, RewriteWritesDrawing, SectionsPrintsHeader, ShortDamageIsTold, ShowPrintsDrawing, SoundIsCertified, UnsoundIsNoted};
+ghost use Rattle.dwg_answers.specs.OutcomeLaws.{AcceptTellsAccepted, AppdataTellsItems, AuditTellsSound, CarryNotesNone, CarryWritesPreview, CertifiedIsAccepted, ClassesPrintsClasses, NoCertificateIsRefused, NoClassesAreRefused, NoDrawingBehindIsRefused, NoDrawingIsRefused, NoHeaderIsRefused, NoItemsAreTold, NoneIsCarried, NoneIsCertified, RecoverRewritesDrawing, RecoverWritesFrames, RewriteTellsSize, RewriteWritesDrawing, SectionsPrintsHeader, ShortDamageIsTold, ShowPrintsDrawing, SoundIsCertified, UnsoundIsNoted};
 
 use dwg_appitems::app_finding_laws;
 use dwg_audit::{auditable_laws, finding_laws};
 use dwg_cert::{acceptance_laws, certificate_laws};
 use dwg_classes::classes_laws;
-use dwg_file::{canonical_laws, drawing_laws, short_damage_laws as frame_damage_laws};
+use dwg_file::{
+    canonical_laws, carrying_laws, drawing_laws, short_damage_laws as frame_damage_laws,
+};
+use dwg_preview::preview_laws;
 use dwg_recover::{answer_laws, short_damage_laws};
 use dwg_sections::{file_header_laws, framed_laws};
 
@@ -23,6 +26,11 @@ use dwg_sections::{file_header_laws, framed_laws};
 /// check word of one object's frame, `show`, `rewrite` and `audit` refuse it for the check word of that object and print nothing;
 /// what is recovered has every other object, and where its canonical file has at most 32 MiB, `recover` writes that and notes that
 /// refusal and the loss of that object alone; else it tells the size.
+///
+/// `carry` refuses an input that spells no drawing by the first line that fails. Where it spells one, `carry` writes the canonical file
+/// with the preview section that stands where the file header says, and where none stands there the one that `rewrite` writes, and notes
+/// that. The file spells the drawing and no other, and is carried as it is, without a note; where it would have more than 32 MiB, its
+/// size is told.
 ///
 /// `appdata` refuses an input that spells no drawing by the first line that fails. Where it spells one, `appdata` prints the items of
 /// its extended data and then those whose references lead nowhere, and ends with Done exactly where there are none, and else with Found.
@@ -42,6 +50,9 @@ pub fn outcome_laws()
     ensures show { ShowPrintsDrawing }
     ensures rewrite { RewriteWritesDrawing }
     ensures large { RewriteTellsSize }
+    ensures no_carried { NoneIsCarried }
+    ensures carry { CarryWritesPreview }
+    ensures no_preview { CarryNotesNone }
     ensures audit { AuditTellsSound }
     ensures recover { RecoverRewritesDrawing }
     ensures damaged { RecoverWritesFrames }
@@ -61,6 +72,8 @@ pub fn outcome_laws()
     classes_laws();
     drawing_laws();
     canonical_laws();
+    carrying_laws();
+    preview_laws();
     auditable_laws();
     finding_laws();
     app_finding_laws();

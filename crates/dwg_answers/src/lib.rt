@@ -4,6 +4,7 @@
 
 mod answer;
 mod answering;
+mod carrying;
 mod certifying;
 mod items;
 mod laws;

@@ -6,6 +6,7 @@ ghost use Rattle.dwg_text.specs.Notes as texts;
 ghost use Rattle.dwg_answers.specs.Replies.{answer_of};
 
 use crate::answer::{no_bytes, printed_answer, too_large_answer};
+use crate::carrying::Carrying;
 use crate::reply::Reply;
 use crate::status::Status;
 use dwg_base::NoMemory;
@@ -32,6 +33,7 @@ pub(crate) fn make_reply<'a>(alloc: Global, n: u32, seed: u32) -> Result<Reply<'
     match make(alloc, n, seed) {
         Ok(drawing) => Ok(Reply::File {
             drawing,
+            carrying: Carrying::none(),
             note: no_bytes(alloc),
             status: Status::Done,
         }),

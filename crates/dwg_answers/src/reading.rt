@@ -11,6 +11,7 @@ ghost use Rattle.dwg_answers.specs.Outcome.{audited, outcome_within, recovered_a
 ghost use Rattle.dwg_answers.specs.Replies.{answer_of, IsRefused};
 
 use crate::answer::{Answer, no_bytes, printed_answer, refused_answer};
+use crate::carrying::{Carrying, carry_reply};
 use crate::certifying::{accept_reply, certify_reply};
 use crate::items::appdata_reply;
 use crate::reply::Reply;
@@ -90,6 +91,7 @@ fn rewrite_reply<'a>(alloc: Global, bytes: &'a [u8]) -> Result<Reply<'a>, Fault>
     let drawing = drawing_of(alloc, bytes)?;
     Ok(Reply::File {
         drawing,
+        carrying: Carrying::none(),
         note: no_bytes(alloc),
         status: Status::Done,
     })
@@ -159,6 +161,7 @@ fn recovered_reply<'a>(alloc: Global, recovered: Recovered<'a>) -> Result<Reply<
     let status = status_of_recovery(&recovered.refusal);
     Ok(Reply::File {
         drawing: recovered.drawing,
+        carrying: Carrying::none(),
         note,
         status,
     })
@@ -193,6 +196,7 @@ fn reply_or_fault<'a>(alloc: Global, reading: Reading, bytes: &'a [u8]) -> Resul
         Reading::Appdata => appdata_reply(alloc, bytes),
         Reading::Certify => certify_reply(alloc, bytes),
         Reading::Accept => accept_reply(alloc, bytes),
+        Reading::Carry => carry_reply(alloc, bytes),
     }
 }
 

@@ -1,6 +1,7 @@
 //! Replies: what the program answers, as far as it is made before it is sent.
 
 use crate::answer::Answer;
+use crate::carrying::Carrying;
 use crate::status::Status;
 use dwg_appitems::AppFinding;
 use dwg_base::{ByteRun, Items};
@@ -31,6 +32,8 @@ pub(crate) enum Reply<'a> {
     File {
         /// The drawing.
         drawing: Drawing<'a>,
+        /// The preview that the file carries.
+        carrying: Carrying<'a>,
         /// The note.
         note: ByteRun,
         /// How the run ends.

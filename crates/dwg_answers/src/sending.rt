@@ -7,12 +7,13 @@ ghost use Rattle.dwg_file.specs.Contents.{contents_of};
 ghost use Rattle.dwg_file.specs.Canonical.{canonical_with};
 ghost use Rattle.dwg_show.specs.DrawingText.{show_text};
 ghost use Rattle.dwg_app_text.specs.AppText.{appdata_text};
-ghost use Rattle.dwg_answers.specs.Outcome.{filed, noted, printed, verdict_status};
+ghost use Rattle.dwg_answers.specs.Outcome.{filed_with, noted, printed, verdict_status};
 ghost use Rattle.dwg_text.specs.Notes as texts;
 ghost use Rattle.dwg_answers.specs.Replies.{answer_of};
 ghost use Rattle.dwg_answers.specs.Run.{Sent, sinks};
 
 use crate::answer::{Answer, too_large_answer};
+use crate::carrying::Carrying;
 use crate::reply::Reply;
 use crate::status::{Status, status_of};
 use dwg_app_text::appdata;
@@ -133,18 +134,19 @@ fn send_too_large<W: Sink, N: Sink>(
 }
 
 /// Sends the canonical file of a drawing and then a note, unless the file would be longer than the limit.
-fn send_file<W: Sink, N: Sink>(
+fn send_file<'a, W: Sink, N: Sink>(
     alloc: Global,
-    drawing: &Drawing<'_>,
+    drawing: &Drawing<'a>,
+    carrying: &Carrying<'a>,
     note: &[u8],
     status: Status,
     output: &mut W,
     notes: &mut N,
 ) -> Status
-    ensures { Sent (filed (contents_of drawing.now) note.now status) result
+    ensures { Sent (filed_with carrying.now (contents_of drawing.now) note.now status) result
         (sinks W.taken W.faults output.old N.taken N.faults notes.old) (sinks W.taken W.faults output.new N.taken N.faults notes.new) }
 {
-    match Plan::prepare(alloc, drawing) {
+    match Plan::prepare_with(alloc, drawing, carrying.preview()) {
         Ok(mut plan) => send_plan(&mut plan, note, status, output, notes),
         Err(PlanFault::TooLarge { size }) => send_too_large(alloc, size, output, notes),
         Err(PlanFault::NoMemory) => Status::NoMemory,
@@ -170,8 +172,17 @@ pub(crate) fn send_reply<W: Sink, N: Sink>(
         }
         Reply::File {
             drawing,
+            carrying,
             note,
             status,
-        } => send_file(alloc, drawing, note.as_slice(), *status, output, notes),
+        } => send_file(
+            alloc,
+            drawing,
+            carrying,
+            note.as_slice(),
+            *status,
+            output,
+            notes,
+        ),
     }
 }

@@ -27,6 +27,8 @@ pub enum Reading {
     Certify,
     /// A certificate is read, and the drawing behind it.
     Accept,
+    /// The drawing is read, to be written again with its preview.
+    Carry,
 }
 
 /// What the program is asked for.
@@ -50,6 +52,8 @@ pub enum Command {
     Certify,
     /// Whether the certificate that the input begins with is one of the drawing behind it.
     Accept,
+    /// The canonical file of the drawing with the preview of the input.
+    Carry,
     /// The canonical file of a made drawing.
     Make {
         /// How many entities follow its fixed objects.
@@ -134,6 +138,7 @@ fn reading_named(word: &str) -> Option<Reading>
         "appdata" => Some(Reading::Appdata),
         "certify" => Some(Reading::Certify),
         "accept" => Some(Reading::Accept),
+        "carry" => Some(Reading::Carry),
         _ => None,
     }
 }
@@ -152,6 +157,7 @@ fn command_by(reading: Reading) -> Command
         Reading::Appdata => Command::Appdata,
         Reading::Certify => Command::Certify,
         Reading::Accept => Command::Accept,
+        Reading::Carry => Command::Carry,
     }
 }
 
@@ -169,6 +175,7 @@ pub(crate) fn reading_in(command: Command) -> Option<Reading>
         Command::Appdata => Some(Reading::Appdata),
         Command::Certify => Some(Reading::Certify),
         Command::Accept => Some(Reading::Accept),
+        Command::Carry => Some(Reading::Carry),
         Command::Make { .. } => None,
         Command::Drill { .. } => None,
     }

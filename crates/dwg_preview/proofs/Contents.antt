@@ -31,7 +31,7 @@ whole_back content count all some counted within =
     sym (take-append-drop (1 + 9 * count) content) ∙ ap (λ xs. xs ++ drop (1 + 9 * count) content) before
 
 -- bytes whose entries end in them, and whose pictures lie behind the entries and in the section, are a content
-content_back : (place count : ℕ) (content : List ℕ) → AreBytes content → length content < 2 ^ 32 → 0 < length content → count ≡ slice_index content 0 → 1 + 9 * count ≤ length content → AllLie place content count → IsContent place content
+pub content_back : (place count : ℕ) (content : List ℕ) → AreBytes content → length content < 2 ^ 32 → 0 < length content → count ≡ slice_index content 0 → 1 + 9 * count ≤ length content → AllLie place content count → IsContent place content
 content_back place count content all small some counted within lie =
     let entries = entries_at count content 1 in
     let many : length entries ≡ count = length_of_entries_at count content 1 in

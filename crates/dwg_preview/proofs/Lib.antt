@@ -1,5 +1,6 @@
 pub mod Entries
 pub mod Contents
 pub mod PreviewParts
+pub mod ContentFound
 pub mod Moving
 pub mod PreviewWriting

@@ -93,7 +93,7 @@ joined_at bytes begin size content end place count one two three four =
     front_more all (begin ++ size ++ content) end (20 + count) 16 to_content (behind_place bytes place _ (place + 20 + count) 16 (omega arith) ∙ four)
 
 -- what stands at a place that lies within the bytes
-stands_at : (bytes piece : List ℕ) (place count : ℕ) → place ≤ length bytes → bytes_at bytes place count ≡ piece → StandsAt bytes place piece
+pub stands_at : (bytes piece : List ℕ) (place count : ℕ) → place ≤ length bytes → bytes_at bytes place count ≡ piece → StandsAt bytes place piece
 stands_at bytes piece place count within there = record {
   before = take place bytes;
   behind = drop count (drop place bytes);

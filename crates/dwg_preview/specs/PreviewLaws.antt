@@ -1,6 +1,8 @@
 -- Laws of preview sections.
-use Rattle.std.specs.Prelude.{◌≡◌, ℕ, ◌+◌, ◌^◌, ◌<◌, List, ◌++◌, length, map}
+use Rattle.std.specs.Prelude.{◌≡◌, ℕ, ◌+◌, ◌^◌, ◌<◌, List, ◌++◌, Some, length, map}
+use Rattle.dwg_base.specs.Bytes.{AreBytes}
 use Rattle.dwg_sections.specs.Framed.{complemented}
+use Rattle.dwg_preview.specs.ContentAt.{content_at}
 use Rattle.dwg_preview.specs.Previews.{IsContent, PREVIEW_SENTINEL, PreviewAt, WITHOUT_CONTENT, content_bytes, front_bytes, further_bytes, moved, moved_entry, preview_bytes}
 
 -- at a place of an input stands a section of one content at the most
@@ -38,3 +40,10 @@ abbrev pub SectionIsPieces : Type 0
 SectionIsPieces =
     (from to : ℕ) (content : List ℕ) → IsContent from content → to + WITHOUT_CONTENT + length content < 2 ^ 32
     → front_bytes from to content ++ further_bytes content ++ complemented PREVIEW_SENTINEL ≡ preview_bytes (moved from to content)
+
+-- the function finds exactly what stands there
+abbrev pub ContentIsFound : Type 0
+ContentIsFound =
+    (bytes : List ℕ) (place : ℕ) → AreBytes bytes
+    → ((content : List ℕ) → content_at bytes place ≡ Some content → PreviewAt bytes place content)
+    × ((content : List ℕ) → PreviewAt bytes place content → content_at bytes place ≡ Some content)

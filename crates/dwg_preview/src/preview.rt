@@ -1,6 +1,6 @@
 //! A preview section that was read.
 
-ghost use Rattle.std.specs.Prelude.{◌≡◌, ◌+◌, ◌^◌, ◌<◌, length};
+ghost use Rattle.std.specs.Prelude.{◌≡◌, ◌+◌, length};
 ghost use Rattle.dwg_preview.specs.Previews.{WITHOUT_CONTENT, preview_bytes};
 
 /// A preview section (Open Design Specification, "R13 to R2000 file layout").
@@ -17,7 +17,6 @@ const WITHOUT_CONTENT: u64 = 36;
 
 /// How many bytes the section has.
 pub fn preview_length(preview: &Preview<'_>) -> u64
-    requires { length preview.now.content.now < 2 ^ 62 }
     ensures counted { result ≡ WITHOUT_CONTENT + length preview.now.content.now }
     ensures length { result ≡ length (preview_bytes preview.now.content.now) }
 {

@@ -88,8 +88,8 @@ fn is_content(content: &[u8], place: u32) -> bool
 }
 
 /// The preview section at a place of the input. None exactly where none stands there: its sentinels or its size are another, it
-/// passes the end of the input, its entries pass its end, or one of them names a picture that doesn't lie behind the entries and
-/// in the section.
+/// passes the end of the input, it has no byte for the count of entries, its entries pass its end, or one of them names a picture
+/// that doesn't lie behind the entries and in the section.
 pub fn read_preview<'a>(bytes: &'a [u8], place: u32) -> Option<Preview<'a>>
     ensures some { IfSome result (λ preview. (preview.place ≡ place) × PreviewAt bytes.now place preview.content.now) }
     ensures none { IfNone result ((content : List ℕ) → PreviewAt bytes.now place content → ⊥) }

@@ -6,11 +6,15 @@ use Rattle.dwg_text.specs.Lines.{line}
 
 -- which words the program takes
 unfoldable pub usage_note : List ℕ
-usage_note = line (codes "dwg: usage: sections | classes | show | rewrite | audit | recover | make N SEED | drill N | appdata | certify | accept")
+usage_note = line (codes "dwg: usage: sections | classes | show | rewrite | audit | recover | make N SEED | drill N | appdata | certify | accept | carry")
 
 -- a drawing has no certificate
 unfoldable pub unsound_note : List ℕ
 unsound_note = line (codes "dwg: not sound")
+
+-- no preview stands where the file header says
+unfoldable pub preview_dropped_note : List ℕ
+preview_dropped_note = line (codes "dwg: preview dropped")
 
 -- how many entities a made drawing may be asked for
 unfoldable pub size_note : List ℕ

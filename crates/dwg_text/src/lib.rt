@@ -10,8 +10,8 @@ mod sections;
 pub use acceptance::{accept_no, accept_yes};
 pub use classes::{classes_text, push_class_line, truth};
 pub use notes::{
-    push_refusal, push_refusal_words, read_fault_note, refusal_note, size_note, too_large_note,
-    too_long_note, unsound_note, usage_note,
+    preview_dropped_note, push_refusal, push_refusal_words, read_fault_note, refusal_note,
+    size_note, too_large_note, too_long_note, unsound_note, usage_note,
 };
 pub use quoted::push_quoted;
 pub use sections::{sections_text, version_word};

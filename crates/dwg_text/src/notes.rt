@@ -12,7 +12,7 @@ use std::alloc::{AllocError, Global};
 pub fn usage_note() -> &'static [u8]
     ensures { result.now ≡ texts.usage_note }
 {
-    b"dwg: usage: sections | classes | show | rewrite | audit | recover | make N SEED | drill N | appdata | certify | accept\n"
+    b"dwg: usage: sections | classes | show | rewrite | audit | recover | make N SEED | drill N | appdata | certify | accept | carry\n"
 }
 
 /// The references of a drawing don't hold together, so it has no certificate.
@@ -21,6 +21,14 @@ pub fn unsound_note() -> &'static [u8]
     ensures { result.now ≡ texts.unsound_note }
 {
     b"dwg: not sound\n"
+}
+
+/// No preview stands where the file header says, so none is carried.
+#[tactic(auto, unfolding(crate::specs::Notes::preview_dropped_note))]
+pub fn preview_dropped_note() -> &'static [u8]
+    ensures { result.now ≡ texts.preview_dropped_note }
+{
+    b"dwg: preview dropped\n"
 }
 
 /// How many entities a made drawing may be asked for.

@@ -158,7 +158,7 @@ D43628289D57CA3F9D44102B0100000000E0DA92F82BC9D7D762A835C062BBEFD40C004A92800000
 
 /// What a run leaves that tells how the program is used.
 const USAGE: &str =
-    "Usage | - | dwg: usage: sections | classes | show | rewrite | audit | recover | make N SEED | drill N | appdata | certify | accept";
+    "Usage | - | dwg: usage: sections | classes | show | rewrite | audit | recover | make N SEED | drill N | appdata | certify | accept | carry";
 
 /// What drawings are shown as.
 const SHOWN: &str = "\
@@ -458,6 +458,32 @@ dwg rewrite | long_kinds | Done | file short_kinds | -",
 }
 
 #[test]
+fn carries_previews(rt: HostRuntime) -> Result<(), Fail> {
+    // Where it stands and where the header says, moved and without a picture; and one that isn't there: another sentinel, a place at the
+    // begin of the file, behind the entries' end by one too few, and a header that names another place.
+    every_line::<Answers>(
+        rt.alloc(),
+        "\
+dwg carry | smallest 44=C2 162=0C 166..167=0102B000000002000000AABB sealed | Done | file smallest 44=C2 162=0C 166..167=0102B000000002000000AABB sealed | -
+dwg rewrite | smallest 44=C2 162=0C 166..167=0102B000000002000000AABB sealed | Done | file smallest | -
+dwg carry | smallest 44=D6 162=20 166..167=0301C20000000100000002000000000000000003C300000003000000AABBCCDD sealed | Done | file smallest 44=D6 162=20 166..167=0301C20000000100000002000000000000000003C300000003000000AABBCCDD sealed | -
+dwg carry | smallest 13=96 44=92 146..187=000201D01F256D07D43628289D57CA3F9D44102B200000000301C600000001000000024D0000000000000003C700000003000000AABBCCDDE0DA92F82BC9D7D762A835C062BBEFD4 sealed | Done | file smallest 44=D6 162=20 166..167=0301C20000000100000002000000000000000003C300000003000000AABBCCDD sealed | -
+dwg rewrite | smallest 13=96 44=92 146..187=000201D01F256D07D43628289D57CA3F9D44102B200000000301C600000001000000024D0000000000000003C700000003000000AABBCCDDE0DA92F82BC9D7D762A835C062BBEFD4 sealed | Done | file smallest | -
+dwg carry | smallest 5=34 44=C2 162=0C 166..167=0102B000000002000000AABB sealed | Done | file smallest 5=34 44=C2 162=0C 166..167=0102B000000002000000AABB sealed | -
+dwg carry | smallest | Done | file smallest | -
+dwg carry | kinds | Done | file kinds | -
+dwg carry | made/1/7 | Done | file made/1/7 | -
+dwg carry | smallest 44=C2 162=0C 166..167=01020000000002000000AABB sealed | Done | file smallest | dwg: preview dropped
+dwg carry | smallest 44=C2 162=0C 166..167=0102AF00000002000000AABB sealed | Done | file smallest | dwg: preview dropped
+dwg carry | smallest 44=C2 162=0C 166..167=0102B000000003000000AABB sealed | Done | file smallest | dwg: preview dropped
+dwg carry | smallest 146=1E | Done | file smallest | dwg: preview dropped
+dwg carry | smallest 13=93 sealed | Done | file smallest | dwg: preview dropped
+dwg carry | smallest #140 | Refused 16 0 124 | - | dwg: refused: classes 0 at 124: length
+dwg carry | one_object 196=01 | Refused 30 0 183 | - | dwg: refused: objects 0 at 183: check",
+    )
+}
+
+#[test]
 fn shows_drawings(rt: HostRuntime) -> Result<(), Fail> {
     every_paragraph::<Shown>(rt.alloc(), SHOWN)
 }
@@ -511,7 +537,8 @@ fn refuses_a_drawing_that_is_too_large(rt: HostRuntime) -> Result<(), Fail> {
     every_line::<OverDevices>(
         rt.alloc(),
         "\
-dwg rewrite | 1000000 0 1000000 0 | two_sections | TooLarge 34000205 | - | dwg: drawing too large: 34000205 bytes",
+dwg rewrite | 1000000 0 1000000 0 | two_sections | TooLarge 34000205 | - | dwg: drawing too large: 34000205 bytes
+dwg carry | 1000000 0 1000000 0 | two_sections | TooLarge 34000205 | - | dwg: drawing too large: 34000205 bytes",
     )
 }
 

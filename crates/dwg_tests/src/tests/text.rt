@@ -5,7 +5,8 @@ use dwg_classes::Class;
 use dwg_samples::bytes_of;
 use dwg_sections::{FileHeader, Locator};
 use dwg_text::{
-    classes_text, read_fault_note, refusal_note, sections_text, too_long_note, usage_note,
+    classes_text, preview_dropped_note, read_fault_note, refusal_note, sections_text,
+    too_long_note, usage_note,
 };
 use std::alloc::Global;
 use std::process::Abort;
@@ -71,6 +72,7 @@ fn texts(alloc: Global) -> String {
     print(&mut text, read_fault_note());
     print(&mut text, too_long_note());
     print(&mut text, usage_note());
+    print(&mut text, preview_dropped_note());
     text
 }
 
@@ -90,7 +92,8 @@ fn prints_sections_and_notes(rt: HostRuntime) {
         dwg: refused: map 3 at 204: duplicate\n\
         dwg: read fault\n\
         dwg: input too long\n\
-        dwg: usage: sections | classes | show | rewrite | audit | recover | make N SEED | drill N | appdata | certify | accept\n",
+        dwg: usage: sections | classes | show | rewrite | audit | recover | make N SEED | drill N | appdata | certify | accept | carry\n\
+        dwg: preview dropped\n",
     );
 }
 

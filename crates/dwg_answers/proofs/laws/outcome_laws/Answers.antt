@@ -1,3 +1,4 @@
+use Rattle.dwg_answers.proofs.CarryAnswers.{CarryingLaws, carry_notes_none, carry_writes_preview, none_is_carried}
 use Rattle.dwg_answers.proofs.CertificateAnswers.{FormLaws, none_is_certified, sound_is_certified, unsound_is_noted, no_certificate_is_refused, no_drawing_behind_is_refused, accept_tells_accepted, certified_is_accepted}
 use Rattle.dwg_answers.proofs.CertificateReplies.{AcceptanceLaws}
 use Rattle.dwg_answers.proofs.ItemAnswers.{no_items_are_told, appdata_tells_items}
@@ -15,6 +16,15 @@ returns c =
       valid = λ bytes drawing are within spelled. c.drawing_laws.ensures.valid bytes drawing are within spelled;
     } in
     let files : FileLaws = record { spells = c.canonical_laws.ensures.spells; counted = c.canonical_laws.ensures.counted; no_other = c.canonical_laws.ensures.no_other } in
+    let carrying : CarryingLaws = record {
+      spells = c.carrying_laws.ensures.spells;
+      counted = c.carrying_laws.ensures.counted;
+      no_other = c.carrying_laws.ensures.no_other;
+      preview = c.carrying_laws.ensures.preview;
+      once = c.carrying_laws.ensures.once;
+      found = c.preview_laws.ensures.found;
+      header = c.file_header_laws.ensures.complete;
+    } in
     let parts : PartLaws = record {
       begins = c.file_header_laws.ensures.sound;
       header = c.file_header_laws.ensures.complete;
@@ -36,6 +46,9 @@ returns c =
       show = show_prints_drawing laws;
       rewrite = rewrite_writes_drawing laws files;
       large = rewrite_tells_size laws;
+      no_carried = none_is_carried laws;
+      carry = carry_writes_preview laws carrying;
+      no_preview = carry_notes_none laws carrying;
       audit = audit_tells_sound laws c.auditable_laws.ensures.auditable c.finding_laws.ensures.sound;
       recover = recover_rewrites_drawing laws c.answer_laws.ensures.spelled;
       damaged = recover_writes_frames laws c.answer_laws.ensures.valid c.answer_laws.ensures.damaged;

@@ -1,3 +1,4 @@
+use Rattle.dwg_preview.proofs.ContentFound.{content_is_found}
 use Rattle.dwg_preview.proofs.PreviewParts.{preview_is_counted, preview_is_one}
 use Rattle.dwg_preview.proofs.Moving.{entries_are_moved, moved_is_content, moved_stays, moved_twice_is_moved, section_is_pieces}
 use Rattle.dwg_preview.proofs.laws.preview_laws.Goals as goal
@@ -22,3 +23,6 @@ returns-clause-stays c = moved_stays
 
 pub returns-clause-pieces : goal.returns-clause-pieces
 returns-clause-pieces c = section_is_pieces
+
+pub returns-clause-found : goal.returns-clause-found
+returns-clause-found c = content_is_found
