@@ -6,7 +6,7 @@ import enum
 import math
 from dataclasses import dataclass, field
 from functools import lru_cache
-from typing import Iterable, List, NamedTuple, Tuple, Union
+from typing import Callable, Dict, Iterable, List, NamedTuple, Set, Tuple, Union
 
 from plane import SAME, Affine, Box, Point
 from shapes import Figure, Frame
@@ -81,10 +81,40 @@ class Insert:
     own: Pen
     floating: bool
     off: bool
+    # How many blocks in each other are drawn, its own counted.
+    level: int = 0
     seats: List[Affine] = field(default_factory=list)
 
 
 Item = Union[Drawn, Insert]
+
+
+class Nesting:
+    """Which blocks are in which, from one on, so that nothing depends on which is met first: the inserts that lead back, by which a block would be
+    in itself, and how many blocks are in each other in each, itself counted. Blocks are gone through by their handles."""
+
+    def __init__(self, first: int, inner: Callable[[int], Iterable[int]]) -> None:
+        self.back: Set[Tuple[int, int]] = set()
+        self.heights: Dict[int, int] = {}
+        way, open_heights = [(first, iter(sorted(set(inner(first)))))], {first: 1}
+        while way:
+            block, rest = way[-1]
+            for one in rest:
+                if one in open_heights:
+                    self.back.add((block, one))
+                elif one not in self.heights:
+                    open_heights[one] = 1
+                    way.append((one, iter(sorted(set(inner(one))))))
+                    break
+                else:
+                    open_heights[block] = max(open_heights[block], 1 + self.heights[one])
+            else:
+                way.pop()
+                self.heights[block] = open_heights.pop(block)
+                if way:
+                    outer = way[-1][0]
+                    open_heights[outer] = max(open_heights[outer], 1 + self.heights[block])
+        self.deepest = self.heights[first] - 1
 
 
 @dataclass(eq=False)

@@ -6,6 +6,8 @@ The statuses, notes and texts are those of docs/FORMAT.md. This module is tested
 from __future__ import annotations
 
 import argparse
+import binascii
+import bisect
 import contextlib
 import enum
 import errno
@@ -14,6 +16,7 @@ import itertools
 import math
 import os
 import re
+import select
 import shutil
 import signal
 import struct
@@ -27,7 +30,7 @@ import unicodedata
 from array import array
 from dataclasses import dataclass, field
 from functools import lru_cache
-from typing import IO, Any, Callable, Dict, Iterable, Iterator, List, NoReturn, Optional, Sequence, Set, Tuple, Union
+from typing import IO, Any, Callable, Dict, Iterable, Iterator, List, Mapping, NoReturn, Optional, Sequence, Set, Tuple, Union
 
 # How many bytes an input and a canonical file have at the most (docs/FORMAT.md, Limits).
 LIMIT = 33_554_432
@@ -250,6 +253,21 @@ MOST_NOTES = 1 << 16
 MOST_WAITING = 30
 
 
+# How often a run with a limit is looked at, in seconds.
+LOOK = 0.2
+
+
+@dataclass(frozen=True)
+class Patience:
+    """How many seconds a run may compute, and how many it may take in all, however busy the machine is.
+
+    Those in which the tool is stopped, with what it runs, don't count.
+    """
+
+    computing: float
+    taking: float
+
+
 @dataclass(frozen=True)
 class Answer:
     """What one run of the program gave: its status, its output, its notes."""
@@ -298,7 +316,7 @@ class ProgramFailed(ToolError):
 
 
 class TookTooLong(ProgramFailed):
-    """The program gave no answer in the time that it had, which it would take again for the same bytes."""
+    """The program computed longer than it may without an answer, which it would do again for the same bytes."""
 
 
 class NotBuilt(ToolError):
@@ -339,19 +357,16 @@ class Program:
         words: Sequence[str],
         source: Union[int, IO[bytes], bytes, None] = None,
         output: Optional[IO[bytes]] = None,
-        seconds: Optional[float] = None,
+        patience: Optional[Patience] = None,
         notes: Optional[IO[bytes]] = None,
     ) -> Answer:
-        """Runs the program on words, for so many seconds at the most. The source is a file, a descriptor, bytes, or nothing; output and notes go to
+        """Runs the program on words, as long as there is patience. The source is a file, a descriptor, bytes, or nothing; output and notes go to
         files where these are given, and of such notes the answer has the begin."""
         given = source if isinstance(source, bytes) else None
         stdin = subprocess.PIPE if given is not None else subprocess.DEVNULL if source is None else source
         stdout, stderr = (subprocess.PIPE if file is None else file for file in (output, notes))
         with self._started(words, stdin, stdout, stderr) as ran:
-            try:
-                out, said = ran.communicate(given, seconds)
-            except subprocess.TimeoutExpired:
-                raise TookTooLong(f"`{words[0]}` takes more than {seconds} seconds") from None
+            out, said = ran.communicate(given) if patience is None else _awaited(ran, words[0], given, patience)
         if notes is not None:
             notes.seek(0)
             said = notes.read(MOST_NOTES)
@@ -430,6 +445,29 @@ class Program:
                 ran.kill()
 
 
+def _computed_by(process: int) -> float:
+    """How many seconds a process has computed; none where the system doesn't tell."""
+    with contextlib.suppress(OSError, ValueError, IndexError), open(f"/proc/{process}/stat", "rb") as told:
+        # (its second field is a name, which may have anything)
+        fields = told.read().rpartition(b")")[2].split()
+        return (int(fields[11]) + int(fields[12])) / os.sysconf("SC_CLK_TCK")
+    return 0.0
+
+
+def _awaited(ran: "subprocess.Popen[bytes]", command: str, given: Optional[bytes], patience: Patience) -> Tuple[Optional[bytes], Optional[bytes]]:
+    """The output and the notes of a run, which has ended. A look that comes late counts as one that doesn't: the tool was stopped meanwhile."""
+    looks = 0
+    while True:
+        try:
+            return ran.communicate(given, LOOK)
+        except subprocess.TimeoutExpired:
+            looks, given = looks + 1, None
+        if _computed_by(ran.pid) >= patience.computing:
+            raise TookTooLong(f"`{command}` takes more than {patience.computing:g} seconds")
+        if looks * LOOK >= patience.taking:
+            raise ProgramFailed(f"`{command}` has no answer in {patience.taking:g} seconds")
+
+
 def _file_of_notes() -> IO[bytes]:
     """A file without a name for notes; ProgramFailed where there is no place for one, since that says nothing of the file that is read."""
     try:
@@ -445,8 +483,11 @@ MOST_HEADER = 97
 def version_of_rest(program: Program, front: bytes) -> Optional[str]:
     """The version that a file header is of by all but its first six bytes, where these are others: its check word is right with one alone."""
     for version in OURS:
-        if version != front[:6] and program.run(["sections"], version + front[6:MOST_HEADER]).status == Status.DONE:
+        status = program.run(["sections"], version + front[6:MOST_HEADER]).status if version != front[:6] else Status.REFUSED
+        if status == Status.DONE:
             return version.decode()
+        if status != Status.REFUSED:
+            raise ProgramFailed(f"status {int(status)} for `sections`")
     return None
 
 
@@ -589,7 +630,7 @@ class WholeFile:
     def finish(self) -> None:
         """Sees to it that all that was written is on the disk."""
         self.file.flush()
-        handle, old = self.file.fileno(), self._replaced()
+        handle, old = self.file.fileno(), self.replaced()
         if old:
             with contextlib.suppress(OSError):
                 os.fchown(handle, old.st_uid, old.st_gid)
@@ -599,10 +640,14 @@ class WholeFile:
     def place(self) -> None:
         """Gives the file its name."""
         if self.force:
-            self._replaced()
+            self.replaced()
             os.replace(self._temporary, self.path)
         else:
             self._link()
+        self.sync_folder()
+
+    def sync_folder(self) -> None:
+        """Sees to it that the names of the folder are on the disk, where it can be read."""
         with contextlib.suppress(OSError):
             folder = os.open(self._folder, os.O_RDONLY)
             try:
@@ -610,7 +655,7 @@ class WholeFile:
             finally:
                 os.close(folder)
 
-    def _replaced(self) -> Optional[os.stat_result]:
+    def replaced(self) -> Optional[os.stat_result]:
         """The regular file that is to be replaced; None where there is none, and FileExistsError where what has the name must stay."""
         if not self.force:
             return None
@@ -672,24 +717,70 @@ def write_whole(path: str, data: bytes, force: bool = False) -> None:
 # ---------------------------------------------------------------------------------------------------------------------
 
 
+class Patient(io.FileIO):
+    """A descriptor that is waited for where it doesn't block, so that no pause is taken for its end, or for a fault.
+
+    Whether it blocks belongs to all processes that share what it leads to: that stays as it is.
+    """
+
+    def readinto(self, buffer: Any) -> int:
+        """Reads what has come, once something has; 0 tells the end."""
+        while True:
+            # It waits before it reads: a named pipe that nobody writes into yet reads as one that has ended.
+            _await(self.fileno(), select.POLLIN)
+            count = super().readinto(buffer)
+            if count is not None:
+                return count
+
+    def read(self, size: Optional[int] = -1) -> bytes:
+        """Reads as `readinto` does, which the one of a file doesn't."""
+        return io.RawIOBase.read(self, -1 if size is None else size) or b""
+
+    def readall(self) -> bytes:
+        """Reads as `readinto` does up to the end."""
+        return io.RawIOBase.readall(self) or b""
+
+    def write(self, data: Any) -> int:
+        """Writes as much as there is room for, once there is any."""
+        while True:
+            count = super().write(data)
+            if count is not None:
+                return count
+            _await(self.fileno(), select.POLLOUT)
+
+
+def _await(handle: int, event: int) -> None:
+    """Waits until a descriptor can be read or written, or has an end or a fault to tell."""
+    waiting = select.poll()
+    waiting.register(handle, event)
+    waiting.poll()
+
+
 def is_standard(path: Optional[str]) -> bool:
     """Whether a word stands for a standard stream: `-`, or none at all."""
     return path is None or path == "-"
 
 
+def as_file(name: str) -> str:
+    """The name of a file as a word that stands for no standard stream."""
+    return os.path.join(".", name) if is_standard(name) else name
+
+
 def input_name(path: Optional[str]) -> str:
     """What an input is called in messages."""
-    return "standard input" if path is None or path == "-" else one_line(path)
+    return "standard input" if path is None or is_standard(path) else one_line(path)
 
 
 @contextlib.contextmanager
 def opened(path: Optional[str]) -> Iterator[IO[bytes]]:
-    """An input as it comes, which isn't a terminal. ToolError with status 4 where it can't be read."""
+    """An input as it comes, which isn't a terminal. ToolError with status 4 where it can't be read, or is changed while it is."""
     try:
-        with open(0, "rb", closefd=False) if is_standard(path) else open(str(path), "rb") as file:
+        with io.BufferedReader(Patient(0, closefd=False) if path is None or is_standard(path) else Patient(path)) as file:
             if file.isatty():
                 raise ToolError(f"{input_name(path)} is a terminal, and no drawing comes from there; name a file", Exit.USAGE)
+            before = state_of(file)
             yield file
+            refuse_changed(file, before, input_name(path))
     except OSError as fault:
         raise ToolError(f"{input_name(path)}: {fault.strerror}", Status.READ_FAULT) from None
 
@@ -727,10 +818,16 @@ def state_of(file: IO[bytes]) -> Optional[Tuple[int, int]]:
     return (told.st_size, told.st_mtime_ns) if stat.S_ISREG(told.st_mode) else None
 
 
+def refuse_changed(file: IO[bytes], before: Optional[Tuple[int, int]], name: str) -> None:
+    """Refuses an input whose state isn't the one that it had before it was read."""
+    if state_of(file) != before:
+        raise ToolError(f"{name}: {CHANGED}", Status.READ_FAULT)
+
+
 def _status_at(path: Optional[str], stream: int) -> Optional[os.stat_result]:
     """What stands at a name, links followed, or is the standard stream; None where nothing does."""
     try:
-        return os.fstat(stream) if path is None or path == "-" else os.stat(path)
+        return os.fstat(stream) if path is None or is_standard(path) else os.stat(path)
     except (OSError, ValueError):
         return None
 
@@ -751,18 +848,20 @@ def outputs(is_new: bool) -> List[os.stat_result]:
     return [own for own in map(_stream_file, (1, 2)) if own is not None and is_new == (not own.st_size)]
 
 
-def refuse_streams(sources: Sequence[Optional[str]]) -> None:
-    """Refuses a file to read that is standard output or error too, before anything is written there.
+def refuse_streams(sources: Sequence[Optional[str]], named: Sequence[str] = ()) -> None:
+    """Refuses a file to read, or an output that is named, that is standard output or error too, before anything is written there.
 
-    Where it is standard error the refusal isn't said, since it would stand in the file: the status alone tells.
+    Where it is standard error the refusal isn't said, since it would stand in the file: the status alone tells. That is looked at first.
     """
     for stream, called in ((2, "error"), (1, "output")):
         own = _stream_file(stream)
-        for source in sources if own else ():
-            if is_one_file(own, _status_at(source, 0)):
+        for name in itertools.chain(sources, named) if own else ():
+            if is_one_file(own, _status_at(name, 0)):
                 if stream == 2:
                     _hush()
-                raise ToolError(f"{input_name(source)} is standard {called} too; nothing is written into what is read", Exit.EXISTS)
+                # (what is said into a file that is replaced would be lost with it)
+                why = "nothing is written into what is read" if name in sources else "name another output"
+                raise ToolError(f"{input_name(name)} is standard {called} too; {why}", Exit.EXISTS)
 
 
 def _hush() -> None:
@@ -775,21 +874,32 @@ def _hush() -> None:
 def _hush_where_named(words: Sequence[str]) -> None:
     """Says nothing more where standard error is a file that the words may name, or a drawing in a folder that they name."""
     own, path = _stream_file(2), os.path.realpath("/dev/fd/2")
-    for word in ("-", *words, *(word.partition("=")[2] for word in words)) if own else ():
-        is_inside = path.lower().endswith(".dwg") and os.path.isdir(word) and path.startswith(os.path.join(os.path.realpath(word), ""))
-        if is_inside or is_one_file(own, _status_at(word, 0)):
-            _hush()
-            return
+    if own is None:
+        return
+    names = [as_file(name) for word in words for name in _names_in(word)]
+    folders = (os.path.join(os.path.realpath(name), "") for name in names if os.path.isdir(name))
+    is_inside = path.lower().endswith(".dwg") and path.startswith(tuple(folders))
+    if is_inside or any(is_one_file(own, _status_at(name, 0)) for name in (None, *names)):
+        _hush()
+
+
+def _names_in(word: str) -> Iterator[str]:
+    """What a word may name: itself, what stands behind its `=`, and behind `-o`."""
+    yield word
+    yield word.partition("=")[2]
+    if word.startswith("-o"):
+        yield word[2:]
 
 
 def refuse_output(path: Optional[str], force: bool, sources: Sequence[Optional[str]]) -> None:
-    """Refuses an output before any work: one that is an input by any name, one that is there, and what `force` doesn't replace."""
-    refuse_streams(sources)
-    name = "standard output" if path is None or path == "-" else one_line(path)
+    """Refuses an output before any work: one that is an input by any name, or what a standard stream goes to, one that is there, and what `force`
+    doesn't replace."""
+    refuse_streams(sources, [] if path is None or is_standard(path) else [path])
+    name = "standard output" if path is None or is_standard(path) else one_line(path)
     there = _status_at(path, 1)
     if any(is_one_file(there, _status_at(source, 0)) for source in sources):
         raise ToolError(f"{name} is the input itself; name another output", Exit.EXISTS)
-    if path is None or path == "-":
+    if path is None or is_standard(path):
         return
     if not path:
         raise ToolError("the output has no name", Exit.USAGE)
@@ -811,7 +921,7 @@ def refuse_output(path: Optional[str], force: bool, sources: Sequence[Optional[s
 def output(path: Optional[str], force: bool) -> Iterator[IO[bytes]]:
     """Standard output, or a file that is written whole or not at all; status 5 where that fails, 73 where the file is there."""
     try:
-        if path is None or path == "-":
+        if path is None or is_standard(path):
             yield sys.stdout.buffer
             sys.stdout.buffer.flush()
             return
@@ -896,7 +1006,7 @@ BYTES = {b"bytes", b"graphic", b"preview", b"texts", b"rest"}
 _ESCAPE = re.compile(rb"\\([0-9a-f]{2})")
 _CLASS = re.compile(rb'class (\d{1,10}) version (\d{1,10}) proxy ([01]) item (\d{1,10}) app ("[^"]*") cpp ("[^"]*") dxf ("[^"]*")')
 _DRAWING = re.compile(rb"drawing (\S+) codepage (\d{1,10}) lead (\S+) mark (\S+)")
-_SECTION = re.compile(rb"section (\d{1,10}) (\S+)")
+_SECTION = re.compile(rb"section (\d{1,3}) (\S+)")
 
 
 def double(word: int) -> float:
@@ -925,7 +1035,7 @@ def read_text(printed: bytes) -> Text:
 
 def read_bytes(printed: bytes) -> Bytes:
     """Bytes as they are printed: two digits each, or a hyphen where there are none."""
-    return Bytes(b"" if printed == b"-" else bytes.fromhex(printed.decode("ascii")))
+    return Bytes(b"" if printed == b"-" else binascii.unhexlify(printed))
 
 
 def read_value(name: bytes, printed: bytes) -> Value:
@@ -1065,6 +1175,46 @@ class Class:
     dxf: Text
 
 
+class Classes(Sequence[Class]):
+    """The classes of a drawing in their order, packed: of a file of 32 MiB there may be nine million, of 29 bits each."""
+
+    # The number, the version, whether it was a proxy, the item class, and how many bytes each of the three texts has, which stand behind.
+    HEAD = struct.Struct("<HHBHHHH")
+
+    def __init__(self) -> None:
+        self._packed, self._places = bytearray(), array("I")
+
+    def append(self, one: Class) -> None:
+        """Puts a class behind the others; BadText where it has a number that no class has."""
+        texts = (one.app, one.cpp, one.dxf)
+        try:
+            head = self.HEAD.pack(one.number, one.version, one.proxy, one.item, *map(len, texts))
+        except struct.error:
+            raise BadText("a class of number %d that no drawing has" % one.number) from None
+        self._places.append(len(self._packed))
+        self._packed += b"".join((head, *texts))
+
+    def __len__(self) -> int:
+        return len(self._places)
+
+    def __getitem__(self, index: Any) -> Any:
+        place = self._places[index]
+        number, version, proxy, item, *sizes = self.HEAD.unpack_from(self._packed, place)
+        place += self.HEAD.size
+        texts = []
+        for size in sizes:
+            texts.append(Text(self._packed[place : place + size]))
+            place += size
+        return Class(number, version, proxy, item, *texts)
+
+    def __eq__(self, other: object) -> bool:
+        return isinstance(other, Classes) and self._packed == other._packed
+
+    def numbers(self) -> Iterator[int]:
+        """The numbers of the classes."""
+        return (self._packed[place] | self._packed[place + 1] << 8 for place in self._places)
+
+
 @dataclass
 class Front:
     """What the text of `show` says before its objects."""
@@ -1074,7 +1224,7 @@ class Front:
     lead: Bytes
     mark: Bytes
     variables: Bytes
-    classes: List[Class]
+    classes: Classes
     sections: List[Tuple[int, Bytes]]
     count: int
 
@@ -1119,7 +1269,9 @@ def read_front(lines: Iterator[bytes]) -> Front:
         raise BadText("this is no text of show")
     version, codepage, lead, mark = found.groups()
     variables = read_bytes(_after(b"variables", _next(lines)))
-    classes = [_read_class(_next(lines)) for _ in range(_count(b"classes", _next(lines), MOST_CLASSES))]
+    classes = Classes()
+    for _ in range(_count(b"classes", _next(lines), MOST_CLASSES)):
+        classes.append(_read_class(_next(lines)))
     sections: List[Tuple[int, Bytes]] = []
     line = _next(lines)
     section = _SECTION.fullmatch(line)
@@ -1247,14 +1399,41 @@ def decoded(text: bytes, page: str) -> str:
 NAMED = {"LAYER", "STYLE", "LTYPE", "APPID", "BLOCK HEADER"}
 
 
-def names_of(found: Iterable[Object]) -> Dict[int, Text]:
+class Names(Mapping[int, Text]):
+    """Names by handle, which were put in by ascending handles, packed: a table may have more than a million entries of twenty bytes each."""
+
+    def __init__(self) -> None:
+        self._handles, self._ends, self._letters = array("Q"), array("I"), bytearray()
+
+    def put(self, handle: int, name: Text) -> None:
+        """Puts in the name of a handle; BadText where that isn't above those before."""
+        if not (self._handles[-1] if self._handles else -1) < handle < 1 << 63:
+            raise BadText("object %X behind one of a handle that isn't below" % handle)
+        self._handles.append(handle)
+        self._letters += name
+        self._ends.append(len(self._letters))
+
+    def __len__(self) -> int:
+        return len(self._handles)
+
+    def __iter__(self) -> Iterator[int]:
+        return iter(self._handles)
+
+    def __getitem__(self, handle: int) -> Text:
+        at = bisect.bisect_left(self._handles, handle)
+        if at == len(self._handles) or self._handles[at] != handle:
+            raise KeyError(handle)
+        return Text(self._letters[self._ends[at - 1] if at else 0 : self._ends[at]])
+
+
+def names_of(found: Iterable[Object]) -> Names:
     """The names of layers, styles, linetypes, applications and blocks, by handle."""
-    names: Dict[int, Text] = {}
+    names = Names()
     for one in found:
         if one.kind in NAMED:
             name = one.value("entry.name")
             if isinstance(name, Text):
-                names[one.handle] = name
+                names.put(one.handle, name)
     return names
 
 
@@ -1328,7 +1507,7 @@ class Drawing:
         if bad or not first:
             raise ToolError(f"the text of `show` isn't as it should be: {bad or 'it is empty'}", Exit.FAILURE)
 
-    def names(self) -> Dict[int, Text]:
+    def names(self) -> Names:
         """The names of layers, styles, linetypes, applications and blocks, by handle."""
         with self.show() as (_, found):
             return names_of(found)
@@ -1350,7 +1529,7 @@ ONE_DRAWING: List[Tuple[int, str]] = [
     (Exit.TOO_MUCH_TEXT, "an object has more than 268,435,456 bytes of text by `dwg show`, or all entities of blocks have four times as much"),
     (Exit.NO_PROGRAM, "the program dwg isn't found or gives no answer"),
     (Exit.FAILURE, "failure of the tool itself"),
-    (Exit.EXISTS, "the output is the input, or is there already; or standard error is the input, and nothing is said"),
+    (Exit.EXISTS, "the output is the input, is there already, or is where standard output or error goes; or standard error is the input, and nothing is said"),
     (Exit.INTERRUPTED, "interrupted"),
     (Exit.CLOSED_PIPE, "nobody reads the output any more"),
 ]
@@ -1431,15 +1610,16 @@ def open_missing_streams() -> None:
             setattr(sys, name, open(number, mode, encoding="utf-8", errors="backslashreplace", closefd=False))
 
 
-def buffer_streams() -> None:
-    """Has standard output and standard error write all that they are given. Where Python was told not to buffer them
-    (PYTHONUNBUFFERED), a write may take a part of it, as on a disk that gets full, and nobody hears of that."""
-    for name in ("stdout", "stderr"):
+def await_streams() -> None:
+    """Has standard input read to its end, and standard output and error write all that they are given, whether or not they block. Where Python
+    was told not to buffer them (PYTHONUNBUFFERED), a write may take a part of it, as on a disk that gets full, and nobody hears of that."""
+    for number, name in enumerate(("stdin", "stdout", "stderr")):
         stream = getattr(sys, name)
-        if isinstance(getattr(stream, "buffer", None), io.RawIOBase):
-            encoding, errors = stream.encoding, stream.errors
-            whole = io.BufferedWriter(stream.detach())
-            setattr(sys, name, io.TextIOWrapper(whole, encoding=encoding, errors=errors, line_buffering=name == "stderr"))
+        own: Union[io.BufferedReader, io.BufferedWriter]
+        own = io.BufferedWriter(Patient(number, "w", closefd=False)) if number else io.BufferedReader(Patient(number, closefd=False))
+        is_by_line = stream.line_buffering or number == 2
+        setattr(sys, name, io.TextIOWrapper(own, encoding=stream.encoding, errors=stream.errors, line_buffering=is_by_line))
+        stream.detach()
 
 
 _ENDING = (signal.SIGINT, signal.SIGTERM, signal.SIGHUP)
@@ -1531,7 +1711,7 @@ def _ran(main: Callable[[], int]) -> int:
 def run_tool(main: Callable[[], int]) -> NoReturn:
     """Runs a tool and ends with its status, and never by a traceback. Its scripts begin with interrupts blocked, which this lets in."""
     open_missing_streams()
-    buffer_streams()
+    await_streams()
     try:
         status = _ran(main)
         _ignore_signals()

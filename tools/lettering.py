@@ -18,22 +18,28 @@ FONT = 100.0
 CAPITAL, DEPTH = 0.72 * FONT, 0.24 * FONT
 
 SIGNS = {"d": "\u00b0", "c": "\u2300", "p": "\u00b1", "%": "%", "u": "", "o": "", "k": ""}
-_SIGN = re.compile(r"%%(\d{3}|[dcpuok%])|\\U\+([0-9A-Fa-f]{4})", re.IGNORECASE)
+_SIGN = re.compile(r"%%([0-9]{3}|[dcpuok%])|((?:\\U\+[0-9A-F]{4})+)", re.IGNORECASE)
 _UNSAID = re.compile("[\x00-\x08\x0b\x0c\x0e-\x1f\x7f-\x9f\ufffe\uffff\ud800-\udfff]")
-# What is written as a number, since it turns the direction of a terminal: a picture needs it.
-_NUMBERED = {letter: f"&#{ord(letter)};" for letter in DIRECTIONS}
+# What is written as a number: what turns the direction of a terminal, which a picture needs, and what a reader of XML would make another space.
+_NUMBERED = {letter: f"&#{ord(letter)};" for letter in (*sorted(DIRECTIONS), "\t", "\n", "\r")}
 
 
 def readable(text: bytes, page: str) -> str:
     """A text as it is read: with the signs that `%%` and `\\U+` stand for, and a question mark in a box for what can't be shown."""
 
     def sign(found: "re.Match[str]") -> str:
-        code, letter = found.group(1), found.group(2)
-        if letter:
-            return chr(int(letter, 16))
+        code, letters = found.group(1), found.group(2)
+        if letters:
+            # Two halves of one letter that stand side by side are that letter.
+            return bytes.fromhex(letters[3:].replace("\\U+", "").replace("\\u+", "")).decode("utf-16-be", "surrogatepass")
         return bytes([int(code) & 255]).decode(page, "replace") if code.isdigit() else SIGNS[code.lower()]
 
     return _UNSAID.sub("\ufffd", _SIGN.sub(sign, decoded(text, page)))
+
+
+def said(content: str) -> str:
+    """A text in an element, from which a reader of XML gets it back letter by letter."""
+    return escape(content, _NUMBERED)
 
 
 # How wide letters are in fonts without serifs, in their size: between Arial and DejaVu Sans. Others of the alphabet are alike.
@@ -83,20 +89,22 @@ class Writing(Figure):
     letters: Affine
     anchor: str
     is_fitted: bool
+    # How wide it is, told once: it may have many copies.
+    wide: float
 
     def element(self, frame: Frame) -> str:
         upright = frame.seat(self.letters).after(Affine(1.0, 0.0, 0.0, -1.0))
         if upright.is_flat():
             return ""
         anchored = "" if self.anchor == "start" else f' text-anchor="{self.anchor}"'
-        fitted = f' textLength="{plain(breadth(self.content))}" lengthAdjust="spacingAndGlyphs"' if self.is_fitted else ""
-        return f"<text{upright.attribute()}{anchored}{fitted}{FILLED}>{escape(self.content, _NUMBERED)}</text>"
+        fitted = f' textLength="{plain(self.wide)}" lengthAdjust="spacingAndGlyphs"' if self.is_fitted else ""
+        return f"<text{upright.attribute()}{anchored}{fitted}{FILLED}>{said(self.content)}</text>"
 
     def around(self, frame: Frame) -> List[Point]:
         seat = frame.seat(self.letters)
         if seat.is_flat():
             return []
-        length = breadth(self.content) * (1.0 if self.is_fitted else WIDEST)
+        length = self.wide * (1.0 if self.is_fitted else WIDEST)
         begin = {"start": 0.0, "middle": -0.5, "end": -1.0}[self.anchor] * length
         corners = [(begin, -DEPTH), (begin + length, -DEPTH), (begin, CAPITAL), (begin + length, CAPITAL)]
         return [seat.at(*corner) for corner in corners]
@@ -114,13 +122,14 @@ def written(fields: Fields, content: str) -> Iterator[Figure]:
     if not size:
         raise Undrawable("no height")
     stands, generation = standing(fields, height), fields.number("generation")
-    across = stands.length / breadth(content) if stands.length else size * (abs(fields.real("width", 1.0)) or 1.0)
+    wide = breadth(content)
+    across = stands.length / wide if stands.length else size * (abs(fields.real("width", 1.0)) or 1.0)
     scale = Affine(-across if generation & BACKWARD else across, 0.0, 0.0, -size if generation & UPSIDE_DOWN else size)
     slant = Affine(1.0, 0.0, math.tan(fields.real("oblique")), 1.0)
     plane = seen(fields.point("extrusion"), fields.real("elevation"))
     letters = plane.linear().after(turned(stands.angle)).after(slant).after(scale).moved_to(plane.at(*stands.place))
     base = letters.at(0.0, stands.baseline / size)
-    yield Writing(content, checked_map(letters.moved_to(base)), stands.anchor, bool(stands.length))
+    yield Writing(content, checked_map(letters.moved_to(base)), stands.anchor, bool(stands.length), wide)
 
 
 def text(fields: Fields, context: Context) -> Iterator[Figure]:

@@ -87,7 +87,7 @@ def pair(point: Point) -> str:
 def unit(direction: Tuple[float, ...]) -> Tuple[float, float, float]:
     """A direction of length 1; upward where there is none."""
     x, y, z = direction
-    length = math.sqrt(x * x + y * y + z * z)
+    length = math.hypot(x, y, z)
     return (x / length, y / length, z / length) if length and math.isfinite(length) else (0.0, 0.0, 1.0)
 
 
@@ -213,6 +213,15 @@ class Box:
     def __init__(self) -> None:
         self.left = self.low = math.inf
         self.right = self.high = -math.inf
+
+    @property
+    def sides(self) -> Tuple[float, float, float, float]:
+        """Its left and right side, its lower and its upper one."""
+        return self.left, self.right, self.low, self.high
+
+    @sides.setter
+    def sides(self, sides: Tuple[float, float, float, float]) -> None:
+        self.left, self.right, self.low, self.high = sides
 
     def add(self, points: Iterable[Point]) -> None:
         """Takes points in."""

@@ -35,16 +35,16 @@ class Fields:
                 path, value = read_field(printed)
                 self.values[path[len(front) :] if path.startswith(front) else path] = value
 
-    def point(self, name: str) -> Tuple[float, ...]:
-        """The coordinates of a point, which must be there."""
+    def point(self, name: str, count: int = 3) -> Tuple[float, ...]:
+        """The coordinates of a point, which must be there, so many of them."""
         value = self.values.get(name)
-        if not isinstance(value, Words):
+        if not isinstance(value, Words) or len(value) < count:
             raise Undrawable(f"no {name}")
-        return checked(value.doubles())
+        return checked(value.doubles())[:count]
 
     def pair(self, name: str) -> Point:
         """The x and y of a point."""
-        x, y = self.point(name)[:2]
+        x, y = self.point(name, 2)
         return x, y
 
     def real(self, name: str, missing: float = 0.0) -> float:

@@ -74,6 +74,8 @@ class Drawing:
 
     frames: List[Tuple[int, bytes]] = field(default_factory=list)
     classes: str = ""
+    # The unknown sections, in the order of their locators, each a number and its bytes.
+    sections: List[Tuple[int, bytes]] = field(default_factory=list)
     last: int = 0x100
 
     # The version, which the file begins with.
@@ -236,16 +238,26 @@ class Drawing:
         """A class of entities."""
         self.classes += short(number) + short(0) + text(b"APP") + text(b"CPP") + text(dxf) + "0" + short(0x1F2)
 
+    def with_sections(self, data: bytes) -> bytes:
+        """A file of three locators with the unknown sections behind its end."""
+        more, end = 9 * len(self.sections), len(data)
+        located = [(number, place + more, size) for number, place, size in struct.iter_unpack("<BII", data[25:52])]
+        for number, content in self.sections:
+            located.append((number, end + more, len(content)))
+            end += len(content)
+        return bytes(base.header(located) + data[70:] + b"".join(content for _, content in self.sections))
+
     def file(self, code_page: int = 30) -> bytes:
         """The bytes of the drawing."""
-        places, place, frames = [], 0, b""
+        # (each locator more moves what is behind the header)
+        places, place, frames = [], 9 * len(self.sections), b""
         for handle, one in sorted(self.frames):
             places.append((handle, place))
             frames += one
             place += len(one)
-        data = bytearray(base.in_order(frames, places, self.classes))
+        data = bytearray(self.with_sections(base.in_order(frames, places, self.classes)))
         data[:6] = self.VERSION
         data[19:21] = code_page.to_bytes(2, "little")
         end = 25 + 9 * int.from_bytes(data[21:25], "little")
-        data[end : end + 2] = (base.check(0, data[:end]) ^ base.HEADER_MASKS[3]).to_bytes(2, "little")
+        data[end : end + 2] = (base.check(0, data[:end]) ^ base.HEADER_MASKS[data[21]]).to_bytes(2, "little")
         return bytes(data)

@@ -16,6 +16,7 @@ import shutil
 import signal
 import subprocess
 import tempfile
+import threading
 import time
 import types
 import unittest
@@ -24,6 +25,7 @@ import zipfile
 from typing import Any, Dict, Iterator, List, Optional, Tuple
 
 import made
+import test_carry
 from made import TOOLS, WRITER, flipped, hole, layout, program_that, tool, unescaped
 
 import drawing
@@ -121,10 +123,7 @@ def add_parts_behind(files: Files) -> None:
     files.add("preview behind.dwg", moved, SOUND)
     files.add("more behind a preview.dwg", moved + b"xy", trailing(2, len(moved), "sound"))
     files.add("no preview there.dwg", made.with_preview_at(data, 1 << 31), SOUND)
-    begin = bytes.fromhex("D47B21CE28939FBF53244009123CAA01")
-    second = bytes(7) + begin + bytes(90) + bytes(255 - byte for byte in begin)
-    files.add("second header behind.dwg", data + second, SOUND)
-    files.add("more behind a second header.dwg", data + second + bytes(9), trailing(9, len(data) + len(second), "sound", zero=True))
+    add_second_headers(files, data)
     control = expected("unsound", "finding 0 control - 0 0", 1, 0)
     for size, behind in ((10, 0), (10, 4), (0, 4)):
         section = with_section(size)
@@ -132,6 +131,40 @@ def add_parts_behind(files: Files) -> None:
         files.add(f"section {size} {behind}.dwg", section + b"more"[:behind], line)
     files.add("objects behind.dwg", map_first(b""), control)
     files.add("more behind objects.dwg", map_first(b"12345"), trailing(5, len(map_first(b"")), "unsound 1", 1))
+
+
+SECOND = bytes.fromhex("D47B21CE28939FBF53244009123CAA01")
+
+
+def second_header(address: int, ends: bool = True) -> bytes:
+    """A second file header that says that it stands at an address: a BL behind its size."""
+    bits = f"00{int.from_bytes(address.to_bytes(4, 'little'), 'big'):032b}000000"
+    content = int(bits, 2).to_bytes(5, "big") + b"AC1015" + bytes(90)
+    return SECOND + len(content).to_bytes(4, "little") + content + (bytes(255 - byte for byte in SECOND) if ends else b"")
+
+
+def add_second_headers(files: Files, data: bytes) -> None:
+    """Drawings with a second header behind them: right behind a part, or where it says itself that it stands; and those with one of another drawing."""
+    size, far = len(data), len(data) + 7
+    right, own = data + second_header(1), data + bytes(7) + second_header(far)
+    files.add("second header right behind.dwg", right, SOUND)
+    files.add("second header at its address.dwg", own, SOUND)
+    for name, whole in (("right", right), ("own", own)):
+        files.add(f"more behind a second header {name}.dwg", whole + bytes(9), trailing(9, len(whole), "sound", zero=True))
+        files.add(f"second header twice {name}.dwg", whole + whole, trailing(len(whole), len(whole), "sound"))
+        # The other drawing's says where it stands in that.
+        files.add(f"drawing before one with a second header {name}.dwg", data + whole, trailing(len(whole), size, "sound"))
+    files.add("second header behind objects.dwg", map_first(second_header(1)), expected("unsound", "finding 0 control - 0 0", 1, 0))
+    files.add("second header elsewhere.dwg", data + bytes(7) + second_header(far - 1), trailing(7 + len(second_header(1)), size, "sound"))
+    files.add("second header cut.dwg", right[:-1], trailing(len(right) - 1 - size, size, "sound"))
+    # One without an end has none in another drawing.
+    unended = data + second_header(1, ends=False) + right
+    files.add("second header without end.dwg", unended, trailing(len(unended) - size, size, "sound"))
+    # So it is with previews.
+    shown = made.with_preview_at(data, size) + WRITER.preview([], bytes(90))
+    files.add("preview before a drawing.dwg", shown + shown, trailing(len(shown), len(shown), "sound"))
+    unended = flipped(shown, len(shown) - 1) + shown
+    files.add("preview without end.dwg", unended, trailing(len(unended) - size, size, "sound"))
 
 
 def with_section(size: int) -> bytes:
@@ -351,14 +384,120 @@ class Check(Base):
 
     def test_recover_without_end(self) -> None:
         """Bytes without a header, in which frames lie in each other so that `recover` takes very long, hold no run up."""
-        stand_in = program_that(self.folder, "stand-in", ['[ "$1" = recover ] && exec sleep 20', 'exec "$REAL" "$@"'])
         path = self.folder / "bytes.dwg"
         path.write_bytes(b"\x80XX\0" + bytes(range(256)))
-        with unittest.mock.patch.object(CHECK, "MOST_SECONDS", 0.2, create=True):
-            begin = time.monotonic()
-            row = CHECK.Checker(drawing.Program(str(stand_in))).check(str(path))
-        self.assertLess(time.monotonic() - begin, 10)
-        self.assertEqual((row.verdict, row.detail), ("failed", "`recover` takes more than 0.2 seconds"))
+        # It computes without end, or waits; only the first is so each time.
+        for line, limit, why, lasting in (
+            ("while :; do :; done", "MOST_SECONDS", "`recover` takes more than 0.5 seconds", True),
+            ("exec sleep 20", "MOST_TAKEN", "`recover` has no answer in 0.5 seconds", False),
+        ):
+            stand_in = program_that(self.folder, "stand-in", [f'[ "$1" != recover ] || {line}', 'exec "$REAL" "$@"'])
+            with unittest.mock.patch.object(CHECK, limit, 0.5):
+                begin = time.monotonic()
+                row = CHECK.Checker(drawing.Program(str(stand_in))).check(str(path))
+            self.assertLess(time.monotonic() - begin, 15)
+            self.assertEqual((row.verdict, row.detail, row.lasting), ("failed", why, lasting))
+
+    def of_bytes(self, *lines: str, program: str = "stand-in") -> Any:
+        """What is said of bytes without a header, by a run with LOG in which `recover` answers by these lines; and the lines of LOG behind its head."""
+        path, log = self.folder / "bytes.dwg", self.folder / "log"
+        path.write_bytes(b"\x80XX\0" + bytes(range(256)))
+        log.unlink(missing_ok=True)
+        stand_in = program_that(self.folder, program, ['[ "$1" = recover ] || exec "$REAL" "$@"', *lines])
+        ran = tool("dwg-check", "--quiet", "--json", "--program", stand_in, "--resume", log, path)
+        (row,) = map(json.loads, ran.stdout.splitlines())
+        return row, log.read_bytes().count(b"\n") - 1
+
+    def test_what_recover_says_by_its_status(self) -> None:
+        """Only what says something of the content is a verdict, and stays in LOG."""
+        said = {
+            "exit 6": "no memory",
+            "echo 'dwg: input too long' >&2; exit 7": "status 7 for `recover`",
+            "exit 5": "status 5 for `recover`",
+            "exit 3": "status 3 for `recover`",
+            # The bytes are read a second time as those of AC1014.
+            '[ "$(head -c 6)" = AC1014 ] || { echo kept 0 >&2; exit 1; }; exit 6': "no memory",
+        }
+        for line, why in said.items():
+            row, kept = self.of_bytes(line)
+            self.assertEqual((row["verdict"], row["detail"], row["refusal"], kept), ("failed", why, None, 0), line)
+        row, kept = self.of_bytes("echo 'dwg: drawing too large: 33554440 bytes' >&2; exit 8")
+        self.assertEqual((row["verdict"], row["detail"], kept), ("damaged", "header 0 at 0: version (what recover keeps would have 33554440 bytes)", 1))
+        self.assertEqual(row["refusal"], {"part": "header", "index": 0, "place": 0, "reason": "version"})
+        row, kept = self.of_bytes("echo 'dwg: read fault' >&2; exit 4")
+        self.assertEqual((row["verdict"], row["detail"]), ("unreadable", "read fault"))
+        row, kept = self.of_bytes("echo kept 0 >&2; exit 1")
+        self.assertEqual((row["verdict"], row["detail"], kept), ("no drawing", "unknown bytes", 1))
+
+    def test_a_header_of_which_no_version_is_told(self) -> None:
+        """Where the program has no memory for the rest of a header, nothing is said of it."""
+        (self.folder / "a.dwg").write_bytes(b"\x80XX\0\1\2" + made.made(5)[6:])
+        stand_in = program_that(self.folder, "stand-in", ['[ "$1" = sections ] && exit 6', 'exec "$REAL" "$@"'])
+        ran = tool("dwg-check", "--quiet", "--program", stand_in, self.folder)
+        self.assertEqual(self.verdicts(ran), [["a.dwg", "failed", "status 6 for `sections`"]])
+
+    def test_unknown_bytes_of_which_not_all_are_read(self) -> None:
+        path = self.folder / "large.bin"
+        path.write_bytes(b"\x80XX\0")
+        os.truncate(path, LIMIT + 1)
+        self.assertEqual(self.verdicts(tool("dwg-check", "--quiet", path)), [["large.bin", "too large", f"more than {LIMIT} bytes"]])
+
+    @contextlib.contextmanager
+    def pipe_of(self, data: bytes) -> Iterator[str]:
+        """The name of a pipe that gives bytes, to who reads so many."""
+        end, begin = os.pipe()
+
+        def give() -> None:
+            with contextlib.suppress(BrokenPipeError), os.fdopen(begin, "wb") as pipe:
+                pipe.write(data)
+
+        giver = threading.Thread(target=give)
+        giver.start()
+        try:
+            yield f"/dev/fd/{end}"
+        finally:
+            os.close(end)
+            giver.join()
+
+    def piped(self, data: bytes, log: Any = None) -> Any:
+        """What is said of a pipe that gives bytes."""
+        checker = CHECK.Checker(drawing.Program(made.PROGRAM), log)
+        with self.pipe_of(data) as path:
+            checker.pipes = {path}
+            return checker.check(path)
+
+    def test_a_copy_of_a_pipe_with_a_large_buffer(self) -> None:
+        """Some file systems have blocks of mebibytes, and a file is read in such pieces then, of which a child knows nothing."""
+        temporary, data = tempfile.TemporaryFile, made.made(3000)
+        with unittest.mock.patch("tempfile.TemporaryFile", lambda: temporary(buffering=1 << 21)):
+            for given, verdict in ((data, "sound"), (data[:-1], "damaged"), (bytes(6) + data[6:], "damaged"), (data + b"more", "trailing bytes")):
+                for is_kept in (False, True):
+                    log = CHECK.Log(str(self.folder / "log"), self.fail) if is_kept else None
+                    row = self.piped(given, log)
+                    self.assertEqual((row.verdict, row.bytes), (verdict, len(given)), row)
+                    self.assertEqual(row.sha256, hashlib.sha256(given).hexdigest() if log else None)
+                    if log:
+                        log.close()
+
+    def test_why_a_pipe_isnt_kept(self) -> None:
+        row = self.piped(made.made(5) + bytes(LIMIT))
+        self.assertEqual((row.verdict, row.detail), ("too large", f"more than {LIMIT} bytes"))
+        # Of what stands behind the limit nothing is known.
+        row = self.piped(bytes(LIMIT + 1))
+        self.assertEqual((row.verdict, row.bytes, row.mtime_ns), ("too large", None, None))
+        row = self.piped(made.made(5) + bytes(LIMIT - len(made.made(5))))
+        self.assertEqual((row.verdict, row.bytes), ("trailing bytes", LIMIT))
+        for number in (errno.ENOENT, errno.ENOSPC, errno.EMFILE):
+            with unittest.mock.patch("tempfile.TemporaryFile", side_effect=OSError(number, os.strerror(number))):
+                row = self.piped(made.made(5))
+            self.assertEqual((row.verdict, row.detail), ("failed", f"the pipe can't be kept: {os.strerror(number)}"))
+        with unittest.mock.patch("drawing.kept", side_effect=OSError(errno.EIO, os.strerror(errno.EIO))):
+            row = self.piped(made.made(5))
+        self.assertEqual((row.verdict, row.detail), ("unreadable", os.strerror(errno.EIO)))
+        checker = CHECK.Checker(drawing.Program(made.PROGRAM))
+        checker.pipes = {"/dev/fd/999"}
+        row = checker.check("/dev/fd/999")
+        self.assertEqual((row.verdict, row.detail), ("unreadable", os.strerror(errno.ENOENT)))
 
     def test_names(self) -> None:
         names = [b"a b.dwg", b"line\nfeed.dwg", b"tab\t.dwg", b"back\\slash.dwg", b"back\\n.dwg", b"return\r.dwg", b"\xe4.dwg", "\u00e4\u6587.DwG".encode(), "\u2028\u0085.dwg".encode(), b"\x01\x7f.dwg"]
@@ -904,6 +1043,42 @@ class Logs(Base):
             ran = tool("dwg-check", "--quiet", "--jobs", "1", "--program", going, "--resume", self.log, *self.some(["d/a.dwg"]))
             self.assertEqual((ran.returncode, self.verdicts(ran), ran.stderr), (70, [["a.dwg", "sound", ""]], said), line)
 
+    def test_log_that_is_cut_while_it_is_written(self) -> None:
+        said = f"dwg-check: {self.log} was cut or overwritten while it was written; what stood in it or is finished from now on is lost\n".encode()
+        paths = self.some(["d/a.dwg", "d/b.dwg"])
+        for line in (': >"$LOG"', 'head -c 100 "$LOG" >"$LOG.new"; cat "$LOG.new" >"$LOG"', 'head -c 100000 /dev/zero >"$LOG"', 'cat "$LOG" "$LOG" >"$LOG.new"; tail -c +2 "$LOG.new" >"$LOG"'):
+            for left in self.folder.glob("log*"):
+                left.unlink()
+            pathlib.Path(paths[1]).write_bytes(made.made(6))
+            cutting = program_that(self.folder, "cutting", [f'LOG="{self.log}"', f'[ "$1" != audit ] || [ "$(wc -l <"$LOG")" -lt 2 ] || {{ {line}; cp "$LOG" "$LOG.left"; }}', 'exec "$REAL" "$@"'])
+            ran = tool("dwg-check", "--quiet", "--jobs", "1", "--program", cutting, "--resume", self.log, *paths)
+            self.assertEqual((ran.returncode, self.verdicts(ran), ran.stderr), (70, [["a.dwg", "sound", ""], ["b.dwg", "sound", ""]], said), line)
+            # What is there isn't written into any more.
+            self.assertEqual(self.log.read_bytes(), (self.folder / "log.left").read_bytes())
+
+    def test_log_that_is_cut_behind_its_last_line(self) -> None:
+        for size in (0, 20, 150):
+            told: List[str] = []
+            log = CHECK.Log(str(self.log), told.append)
+            log.begin("0" * 64)
+            log.kept(CHECK.Row("/a", "sound", bytes=1, mtime_ns=1))
+            self.assertGreater(self.log.stat().st_size, size)
+            os.truncate(self.log, size)
+            log.close()
+            self.assertEqual((len(told), bool(log.fault)), (1, True), size)
+            self.assertIn("was cut or overwritten while it was written", told[0])
+            self.log.unlink()
+        # One that was there, and to which nothing was added.
+        tool("dwg-check", "--resume", self.log, *self.some(["d/a.dwg"]))
+        program, told = json.loads(self.log.read_bytes().splitlines()[0])["program"], []
+        for cut in (False, True):
+            log = CHECK.Log(str(self.log), told.append)
+            log.begin(program)
+            if cut:
+                os.truncate(self.log, self.log.stat().st_size - 1)
+            log.close()
+            self.assertEqual(len(told), int(cut))
+
     def test_log_where_there_are_no_locks(self) -> None:
         check = made.module(TOOLS / "dwg-check", "dwg_check")
         told: List[str] = []
@@ -921,6 +1096,92 @@ class Logs(Base):
     def no_lock(*_: object) -> None:
         """A file system that has no locks."""
         raise OSError(errno.ENOLCK, "No locks available")
+
+
+class Previews(Base):
+    """What JSON tells of the preview section of a whole drawing."""
+
+    def expected(self) -> Dict[str, Tuple[bytes, Optional[Dict[str, Any]]]]:
+        """Drawings by their names, and what is told of their preview sections: those of test_carry behind the drawing, and damaged ones."""
+        found: Dict[str, Tuple[bytes, Optional[Dict[str, Any]]]] = {}
+        for number, data in enumerate((made.made(1), (made.TOP / "samples" / "r14.dwg").read_bytes())):
+            end = len(data)
+            for index, preview in enumerate([*test_carry.PREVIEWS, *test_carry.NONE]):
+                section = preview.at(end)
+                pictures = [{"code": code, "bytes": size} for code, _, size in preview.entries if size]
+                told = {"bytes": len(section) - 36, "pictures": pictures} if preview in test_carry.PREVIEWS else None
+                found[f"{number} {index}.dwg"] = made.with_preview_at(data, end) + section, told
+                found[f"{number} {index} more.dwg"] = made.with_preview_at(data, end) + section + b"more", told
+            shown = made.with_preview_at(data, end) + test_carry.ONE.at(end)
+            for place in (end, end + 15, end + 16, end + 19, end + 20, len(shown) - 16, len(shown) - 1):
+                found[f"{number} flipped {place}.dwg"] = flipped(shown, place), None
+            found[f"{number} without content.dwg"] = made.with_preview_at(data, end) + WRITER.PREVIEW + bytes(4) + bytes(255 - byte for byte in WRITER.PREVIEW), None
+            found[f"{number} empty.dwg"] = data, {"bytes": 1, "pictures": []}
+            for place in (0, end - 1, end, end + 9, 1 << 31, (1 << 32) - 1):
+                found[f"{number} at {place}.dwg"] = made.with_preview_at(data, place), None
+        return found
+
+    def previews(self, *words: object) -> Dict[str, Any]:
+        """What is told of each drawing of the folder, by its name."""
+        ran = tool("dwg-check", "--quiet", "--json", *words, self.folder / "d")
+        self.assertEqual(ran.stderr, b"")
+        return {os.path.basename(row["path"]): row["preview"] for row in map(json.loads, ran.stdout.splitlines())}
+
+    def test_as_carry(self) -> None:
+        expected = self.expected()
+        (self.folder / "d").mkdir()
+        for name, (data, told) in expected.items():
+            (self.folder / "d" / name).write_bytes(data)
+            ran = made.dwg("carry", given=data)
+            self.assertEqual((ran.returncode, ran.stderr == test_carry.NOTE), (0, told is None), name)
+        self.assertEqual(self.previews(), {name: told for name, (_, told) in expected.items()})
+
+    def test_only_of_whole_drawings(self) -> None:
+        data = WRITER.with_picture(made.made(5), test_carry.PICTURE)
+        (self.folder / "d").mkdir()
+        for name, given in (("a", data), ("cut", data[:300]), ("other", b"AC1018" + data[6:]), ("text", b"hello\n"), ("behind", bytes(9) + data)):
+            (self.folder / "d" / f"{name}.dwg").write_bytes(given)
+        told = {"bytes": 10 + len(test_carry.PICTURE), "pictures": [{"code": 2, "bytes": len(test_carry.PICTURE)}]}
+        self.assertEqual(self.previews(), {"a.dwg": told, "cut.dwg": None, "other.dwg": None, "text.dwg": None, "behind.dwg": None})
+
+    def test_log_keeps_it(self) -> None:
+        log, program = self.folder / "log", self.counting()
+        words = ("--program", program, "--resume", log)
+        shown = WRITER.with_picture(made.made(5), test_carry.PICTURE)
+        (self.folder / "d").mkdir()
+        files = {"a": shown, "b": made.made(5), "c": made.with_preview_at(made.made(5), 9), "d": shown + b"more", "e": shown[:-1], "f": made.made(5)[:-1]}
+        for name, data in files.items():
+            (self.folder / "d" / f"{name}.dwg").write_bytes(data)
+        first = self.previews("--program", program)
+        self.assertEqual((self.audits(), self.previews(*words)), (6, first))
+        self.assertEqual([bool(told) for told in first.values()], [True, True, False, True, False, False])
+        table = tool("dwg-check", *words, self.folder / "d").stdout
+        for path in (self.folder / "d").iterdir():
+            os.utime(path, ns=(7, 7))
+        self.audits()
+        # By its content, by its place, and read anew.
+        for more in ([], [], ["--verify"]):
+            self.assertEqual((self.previews(*words, *more), self.audits()), (first, 0))
+        # Lines of which that isn't known are good too: what they lack is looked for, and added.
+        lines = [json.loads(line) for line in log.read_bytes().splitlines()]
+        for line in lines:
+            line.pop("preview", None)
+        for more in ([], ["--verify"]):
+            log.write_bytes(b"".join(json.dumps(line).encode() + b"\n" for line in lines))
+            self.assertEqual((tool("dwg-check", *words, *more, self.folder / "d").stdout, self.audits()), (table, 0))
+            log.write_bytes(b"".join(json.dumps(line).encode() + b"\n" for line in lines))
+            for added in (5, 0):
+                before = log.read_bytes().count(b"\n")
+                self.assertEqual((self.previews(*words, *more), self.audits()), (first, 0))
+                self.assertEqual(log.read_bytes().count(b"\n") - before, added)
+
+    def test_lines_of_log_that_tell_it_otherwise_are_damaged(self) -> None:
+        right = {"bytes": 30, "pictures": [{"code": 2, "bytes": 20}]}
+        line = {"path": "/a", "absolute": "/a", "verdict": "sound", "detail": "", "version": "AC1015", "bytes": 9, "mtime_ns": 9, "preview": right}
+        self.assertEqual(json.loads(json.dumps(CHECK.as_object(CHECK.read_row(line)[1])))["preview"], right)
+        for wrong in ({}, {"bytes": 30}, {"pictures": []}, {**right, "bytes": True}, {**right, "pictures": None}, {**right, "pictures": [1]}, {**right, "pictures": [{"code": 2}]}, {**right, "pictures": [{"code": 2, "bytes": "1"}]}):
+            with self.assertRaises(CHECK.NoLine, msg=wrong):
+                CHECK.read_row({**line, "preview": wrong})
 
 
 if __name__ == "__main__":

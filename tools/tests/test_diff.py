@@ -2,15 +2,16 @@
 
 from __future__ import annotations
 
+import itertools
 import json
 import os
 import subprocess
 import unittest
-from typing import Any, Dict, List
+from typing import Any, Dict, List, Sequence, Tuple
 
 import common
 import spelled
-from made import PROGRAM, TOOLS, made, needs_program, tool
+from made import PROGRAM, TOOLS, dwg, made, needs_program, tool
 
 needs_program()
 
@@ -107,6 +108,47 @@ class Diff(common.InFolder):
         self.assertEqual(self.diff(self.spelled(), self.spelled(**{"class": False}), "--ignore", "classes").returncode, 0)
         answer = self.diff(self.spelled(), self.spelled(bits="1" * 400 + "0" + "1" * 399))
         self.assertIn(b"  rest: 100 bytes -> 100 bytes, unlike from byte 50\n", answer.stdout)
+
+    def listing(self, classes: Sequence[Tuple[int, bytes]] = (), sections: Sequence[Tuple[int, bytes]] = ()) -> bytes:
+        """A drawing of classes, each a number and a DXF name, and of unknown sections, in these orders."""
+        one = spelled.Drawing()
+        for number, dxf in classes:
+            one.of_class(number, dxf)
+        one.sections = list(sections)
+        return one.file()
+
+    def test_what_is_the_same_is_rewritten_the_same(self) -> None:
+        """Drawings are the same exactly where `rewrite` of them is, over orders of classes and sections, and over numbers that stand twice."""
+        classes = itertools.permutations([(500, b"A"), (501, b"B"), (500, b"C")])
+        sections = itertools.permutations([(3, b"three"), (4, b""), (200, b"more")], 2)
+        drawings = [self.listing(one) for one in classes] + [self.listing((), one) for one in sections]
+        drawings += [self.listing([(500, b"A"), (500, b"A"), (501, b"B")]), self.listing([(500, b"A"), (501, b"B"), (500, b"A")]), self.listing(), made(1, 1)]
+        rewritten = [dwg("rewrite", given=one).stdout for one in drawings]
+        self.assertEqual(len(set(rewritten)), len(drawings))
+        numbered = list(zip(drawings, rewritten))
+        for (old, one), (new, other) in [pair for step in range(3) for pair in zip(numbered, numbered[step:])]:
+            answer = self.diff(old, new)
+            self.assertEqual((answer.returncode, answer.stdout == b""), (int(one != other), one == other), (old, new))
+
+    def test_orders(self) -> None:
+        a, b, c = (500, b"A"), (501, b"B"), (502, b"C")
+        fields = [{"field": "order[0]", "old": 500, "new": 501}, {"field": "order[1]", "old": 501, "new": 500}]
+        changed = {"change": "changed", "what": "classes", "fields": fields}
+        self.assertEqual(self.told(self.listing([a, b, c]), self.listing([b, a, c])), [changed])
+        answer = self.diff(self.listing([a, b, c]), self.listing([b, a, c]))
+        self.assertEqual(answer.stdout.decode().splitlines(), ["changed classes", "  order[0]: 500 -> 501", "  order[1]: 501 -> 500", "objects: 0 added, 0 removed, 0 changed"])
+        # What one of the two doesn't have takes no part in the order.
+        self.assertEqual(self.told(self.listing([a, b]), self.listing([c, a, b])), [{"change": "added", "what": "class", "number": 502}])
+        self.assertEqual(self.told(self.listing([a, c, b]), self.listing([b, a])), [{"change": "removed", "what": "class", "number": 502}, changed])
+        for words in (["order"], ["classes"]):
+            self.assertEqual(self.diff(self.listing([a, b]), self.listing([b, a]), "--ignore", *words).returncode, 0)
+        # Of one number the first is the first.
+        twice = self.told(self.listing([a, (500, b"C")]), self.listing([(500, b"C"), a]))
+        self.assertEqual([(one["what"], one["number"], one["fields"][0]["new"]) for one in twice], [("class", 500, "C"), ("class", 500, "A")])
+        three, four = (3, b"three"), (4, b"")
+        fields = [{"field": "order[0]", "old": 3, "new": 4}, {"field": "order[1]", "old": 4, "new": 3}]
+        self.assertEqual(self.told(self.listing((), [three, four]), self.listing((), [four, three])), [{"change": "changed", "what": "sections", "fields": fields}])
+        self.assertEqual(self.diff(self.listing((), [three, four]), self.listing((), [four, three]), "--ignore", "sections").returncode, 0)
 
     def test_trouble(self) -> None:
         good = self.file("good.dwg", made(3, 1))

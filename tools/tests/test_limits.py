@@ -15,7 +15,7 @@ import time
 import unittest
 import unittest.mock
 from pathlib import Path
-from typing import Any, List, Sequence, Tuple
+from typing import IO, Any, List, Sequence, Tuple, Union
 
 import common
 import made
@@ -72,10 +72,10 @@ drawing.subprocess.Popen = start
 """
 
 
-def otherwise(name: str, lines: str, *words: object) -> "subprocess.CompletedProcess[bytes]":
+def otherwise(name: str, lines: str, *words: object, stdin: Union[int, IO[bytes]] = subprocess.DEVNULL) -> "subprocess.CompletedProcess[bytes]":
     """What a tool answers in such a Python."""
     code = OTHERWISE.format(tests=str(TOOLS / "tests"), name=name, lines=lines)
-    return subprocess.run([sys.executable, "-B", "-c", code, *map(str, words)], stdin=subprocess.DEVNULL, capture_output=True, check=False, timeout=100)
+    return subprocess.run([sys.executable, "-B", "-c", code, *map(str, words)], stdin=stdin, capture_output=True, check=False, timeout=100)
 
 
 def rows(table: bytes) -> List[List[str]]:
@@ -107,11 +107,11 @@ class Time(Checked):
     def setUp(self) -> None:
         super().setUp()
         self.log, self.count = self.folder / "log", self.folder / "count"
-        self.slow = self.refusing(f'[ "$1" != recover ] || {{ echo >>"{self.count}"; exec sleep 20; }}')
+        self.slow = self.refusing(f'[ "$1" != recover ] || {{ echo >>"{self.count}"; while :; do :; done; }}')
 
     def resumed(self, *words: object, lines: str = "") -> List[List[str]]:
         """What a run with LOG says, in which `recover` has a moment."""
-        ran = otherwise("dwg-check", "tool.MOST_SECONDS = 0.3\n" + lines, "--quiet", "--resume", self.log, "--program", self.slow, *words, self.folder / "d")
+        ran = otherwise("dwg-check", lines or "tool.MOST_SECONDS = 0.3", "--quiet", "--resume", self.log, "--program", self.slow, *words, self.folder / "d")
         self.assertEqual((ran.returncode, ran.stderr), (1, b""))
         return [row[1:] for row in rows(ran.stdout)]
 
@@ -145,6 +145,30 @@ class Time(Checked):
         for _ in range(2):
             self.assertEqual((self.resumed(), self.runs()), ([["failed", "killed by signal 9"]], 1))
         self.assertEqual(len(self.log.read_bytes().splitlines()), 1)
+
+    def test_what_waits_too_long_is_tried_again(self) -> None:
+        """On a machine that has other things to do the same bytes may get no answer, and get one another time."""
+        self.file("d/a.dwg", b"\x80XX\0" + bytes(range(256)))
+        self.slow = self.refusing(f'[ "$1" != recover ] || {{ echo >>"{self.count}"; exec sleep 20; }}')
+        for _ in range(2):
+            said = self.resumed(lines="tool.MOST_SECONDS = tool.MOST_TAKEN = 0.3")
+            self.assertEqual((said, self.runs()), ([["failed", "`recover` has no answer in 0.3 seconds"]], 1))
+        self.assertEqual(len(self.log.read_bytes().splitlines()), 1)
+
+    def test_time_while_it_is_stopped_does_not_count(self) -> None:
+        self.file("d/a.dwg", b"\x80XX\0" + bytes(range(256)))
+        begun = self.folder / "begun"
+        waiting = self.refusing(f'[ "$1" != recover ] || {{ touch "{begun}"; sleep 1; echo kept 0 >&2; exit 1; }}')
+        code = OTHERWISE.format(tests=str(TOOLS / "tests"), name="dwg-check", lines="tool.MOST_SECONDS = tool.MOST_TAKEN = 4")
+        words = [sys.executable, "-B", "-c", code, "--quiet", "--resume", str(self.log), "--program", str(waiting), str(self.folder / "d")]
+        with subprocess.Popen(words, stdin=subprocess.DEVNULL, stdout=subprocess.PIPE, stderr=subprocess.PIPE, start_new_session=True) as started:
+            while not begun.exists():
+                time.sleep(0.02)
+            os.killpg(started.pid, signal.SIGSTOP)
+            time.sleep(5)
+            os.killpg(started.pid, signal.SIGCONT)
+            out, said = started.communicate(timeout=60)
+        self.assertEqual((started.returncode, said, [row[1:] for row in rows(out)]), (1, b"", [["no drawing", "unknown bytes"]]))
 
 
 class NoLog(Checked):
@@ -505,9 +529,13 @@ class Memory(common.InFolder):
 
     def differing(self, count: int) -> Tuple[int, bytes]:
         """The most memory that dwg-diff has at once over two polylines of so many points, all unlike, and what it says."""
+        return self.compared(*(FRONT.format(count=1) + text for text in (polyline_text(count), polyline_text(count).replace(word(64.5), word(65.5)))))
+
+    def compared(self, *texts: str) -> Tuple[int, bytes]:
+        """The most memory that dwg-diff has at once over two drawings that differ, by the texts that are shown of them, and what it says."""
         peak, files = self.folder / "peak", []
-        for name, text in (("old", polyline_text(count)), ("new", polyline_text(count).replace(word(64.5), word(65.5)))):
-            shown = self.file(f"{name}.txt", (FRONT.format(count=1) + text).encode())
+        for name, text in zip(("old", "new"), texts):
+            shown = self.file(f"{name}.txt", text.encode())
             files.append(self.file(f"{name}.dwg", f"{shown}\n".encode()))
         program = program_that(self.folder, "showing", ['[ "$1" != show ] || { read -r name; exec cat "$name"; }'])
         ran = otherwise("dwg-diff", MEASURED.format(peak=str(peak)), "--program", program, *files)
@@ -523,6 +551,31 @@ class Memory(common.InFolder):
         lines = said.splitlines()
         self.assertEqual((len(lines), lines[0]), (count + 2, b"changed object 31 LWPOLYLINE"))
         self.assertEqual(lines[-2], b"  points[99999]: 64.5 -3.25 -> 65.5 -3.25")
+
+    @unittest.skipUnless(os.path.exists("/proc/self/status"), "memory, as there is no /proc/self/status")
+    def test_very_many_classes(self) -> None:
+        """A class has 29 bits at the least, so that two drawings have seven bytes of each here, of which some times as much is held."""
+        texts = []
+        for count in (2, 100_000):
+            lines = [f'class {500 + index % 60_000} version 0 proxy 0 item 498 app "" cpp "" dxf ""\n' for index in range(count)]
+            front = FRONT.format(count=0).replace("classes 0\n", f"classes {count}\n%s")
+            texts.append([front % "".join(lines), front % "".join([lines[-1], *lines[:-1]])])
+        (least, few), (most, said) = (self.compared(*pair) for pair in texts)
+        self.assertEqual(few.splitlines(), [b"changed classes", b"  order[0]: 500 -> 501", b"  order[1]: 501 -> 500", b"objects: 0 added, 0 removed, 0 changed"])
+        self.assertEqual((said.splitlines()[:2], len(said.splitlines())), ([b"changed classes", b"  order[0]: 500 -> 40499"], 100_002))
+        # (and two megabytes of paths that are kept for a while, however many there are)
+        self.assertLess(most - least, 10 * 7 * 100_000 + 2_000_000)
+
+    @unittest.skipUnless(os.path.exists("/proc/self/status"), "memory, as there is no /proc/self/status")
+    def test_very_many_names(self) -> None:
+        """An entry of a table has twenty bytes at the least."""
+        texts = []
+        for count in (2, 100_000):
+            entries = "".join(f'object {index:X} APPID typed 67\n  entry.name ""\n  extra 0\n' for index in range(0x10, count + 0x10))
+            texts.append([FRONT.format(count=count) + entries, FRONT.format(count=count) + entries[:-2] + "1\n"])
+        (least, _), (most, said) = (self.compared(*pair) for pair in texts)
+        self.assertEqual(said.splitlines()[1:], [b"  extra: 0 -> 1", b"objects: 0 added, 0 removed, 1 changed"])
+        self.assertLess(most - least, 2 * 20 * 100_000)
 
     def test_a_long_object_is_told_as_a_short_one(self) -> None:
         tool = made.module(TOOLS / "dwg-json", "dwg_json")
@@ -637,6 +690,132 @@ class Notes(common.InFolder):
                 self.assertIn(b": 1, 2, 3, 4, 5, 6, 7, 8, 9, A and %d more" % (self.COUNT - 10), ran.stdout)
         # (a Python without anything has ten)
         self.assertLess(max(peaks), 60_000)
+
+
+# Kills the tool before or behind its so manyth call of those by which files are named and come on the disk.
+KILLED = """
+import os, signal
+left = [{turn}]
+def counted(call):
+    def killing(*words, **more):
+        left[0] -= 1
+        if left[0] == 0 and {before}:
+            os.kill(os.getpid(), signal.SIGKILL)
+        given = call(*words, **more)
+        if left[0] == 0:
+            os.kill(os.getpid(), signal.SIGKILL)
+        return given
+    return killing
+for name in ("rename", "replace", "link", "unlink", "fsync"):
+    setattr(os, name, counted(getattr(os, name)))
+"""
+
+
+class Pairs(common.InFolder):
+    """An output never stands beside the notes of another, at whatever moment a run ends and however many run at once."""
+
+    def setUp(self) -> None:
+        super().setUp()
+        made.needs_program()
+        data = made.made(30)
+        self.sources = [self.file(f"{name}.dwg", made.flipped(data, made.layout(data).frames[at].place + 5)) for name, at in (("old", 25), ("new", 28))]
+        self.pairs = [(answer.stdout, answer.stderr) for answer in (made.dwg("recover", given=source.read_bytes()) for source in self.sources)]
+        (self.folder / "to").mkdir()
+        self.out, self.notes = self.folder / "to/out", self.folder / "to/out.notes"
+
+    def standing(self) -> Tuple[Any, Any]:
+        """What stands at the two names, None for nothing."""
+        return tuple(path.read_bytes() if path.exists() else None for path in (self.out, self.notes))  # type: ignore[return-value]
+
+    def recover(self, lines: str, source: Path, *words: object) -> "subprocess.CompletedProcess[bytes]":
+        """A run in such a Python."""
+        return otherwise("dwg-recover", lines, "--program", made.PROGRAM, *words, source, self.out)
+
+    def test_killed_at_each_moment(self) -> None:
+        old, new = self.pairs
+        for is_there, before in ((True, True), (False, False), (True, False)):
+            seen, turn, status = set(), 0, -signal.SIGKILL
+            while status == -signal.SIGKILL:
+                turn += 1
+                shutil.rmtree(self.folder / "to")
+                (self.folder / "to").mkdir()
+                if is_there:
+                    self.out.write_bytes(old[0])
+                    self.notes.write_bytes(old[1])
+                status = self.recover(KILLED.format(turn=turn, before=before), self.sources[1], *(["--force"] if is_there else [])).returncode
+                standing = self.standing()
+                seen.add(standing)
+                allowed = [old, (old[0], None)] if is_there else [(None, None)]
+                self.assertIn(standing, [new, (new[0], None), *allowed], turn)
+                # Nothing that was there is lost before all that is new is there.
+                left = {path.read_bytes() for path in (self.folder / "to").iterdir()}
+                self.assertTrue(standing == new or not is_there or left >= set(old), turn)
+                if standing[0] is not None and standing[1] is None:
+                    ran = self.recover("", self.sources[1])
+                    said = f"dwg-recover: {self.out} is there already; --force replaces it. It has no notes beside it, as where a run was killed\n"
+                    self.assertEqual((ran.returncode, ran.stderr.decode(), self.standing()), (73, said, standing))
+            self.assertEqual((status, self.standing(), sorted(os.listdir(self.folder / "to"))), (1, new, ["out", "out.notes"]))
+            self.assertGreater(turn, 5)
+            self.assertIn((new[0], None), seen)
+
+    def test_two_runs_at_once(self) -> None:
+        # The first waits between its two names, in which time the second comes.
+        waiting = "place = tool.WholeFile.place\ndef placed(file):\n    time.sleep({before})\n    place(file)\n    time.sleep({behind})\ntool.WholeFile.place = placed"
+        waits = [waiting.format(before=0, behind=1.0), waiting.format(before=0.3, behind=0)]
+        for force in (["--force"], []):
+            for turn in range(3):
+                runs = []
+                for source, lines in zip(self.sources, waits):
+                    code = OTHERWISE.format(tests=str(TOOLS / "tests"), name="dwg-recover", lines=lines)
+                    words = [sys.executable, "-B", "-c", code, "--program", made.PROGRAM, *force, str(source), str(self.out)]
+                    runs.append(subprocess.Popen(words, stdout=subprocess.DEVNULL, stderr=subprocess.DEVNULL))
+                statuses = [ran.wait(timeout=60) for ran in runs]
+                self.assertEqual(sorted(statuses), [1, 1] if force else [1, 73])
+                self.assertIn(self.standing(), self.pairs if force else [self.pairs[statuses.index(1)]])
+                if turn < 2 or force:
+                    self.out.unlink()
+                    self.notes.unlink()
+
+    def test_a_folder_that_another_run_has(self) -> None:
+        self.out.write_bytes(b"old")
+        handle = os.open(self.folder / "to", os.O_RDONLY)
+        self.addCleanup(os.close, handle)
+        fcntl.flock(handle, fcntl.LOCK_EX)
+        ran = self.recover("drawing.MOST_WAITING = 0.3", self.sources[0], "--force")
+        said = f"dwg-recover: {self.folder}/to is locked by another run\n"
+        self.assertEqual((ran.returncode, ran.stdout, ran.stderr.decode()), (73, b"", said))
+        self.assertEqual((self.standing(), os.listdir(self.folder / "to")), ((b"old", None), ["out"]))
+        # Where there are no locks that is told, and nothing else is otherwise.
+        ran = self.recover("def none(*_): raise OSError(95, 'Operation not supported')\ntool.fcntl.flock = none", self.sources[0], "--force")
+        said = f"dwg-recover: {self.folder}/to can't be locked (Operation not supported); let no other run write the same output\n"
+        self.assertEqual((ran.returncode, ran.stderr.decode(), self.standing()), (1, said, self.pairs[0]))
+
+    def test_each_end_behind_the_writing_says_that_the_output_is_there(self) -> None:
+        """However a run ends whose output stands, a message says that it does; and where it doesn't, none says so."""
+        raising = "def fails(*_):\n    {}\ntool.report_of = fails"
+        ends = {
+            "raise MemoryError": (6, "no memory was to be had"),
+            "raise BrokenPipeError": (141, "nobody reads the report any more"),
+            "import os, signal; os.kill(os.getpid(), signal.SIGINT); time.sleep(5)": (130, "ended by a signal"),
+            "import os, signal; os.kill(os.getpid(), signal.SIGTERM); time.sleep(5)": (143, "ended by a signal"),
+            "raise drawing.ProgramFailed('killed')": (69, "the program dwg gave no answer: killed"),
+            "raise OSError(24, 'Too many open files')": (70, "Too many open files"),
+            "raise ValueError('odd')": (70, "failure of the tool itself: ValueError: odd"),
+        }
+        for line, (status, why) in ends.items():
+            for out, there in ((str(self.out), f"{self.out} is there"), ("-", "the drawing is written")):
+                ran = otherwise("dwg-recover", raising.format(line), "--program", made.PROGRAM, "--force", self.sources[0], out)
+                self.assertEqual((ran.returncode, ran.stderr.decode()), (status, f"dwg-recover: {why}; {there}\n"))
+                self.assertEqual(self.standing() if out != "-" else (ran.stdout, self.pairs[0][1]), self.pairs[0])
+            self.out.unlink()
+            self.notes.unlink()
+            ran = otherwise("dwg-recover", raising.format(line).replace("report_of", "run_recover"), "--program", made.PROGRAM, self.sources[0], self.out)
+            self.assertNotIn(b"is there", ran.stderr)
+            self.assertEqual(self.standing(), (None, None))
+        # A signal that comes while both are named ends the run behind that.
+        late = "import os, signal\ntool.WholeFile.sync_folder = lambda _: os.kill(os.getpid(), signal.SIGINT)"
+        ran = self.recover(late, self.sources[0])
+        self.assertEqual((ran.returncode, ran.stderr.decode(), self.standing()), (130, f"dwg-recover: ended by a signal; {self.out} is there\n", self.pairs[0]))
 
 
 class FullDisk(common.InFolder):

@@ -2,6 +2,8 @@
 
 from __future__ import annotations
 
+import contextlib
+import io
 import math
 import pathlib
 import re
@@ -10,20 +12,27 @@ import shutil
 import struct
 import subprocess
 import tracemalloc
+import types
 import unittest
+import unittest.mock
 import xml.etree.ElementTree as ElementTree
 import zlib
 from dataclasses import dataclass
-from typing import Callable, Dict, Iterator, List, Sequence, Tuple
+from typing import Any, Callable, Dict, Iterator, List, Sequence, Tuple
 
 import common
 import spelled
-from made import PROGRAM, TOOLS, made, needs_program, shown, tool
+import test_limits
+from made import PROGRAM, TOOLS, made, module, needs_program, shown, tool
 
 import drawing
+import lettering
+import plane
 import shapes
 
 needs_program()
+
+TOOL = module(TOOLS / "dwg-picture", "dwg_picture")
 
 SVG = "{http://www.w3.org/2000/svg}"
 LINK = "{http://www.w3.org/1999/xlink}href"
@@ -635,6 +644,25 @@ class Pictures(common.InFolder):
         self.assertFalse(set("\x7f\x9b\u202e\u2066\u200f") & set(said))
         self.assertIn("e&#8238;f&#8294;g&#8207;h", said)
 
+    def test_texts_come_back_as_they_are(self) -> None:
+        texts = {
+            b"a\rb": "a\rb", b"a\r\nb\n\rc": "a\r\nb\n\rc", b"\tleft\t \t": "\tleft\t \t", b"%%013x%%010y%%009z": "\rx\ny\tz",
+            b"u\\U+000Dv\\U+000Aw": "u\rv\nw", b"  two  ": "  two  ", b"]]> <!-- &#13; &amp; \"'": "]]> <!-- &#13; &amp; \"'",
+            b"s\\U+D83D\\U+DE00t": "s\U0001f600t", b"s\\U+DE00\\U+D83Dt": "s\ufffd\ufffdt", b"n\\U+FFFE\\U+FFFF\\U+0085m": "n\ufffd\ufffd\ufffdm",
+        }  # fmt: skip
+        one = spelled.Drawing()
+        for content in texts:
+            one.text(content, (0, 0), 0.72)
+        self.assertEqual([found.text for found in self.picture(one).seen], list(texts.values()))
+
+    def test_texts_of_any_bytes(self) -> None:
+        # All bytes by themselves, twice each, and in each order with some; every one between two letters.
+        some = [bytes(range(256)), *(bytes([65, byte, byte, 66]) for byte in range(256)), bytes(reversed(range(256))), bytes(range(0, 256, 3)), bytes(range(255, 0, -5))]
+        for page in sorted(set(drawing.CODE_PAGES.values())):
+            for one in some:
+                content = lettering.readable(one, page)
+                self.assertEqual(ElementTree.fromstring(f"<text>{lettering.said(content)}</text>").text, content, (page, one))
+
     def test_texts(self) -> None:
         one = spelled.Drawing()
         one.text(b"plain", (1, 2), 0.72)
@@ -735,6 +763,106 @@ class Pictures(common.InFolder):
         answer = tool("dwg-picture", given=one.file())
         self.assertEqual((answer.returncode, answer.stderr), (0, b"dwg-picture: not drawn: 1 MINSERT (more than 1000000 copies in all)\n"))
         self.near([found.points[0] for found in Picture(answer.stdout).seen], [(0, 0), (1, 0)])
+
+    def bounded(self, one: spelled.Drawing, most: int) -> "subprocess.CompletedProcess[bytes]":
+        """What dwg-picture answers of a drawing where a picture may have so many bytes, whose memory stays small and whose picture is no longer."""
+        path, told = self.file("bounded.dwg", one.file()), self.folder / "told"
+        lines = [f"tool.MOST_WRITTEN, tool.TIMES_WRITTEN = {most}, 0", *test_limits.MEASURED.format(peak=str(told)).splitlines()]
+        answer = test_limits.otherwise("dwg-picture", "\n".join(lines), "--program", PROGRAM, path)
+        self.assertEqual(answer.returncode, 0, answer.stderr)
+        peak = int(re.findall(r"VmHWM:\s*(\d+) kB", told.read_text())[0]) << 10
+        self.assertLess(peak, (100 << 20) + 10 * most)
+        # (what stands before the elements and behind them is always there)
+        self.assertLess(len(answer.stdout), most + 2000)
+        return answer
+
+    def test_bytes_of_copies(self) -> None:
+        one = spelled.Drawing()
+        one.block(0x30, b"B")
+        one.line((0, 0, 0), (1, 1, 0), owner=0x30)
+        one.line((0, 0, 0), (4, 4, 0), colour=3)
+        first = one.minsert(0x30, (0, 0, 0), (100, 100), (1.0, 1.0))
+        one.attribute(b"<" * 60_000, b"NO", (7, 7), 1.0, owner=first)
+        one.line((0, 0, 0), (5, 5, 0), colour=5)
+        one.minsert(0x30, (0, 0, 0), (2, 2), (1.0, 1.0))
+        answer = self.bounded(one, 1 << 20)
+        self.assertEqual(answer.stderr, b"dwg-picture: not drawn: 1 MINSERT (more than 1048576 bytes in all)\n")
+        # What would be too much takes nothing of the others away, nor does it widen the picture.
+        picture = Picture(answer.stdout)
+        self.assertEqual([found.points[1] for found in picture.seen[:2]], [(4, 4), (5, 5)])
+        self.assertEqual((len(picture.seen), [found.colour for found in picture.seen[:2]]), (6, ["#00ff00", "#0000ff"]))
+        self.near([(picture.drawn()[0], picture.drawn()[2])], [(0, 5)])
+
+    def test_bytes_of_scales(self) -> None:
+        one = spelled.Drawing()
+        one.block(0x30, b"B")
+        one.text(b"T" * 60_000, (0, 0), 1.0, owner=0x30)
+        for place in range(200):
+            one.insert(0x30, (0, place, 0), (1 + place / 200, 1, 1))
+        answer = self.bounded(one, 1 << 20)
+        # Where scales take too much of it lines are stretched, so that nothing is lost.
+        self.assertEqual(answer.stderr, b"dwg-picture: blocks are inserted by so many scales that some have lines as wide as they are stretched\n")
+        self.assertEqual(answer.stdout.count(b"<use"), 200)
+        self.assertLess(answer.stdout.count(b"<defs>"), 10)
+
+    def test_bytes_of_tapered_arcs(self) -> None:
+        one = spelled.Drawing()
+        tapered = lambda count, **where: one.polyline([(k, k % 2) for k in range(count)], [1.0] * count, [(1.0, 0.0)] * count, **where)
+        one.block(0x30, b"B")
+        tapered(300, owner=0x30)
+        tapered(300)
+        tapered(5)
+        one.insert(0x30, (0, 0, 0))
+        one.insert(0x30, (3, 0, 0))
+        one.line((0, 0, 0), (3, 3, 0))
+        answer = self.bounded(one, 1 << 20)
+        told = ["2 INSERT (more than 1048576 bytes in all)", "1 LWPOLYLINE (more than 1048576 bytes in all)"]
+        self.assertEqual(answer.stderr.decode().splitlines(), [f"dwg-picture: not drawn: {one}" for one in told])
+        self.assertEqual(len(Picture(answer.stdout).seen), 5 + 1)
+
+    def test_bytes_of_one_way(self) -> None:
+        one = spelled.Drawing()
+        one.block(0x30, b"B")
+        for owner in (0, 0x30):
+            one.polyline([(k / 7, k % 2) for k in range(6000)], owner=owner, colour=2)
+        one.ray((5, 5, 0), (1, 1, 0))
+        one.insert(0x30, (0, 0, 0))
+        one.point((0, 0, 0))
+        answer = self.bounded(one, 1 << 16)
+        told = ["1 INSERT (more than 65536 bytes in all)", "1 LWPOLYLINE (more than 65536 bytes in all)"]
+        self.assertEqual(answer.stderr.decode().splitlines(), [f"dwg-picture: not drawn: {one}" for one in told])
+        self.assertEqual([found.element.get("class") for found in Picture(answer.stdout).seen], [None, "dot"])
+
+    def test_bytes_by_any_limit(self) -> None:
+        """However few bytes a picture may have, it is one: of what is drawn or counted nothing is missing."""
+        one = spelled.Drawing()
+        one.block(0x30, b"INNER")
+        one.block(0x31, b"OUTER")
+        one.circle((0, 0, 0), 2, owner=0x30, weight=23)
+        one.insert(0x30, (1, 0, 0), (3, 0.5, 1), 1.0, owner=0x31, colour=4)
+        one.text(b"text", (0, 0), 0.72, owner=0x31)
+        for place in range(4):
+            one.line((place, 0, 0), (place, 1, 0), colour=1 + place)
+            one.insert(0x31, (place, 0, 0), (place + 1, 1, 1), layer=one.WALLS)
+            one.ray((place, 0, 0), (0, 1, 0), colour=1 + place)
+        whole = len(self.picture(one).svg)
+        for most in range(0, whole + 300, 97):
+            with unittest.mock.patch.multiple(TOOL, MOST_WRITTEN=most, TIMES_WRITTEN=0):
+                reader, picture = self.painted(one)
+            self.assertLess(len(picture.svg), most + 1500)
+            missed = lambda kind: reader.undrawn[f"{kind} (more than {most} bytes in all)"]
+            names = [found.name for found in picture.seen]
+            self.assertEqual((names.count("text"), len(names)), (4 - missed("INSERT"), 4 * 4 - missed("LINE") - missed("RAY") - 2 * missed("INSERT")), most)
+            self.assertEqual(sum(reader.undrawn.values()), missed("LINE") + missed("RAY") + missed("INSERT"))
+        self.assertEqual(len(picture.seen), 4 * 4)
+
+    def painted(self, one: spelled.Drawing) -> Tuple[Any, Picture]:
+        """What reads a drawing, and its picture, in this process."""
+        out, given = io.BytesIO(), types.SimpleNamespace(space="model", block=None, width=1200, background="white")
+        found = drawing.Drawing(drawing.Program(PROGRAM), str(self.file("painted.dwg", one.file())))
+        with found.file, contextlib.redirect_stderr(io.StringIO()):
+            reader, _ = TOOL.paint(found, out, given)
+        return reader, Picture(out.getvalue())
 
     def test_copies_of_nothing(self) -> None:
         one = spelled.Drawing()
@@ -893,20 +1021,98 @@ class Pictures(common.InFolder):
         self.assertEqual(answer.stderr, b"dwg-picture: not drawn: 1 INSERT (more than 64 deep)\n")
         self.assertEqual(answer.stdout.count(b"<defs>"), 64)
 
-    def test_deep_from_inside(self) -> None:
-        """Blocks that are drawn by themselves before others insert them are followed no deeper."""
+    def drawn_in_any_order(self, front: Callable[[spelled.Drawing], object], blocks: Sequence[int]) -> Tuple[List[str], Dict[int, List[float]]]:
+        """What is said of inserts of blocks, and how high the lines are that each draws: the same in whichever order they stand."""
+        found = []
+        for order in (blocks, blocks[::-1], blocks[1::2] + blocks[::2], blocks[len(blocks) // 2 :] + blocks[: len(blocks) // 2]):
+            one = spelled.Drawing()
+            front(one)
+            for block in order:
+                one.insert(block, (block * 1000, 0, 0))
+            for _ in range(2 * len(blocks)):
+                one.point((0, 0, 0))
+            answer = tool("dwg-picture", given=one.file())
+            self.assertEqual(answer.returncode, 0)
+            drawn: Dict[int, List[float]] = {block: [] for block in blocks}
+            for line in Picture(answer.stdout).seen:
+                if line.element.get("class") != "dot":
+                    drawn[round(line.points[0][0] / 1000)].append(round(line.points[0][1]))
+            found.append((answer.stderr.decode().splitlines(), {block: sorted(heights) for block, heights in drawn.items()}))
+        for other in found[1:]:
+            self.assertEqual(other, found[0])
+        return found[0]
+
+    def test_depth_in_any_order(self) -> None:
+        """Each insert is followed as deep, whether its block was met in others before or not."""
+
+        def chain(one: spelled.Drawing) -> None:
+            for block in range(0x200, 0x264):
+                one.block(block, b"B%d" % block)
+            one.last = 0x400
+            for block in range(0x200, 0x264):
+                one.line((0, block, 0), (1, block, 0), owner=block)
+                if block > 0x200:
+                    one.insert(block - 1, (0, 0, 0), owner=block)
+                # (a second way into the depth)
+                if block > 0x230:
+                    one.insert(block - 0x30, (0, 0, 0), owner=block)
+
+        blocks = [0x200, 0x23E, 0x23F, 0x240, 0x241, 0x250, 0x262]
+        said, drawn = self.drawn_in_any_order(chain, blocks)
+        inner = lambda one: [one - 1] * (one > 0x200) + [one - 0x30] * (one > 0x230)
+        expected: Dict[int, List[float]] = {block: [] for block in blocks}
+        beyond = set()
+        for block in blocks:
+            level = [block]
+            for depth in range(64):
+                expected[block] += level
+                beyond |= {(one, other) for one in level for other in inner(one) if depth == 63}
+                level = [other for one in level for other in inner(one)]
+        self.assertEqual(drawn, {block: sorted(heights) for block, heights in expected.items()})
+        # An insert is counted once, however many ways lead to it.
+        self.assertGreater(len(beyond), 1)
+        self.assertEqual(said, [f"dwg-picture: not drawn: {len(beyond)} INSERT (more than 64 deep)"])
+
+    def test_loops_in_any_order(self) -> None:
+        """Which insert leads back isn't told by what is met first: it is looked for by the handles of blocks."""
+
+        def ring(one: spelled.Drawing) -> None:
+            for block in range(0x30, 0x36):
+                one.block(block, b"B%X" % block)
+                one.line((0, block, 0), (1, block, 0), owner=block)
+            for block, inner in ((0x30, 0x31), (0x31, 0x32), (0x32, 0x30), (0x33, 0x32), (0x34, 0x34), (0x35, 0x34)):
+                one.insert(inner, (0, 0, 0), owner=block)
+
+        said, drawn = self.drawn_in_any_order(ring, [0x30, 0x31, 0x32, 0x33, 0x34, 0x35])
+        self.assertEqual(said, ["dwg-picture: block B30 inserts itself", "dwg-picture: block B34 inserts itself"])
+        self.assertEqual(drawn, {0x30: [0x30, 0x31, 0x32], 0x31: [0x31, 0x32], 0x32: [0x32], 0x33: [0x32, 0x33], 0x34: [0x34], 0x35: [0x34, 0x35]})
+        # What is looked at is the first of its ring, and is never in itself.
+        self.assertEqual(self.drawn_in_any_order(ring, [0x32, 0x31]), (["dwg-picture: block B31 inserts itself"], {0x31: [0x30, 0x31, 0x32], 0x32: [0x30, 0x32]}))
         one = spelled.Drawing()
-        for depth in range(400):
-            one.block(0x200 + depth, b"B%d" % depth)
-        one.last = 0x400
-        for depth in range(400):
-            one.line((0, depth, 0), (1, depth, 0), owner=0x200 + depth)
-            if depth:
-                one.insert(0x200 + depth - 1, (0, 0, 0), owner=0x200 + depth)
-        for depth in range(400):
-            one.insert(0x200 + depth, (0, 0, 0), (1.5, 2, 1) if depth == 399 else (1, 1, 1))
-        answer = tool("dwg-picture", given=one.file())
-        self.assertEqual((answer.returncode, answer.stderr), (0, b"dwg-picture: not drawn: 6 INSERT (more than 64 deep)\n"))
+        ring(one)
+        answer = tool("dwg-picture", "--block", "b32", given=one.file())
+        self.assertEqual((answer.returncode, answer.stderr), (0, b"dwg-picture: block B32 inserts itself\n"))
+        self.assertEqual(len(Picture(answer.stdout).seen), 3)
+
+    def test_many_blocks_in_each_other(self) -> None:
+        """Many blocks in a ring, each of which inserts three others: neither deep recursion nor copies without end."""
+        one, count = spelled.Drawing(), 500
+        for block in range(count):
+            one.block(0x1000 + block, b"B%d" % block)
+        one.last = 0x10000
+        for block in range(count):
+            one.point((block, 0, 0), owner=0x1000 + block)
+            for step in (1, 1, 2, 250):
+                one.insert(0x1000 + (block + step) % count, (0, 1, 0), owner=0x1000 + block)
+        one.insert(0x1000, (0, 0, 0))
+        one.insert(0x1000 + count - 1, (0, 0, 0))
+        one.line((0, 0, 0), (1, 1, 0))
+        path = self.file("a.dwg", one.file())
+        ran = test_limits.otherwise("dwg-picture", "", "--program", PROGRAM, path)
+        self.assertEqual(ran.returncode, 0, ran.stderr)
+        self.assertRegex(ran.stderr.decode(), r"\Adwg-picture: not drawn: \d+ INSERT \(more than \d+ copies in all\)\n")
+        self.assertIn(b"<path d=", ran.stdout)
+        self.assertLess(len(ran.stdout), 1 << 26)
 
     def test_colours_and_layers(self) -> None:
         one = spelled.Drawing()
@@ -989,6 +1195,62 @@ class Pictures(common.InFolder):
         for found, value in zip((x, y, wide, tall), expected):
             self.assertAlmostEqual(found, value, delta=0.02)
         self.assertEqual((picture.root.get("width"), picture.root.get("height")), ("500", str(round(500 * tall / wide))))
+
+    def test_extents_of_any_size(self) -> None:
+        sizes = [0.0, 5e-324, 1e-323, 5e-320, 2.3e-308, 1e-300, 1e-160, 1e-40, 1e-31, 1e-29, 1e-7, 1e7, 1e14, 1e15]
+        for x, y in [(one, 0.0) for one in sizes] + [(0.0, one) for one in sizes] + [(one, one / 3) for one in sizes] + [(1e15, 5e-324), (5e-324, 1e15)]:
+            for begin in ((0.0, 0.0), (-x, -y), (x, 0.0)):
+                shown = TOOL.window_of([begin, (max(x, begin[0]), max(y, begin[1]))])
+                for width in (1, 1200, 100_000):
+                    said = TOOL.head(shown, width, "#ffffff", {5, 211}) + "</g></svg>"
+                    root = ElementTree.fromstring(said)
+                    box = list(map(float, root.get("viewBox", "").split()))
+                    widths = list(map(float, re.findall(r"stroke-width:([^}]*)}", root.findtext(SVG + "style", ""))))
+                    self.assertTrue(all(map(math.isfinite, box + widths)) and 1e-36 < min(box[2:]) and 1e-41 < min(widths), (x, y, said))
+                    self.assertTrue(1 <= int(root.get("height", "")) <= 21 * width, (x, y, said))
+
+    def test_a_drawing_of_next_to_nothing(self) -> None:
+        for x, y in ((5e-324, 0), (0, 5e-324), (1e-310, 1e-310), (-5e-324, 1e-320)):
+            one = spelled.Drawing()
+            one.line((0, 0, 0), (x, y, 0))
+            one.point((0, 0, 0))
+            one.circle((0, 0, 0), 5e-324)
+            one.text(b"low", (0, 0), 1e-318)
+            one.polyline([(0, 0), (x, y)], [1.0, 0.0], [(5e-324, 1e-310)] * 2)
+            one.ellipse((0, 0, 0), (x, y, 0), 0.5, 0, 1)
+            picture = self.picture(one)
+            self.assertGreater(len(picture.seen), 3)
+            self.assertTrue(0.01 < picture.box[2] < 2 and 0.01 < picture.box[3] < 2, picture.box)
+
+    def test_planes_of_any_normal(self) -> None:
+        upward, aslant = (0.0, 0.0, 1.0), (0.6, 0.0, 0.8)
+        for size in (5e-324, 1e-320, 1e-200, 1e-162, 1e-154, 1.0, 1e15, 1e200, 1e307):
+            self.assertEqual(plane.unit((0.0, 0.0, size)), upward)
+            self.assertEqual(plane.unit((0.0, 0.0, -size)), (0.0, 0.0, -1.0))
+            if size > 1e-300:
+                self.near([plane.unit((0.6 * size, 0.0, 0.8 * size))[::2]], [aslant[::2]], 1e-9)
+        for normal in ((0.0, 0.0, 0.0), (math.nan, 0.0, 1.0), (0.0, math.inf, 0.0)):
+            self.assertEqual(plane.unit(normal), upward)
+
+    def test_points_of_too_few_numbers(self) -> None:
+        """What a program shows with one number for each point is counted, kind by kind, and ends nothing."""
+        one = spelled.Drawing()
+        tilted = (1.0, 1.0, 1.0)
+        one.block(0x30, b"B", (1.0, 2.0, 0.0))
+        one.line((0, 0, 0), (1, 1, 0), owner=0x30)
+        one.circle((0, 0, 0), 1, tilted)
+        one.solid([(0, 0), (1, 0), (0, 1), (1, 1)], 1.0, tilted)
+        one.text(b"text", (0, 0), 1.0, {"normal": tilted, "alignment": (1, 1), "horizontal": 1})
+        one.polyline([(0, 0), (1, 1)], normal=tilted)
+        one.insert(0x30, (0, 0, 0), normal=tilted)
+        one.polyline_in_space(0x201, 0x202, handle=0x200)
+        one.vertex((0, 0, 0), 0x200, handle=0x201)
+        one.vertex((1, 1, 0), 0x200, handle=0x202)
+        cut = self.failing('"$REAL" "$@" | sed "s/^\\(  [][a-z_.0-9]* [0-9A-F]\\{16\\}\\)\\( [0-9A-F]\\{16\\}\\)*$/\\1/"')
+        answer = tool("dwg-picture", "--program", cut, given=one.file())
+        whys = ["CIRCLE (no centre)", "INSERT (no extrusion)", "LWPOLYLINE (fewer than two points)", "POLYLINE 3D (a vertex isn't read by all its fields)"]
+        told = ["nothing is drawn", *(f"not drawn: 1 {why}" for why in [*whys, "SOLID (no extrusion)", "TEXT (no insertion)"])]
+        self.assertEqual((answer.returncode, answer.stderr.decode().splitlines()), (0, [f"dwg-picture: {line}" for line in told]))
 
     def test_undrawn(self) -> None:
         one = spelled.Drawing()

@@ -3,6 +3,7 @@
 from __future__ import annotations
 
 import collections
+import itertools
 import json
 import os
 import pathlib
@@ -103,19 +104,22 @@ class Recover(unittest.TestCase):
         self.assertNotIn("Lost", text)
         self.assertEqual(self.out.stat().st_mode & 0o777, 0o666 & ~current_mask())
 
-    def test_notes_without_output(self) -> None:
-        """Where the output can't take its name, the notes that were there are there again, and none where there were none."""
-        for old in (b"old", None):
-            with tempfile.TemporaryDirectory() as folder:
-                out, path = os.path.join(folder, "out"), os.path.join(folder, "out.notes")
-                if old is not None:
-                    pathlib.Path(path).write_bytes(old)
-                with RECOVER.WholeFile(out, True) as whole, RECOVER.WholeFile(path, True) as notes:
-                    notes.file.write(b"new")
-                    notes.finish()
-                    with unittest.mock.patch.object(whole, "place", side_effect=OSError), self.assertRaises(OSError):
-                        RECOVER.place_both(notes, whole)
-                self.assertEqual({name: pathlib.Path(folder, name).read_bytes() for name in os.listdir(folder)}, {} if old is None else {"out.notes": old})
+    def test_a_pair_is_placed_or_what_was_there_is_back(self) -> None:
+        """Where the output or its notes can't take their name, what was there is there again, and nothing where nothing was."""
+        for old, failing in itertools.product(({"out": b"o", "out.notes": b"n"}, {"out": b"o"}, {"out.notes": b"n"}, {}), ("out", "out.notes")):
+            with self.subTest(old=old, failing=failing), tempfile.TemporaryDirectory() as folder:
+                for name, data in old.items():
+                    pathlib.Path(folder, name).write_bytes(data)
+                out, written = os.path.join(folder, "out"), RECOVER.Written("out")
+                with RECOVER.WholeFile(out, True) as whole, RECOVER.WholeFile(out + ".notes", True) as notes:
+                    for file in (whole, notes):
+                        file.file.write(b"new")
+                        file.finish()
+                    stopped = whole if failing == "out" else notes
+                    with unittest.mock.patch.object(stopped, "place", side_effect=OSError), self.assertRaises(OSError):
+                        RECOVER.place_both(whole, notes, written)
+                self.assertEqual({name: pathlib.Path(folder, name).read_bytes() for name in os.listdir(folder)}, old)
+                self.assertFalse(written.stands)
 
     def test_an_older_state_that_is_no_text_is_refused_by_its_first_bytes(self) -> None:
         self.source.write_bytes(DATA)
