@@ -11,7 +11,7 @@ from typing import Dict, List, Mapping
 
 import make_inputs as inputs
 
-# The codes in their order, each with a count: B, RC, BS, BL, BD, RD, TV, H. A name behind a full stop has a value below.
+# The codes in their order, each with a count: B, RC, BS, BL, BD, RD, TV, H. A name after a full stop has a value below.
 ORDER = """
 BD.first 1, BD.one 3, TV 4, BL 2, H 1, B 20, BS 27, BD.one 9, BD.one 12, TV 1, BL 8, BS.colour 1, H.seed 1, H.layer 1, H.style 1, H.by_layer 1, H 2,
 BD 1, BD 9, RD 4, BD 1, BD 9, H 2, BS 1, H 1, BD 18,
@@ -66,7 +66,7 @@ def a_class() -> str:
 
 
 def completed(made: bytes, order: str = ORDER, handles: Mapping[str, int] = HANDLES) -> bytes:
-    """A drawing with header variables and a class, which stand behind all else; `dwg rewrite` puts them where they belong."""
+    """A drawing with header variables and a class, which stand after all else; `dwg rewrite` puts them where they belong."""
     data = bytearray(made)
     sections = (inputs.framed(inputs.VARIABLES, content(order, handles)), inputs.framed(inputs.CLASSES, inputs.packed(a_class())))
     for number, section in enumerate(sections):

@@ -34,20 +34,20 @@ def framed(sentinel, content):
 
 
 def header(locators):
-    front = b"AC1015" + bytes(7) + bytes(4) + bytes(2) + bytes(2)
-    front += len(locators).to_bytes(4, "little")
+    prefix = b"AC1015" + bytes(7) + bytes(4) + bytes(2) + bytes(2)
+    prefix += len(locators).to_bytes(4, "little")
     for number, place, size in locators:
-        front += bytes([number]) + place.to_bytes(4, "little") + size.to_bytes(4, "little")
-    word = check(0, front) ^ HEADER_MASKS[len(locators)]
-    return front + word.to_bytes(2, "little") + HEADER_SENTINEL
+        prefix += bytes([number]) + place.to_bytes(4, "little") + size.to_bytes(4, "little")
+    word = check(0, prefix) ^ HEADER_MASKS[len(locators)]
+    return prefix + word.to_bytes(2, "little") + HEADER_SENTINEL
 
 
 def with_preview_at(data, place):
     """A file whose header says that the preview is elsewhere, with its check word mended."""
     count = int.from_bytes(data[21:25], "little")
-    front = data[:13] + place.to_bytes(4, "little") + data[17 : 25 + 9 * count]
-    word = check(0, front) ^ HEADER_MASKS[count]
-    return front + word.to_bytes(2, "little") + data[27 + 9 * count :]
+    prefix = data[:13] + place.to_bytes(4, "little") + data[17 : 25 + 9 * count]
+    word = check(0, prefix) ^ HEADER_MASKS[count]
+    return prefix + word.to_bytes(2, "little") + data[27 + 9 * count :]
 
 
 def preview(entries, further):
@@ -59,7 +59,7 @@ def preview(entries, further):
 
 
 def with_picture(data, picture):
-    """A file with a preview section behind its end, whose one entry names a picture."""
+    """A file with a preview section after its end, whose one entry names a picture."""
     return with_preview_at(data, len(data)) + preview([(2, len(data) + 30, len(picture))], picture)
 
 
@@ -154,7 +154,7 @@ def framed_body(body):
 
 
 def frame(handle, filler):
-    """A small object: type number 200, no meaning, with so many bytes behind its head."""
+    """A small object: type number 200, no meaning, with so many bytes after its head."""
     return framed_body(packed(short(200) + little(0, 4) + reference(0, handle)) + bytes(filler))
 
 
@@ -245,7 +245,7 @@ def descending_map(count):
 
 
 def one_place(count):
-    """Handles that ascend, all at the place of the first frame: refused at the second pair, behind the whole map."""
+    """Handles that ascend, all at the place of the first frame: refused at the second pair, after the whole map."""
     return drawing(frame(1, 0), lambda start: pages([(h, start) for h in range(1, count + 1)], 65533))
 
 

@@ -119,7 +119,7 @@ class Nesting:
 
 @dataclass(eq=False)
 class Run:
-    """Parts of a block, one behind the other, that take at most one colour and one width from an insert, since SVG hands on no more than one.
+    """Parts of a block, one after the other, that take at most one colour and one width from an insert, since SVG hands on no more than one.
 
     Coordinates count from a place near the block's entities. The reach is how far from there anything is, and 1 at least.
     """
@@ -131,7 +131,7 @@ class Run:
     reach: float = 1.0
 
     def add(self, part: "Part") -> bool:
-        """Takes a part behind the others, unless it needs another colour or width of the insert than these."""
+        """Takes a part after the others, unless it needs another colour or width of the insert than these."""
         takes = part.pen.taken()
         if not self.takes.agrees(takes):
             return False

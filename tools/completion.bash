@@ -3,7 +3,7 @@
 _dwg() {
     local word=${COMP_WORDS[COMP_CWORD]}
     COMPREPLY=()
-    # The program reads standard input: behind its command only make and drill have words, and these are numbers.
+    # The program reads standard input: after its command only make and drill have words, and these are numbers.
     if [[ $COMP_CWORD -eq 1 ]]; then
         mapfile -t COMPREPLY < <(compgen -W "sections classes show rewrite audit recover make drill appdata certify accept carry" -- "$word")
     fi

@@ -200,7 +200,7 @@ class Recovery:
         self.found = 0
 
     def lines(self) -> Iterator[bytes]:
-        """The lines of the notes, one behind the other: who takes them takes none elsewhere meanwhile."""
+        """The lines of the notes, one after the other: who takes them takes none elsewhere meanwhile."""
         self.notes.seek(0)
         yield from iter(lambda: self.notes.readline(MOST_NOTES), b"")
 
@@ -388,7 +388,7 @@ class Program:
 
     @contextlib.contextmanager
     def lines(self, words: Sequence[str], source: Union[int, IO[bytes]]) -> Iterator[Iterator[bytes]]:
-        """The lines of the output while the program runs; what it notes goes to a file, and status 3 and above is ToolError behind the last line."""
+        """The lines of the output while the program runs; what it notes goes to a file, and status 3 and above is ToolError after the last line."""
         with tempfile.TemporaryFile() as notes, self._started(words, source, subprocess.PIPE, notes) as ran:
             assert ran.stdout is not None
             yield iter(ran.stdout)
@@ -480,10 +480,10 @@ def _file_of_notes() -> IO[bytes]:
 MOST_HEADER = 97
 
 
-def version_of_rest(program: Program, front: bytes) -> Optional[str]:
+def version_of_rest(program: Program, prefix: bytes) -> Optional[str]:
     """The version that a file header is of by all but its first six bytes, where these are others: its check word is right with one alone."""
     for version in OURS:
-        status = program.run(["sections"], version + front[6:MOST_HEADER]).status if version != front[:6] else Status.REFUSED
+        status = program.run(["sections"], version + prefix[6:MOST_HEADER]).status if version != prefix[:6] else Status.REFUSED
         if status == Status.DONE:
             return version.decode()
         if status != Status.REFUSED:
@@ -568,7 +568,7 @@ _waiting: List[int] = []
 
 @contextlib.contextmanager
 def uninterrupted() -> Iterator[None]:
-    """Lets no signal end the tool between steps that belong together; it ends it behind them.
+    """Lets no signal end the tool between steps that belong together; it ends it after them.
 
     No signal is blocked: a program that begins meanwhile would have it blocked for ever.
     """
@@ -597,7 +597,7 @@ def _remove_unplaced() -> None:
 
 
 class WholeFile:
-    """A file that takes its name when `place` is called, and leaves nothing behind where that is never called.
+    """A file that takes its name when `place` is called, and leaves nothing after where that is never called.
 
     Used as a context; `file` is where to write. Unless `force`, a file that has the name meanwhile is left, with FileExistsError;
     with it a regular file is replaced, and keeps its mode and its owner, and what is no regular file is left.
@@ -614,12 +614,12 @@ class WholeFile:
 
     def __enter__(self) -> "WholeFile":
         # A letter has four bytes at the most, and a name 255.
-        front = f".{os.path.basename(self.path)[:25]}."
+        prefix = f".{os.path.basename(self.path)[:25]}."
         try:
             with uninterrupted():
                 # (a folder need not be readable for this, where the system has a way)
                 self._at = os.open(self._folder, getattr(os, "O_PATH", os.O_RDONLY))
-                handle, self._temporary = tempfile.mkstemp(prefix=front, suffix=".part", dir=self._folder)
+                handle, self._temporary = tempfile.mkstemp(prefix=prefix, suffix=".part", dir=self._folder)
                 _unplaced.add((self._at, os.path.basename(self._temporary)))
                 self.file = os.fdopen(handle, "w+b")
         except BaseException:
@@ -884,7 +884,7 @@ def _hush_where_named(words: Sequence[str]) -> None:
 
 
 def _names_in(word: str) -> Iterator[str]:
-    """What a word may name: itself, what stands behind its `=`, and behind `-o`."""
+    """What a word may name: itself, what stands after its `=`, and after `-o`."""
     yield word
     yield word.partition("=")[2]
     if word.startswith("-o"):
@@ -1039,7 +1039,7 @@ def read_bytes(printed: bytes) -> Bytes:
 
 
 def read_value(name: bytes, printed: bytes) -> Value:
-    """What is printed behind the name of a field."""
+    """What is printed after the name of a field."""
     try:
         if printed[:1] == b'"':
             return read_text(printed)
@@ -1091,7 +1091,7 @@ PIECE = 1 << 16
 class Object:
     """An object of a drawing: handle, kind, form (`typed`, `plain`, `raw`), type number, and its fields as they are printed.
 
-    A line feed stands in front of the first line too. No line begins with spaces.
+    A line feed stands before the first line too. No line begins with spaces.
     """
 
     handle: int
@@ -1104,7 +1104,7 @@ class Object:
     size: int = 0
 
     def take(self, printed: bytes) -> bool:
-        """Takes the numbers of an element of a list, each behind those of the one before; False where it has none."""
+        """Takes the numbers of an element of a list, each after those of the one before; False where it has none."""
         name, _, value = printed.partition(b" ")
         listed = name[: name.index(b"[")] + name[name.index(b"]") + 1 :]
         words = read_value(listed, value)
@@ -1127,9 +1127,9 @@ class Object:
             yield from piece.split(b"\n")
 
     def elements(self, name: bytes) -> Iterator[bytes]:
-        """The lines of the elements of a list, which stand one behind the other."""
-        front = name + b"["
-        return itertools.takewhile(lambda line: line.startswith(front), self.lines_from(self.text.find(b"\n" + front) + 1))
+        """The lines of the elements of a list, which stand one after the other."""
+        prefix = name + b"["
+        return itertools.takewhile(lambda line: line.startswith(prefix), self.lines_from(self.text.find(b"\n" + prefix) + 1))
 
     @property
     def fields(self) -> Iterator[Tuple[str, Value]]:
@@ -1178,14 +1178,14 @@ class Class:
 class Classes(Sequence[Class]):
     """The classes of a drawing in their order, packed: of a file of 32 MiB there may be nine million, of 29 bits each."""
 
-    # The number, the version, whether it was a proxy, the item class, and how many bytes each of the three texts has, which stand behind.
+    # The number, the version, whether it was a proxy, the item class, and how many bytes each of the three texts has, which stand after.
     HEAD = struct.Struct("<HHBHHHH")
 
     def __init__(self) -> None:
         self._packed, self._places = bytearray(), array("I")
 
     def append(self, one: Class) -> None:
-        """Puts a class behind the others; BadText where it has a number that no class has."""
+        """Puts a class after the others; BadText where it has a number that no class has."""
         texts = (one.app, one.cpp, one.dxf)
         try:
             head = self.HEAD.pack(one.number, one.version, one.proxy, one.item, *map(len, texts))
@@ -1216,7 +1216,7 @@ class Classes(Sequence[Class]):
 
 
 @dataclass
-class Front:
+class Prefix:
     """What the text of `show` says before its objects."""
 
     version: str
@@ -1238,14 +1238,14 @@ def _next(lines: Iterator[bytes]) -> bytes:
 
 
 def _after(word: bytes, line: bytes) -> bytes:
-    """What stands behind the word that a line begins with."""
+    """What stands after the word that a line begins with."""
     if not line.startswith(word + b" "):
         raise BadText("%r where %s should stand" % (line[:40], word.decode("ascii")))
     return line[len(word) + 1 :]
 
 
 def _count(word: bytes, line: bytes, most: int) -> int:
-    """The number behind a word, of things of which a drawing has so many at the most."""
+    """The number after a word, of things of which a drawing has so many at the most."""
     printed = _after(word, line)
     if not printed.isdigit() or len(printed) > 10 or int(printed) > most:
         raise BadText("%r %s, which no drawing has" % (printed[:40], word.decode("ascii")))
@@ -1262,7 +1262,7 @@ def _read_class(line: bytes) -> Class:
     return Class(number, version, proxy, item, app, cpp, dxf)
 
 
-def read_front(lines: Iterator[bytes]) -> Front:
+def read_prefix(lines: Iterator[bytes]) -> Prefix:
     """Takes the lines before the objects."""
     found = _DRAWING.fullmatch(_next(lines))
     if not found:
@@ -1280,7 +1280,7 @@ def read_front(lines: Iterator[bytes]) -> Front:
         line = _next(lines)
         section = _SECTION.fullmatch(line)
     count = _count(b"objects", line, MOST_OBJECTS)
-    return Front(version.decode("ascii"), int(codepage), read_bytes(lead), read_bytes(mark), variables, classes, sections, count)
+    return Prefix(version.decode("ascii"), int(codepage), read_bytes(lead), read_bytes(mark), variables, classes, sections, count)
 
 
 def _head(line: bytes) -> Object:
@@ -1318,7 +1318,7 @@ class Lists(enum.Enum):
 
 
 def read_objects(lines: Iterator[bytes], count: Optional[int] = None, lists: Lists = Lists.TEXT) -> Iterator[Object]:
-    """The objects behind the front, one at a time; BadText where there are fewer or more than are said, TooMuchText where one has more than is taken."""
+    """The objects after the prefix, one at a time; BadText where there are fewer or more than are said, TooMuchText where one has more than is taken."""
     found, current, text = 0, None, io.BytesIO()
     for line in lines:
         if line[:2] == b"  " and current is not None:
@@ -1349,16 +1349,16 @@ def read_objects(lines: Iterator[bytes], count: Optional[int] = None, lists: Lis
 
 def shown_lines(file: IO[bytes], begin: bytes) -> Iterator[bytes]:
     """The lines of a text of `show` whose begin is read, from wherever it comes; BadText where no drawing has so much text, or too much is to be held."""
-    left, front = MOST_SHOWN, MOST_SHOWN - MOST_TEXT
+    left, prefix = MOST_SHOWN, MOST_SHOWN - MOST_TEXT
     line = begin + file.readline(MOST_LINE)
     while line:
         left -= len(line)
         if line.startswith(b"object "):
-            front = 0
+            prefix = 0
         if len(line) >= MOST_LINE and not line.endswith(b"\n"):
             raise BadText("a line has more than %d bytes" % MOST_LINE)
-        if left < front:
-            raise BadText("it has more than %d bytes%s" % ((MOST_TEXT, " before its objects") if front else (MOST_SHOWN, "")))
+        if left < prefix:
+            raise BadText("it has more than %d bytes%s" % ((MOST_TEXT, " before its objects") if prefix else (MOST_SHOWN, "")))
         yield line
         line = file.readline(MOST_LINE)
 
@@ -1366,8 +1366,8 @@ def shown_lines(file: IO[bytes], begin: bytes) -> Iterator[bytes]:
 def objects(lines: Iterable[bytes]) -> Iterator[Object]:
     """The objects of a text of `show`."""
     taken = iter(lines)
-    front = read_front(taken)
-    return read_objects(taken, front.count)
+    prefix = read_prefix(taken)
+    return read_objects(taken, prefix.count)
 
 
 # ---------------------------------------------------------------------------------------------------------------------
@@ -1408,7 +1408,7 @@ class Names(Mapping[int, Text]):
     def put(self, handle: int, name: Text) -> None:
         """Puts in the name of a handle; BadText where that isn't above those before."""
         if not (self._handles[-1] if self._handles else -1) < handle < 1 << 63:
-            raise BadText("object %X behind one of a handle that isn't below" % handle)
+            raise BadText("object %X after one of a handle that isn't below" % handle)
         self._handles.append(handle)
         self._letters += name
         self._ends.append(len(self._letters))
@@ -1455,11 +1455,11 @@ def type_name(one: Object, classes: Dict[int, str]) -> str:
     return TYPE_NAMES.get(one.number) or classes.get(one.number) or "%s %d" % (one.kind, one.number)
 
 
-def class_names(front: Front) -> Dict[int, str]:
+def class_names(prefix: Prefix) -> Dict[int, str]:
     """The DXF names of the classes, by number; the first class of a number counts."""
-    page = code_page(front.codepage)
+    page = code_page(prefix.codepage)
     names: Dict[int, str] = {}
-    for one in front.classes:
+    for one in prefix.classes:
         names.setdefault(one.number, decoded(one.dxf, page))
     return names
 
@@ -1479,7 +1479,7 @@ class Drawing:
         self._state = state_of(self.file)
 
     @contextlib.contextmanager
-    def show(self, lists: Lists = Lists.TEXT) -> Iterator[Tuple[Front, Iterator[Object]]]:
+    def show(self, lists: Lists = Lists.TEXT) -> Iterator[Tuple[Prefix, Iterator[Object]]]:
         """What the text of `show` says before the objects, and these, one by one; ToolError with the program's status where it refuses."""
         try:
             os.lseek(self.file.fileno(), 0, os.SEEK_SET)
@@ -1488,16 +1488,16 @@ class Drawing:
             message = str(fault)
             raise ToolError(f"{self.name}: {message[5:] if message.startswith('dwg: ') else message}", fault.status) from None
 
-    def _shown(self, lists: Lists) -> Iterator[Tuple[Front, Iterator[Object]]]:
-        """Yields once, and reads on behind that to the end, so that the program's status is told before any fault of the text."""
+    def _shown(self, lists: Lists) -> Iterator[Tuple[Prefix, Iterator[Object]]]:
+        """Yields once, and reads on after that to the end, so that the program's status is told before any fault of the text."""
         bad: Optional[BadText] = None
         with self.program.lines(["show"], self.file) as lines:
             first = next(lines, b"")
             taken = itertools.chain([first], lines)
             if first:
                 try:
-                    front = read_front(taken)
-                    yield front, read_objects(taken, front.count, lists)
+                    prefix = read_prefix(taken)
+                    yield prefix, read_objects(taken, prefix.count, lists)
                 except BadText as fault:
                     bad = fault
             for _ in lines:
@@ -1538,7 +1538,7 @@ TESTED = "This tool is tested (tools/test), not proved as the program is."
 
 
 class Parser(argparse.ArgumentParser):
-    """Words of a command line, with status 64 for those that aren't understood, and the exit statuses behind the help."""
+    """Words of a command line, with status 64 for those that aren't understood, and the exit statuses after the help."""
 
     def __init__(self, description: str, statuses: Sequence[Tuple[int, str]], more: str = "") -> None:
         table = "\n".join(f"  {int(number):<5}{meaning}" for number, meaning in statuses)

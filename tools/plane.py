@@ -169,8 +169,8 @@ class Arc(NamedTuple):
             corners = sorted(self.inner(angle), reverse=self.sweep < 0)
             return "".join("L" + pair(self.at(corner)) for corner in [*corners, self.begin + self.sweep])
         tilt = plain(math.degrees(math.atan2(b, a))) if long - short > 1e-9 * long else "0"
-        front = f"A{plain(long)} {plain(short)} {tilt} 0 {int((a * d - b * c) * self.sweep > 0)} "
-        return "".join([front + pair(self.at(end)) for end in self.ends()])
+        prefix = f"A{plain(long)} {plain(short)} {tilt} 0 {int((a * d - b * c) * self.sweep > 0)} "
+        return "".join([prefix + pair(self.at(end)) for end in self.ends()])
 
     def ends(self) -> List[float]:
         """The ends of parts of at most a third of a turn: the two ends of a longer one don't tell well where its centre is."""

@@ -22,18 +22,18 @@ class Undrawable(Exception):
 
 
 class Fields:
-    """The fields of an object by name; where what holds a text stands in front of them, as with attributes, its names are left out.
+    """The fields of an object by name; where what holds a text stands before them, as with attributes, its names are left out.
 
     Of lists those of numbers and points alone are drawn, which the object has as numbers.
     """
 
-    def __init__(self, one: Object, front: str = "") -> None:
+    def __init__(self, one: Object, prefix: str = "") -> None:
         self.values: Dict[str, Value] = {}
         self.lists = one.lists
         for printed in one.lines:
             if b"[" not in printed[: printed.index(b" ")]:
                 path, value = read_field(printed)
-                self.values[path[len(front) :] if path.startswith(front) else path] = value
+                self.values[path[len(prefix) :] if path.startswith(prefix) else path] = value
 
     def point(self, name: str, count: int = 3) -> Tuple[float, ...]:
         """The coordinates of a point, which must be there, so many of them."""
@@ -147,7 +147,7 @@ AT_ONCE = 1 << 10
 
 @dataclass
 class Way:
-    """Points and arcs, one behind the other."""
+    """Points and arcs, one after the other."""
 
     begin: Point
     steps: Iterable[Union[Point, Arc]]
@@ -486,7 +486,7 @@ class Segments:
             raise Undrawable("fewer than two points")
 
     def corner(self, at: int) -> Point:
-        """The corner of a number; behind the last stands the first."""
+        """The corner of a number; after the last stands the first."""
         at = at % self.corners * 2
         return self.points[at], self.points[at + 1]
 

@@ -48,10 +48,10 @@ def dictionary(handle: int, version: bytes = NEWER) -> str:
     no_applications, no_reactors, no_items, cloning, hard_owner = "10", "10", "10", short(0), bits(little(0, 1))
     references = handle_code(4, 0) + handle_code(3, 0)
     if version == OLDER:
-        before, behind = number + own + no_applications, no_reactors + no_items + hard_owner
+        before, after = number + own + no_applications, no_reactors + no_items + hard_owner
     else:
-        before, behind = number, own + no_applications + no_reactors + no_items + cloning + hard_owner
-    unpadded = before + bits(little(len(before) + 32 + len(behind), 4)) + behind + references
+        before, after = number, own + no_applications + no_reactors + no_items + cloning + hard_owner
+    unpadded = before + bits(little(len(before) + 32 + len(after), 4)) + after + references
     return unpadded + "0" * (-len(unpadded) % 8)
 
 
@@ -90,8 +90,8 @@ def page(pairs: bytes) -> bytes:
 
 def header(version: bytes, preview_place: int, *locators: bytes) -> bytes:
     """The file header of three locators (File header)."""
-    front = version + bytes(7) + little(preview_place, 4) + bytes(2) + little(0, 2) + little(len(locators), 4) + b"".join(locators)
-    return front + little(check_word(0, front) ^ 0xA598, 2) + bytes.fromhex("95 A0 4E 28 99 82 1A E5 5E 41 E0 5F 9D 3A 4D 00")
+    prefix = version + bytes(7) + little(preview_place, 4) + bytes(2) + little(0, 2) + little(len(locators), 4) + b"".join(locators)
+    return prefix + little(check_word(0, prefix) ^ 0xA598, 2) + bytes.fromhex("95 A0 4E 28 99 82 1A E5 5E 41 E0 5F 9D 3A 4D 00")
 
 
 def locator(number: int, place: int, part: bytes) -> bytes:

@@ -25,7 +25,7 @@ KINDS = ["LINE", "POINT", "CIRCLE", "ARC", "TEXT", "LWPOLYLINE"]
 
 
 def made_entities(count: int, seed: int) -> Iterator[Tuple[int, str, str, Dict[str, Any]]]:
-    """The entities behind the fixed objects of a made drawing, by docs/FORMAT.md: handle, kind, name of the layer, and the fields of the body."""
+    """The entities after the fixed objects of a made drawing, by docs/FORMAT.md: handle, kind, name of the layer, and the fields of the body."""
     state = seed
     for index in range(1, count + 1):
         turns = []

@@ -320,13 +320,13 @@ def defined_weights(definitions: Definitions) -> Dict[str, List[int]]:
     def numbers(name: str, before: str) -> List[int]:
         return [int(number) for number in re.findall(before + r" (\d+)", definitions.clauses_for(name, "dwg_tables")[1][0][1])]
 
-    read, written = numbers("all_worth", r"worth [\w.]+"), numbers("flags_in", r"has values")
+    read, written = numbers("all_weight", r"weight [\w.]+"), numbers("flags_in", r"has values")
     return {"weights": read if read == written else [], "most": [number - 1 for number in numbers("layer_flags", r"values <")]}
 
 
 def page_weights(page: str) -> Dict[str, List[int]]:
     """And by the page."""
-    weights = re.search(r"four Bs of values, worth ([\d, and]+) in this order", page)
+    weights = re.search(r"four Bs of values, of weight ([\d, and]+) in this order", page)
     assert weights is not None
     return {"weights": tables.numbers_of(weights[1]), "most": [int(number) for number in re.findall(r"values is at most (\d+)", page)]}
 
@@ -345,7 +345,7 @@ HEAD = ("part", "fields", "main bits in AC1015", "main bits in AC1014", "referen
 OF_CODES = "BB|RC|RS|RL|RD|BS|BL|BD|DD|BT|BE|TV|B"
 CODE = re.compile(rf"\b((?:two |three |four )?)({OF_CODES})s?\b|\b(bytes)\b")
 
-# A field behind its code, where a part of the main bits begins.
+# A field after its code, where a part of the main bits begins.
 NAMED = re.compile(rf"; (?:two |three )?(?:{OF_CODES})s? (\w+)")
 
 # What is said of references that a field has together, or for each of its members.

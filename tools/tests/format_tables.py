@@ -355,7 +355,7 @@ def defined_items(items: str) -> Dict[int, Tuple[str, str]]:
 
 
 def page_items(page: str) -> Dict[int, Tuple[str, str]]:
-    """And by the page, of which words behind the first that name the item say more."""
+    """And by the page, of which words after the first that name the item say more."""
     found: Dict[int, Tuple[str, str]] = {}
     for codes, follows, says in rows(page, "Items of extended data", "code", "what follows", "what it says"):
         name = re.split(r",| around ", says)[0]

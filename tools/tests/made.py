@@ -102,7 +102,7 @@ class Layout:
 
 
 def layout(data: bytes) -> Layout:
-    """The layout of a canonical file, whose frames stand one behind the other between the preview and the map."""
+    """The layout of a canonical file, whose frames stand one after the other between the preview and the map."""
     places = {data[at]: int.from_bytes(data[at + 1 : at + 5], "little") for at in (25, 34, 43)}
     preview = int.from_bytes(data[13:17], "little")
     frames, at = [], preview + 37

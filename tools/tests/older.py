@@ -24,11 +24,11 @@ class Drawing(spelled.Drawing):
     # The four bits of each layer.
     LAYER_BITS = "0000"
 
-    def sized(self, number: int, handle: int, before: str, behind: str, references: str) -> int:
-        """An object by its main bits before the bit size and behind it, and by its references."""
+    def sized(self, number: int, handle: int, before: str, after: str, references: str) -> int:
+        """An object by its main bits before the bit size and after it, and by its references."""
         head = short(number) + reference(0, handle) + before
-        size = len(head) + 32 + len(behind)
-        self.frames.append((handle, spelled.base.framed_body(spelled.base.packed(head + little(size, 4) + behind + references))))
+        size = len(head) + 32 + len(after)
+        self.frames.append((handle, spelled.base.framed_body(spelled.base.packed(head + little(size, 4) + after + references))))
         return handle
 
     def object(self, number: int, handle: int, main: str, references: Sequence[Tuple[int, int]], owner: int) -> int:
@@ -36,7 +36,7 @@ class Drawing(spelled.Drawing):
         return self.sized(number, handle, short(0), long(0) + main, names)
 
     def layer(self, handle: int, name: bytes, colour: int, values: int = 0) -> int:
-        flags = "".join(str(int(bool(values & worth))) for worth in (1, 2, 4, 8))
+        flags = "".join(str(int(bool(values & weight))) for weight in (1, 2, 4, 8))
         return self.entry(51, handle, name, flags + short(colour), [(5, 0), (5, self.CONTINUOUS)])
 
     def block(self, handle: int, name: bytes, base_point: Up = (0.0, 0.0, 0.0), is_xref: bool = False, *, members: Sequence[int] = (), ends: Sequence[int] = (0, 0)) -> int:
@@ -139,7 +139,7 @@ class Plan(Drawing):
         self.of_table(67, self.ACAD, 0x9, b"ACAD", byte(0), (5, 0))
 
     def whole_block(self, handle: int, name: bytes, begin: int, members: Sequence[int], owner: int = 0, mode: int = 2) -> None:
-        """A block with its BLOCK and its ENDBLK, the handle behind it."""
+        """A block with its BLOCK and its ENDBLK, the handle after it."""
         main = "0000" + reals([0, 0, 0]) + text(b"")
         names = [(5, 0), (3, begin), *((4, one) for one in members), (3, begin + 1)]
         self.of_table(49, handle, 0x1, name, main, *names)

@@ -127,7 +127,7 @@ class Drawing:
         self, number: int, main: str, references: Sequence[Tuple[int, int]] = (), *, handle: int = 0, owner: int = 0, mode: int = 2, layer: int = 0,
         colour: int = 256, weight: int = 29, invisible: int = 0, links: Sequence[int] = (),
     ) -> int:  # fmt: skip
-        """An entity: of the model space, unless an owner or a mode is given. The links are those before and behind it."""
+        """An entity: of the model space, unless an owner or a mode is given. The links are those before and after it."""
         mode = 0 if owner else mode
         common = short(0) + "0" + f"{mode:02b}" + long(0) + ("0" if links else "1") + short(colour) + "01" + "00" + "00" + short(invisible) + byte(weight)
         names = (reference(4, owner) if owner else "") + reference(3, 0) + "".join(reference(4, link) for link in links)
@@ -239,7 +239,7 @@ class Drawing:
         self.classes += short(number) + short(0) + text(b"APP") + text(b"CPP") + text(dxf) + "0" + short(0x1F2)
 
     def with_sections(self, data: bytes) -> bytes:
-        """A file of three locators with the unknown sections behind its end."""
+        """A file of three locators with the unknown sections after its end."""
         more, end = 9 * len(self.sections), len(data)
         located = [(number, place + more, size) for number, place, size in struct.iter_unpack("<BII", data[25:52])]
         for number, content in self.sections:
@@ -249,7 +249,7 @@ class Drawing:
 
     def file(self, code_page: int = 30) -> bytes:
         """The bytes of the drawing."""
-        # (each locator more moves what is behind the header)
+        # (each locator more moves what is after the header)
         places, place, frames = [], 9 * len(self.sections), b""
         for handle, one in sorted(self.frames):
             places.append((handle, place))

@@ -48,13 +48,13 @@ def with_section(canonical: bytes, section: bytes) -> bytes:
     begin, moved = parts.preview, len(section) - WITHOUT_PICTURE
     pages = WRITER.pages([(frame.handle, frame.place + moved) for frame in parts.frames], 2030)
     place = parts.map + moved
-    front = canonical[: MAP_AT + 1] + place.to_bytes(4, "little") + len(pages).to_bytes(4, "little")
-    word = WRITER.check(0, front) ^ WRITER.HEADER_MASKS[3]
-    return bytes(front + word.to_bytes(2, "little") + canonical[WORD_AT + 2 : begin] + section + canonical[begin + WITHOUT_PICTURE : parts.map] + pages)
+    prefix = canonical[: MAP_AT + 1] + place.to_bytes(4, "little") + len(pages).to_bytes(4, "little")
+    word = WRITER.check(0, prefix) ^ WRITER.HEADER_MASKS[3]
+    return bytes(prefix + word.to_bytes(2, "little") + canonical[WORD_AT + 2 : begin] + section + canonical[begin + WITHOUT_PICTURE : parts.map] + pages)
 
 
 def section_over(canonical: bytes, more: int) -> bytes:
-    """A section that stands where a canonical file has one, without entries, and goes over all behind it and so many bytes more."""
+    """A section that stands where a canonical file has one, without entries, and goes over all after it and so many bytes more."""
     further = bytes(16) + canonical[little(canonical, PREVIEW_AT) + WITHOUT_PICTURE :] + bytes(more)
     return bytes(WRITER.preview([], further))
 
@@ -77,7 +77,7 @@ PREVIEWS = [
     Preview([(6, 21 + 9 * 255, 4)] + [(1, 7, 0)] * 254, b"abcd"),
 ]
 
-# And as none stands: with a picture that begins before the further bytes, or ends behind them.
+# And as none stands: with a picture that begins before the further bytes, or ends after them.
 NONE = [
     Preview([(2, 29, 4)], b"0123"),
     Preview([(2, 31, 4)], b"0123"),
@@ -107,9 +107,9 @@ class Carry(unittest.TestCase):
         for data in drawings():
             place = little(data, PREVIEW_AT)
             for preview in PREVIEWS:
-                behind = made.with_preview_at(data, len(data) + 3) + b"xyz" + preview.at(len(data) + 3)
-                self.expect_carried(behind, data, preview.moved(place))
-                self.expect_carried(behind + b"more", data, preview.moved(place))
+                after = made.with_preview_at(data, len(data) + 3) + b"xyz" + preview.at(len(data) + 3)
+                self.expect_carried(after, data, preview.moved(place))
+                self.expect_carried(after + b"more", data, preview.moved(place))
 
     def test_bench(self) -> None:
         """What bench/run gives it has one picture."""

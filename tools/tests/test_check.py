@@ -52,7 +52,7 @@ def damaged(refusal: str, version: str = "AC1015") -> Tuple[str, ...]:
 
 
 def trailing(count: int, end: int, what: str, findings: int = 0, zero: bool = False) -> Tuple[str, ...]:
-    """What the line of a drawing with bytes behind it says."""
+    """What the line of a drawing with bytes after it says."""
     return expected("trailing bytes", f"{count} from {end}{', all 0' if zero else ''}; {what}", findings, count)
 
 
@@ -96,7 +96,7 @@ class Files:
 
 
 def add_drawings(files: Files) -> None:
-    """Drawings that are sound or not, with and without bytes behind them."""
+    """Drawings that are sound or not, with and without bytes after them."""
     for count in (1, 2, 5, 20, 100, 3000):
         files.add(f"made {count}.dwg", made.made(count, count), SOUND)
     for path in ("smallest", "one_class"):
@@ -106,13 +106,13 @@ def add_drawings(files: Files) -> None:
     files.add("unsound.dwg", unsound, expected("unsound", "finding 31 resolve layer 0 3F", 3, 0))
     data = made.made(20)
     for count in (1, 2, 40, 5000):
-        files.add(f"zeros behind {count}.dwg", data + bytes(count), trailing(count, len(data), "sound", zero=True))
-        files.add(f"noise behind {count}.dwg", data + b"\x1a" * count, trailing(count, len(data), "sound"))
+        files.add(f"zeros after {count}.dwg", data + bytes(count), trailing(count, len(data), "sound", zero=True))
+        files.add(f"noise after {count}.dwg", data + b"\x1a" * count, trailing(count, len(data), "sound"))
     files.add("unsound with more.DWG", unsound + b"end", trailing(3, len(unsound), "unsound 3", 3))
     files.add("twice.dwg", data + data, trailing(len(data), len(data), "sound"))
 
 
-def add_parts_behind(files: Files) -> None:
+def add_parts_after(files: Files) -> None:
     """Drawings whose last part is another than the map."""
     data = made.made(5)
     picture = WRITER.HEADER_SENTINEL * 4
@@ -120,41 +120,41 @@ def add_parts_behind(files: Files) -> None:
     begin = bytes.fromhex("1F256D07D43628289D57CA3F9D44102B")
     preview = begin + content + bytes(255 - byte for byte in begin)
     moved = made.with_preview_at(data, len(data)) + preview
-    files.add("preview behind.dwg", moved, SOUND)
-    files.add("more behind a preview.dwg", moved + b"xy", trailing(2, len(moved), "sound"))
+    files.add("preview after.dwg", moved, SOUND)
+    files.add("more after a preview.dwg", moved + b"xy", trailing(2, len(moved), "sound"))
     files.add("no preview there.dwg", made.with_preview_at(data, 1 << 31), SOUND)
     add_second_headers(files, data)
     control = expected("unsound", "finding 0 control - 0 0", 1, 0)
-    for size, behind in ((10, 0), (10, 4), (0, 4)):
+    for size, after in ((10, 0), (10, 4), (0, 4)):
         section = with_section(size)
-        line = control if not behind else trailing(behind, len(section), "unsound 1", 1)
-        files.add(f"section {size} {behind}.dwg", section + b"more"[:behind], line)
-    files.add("objects behind.dwg", map_first(b""), control)
-    files.add("more behind objects.dwg", map_first(b"12345"), trailing(5, len(map_first(b"")), "unsound 1", 1))
+        line = control if not after else trailing(after, len(section), "unsound 1", 1)
+        files.add(f"section {size} {after}.dwg", section + b"more"[:after], line)
+    files.add("objects after.dwg", map_first(b""), control)
+    files.add("more after objects.dwg", map_first(b"12345"), trailing(5, len(map_first(b"")), "unsound 1", 1))
 
 
 SECOND = bytes.fromhex("D47B21CE28939FBF53244009123CAA01")
 
 
 def second_header(address: int, ends: bool = True) -> bytes:
-    """A second file header that says that it stands at an address: a BL behind its size."""
+    """A second file header that says that it stands at an address: a BL after its size."""
     bits = f"00{int.from_bytes(address.to_bytes(4, 'little'), 'big'):032b}000000"
     content = int(bits, 2).to_bytes(5, "big") + b"AC1015" + bytes(90)
     return SECOND + len(content).to_bytes(4, "little") + content + (bytes(255 - byte for byte in SECOND) if ends else b"")
 
 
 def add_second_headers(files: Files, data: bytes) -> None:
-    """Drawings with a second header behind them: right behind a part, or where it says itself that it stands; and those with one of another drawing."""
+    """Drawings with a second header after them: right after a part, or where it says itself that it stands; and those with one of another drawing."""
     size, far = len(data), len(data) + 7
     right, own = data + second_header(1), data + bytes(7) + second_header(far)
-    files.add("second header right behind.dwg", right, SOUND)
+    files.add("second header right after.dwg", right, SOUND)
     files.add("second header at its address.dwg", own, SOUND)
     for name, whole in (("right", right), ("own", own)):
-        files.add(f"more behind a second header {name}.dwg", whole + bytes(9), trailing(9, len(whole), "sound", zero=True))
+        files.add(f"more after a second header {name}.dwg", whole + bytes(9), trailing(9, len(whole), "sound", zero=True))
         files.add(f"second header twice {name}.dwg", whole + whole, trailing(len(whole), len(whole), "sound"))
         # The other drawing's says where it stands in that.
         files.add(f"drawing before one with a second header {name}.dwg", data + whole, trailing(len(whole), size, "sound"))
-    files.add("second header behind objects.dwg", map_first(second_header(1)), expected("unsound", "finding 0 control - 0 0", 1, 0))
+    files.add("second header after objects.dwg", map_first(second_header(1)), expected("unsound", "finding 0 control - 0 0", 1, 0))
     files.add("second header elsewhere.dwg", data + bytes(7) + second_header(far - 1), trailing(7 + len(second_header(1)), size, "sound"))
     files.add("second header cut.dwg", right[:-1], trailing(len(right) - 1 - size, size, "sound"))
     # One without an end has none in another drawing.
@@ -177,7 +177,7 @@ def with_section(size: int) -> bytes:
 
 
 def map_first(more: bytes) -> bytes:
-    """A drawing whose objects, two that nobody knows, stand behind the map; the second stands before the first."""
+    """A drawing whose objects, two that nobody knows, stand after the map; the second stands before the first."""
     frames = [WRITER.frame(1, 300), WRITER.frame(2, 10)]
     variables, classes = WRITER.framed(WRITER.VARIABLES, b""), WRITER.framed(WRITER.CLASSES, b"")
     size = len(WRITER.pages([(1, 9000), (2, 9000)], 2030))
@@ -221,7 +221,7 @@ def add_lost_header(files: Files, data: bytes) -> None:
     files.add("no version.dwg", hole(data, 0, 6), damaged(rest, version=""))
     files.add("no header.dwg", hole(data, 0, 70), damaged("header 0 at 0: version (header variables at 70)", version=""))
     files.add("no variables.dwg", hole(data, 0, 108), damaged("header 0 at 0: version (classes at 108)", version=""))
-    # The first sector takes the objects along that begin in it; where it ends inside one, the frames behind that are whole.
+    # The first sector takes the objects along that begin in it; where it ends inside one, the frames after that are whole.
     kept = sum(frame.place >= 512 for frame in layout(data).frames)
     files.add("no sector.dwg", hole(data, 0, 512), damaged(f"header 0 at 0: version (recover keeps {kept} objects)", version=""))
 
@@ -255,9 +255,9 @@ def add_others(files: Files) -> None:
     files.add("wide.dwg", "text".encode("utf-16"), other("text in UTF-16"))
     data = made.made(5)
     for count in (1, 3, 128, 70_000):
-        files.add(f"behind {count}.dwg", bytes([3] * count) + data, other(f"AC1015 begins at {count}"))
-    files.add("behind zeros.dwg", bytes(128) + data, other("AC1015 begins at 128"))
-    files.add("another behind.dwg", noise(200, 7) + b"AC1018" + bytes(6) + noise(90, 8), other("AC1018 begins at 200"))
+        files.add(f"after {count}.dwg", bytes([3] * count) + data, other(f"AC1015 begins at {count}"))
+    files.add("after zeros.dwg", bytes(128) + data, other("AC1015 begins at 128"))
+    files.add("another after.dwg", noise(200, 7) + b"AC1018" + bytes(6) + noise(90, 8), other("AC1018 begins at 200"))
     sparse = files.folder / "large.dwg"
     for name, size, expects in (("large", LIMIT + 1, expected("too large", f"more than {LIMIT} bytes")), ("largest", LIMIT, trailing(LIMIT - len(data), len(data), "sound", zero=True))):
         sparse = files.folder / f"{name}.dwg"
@@ -267,7 +267,7 @@ def add_others(files: Files) -> None:
 
 
 def read_table(text: bytes) -> List[List[str]]:
-    """The lines of a table behind its header."""
+    """The lines of a table after its header."""
     lines = text.decode("utf-8").split("\n")
     assert lines[0].split("\t") == COLUMNS and lines[-1] == ""
     return [line.split("\t") for line in lines[1:-1]]
@@ -310,7 +310,7 @@ class Check(Base):
 
     def test_verdicts(self) -> None:
         files = Files(self.folder)
-        for add in (add_drawings, add_parts_behind, add_damaged, add_others):
+        for add in (add_drawings, add_parts_after, add_damaged, add_others):
             add(files)
         ran = tool("dwg-check", self.folder)
         self.assertEqual(ran.returncode, 1, ran.stderr)
@@ -336,9 +336,9 @@ class Check(Base):
         rows = [json.loads(line) for line in ran.stdout.splitlines()]
         self.assertEqual(len(rows), len(names))
         for row, name in zip(rows, names):
-            verdict, detail, findings, behind, version = files.expected[name]
+            verdict, detail, findings, after, version = files.expected[name]
             said = tuple("" if value is None else str(value) for value in (row["findings"], row["trailing"], row["version"]))
-            self.assertEqual((row["verdict"], row["detail"], *said), (verdict, detail, findings, behind, version))
+            self.assertEqual((row["verdict"], row["detail"], *said), (verdict, detail, findings, after, version))
             self.assertEqual(row["mtime_ns"], (self.folder / name).stat().st_mtime_ns)
             if verdict == "damaged":
                 told = row["refusal"]
@@ -399,7 +399,7 @@ class Check(Base):
             self.assertEqual((row.verdict, row.detail, row.lasting), ("failed", why, lasting))
 
     def of_bytes(self, *lines: str, program: str = "stand-in") -> Any:
-        """What is said of bytes without a header, by a run with LOG in which `recover` answers by these lines; and the lines of LOG behind its head."""
+        """What is said of bytes without a header, by a run with LOG in which `recover` answers by these lines; and the lines of LOG after its head."""
         path, log = self.folder / "bytes.dwg", self.folder / "log"
         path.write_bytes(b"\x80XX\0" + bytes(range(256)))
         log.unlink(missing_ok=True)
@@ -482,7 +482,7 @@ class Check(Base):
     def test_why_a_pipe_isnt_kept(self) -> None:
         row = self.piped(made.made(5) + bytes(LIMIT))
         self.assertEqual((row.verdict, row.detail), ("too large", f"more than {LIMIT} bytes"))
-        # Of what stands behind the limit nothing is known.
+        # Of what stands after the limit nothing is known.
         row = self.piped(bytes(LIMIT + 1))
         self.assertEqual((row.verdict, row.bytes, row.mtime_ns), ("too large", None, None))
         row = self.piped(made.made(5) + bytes(LIMIT - len(made.made(5))))
@@ -579,7 +579,7 @@ class Check(Base):
         third = run()
         # That of another time is known by its content.
         self.assertEqual((len(read_table(third.stdout)), self.audits()), (7, 2))
-        # A line that was cut off counts for nothing, and doesn't spoil the one behind it.
+        # A line that was cut off counts for nothing, and doesn't spoil the one after it.
         kept = log.read_bytes()
         first_line = kept.index(b"\n", kept.index(b"\n") + 1)
         log.write_bytes(kept[: first_line - 20])
@@ -893,7 +893,7 @@ class Logs(Base):
         self.assertEqual({row["sha256"] for row in rows}, {hashlib.sha256(made.made(5)).hexdigest()})
         self.audits()
         self.assertEqual((self.resume("--program", first).returncode, self.audits()), (0, 0))
-        # What another program found is checked anew, behind a head of its own.
+        # What another program found is checked anew, after a head of its own.
         self.assertEqual((self.resume("--program", second).returncode, self.audits()), (0, 2))
         self.assertEqual((self.resume("--program", second).returncode, self.audits(), len(self.lines())), (0, 0, 6))
         self.assertEqual((self.resume("--program", first).returncode, self.audits(), len(self.lines())), (0, 0, 9))
@@ -1056,7 +1056,7 @@ class Logs(Base):
             # What is there isn't written into any more.
             self.assertEqual(self.log.read_bytes(), (self.folder / "log.left").read_bytes())
 
-    def test_log_that_is_cut_behind_its_last_line(self) -> None:
+    def test_log_that_is_cut_after_its_last_line(self) -> None:
         for size in (0, 20, 150):
             told: List[str] = []
             log = CHECK.Log(str(self.log), told.append)
@@ -1102,7 +1102,7 @@ class Previews(Base):
     """What JSON tells of the preview section of a whole drawing."""
 
     def expected(self) -> Dict[str, Tuple[bytes, Optional[Dict[str, Any]]]]:
-        """Drawings by their names, and what is told of their preview sections: those of test_carry behind the drawing, and damaged ones."""
+        """Drawings by their names, and what is told of their preview sections: those of test_carry after the drawing, and damaged ones."""
         found: Dict[str, Tuple[bytes, Optional[Dict[str, Any]]]] = {}
         for number, data in enumerate((made.made(1), (made.TOP / "samples" / "r14.dwg").read_bytes())):
             end = len(data)
@@ -1139,10 +1139,10 @@ class Previews(Base):
     def test_only_of_whole_drawings(self) -> None:
         data = WRITER.with_picture(made.made(5), test_carry.PICTURE)
         (self.folder / "d").mkdir()
-        for name, given in (("a", data), ("cut", data[:300]), ("other", b"AC1018" + data[6:]), ("text", b"hello\n"), ("behind", bytes(9) + data)):
+        for name, given in (("a", data), ("cut", data[:300]), ("other", b"AC1018" + data[6:]), ("text", b"hello\n"), ("after", bytes(9) + data)):
             (self.folder / "d" / f"{name}.dwg").write_bytes(given)
         told = {"bytes": 10 + len(test_carry.PICTURE), "pictures": [{"code": 2, "bytes": len(test_carry.PICTURE)}]}
-        self.assertEqual(self.previews(), {"a.dwg": told, "cut.dwg": None, "other.dwg": None, "text.dwg": None, "behind.dwg": None})
+        self.assertEqual(self.previews(), {"a.dwg": told, "cut.dwg": None, "other.dwg": None, "text.dwg": None, "after.dwg": None})
 
     def test_log_keeps_it(self) -> None:
         log, program = self.folder / "log", self.counting()

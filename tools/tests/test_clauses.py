@@ -1,4 +1,4 @@
-"""The list of public clauses has each of them, and nothing of tests; a list before a change of names is the one behind it."""
+"""The list of public clauses has each of them, and nothing of tests; a list before a change of names is the one after it."""
 
 from __future__ import annotations
 
@@ -37,7 +37,7 @@ class Clauses(unittest.TestCase):
         return subprocess.run(command, stdout=subprocess.PIPE, stderr=subprocess.PIPE, universal_newlines=True, encoding="utf-8", check=False)
 
     def listed(self, *words: str) -> List[str]:
-        """The lines that the script prints over the folder; their number stands behind them."""
+        """The lines that the script prints over the folder; their number stands after them."""
         ran = self.run_script(*words)
         lines = ran.stdout.splitlines()
         self.assertEqual((ran.returncode, ran.stderr), (0, f"{len(lines)} public clauses\n"))
@@ -186,7 +186,7 @@ class Clauses(unittest.TestCase):
         self.assertEqual(read, [f"ensures {name}" for name in names])
         crates = {line.split("\t")[0] for line in lines}
         self.assertTrue({"dwg_base", "dwg_cli", "dwg_recover"} <= crates)
-        self.assertFalse({"dwg_samples", "dwg_tests", "dwg_body_tests", "dwg_file_tests"} & crates)
+        self.assertFalse({"dwg_testkit", "dwg_codec_tests", "dwg_body_tests", "dwg_file_tests"} & crates)
 
 
 if __name__ == "__main__":

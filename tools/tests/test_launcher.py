@@ -19,10 +19,10 @@ CRATES = """dwg_base: thiserror
 dwg_bits: dwg_base
 dwg_object: dwg_base dwg_bits
 dwg_text: dwg_base hex
-dwg_answers: dwg_object dwg_text
-dwg_cli: dwg_answers dwg_samples
-dwg_samples:
-dwg_tests: dwg_cli
+dwg_commands: dwg_object dwg_text
+dwg_cli: dwg_commands dwg_testkit
+dwg_testkit:
+dwg_codec_tests: dwg_cli
 """
 
 # It says what the toolchain says, counts its builds, makes a program that prints its words and its input, and runs one
@@ -343,7 +343,7 @@ class Unproved(InTree):
     """Where no program is built that is newer than its sources, the answer is that of the program without its proof."""
 
     def expect_unproved(self, ran: "subprocess.CompletedProcess[bytes]", words: str, given: str = "", state: str = "isn't built") -> None:
-        """The answer came through behind a line that says what it is, and nothing is left of it."""
+        """The answer came through after a line that says what it is, and nothing is left of it."""
         self.assertEqual((ran.returncode, ran.stdout), (3, f"unproved {words}\n{given}".encode()), ran.stderr)
         first, note = ran.stderr.decode().splitlines()
         self.assertRegex(first, f"^dwg: the program {state}, so this answer is from the program compiled without its proof, .*; `make -C .*` proves and builds it, .*$")

@@ -189,7 +189,7 @@ class NoLog(Checked):
 class Zeros(Checked):
     """Of a file that is too long no more is said than what was looked at."""
 
-    def test_zeros_and_what_is_behind_them(self) -> None:
+    def test_zeros_and_what_is_after_them(self) -> None:
         program, path = self.refusing(), self.folder / "d/zeros.dwg"
         looked_at = 65_536 + drawing.LIMIT
         for end, detail in ((b"", "zero bytes"), (b"\0", f"the first {looked_at} bytes are zero"), (b"precious", f"the first {looked_at} bytes are zero")):
@@ -362,7 +362,7 @@ class Coming(Checked):
             lines = table.read_bytes().splitlines(keepends=True)[1:]
             self.assertEqual(lines if status == 1 else table.read_bytes(), [self.line_of(path)] * 2 if status == 1 else data)
 
-    def test_a_pipe_without_an_end_holds_up_what_is_behind_it_alone(self) -> None:
+    def test_a_pipe_without_an_end_holds_up_what_is_after_it_alone(self) -> None:
         paths = self.drawings(2)
         for is_ended in (True, False):
             end, begin = os.pipe()
@@ -447,7 +447,7 @@ class Streams(Checked):
                 path.unlink()
 
 
-FRONT = "drawing AC1015 codepage 30 lead 00000000000000 mark 0000\nvariables -\nclasses 0\nobjects {count}\n"
+PREFIX = "drawing AC1015 codepage 30 lead 00000000000000 mark 0000\nvariables -\nclasses 0\nobjects {count}\n"
 COMMON = "  owner 4.18\n  mode {mode}\n  colour 256\n  lineweight 29\n  layer 5.10\n"
 
 
@@ -511,25 +511,25 @@ class Memory(common.InFolder):
 
     @unittest.skipUnless(os.path.exists("/proc/self/status"), "memory, as there is no /proc/self/status")
     def test_an_object_of_very_many_elements(self) -> None:
-        front, count = FRONT.format(count=1), 200_000
+        prefix, count = PREFIX.format(count=1), 200_000
         # A vertex has four bits, and so have two widths.
         size = count // 2
         for name, most in (("dwg-json", 200), ("dwg-picture", 70)):
-            least = self.most(name, front + polyline_text(2))
-            self.assertLess(self.most(name, front + polyline_text(count)) - least, most * size, name)
+            least = self.most(name, prefix + polyline_text(2))
+            self.assertLess(self.most(name, prefix + polyline_text(count)) - least, most * size, name)
             self.assertGreater((self.folder / "out").stat().st_size, 4 * count)
-        self.assertLess(self.most("dwg-picture", front + polyline_text(2, widths=[(1.0, 1.0)] * count)) - least, 70 * size)
+        self.assertLess(self.most("dwg-picture", prefix + polyline_text(2, widths=[(1.0, 1.0)] * count)) - least, 70 * size)
 
     @unittest.skipUnless(os.path.exists("/proc/self/status"), "memory, as there is no /proc/self/status")
     def test_very_many_widths_that_differ(self) -> None:
-        front, count = FRONT.format(count=1), 20_000
-        least = self.most("dwg-picture", front + polyline_text(2))
+        prefix, count = PREFIX.format(count=1), 20_000
+        least = self.most("dwg-picture", prefix + polyline_text(2))
         # A vertex has at least eight bytes here, its widths four bits.
-        self.assertLess(self.most("dwg-picture", front + polyline_text(count, widths=[(1.0, 0.5)] * count, equal=False)) - least, 20 * 8 * count)
+        self.assertLess(self.most("dwg-picture", prefix + polyline_text(count, widths=[(1.0, 0.5)] * count, equal=False)) - least, 20 * 8 * count)
 
     def differing(self, count: int) -> Tuple[int, bytes]:
         """The most memory that dwg-diff has at once over two polylines of so many points, all unlike, and what it says."""
-        return self.compared(*(FRONT.format(count=1) + text for text in (polyline_text(count), polyline_text(count).replace(word(64.5), word(65.5)))))
+        return self.compared(*(PREFIX.format(count=1) + text for text in (polyline_text(count), polyline_text(count).replace(word(64.5), word(65.5)))))
 
     def compared(self, *texts: str) -> Tuple[int, bytes]:
         """The most memory that dwg-diff has at once over two drawings that differ, by the texts that are shown of them, and what it says."""
@@ -558,8 +558,8 @@ class Memory(common.InFolder):
         texts = []
         for count in (2, 100_000):
             lines = [f'class {500 + index % 60_000} version 0 proxy 0 item 498 app "" cpp "" dxf ""\n' for index in range(count)]
-            front = FRONT.format(count=0).replace("classes 0\n", f"classes {count}\n%s")
-            texts.append([front % "".join(lines), front % "".join([lines[-1], *lines[:-1]])])
+            prefix = PREFIX.format(count=0).replace("classes 0\n", f"classes {count}\n%s")
+            texts.append([prefix % "".join(lines), prefix % "".join([lines[-1], *lines[:-1]])])
         (least, few), (most, said) = (self.compared(*pair) for pair in texts)
         self.assertEqual(few.splitlines(), [b"changed classes", b"  order[0]: 500 -> 501", b"  order[1]: 501 -> 500", b"objects: 0 added, 0 removed, 0 changed"])
         self.assertEqual((said.splitlines()[:2], len(said.splitlines())), ([b"changed classes", b"  order[0]: 500 -> 40499"], 100_002))
@@ -572,7 +572,7 @@ class Memory(common.InFolder):
         texts = []
         for count in (2, 100_000):
             entries = "".join(f'object {index:X} APPID typed 67\n  entry.name ""\n  extra 0\n' for index in range(0x10, count + 0x10))
-            texts.append([FRONT.format(count=count) + entries, FRONT.format(count=count) + entries[:-2] + "1\n"])
+            texts.append([PREFIX.format(count=count) + entries, PREFIX.format(count=count) + entries[:-2] + "1\n"])
         (least, _), (most, said) = (self.compared(*pair) for pair in texts)
         self.assertEqual(said.splitlines()[1:], [b"  extra: 0 -> 1", b"objects: 0 added, 0 removed, 1 changed"])
         self.assertLess(most - least, 2 * 20 * 100_000)
@@ -604,7 +604,7 @@ class Memory(common.InFolder):
                 self.assertTrue(all(pieces == element for pieces, element, _ in said[1]))
 
     def test_an_object_of_too_much_text(self) -> None:
-        text = FRONT.format(count=2) + "object 30 SEQEND typed 6\n" + polyline_text(300)
+        text = PREFIX.format(count=2) + "object 30 SEQEND typed 6\n" + polyline_text(300)
         program, path, out = self.showing(text), self.file("a.dwg", b"AC1015"), self.folder / "made"
         statuses = {"dwg-json": ([], 67), "dwg-picture": ([], 67), "dwg-diff": ([path], 2)}
         for name, (more, status) in statuses.items():
@@ -621,23 +621,23 @@ class Memory(common.InFolder):
         self.assertEqual((ran.returncode, ran.stderr, len(out.read_bytes().splitlines())), (0, b"", 3))
 
     def test_an_older_state_without_an_end(self) -> None:
-        front, name = FRONT.format(count=2), self.folder / "fifo"
-        program, path, out = self.showing(front + polyline_text(2)), self.file("a.dwg", b"AC1015"), self.folder / "made"
+        prefix, name = PREFIX.format(count=2), self.folder / "fifo"
+        program, path, out = self.showing(prefix + polyline_text(2)), self.file("a.dwg", b"AC1015"), self.folder / "made"
         os.mkfifo(name)
         # What comes, how often, and why that is no text.
         endless = {
             ("", "y\n"): "it doesn't begin as one",
             ("drawing ", "x" * 999): "a line has more than 100000 bytes",
-            (front.split("variables")[0] + "variables ", "00"): "a line has more than 100000 bytes",
-            (front.replace("classes 0\nobjects 2\n", "classes 999999\n"), 'class 500 version 0 proxy 0 item 498 app "" cpp "" dxf ""\n'): "it has more than 300000 bytes before its objects",
-            (front.replace("classes 0\nobjects 2\n", "classes 9999999999\n"), "x\n"): "b'9999999999' classes, which no drawing has",
-            (front.replace("objects 2\n", ""), "section 7 00\n"): "b'section 7 00' where objects should stand",
-            (front.replace("objects 2\n", "objects 9999999\n"), "object 1 X typed 9\n"): "b'9999999' objects, which no drawing has",
-            (front, "object 1 LINE typed 19\n"): "more than the 2 objects that are said",
-            (front, f"object 1 {'X' * 100} typed 19\n"): f"b'object 1 {'X' * 71}' where an object should begin",
-            (front + polyline_text(2), "  points[2] 0\n"): "it has more than 900000 bytes",
-            (front + polyline_text(2), "  x 0\n"): "object 31 LWPOLYLINE has more than 300000 bytes of text, which is more than the tools take",
-            (front + "object 10 LAYER typed 51\n  entry.name ", '"' + "x" * 999): "a line has more than 100000 bytes",
+            (prefix.split("variables")[0] + "variables ", "00"): "a line has more than 100000 bytes",
+            (prefix.replace("classes 0\nobjects 2\n", "classes 999999\n"), 'class 500 version 0 proxy 0 item 498 app "" cpp "" dxf ""\n'): "it has more than 300000 bytes before its objects",
+            (prefix.replace("classes 0\nobjects 2\n", "classes 9999999999\n"), "x\n"): "b'9999999999' classes, which no drawing has",
+            (prefix.replace("objects 2\n", ""), "section 7 00\n"): "b'section 7 00' where objects should stand",
+            (prefix.replace("objects 2\n", "objects 9999999\n"), "object 1 X typed 9\n"): "b'9999999' objects, which no drawing has",
+            (prefix, "object 1 LINE typed 19\n"): "more than the 2 objects that are said",
+            (prefix, f"object 1 {'X' * 100} typed 19\n"): f"b'object 1 {'X' * 71}' where an object should begin",
+            (prefix + polyline_text(2), "  points[2] 0\n"): "it has more than 900000 bytes",
+            (prefix + polyline_text(2), "  x 0\n"): "object 31 LWPOLYLINE has more than 300000 bytes of text, which is more than the tools take",
+            (prefix + "object 10 LAYER typed 51\n  entry.name ", '"' + "x" * 999): "a line has more than 100000 bytes",
         }
         few = "drawing.MOST_LINE, drawing.MOST_TEXT, drawing.MOST_SHOWN = 100_000, 300_000, 900_000\n"
         small = "import resource; resource.setrlimit(resource.RLIMIT_FSIZE, (50_000_000, 50_000_000))\n"
@@ -649,12 +649,12 @@ class Memory(common.InFolder):
 
     def test_what_an_older_state_is_known_by(self) -> None:
         layers = "".join(f'object {at:X} LAYER typed 51\n  entry.name "{at:0>500}"\n' for at in range(1, 30))
-        program, path, text = self.showing(FRONT.format(count=1) + polyline_text(2)), self.file("a.dwg", b"AC1015"), self.file("before", (FRONT.format(count=29) + layers).encode())
+        program, path, text = self.showing(PREFIX.format(count=1) + polyline_text(2)), self.file("a.dwg", b"AC1015"), self.file("before", (PREFIX.format(count=29) + layers).encode())
         ran = otherwise("dwg-recover", "drawing.LIMIT = 10_000", "--program", program, "--before", text, path, self.folder / "made")
         self.assertEqual((ran.returncode, ran.stderr.decode()), (64, f"dwg-recover: {text} is no text of `dwg show`: its names have more than 10000 bytes\n"))
 
     def test_blocks_of_too_much_text(self) -> None:
-        program, path = self.showing(FRONT.format(count=2) + polyline_text(300, mode=0).replace("object 31", "object 30") + polyline_text(300, mode=0)), self.file("a.dwg", b"AC1015")
+        program, path = self.showing(PREFIX.format(count=2) + polyline_text(300, mode=0).replace("object 31", "object 30") + polyline_text(300, mode=0)), self.file("a.dwg", b"AC1015")
         ran = otherwise("dwg-picture", "tool.MOST_KEPT = 20_000", "--program", program, path, "--output", self.folder / "made")
         self.assertEqual((ran.returncode, ran.stderr.decode()), (67, f"dwg-picture: {path}: the entities of blocks have more than 20000 bytes of text, which is more than is kept\n"))
         self.assertFalse((self.folder / "made").exists())
@@ -692,7 +692,7 @@ class Notes(common.InFolder):
         self.assertLess(max(peaks), 60_000)
 
 
-# Kills the tool before or behind its so manyth call of those by which files are named and come on the disk.
+# Kills the tool before or after its so manyth call of those by which files are named and come on the disk.
 KILLED = """
 import os, signal
 left = [{turn}]
@@ -760,8 +760,8 @@ class Pairs(common.InFolder):
 
     def test_two_runs_at_once(self) -> None:
         # The first waits between its two names, in which time the second comes.
-        waiting = "place = tool.WholeFile.place\ndef placed(file):\n    time.sleep({before})\n    place(file)\n    time.sleep({behind})\ntool.WholeFile.place = placed"
-        waits = [waiting.format(before=0, behind=1.0), waiting.format(before=0.3, behind=0)]
+        waiting = "place = tool.WholeFile.place\ndef placed(file):\n    time.sleep({before})\n    place(file)\n    time.sleep({after})\ntool.WholeFile.place = placed"
+        waits = [waiting.format(before=0, after=1.0), waiting.format(before=0.3, after=0)]
         for force in (["--force"], []):
             for turn in range(3):
                 runs = []
@@ -790,7 +790,7 @@ class Pairs(common.InFolder):
         said = f"dwg-recover: {self.folder}/to can't be locked (Operation not supported); let no other run write the same output\n"
         self.assertEqual((ran.returncode, ran.stderr.decode(), self.standing()), (1, said, self.pairs[0]))
 
-    def test_each_end_behind_the_writing_says_that_the_output_is_there(self) -> None:
+    def test_each_end_after_the_writing_says_that_the_output_is_there(self) -> None:
         """However a run ends whose output stands, a message says that it does; and where it doesn't, none says so."""
         raising = "def fails(*_):\n    {}\ntool.report_of = fails"
         ends = {
@@ -812,7 +812,7 @@ class Pairs(common.InFolder):
             ran = otherwise("dwg-recover", raising.format(line).replace("report_of", "run_recover"), "--program", made.PROGRAM, self.sources[0], self.out)
             self.assertNotIn(b"is there", ran.stderr)
             self.assertEqual(self.standing(), (None, None))
-        # A signal that comes while both are named ends the run behind that.
+        # A signal that comes while both are named ends the run after that.
         late = "import os, signal\ntool.WholeFile.sync_folder = lambda _: os.kill(os.getpid(), signal.SIGINT)"
         ran = self.recover(late, self.sources[0])
         self.assertEqual((ran.returncode, ran.stderr.decode(), self.standing()), (130, f"dwg-recover: ended by a signal; {self.out} is there\n", self.pairs[0]))

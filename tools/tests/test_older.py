@@ -52,13 +52,13 @@ class Tools(common.InFolder):
 
     def test_check(self) -> None:
         header = "header 0 at 0: version"
-        front = len(older.Plan().frames[0][1]) + 183
+        prefix = len(older.Plan().frames[0][1]) + 183
         cases: Dict[bytes, List[str]] = {
             PLAN: ["sound", "", "0", "0", "AC1014"],
             PLAN + bytes(5): ["trailing bytes", f"5 from {len(PLAN)}, all 0; sound", "0", "5", "AC1014"],
             older.Drawing().file() + b"x": ["trailing bytes", "", "", "1", "AC1014"],
             PLAN[:-1]: ["damaged", f"map 1 at {len(PLAN) - 4}: short", "", "", "AC1014"],
-            flipped(PLAN, front - 3): ["damaged", "objects 0 at 183: check", "", "", "AC1014"],
+            flipped(PLAN, prefix - 3): ["damaged", "objects 0 at 183: check", "", "", "AC1014"],
             bytes([3] * 40) + PLAN: ["no drawing", "AC1014 begins at 40", "", "", ""],
             bytes([3] * 40) + b"AC1014" + bytes([3] * 9) + spelled.Drawing().file(): ["no drawing", "AC1015 begins at 55", "", "", ""],
             without_version(PLAN, b"AC1015"): ["damaged", "header 0 at 52: check (the rest of the header is that of AC1014)", "", "", ""],
@@ -192,7 +192,7 @@ class Tools(common.InFolder):
 
 
 def in_first_body(data: bytes) -> int:
-    """A byte in the body of the object that stands behind the classes."""
+    """A byte in the body of the object that stands after the classes."""
     place, size = (int.from_bytes(data[at : at + 4], "little") for at in (35, 39))
     return place + size + 3
 

@@ -533,7 +533,7 @@ class Pictures(common.InFolder):
     def test_polylines_in_space(self) -> None:
         one = spelled.Drawing()
         one.point((0, 0, 0))
-        # The chain goes 202, 203, 201: the first has no links and is followed by the handle behind its own.
+        # The chain goes 202, 203, 201: the first has no links and is followed by the handle after its own.
         one.polyline_in_space(0x202, 0x201, handle=0x200)
         one.vertex((1, 1, 0), 0x200, handle=0x201, links=(0x203, 0))
         one.vertex((0, 0, 5), 0x200, handle=0x202)
@@ -772,7 +772,7 @@ class Pictures(common.InFolder):
         self.assertEqual(answer.returncode, 0, answer.stderr)
         peak = int(re.findall(r"VmHWM:\s*(\d+) kB", told.read_text())[0]) << 10
         self.assertLess(peak, (100 << 20) + 10 * most)
-        # (what stands before the elements and behind them is always there)
+        # (what stands before the elements and after them is always there)
         self.assertLess(len(answer.stdout), most + 2000)
         return answer
 
@@ -1021,12 +1021,12 @@ class Pictures(common.InFolder):
         self.assertEqual(answer.stderr, b"dwg-picture: not drawn: 1 INSERT (more than 64 deep)\n")
         self.assertEqual(answer.stdout.count(b"<defs>"), 64)
 
-    def drawn_in_any_order(self, front: Callable[[spelled.Drawing], object], blocks: Sequence[int]) -> Tuple[List[str], Dict[int, List[float]]]:
+    def drawn_in_any_order(self, prefix: Callable[[spelled.Drawing], object], blocks: Sequence[int]) -> Tuple[List[str], Dict[int, List[float]]]:
         """What is said of inserts of blocks, and how high the lines are that each draws: the same in whichever order they stand."""
         found = []
         for order in (blocks, blocks[::-1], blocks[1::2] + blocks[::2], blocks[len(blocks) // 2 :] + blocks[: len(blocks) // 2]):
             one = spelled.Drawing()
-            front(one)
+            prefix(one)
             for block in order:
                 one.insert(block, (block * 1000, 0, 0))
             for _ in range(2 * len(blocks)):

@@ -152,16 +152,16 @@ class Recover(unittest.TestCase):
         self.assertIn("Of those kept, found without an entry of the map: 0 objects.\n", text)
         self.assertIn(f"Of {len(ALL)} objects of the older drawing 3 are not in the recovered one: 40, 41, 60.\n", text)
         self.assertIn('  the chain of block 18 "*MODEL_SPACE" breaks; 16 of 198 entities reached from its first:\n', text)
-        self.assertIn("    behind 3F: what follows is 40, which isn't there\n    behind 5F: what follows is 60, which isn't there\n", text)
+        self.assertIn("    after 3F: what follows is 40, which isn't there\n    after 5F: what follows is 60, which isn't there\n", text)
 
     def check_chain(self, told: Dict[str, Any], lost: List[int]) -> None:
-        """The chain of the model space breaks behind the objects before lost ones."""
+        """The chain of the model space breaks after the objects before lost ones."""
         (chain,) = told["chains"]
         members = [handle for handle in range(FIRST, LAST + 1) if handle not in lost]
         breaks = [handle for handle in members if handle != LAST and handle + 1 in lost]
         self.assertEqual((chain["block"], chain["name"], chain["members"], chain["reached"]), ("18", "*MODEL_SPACE", len(members), breaks[0] - FIRST + 1))
         expected = [
-            {"where": "inside", "behind": f"{handle:X}", "target": f"{handle + 1:X}", "why": f"what follows is {handle + 1:X}, which isn't there"} for handle in breaks
+            {"where": "inside", "after": f"{handle:X}", "target": f"{handle + 1:X}", "why": f"what follows is {handle + 1:X}, which isn't there"} for handle in breaks
         ]
         self.assertEqual(chain["breaks"], expected)
         self.assertEqual(told["audit"]["rules"].get("chain"), 1)
@@ -172,7 +172,7 @@ class Recover(unittest.TestCase):
         self.assertEqual((chain["members"], chain["reached"]), (COUNT - 1, 0))
         # The last entity leads back to the one before it, and is the only one with links.
         self.assertEqual(
-            [(one["where"], one["behind"], one["target"]) for one in chain["breaks"]],
+            [(one["where"], one["after"], one["target"]) for one in chain["breaks"]],
             [("begin", None, f"{FIRST:X}"), ("inside", f"{LAST - 1:X}", f"{LAST:X}"), ("end", None, f"{LAST:X}")],
         )
         self.assertEqual(told["audit"]["missing"], [f"{FIRST:X}", f"{LAST:X}"])
@@ -329,17 +329,17 @@ class Recover(unittest.TestCase):
     def test_an_older_state_that_changes_meanwhile(self) -> None:
         text = self.folder / "text"
         whole = dwg("show", given=DATA).stdout
-        read_front = drawing.read_front
+        read_prefix = drawing.read_prefix
 
-        def changed(lines: Iterator[bytes]) -> drawing.Front:
+        def changed(lines: Iterator[bytes]) -> drawing.Prefix:
             with open(text, "ab") as file:
                 file.write(b"more\n")
-            return read_front(lines)
+            return read_prefix(lines)
 
         # One that is written still is no text, and that isn't its fault.
         for data in (whole, whole[:1000]):
             text.write_bytes(data)
-            with unittest.mock.patch("drawing.read_front", changed), self.assertRaises(drawing.ToolError) as raised:
+            with unittest.mock.patch("drawing.read_prefix", changed), self.assertRaises(drawing.ToolError) as raised:
                 RECOVER.survey_before(drawing.Program(made.PROGRAM), str(text))
             self.assertEqual((str(raised.exception), raised.exception.status), (f"{text}: it was changed while it was read", 4))
 
@@ -397,13 +397,13 @@ class Chains(unittest.TestCase):
 
     def test_broken(self) -> None:
         self.assertEqual(self.breaks({}, 5, 5, [5]), ["at its begin: its first is 5, of kind LAYER, which is no member of the block", "at its end: its last is 5, of kind LAYER, which is no member of the block"])
-        self.assertEqual(self.breaks({5: 0}, 0, 0), ["at its begin: its first is missing", "behind 5: what follows is missing", "at its end: its last is missing"])
-        self.assertEqual(self.breaks({5: 0, 6: 0}, 5, 6), ["behind 5: what follows is missing"])
-        self.assertEqual(self.breaks({5: 6, 6: 5, 7: 0}, 5, 7), ["behind 6: what follows is 5, the first"])
-        self.assertEqual(self.breaks({5: 7, 6: 7, 7: 0}, 5, 7), ["behind 6: what follows is 7, which follows 5 too"])
-        self.assertEqual(self.breaks({5: 6, 6: 0, 7: 8, 8: 7}, 5, 6), ["behind 8: what follows is 7, a ring of 2 that stands apart"])
-        self.assertEqual(self.breaks({5: 6, 6: 0, 7: 7}, 5, 6), ["behind 7: what follows is 7, a ring of 1 that stands apart"])
-        self.assertEqual(self.breaks({5: 0x2F, 6: 0}, 5, 6, [0x2F]), ["behind 5: what follows is 2F, of kind LAYER, which is no member of the block"])
+        self.assertEqual(self.breaks({5: 0}, 0, 0), ["at its begin: its first is missing", "after 5: what follows is missing", "at its end: its last is missing"])
+        self.assertEqual(self.breaks({5: 0, 6: 0}, 5, 6), ["after 5: what follows is missing"])
+        self.assertEqual(self.breaks({5: 6, 6: 5, 7: 0}, 5, 7), ["after 6: what follows is 5, the first"])
+        self.assertEqual(self.breaks({5: 7, 6: 7, 7: 0}, 5, 7), ["after 6: what follows is 7, which follows 5 too"])
+        self.assertEqual(self.breaks({5: 6, 6: 0, 7: 8, 8: 7}, 5, 6), ["after 8: what follows is 7, a ring of 2 that stands apart"])
+        self.assertEqual(self.breaks({5: 6, 6: 0, 7: 7}, 5, 6), ["after 7: what follows is 7, a ring of 1 that stands apart"])
+        self.assertEqual(self.breaks({5: 0x2F, 6: 0}, 5, 6, [0x2F]), ["after 5: what follows is 2F, of kind LAYER, which is no member of the block"])
 
     def test_chains_are_walked_once(self) -> None:
         """Chains that no first leads to: descending handles, tails that lead into rings, and many rings, each linear in its members."""
@@ -483,8 +483,8 @@ object 34 LINE raw 19
   bytes 00
 """
         lines = iter(text.encode().splitlines(keepends=True))
-        front = RECOVER.drawing.read_front(lines)
-        survey = RECOVER.surveyed(front, RECOVER.drawing.read_objects(lines, front.count))
+        prefix = RECOVER.drawing.read_prefix(lines)
+        survey = RECOVER.surveyed(prefix, RECOVER.drawing.read_objects(lines, prefix.count))
         chains = RECOVER.Chains(survey)
         self.assertEqual(chains.members, {0x18: [0x30], 0x1B: [0x31], 0x20: [0x32, 0x33]})
         self.assertEqual(list(chains.broken()), [])

@@ -46,7 +46,7 @@ def in_bash(script: str, *words: object, **more: Any) -> "subprocess.CompletedPr
 
 
 def limited_to(size: int) -> Callable[[], None]:
-    """Lets no file become larger than so many bytes: what comes behind fails as on a full disk."""
+    """Lets no file become larger than so many bytes: what comes after fails as on a full disk."""
     return lambda: resource.setrlimit(resource.RLIMIT_FSIZE, (size, size))
 
 

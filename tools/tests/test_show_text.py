@@ -8,7 +8,7 @@ from pathlib import Path
 sys.path.insert(0, str(Path(__file__).resolve().parents[1]))
 import drawing  # noqa: E402
 
-FRONT = b"""drawing AC1015 codepage 30 lead 00ff0000000000 mark -
+PREFIX = b"""drawing AC1015 codepage 30 lead 00ff0000000000 mark -
 variables 0102
 classes 1
 class 500 version 2 proxy 1 item 498 app "A\\22B" cpp "" dxf "WIPE\\5cOUT"
@@ -35,17 +35,17 @@ object 31 LINE typed 19
 class ShowText(unittest.TestCase):
     """Texts that are written here by hand after docs/FORMAT.md."""
 
-    def test_front(self) -> None:
-        front = drawing.read_front(iter(FRONT.splitlines(keepends=True)))
-        self.assertEqual((front.version, front.codepage, front.count), ("AC1015", 30, 2))
-        self.assertEqual((front.lead, front.mark, front.variables), (b"\0\xff\0\0\0\0\0", b"", b"\1\2"))
-        self.assertEqual(front.sections, [(4, b""), (7, b"\x0a\x0b")])
-        one = front.classes[0]
+    def test_prefix(self) -> None:
+        prefix = drawing.read_prefix(iter(PREFIX.splitlines(keepends=True)))
+        self.assertEqual((prefix.version, prefix.codepage, prefix.count), ("AC1015", 30, 2))
+        self.assertEqual((prefix.lead, prefix.mark, prefix.variables), (b"\0\xff\0\0\0\0\0", b"", b"\1\2"))
+        self.assertEqual(prefix.sections, [(4, b""), (7, b"\x0a\x0b")])
+        one = prefix.classes[0]
         self.assertEqual((one.number, one.version, one.proxy, one.item), (500, 2, 1, 498))
         self.assertEqual((one.app, one.cpp, one.dxf), (b'A"B', b"", b"WIPE\\OUT"))
 
     def test_objects(self) -> None:
-        first, second = drawing.objects((FRONT + OBJECTS).splitlines(keepends=True))
+        first, second = drawing.objects((PREFIX + OBJECTS).splitlines(keepends=True))
         self.assertEqual((first.handle, first.kind, first.form, first.number), (1, "BLOCK CONTROL", "typed", 48))
         self.assertEqual([path for path, _ in first.fields], ["owner", "entries[0]", "entries[1]"])
         self.assertEqual(first.reference("entries[1]"), drawing.Reference(10, (1 << 63) - 1))
@@ -80,14 +80,14 @@ class ShowText(unittest.TestCase):
         self.assertEqual(drawing.steps("a"), ("a",))
 
     def test_bad_texts(self) -> None:
-        whole = (FRONT + OBJECTS).splitlines(keepends=True)
+        whole = (PREFIX + OBJECTS).splitlines(keepends=True)
         for cut in range(len(whole)):
             lines = whole[:cut]
-            if cut >= len(FRONT.splitlines()) + 5:
+            if cut >= len(PREFIX.splitlines()) + 5:
                 continue  # Both objects have begun: fewer fields can't be told from all.
             with self.assertRaises(drawing.BadText, msg=f"{cut} lines"):
                 list(drawing.objects(lines))
-        for text in (b"", b"\x89PNG\r\n", b"drawing AC1015\n", FRONT + OBJECTS[:-1], FRONT + OBJECTS + b"object 40 SEQEND typed 6\n", FRONT + b"x\n"):
+        for text in (b"", b"\x89PNG\r\n", b"drawing AC1015\n", PREFIX + OBJECTS[:-1], PREFIX + OBJECTS + b"object 40 SEQEND typed 6\n", PREFIX + b"x\n"):
             with self.assertRaises(drawing.BadText, msg=repr(text[-20:])):
                 list(drawing.objects(text.splitlines(keepends=True)))
         for name, printed in ((b"colour", b"x"), (b"layer", b"5."), (b"start", b"405" * 20), (b"bytes", b"0"), (b"name", b'"a')):

@@ -50,7 +50,7 @@ items_counted all count can same = omega (arith, same, bytes_of_items all can)
 pub items_can_be_written : (all : List AppItem) (bytes : List ℕ) → AreItems all bytes → AllByRecursion CanBeWritten all
 items_can_be_written all bytes are = all_can_be_written all (value_all AnyLetters item all (bits bytes) item_is_code are)
 
--- what is left from a place on is the item there and what is left behind it
+-- what is left from a place on is the item there and what is left after it
 left_at : (all : List AppItem) (i : ℕ) (one : AppItem) → i < length all → one ≡ get_or all i one → drop i all ≡ one ∷ drop (i + 1) all
 left_at all i one inside here = drop_more all i one inside ∙ ap (λ (first : AppItem). first ∷ drop (i + 1) all) (sym here)
 
@@ -67,7 +67,7 @@ pub record AreCountedSoFar (all left : List AppItem) (count : ℕ) : Type 0 wher
 pub none_counted : (all : List AppItem) → AllByRecursion CanBeWritten all → AreCountedSoFar all (drop 0 all) 0
 none_counted all can = record { can = can; bits = omega arith }
 
--- with the first of those that are left counted, those behind it are left
+-- with the first of those that are left counted, those after it are left
 one_counted : (all left : List AppItem) (one : AppItem) (count more : ℕ) → length (item.short one) ≡ 8 * more → AreCountedSoFar all (one ∷ left) count → AreCountedSoFar all left (count + more)
 one_counted all left one count more same counted = record {
   can = counted.can.1;
@@ -84,8 +84,8 @@ counted_at all i one count more inside here same counted =
 pub counted_within : (all : List AppItem) (i : ℕ) (one : AppItem) (count more : ℕ) → AllByRecursion CanBeWritten all → i < length all → one ≡ get_or all i one → length (item.short one) ≡ 8 * more
     → AreCountedSoFar all (drop i all) count → count + more ≤ length (items_bytes all)
 counted_within all i one count more can inside here same counted =
-    let behind = counted_at all i one count more inside here same counted in
-    omega (arith, behind.bits, bytes_of_items all can)
+    let after = counted_at all i one count more inside here same counted in
+    omega (arith, after.bits, bytes_of_items all can)
 
 -- where none is left, all are counted
 pub all_counted : (all : List AppItem) (i count : ℕ) → AllByRecursion CanBeWritten all → length all ≤ i → AreCountedSoFar all (drop i all) count → count ≡ length (items_bytes all)

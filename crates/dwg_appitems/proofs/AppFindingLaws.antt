@@ -10,8 +10,8 @@ use Rattle.dwg_graph.proofs.ListLemmas.{empty_of_none, none_of_empty, contains_o
 use Rattle.dwg_kinds.specs.declared.kind.Kind.{Kind}
 use Rattle.dwg_kinds.specs.declared.kind.Kind.TheVariants as kinds
 use Rattle.dwg_object.specs.Objects.{ObjectValue, handle_of, kind_of}
-use Rattle.dwg_paths.proofs.MemberLemmas.{contains_none}
-use Rattle.dwg_paths.proofs.TestLemmas.{one_of_any, any_of_one}
+use Rattle.dwg_chains.proofs.MemberLemmas.{contains_none}
+use Rattle.dwg_chains.proofs.TestLemmas.{one_of_any, any_of_one}
 use Rattle.dwg_appitems.specs.declared.finding.AppFinding.{AppFinding}
 use Rattle.dwg_appitems.specs.declared.item.AppItem.{AppItem}
 use Rattle.dwg_appitems.specs.declared.item.AppItem.TheVariants.{Layer, Object}
@@ -92,8 +92,8 @@ pub record IsFoundOf (objects : List ObjectValue) (handle index : ℕ) (app : Ap
   pub says : finding ≡ finding_at handle index place one
 
 -- so is what is found of it
-pub app_tells : (objects : List ObjectValue) (handle index : ℕ) (app : AppData) (finding : AppFinding) → Contains (of_app objects handle index app) finding → IsFoundOf objects handle index app finding
-app_tells objects handle index app finding inside =
+pub app_reports : (objects : List ObjectValue) (handle index : ℕ) (app : AppData) (finding : AppFinding) → Contains (of_app objects handle index app) finding → IsFoundOf objects handle index app finding
+app_reports objects handle index app finding inside =
     let all = found_of_items (items_findings objects handle index 0) app.bytes finding inside in
     let one = found_of_one (item_findings objects handle index) (items_findings objects handle index) (items_numbered objects handle index) all.0 0 finding all.2 in
     let same : 0 + one.0 ≡ one.0 = omega arith in
@@ -110,12 +110,12 @@ app_stands objects handle index app finding is =
     (found_of_all (item_findings objects handle index) (items_findings objects handle index) (items_numbered objects handle index) is.items 0 is.place is.one finding is.at here)
 
 -- what is found of the application data of an object
-pub apps_tell : (objects : List ObjectValue) (handle : ℕ) (apps : List AppData) (finding : AppFinding) → Contains (apps_findings objects handle 0 apps) finding
+pub apps_report : (objects : List ObjectValue) (handle : ℕ) (apps : List AppData) (finding : AppFinding) → Contains (apps_findings objects handle 0 apps) finding
     → (index : ℕ) × (app : AppData) × (slice_get apps index ≡ Some app) × IsFoundOf objects handle index app finding
-apps_tell objects handle apps finding inside =
+apps_report objects handle apps finding inside =
     let one = found_of_one (of_app objects handle) (apps_findings objects handle) (apps_numbered objects handle) apps 0 finding inside in
     let same : 0 + one.0 ≡ one.0 = omega arith in
-    (one.0, one.1, one.2, app_tells objects handle one.0 one.1 finding (subst (λ (n : ℕ). Contains (of_app objects handle n one.1) finding) same one.3))
+    (one.0, one.1, one.2, app_reports objects handle one.0 one.1 finding (subst (λ (n : ℕ). Contains (of_app objects handle n one.1) finding) same one.3))
 
 -- and that is all
 apps_stand : (objects : List ObjectValue) (handle index : ℕ) (apps : List AppData) (app : AppData) (finding : AppFinding) → slice_get apps index ≡ Some app → IsFoundOf objects handle index app finding
@@ -128,7 +128,7 @@ apps_stand objects handle index apps app finding here is =
 -- what is found of an object is a finding of all
 stands_found : (objects : List ObjectValue) (x : ObjectValue) (finding : AppFinding) → Contains objects x → Contains (apps_findings objects (handle_of x) 0 (apps_of x)) finding → IsAppFinding objects finding
 stands_found objects x finding among inside =
-    let found = apps_tell objects (handle_of x) (apps_of x) finding inside in
+    let found = apps_report objects (handle_of x) (apps_of x) finding inside in
     let is = found.3 in
     subst (IsAppFinding objects) (sym is.says)
     (record {

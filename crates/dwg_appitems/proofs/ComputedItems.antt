@@ -11,13 +11,13 @@ use Rattle.dwg_appitems.specs.declared.item.AppItem.{AppItem}
 use Rattle.dwg_appitems.specs.AppFindings.{items_in}
 use Rattle.dwg_appitems.specs.Items.{item}
 use Rattle.dwg_appitems.specs.ItemLists.{AreItems}
-use Rattle.dwg_appitems.proofs.ItemFronts.{item_least}
+use Rattle.dwg_appitems.proofs.ItemPrefixes.{item_least}
 use Rattle.dwg_appitems.proofs.ItemLemmas.{item_is_code}
 
 -- letters of which fewer than one are left are all
-none_left : (letters front left : List Bool) → letters ≡ front ++ left → length left < 1 → letters ≡ front
-none_left letters front [] whole few = whole ∙ append-nil front
-none_left letters front (x ∷ left) whole few = absurd (omega (arith, few))
+none_left : (letters prefix left : List Bool) → letters ≡ prefix ++ left → length left < 1 → letters ≡ prefix
+none_left letters prefix [] whole few = whole ∙ append-nil prefix
+none_left letters prefix (x ∷ left) whole few = absurd (omega (arith, few))
 
 -- what is computed, the bytes are
 pub computed_are : (bytes : List ℕ) (all : List AppItem) → items_in bytes ≡ Some all → AreItems all bytes
@@ -27,7 +27,7 @@ computed_are bytes all is =
     (λ found parsed same.
     let cut = to_end_sound 1 item (suc (length (bits bytes))) (bits bytes) found item_is_code parsed in
     subst (λ (values : List AppItem). AreItems values bytes) same
-    (subst (SpellsAll item found.0) (sym (none_left (bits bytes) cut.front found.1 cut.whole cut.short)) cut.spelled))
+    (subst (SpellsAll item found.0) (sym (none_left (bits bytes) cut.prefix found.1 cut.whole cut.short)) cut.spelled))
 
 -- and what the bytes are is computed
 pub are_computed : (bytes : List ℕ) (all : List AppItem) → AreItems all bytes → items_in bytes ≡ Some all

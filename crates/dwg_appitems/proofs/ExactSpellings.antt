@@ -25,16 +25,16 @@ use Rattle.dwg_appitems.proofs.ItemLemmas.{marked, marked_is_code, byte_below_tw
 
 -- a value has no spelling but the one that is written of it
 abbrev IsExact : {V : Type 0} → Grammar Bool V → Type 0
-IsExact {V} code = (value : V) (front : List Bool) → code.Spells value front → front ≡ code.short value
+IsExact {V} code = (value : V) (prefix : List Bool) → code.Spells value prefix → prefix ≡ code.short value
 
 -- so have so many bits
 fixed_exact : (count : ℕ) → IsExact (fixed count)
-fixed_exact count value front spelled = sym (low_bits_of_num front) ∙ ap₂ low_bits spelled.0 (sym spelled.1)
+fixed_exact count value prefix spelled = sym (low_bits_of_num prefix) ∙ ap₂ low_bits spelled.0 (sym spelled.1)
 
--- values one behind the other
+-- values one after the other
 all_exact : {V : Type 0} (code : Grammar Bool V) → IsExact code → (values : List V) (letters : List Bool) → SpellsAll code values letters → letters ≡ short_all code values
 all_exact code exact [] letters spelled = spelled
-all_exact code exact (value ∷ values) letters (front, back, one, others, same) = same ∙ ap₂ (λ first rest. first ++ rest) (exact value front one) (all_exact code exact values back others)
+all_exact code exact (value ∷ values) letters (prefix, back, one, others, same) = same ∙ ap₂ (λ first rest. first ++ rest) (exact value prefix one) (all_exact code exact values back others)
 
 -- so many bytes
 bytes_exact : (count : ℕ) → IsExact (items rc count)
@@ -43,19 +43,19 @@ bytes_exact count bytes letters spelled = all_exact rc (fixed_exact 8) bytes let
 
 -- one code and then another
 seq_exact : {V W : Type 0} (first : Grammar Bool V) (second : V → Grammar Bool W) → IsExact first → ((value : V) → IsExact (second value)) → IsExact (seq first second)
-seq_exact first second one two both letters (front, back, spelled, others, same) =
-    same ∙ ap₂ (λ before behind. before ++ behind) (one both.0 front spelled) (two both.0 both.1 back others)
+seq_exact first second one two both letters (prefix, back, spelled, others, same) =
+    same ∙ ap₂ (λ before after. before ++ after) (one both.0 prefix spelled) (two both.0 both.1 back others)
 
 -- what a code's values are seen as, where each follows from what it is seen as
 image_exact : {V W : Type 0} (into : V → W) (back : W → V) (code : Grammar Bool V) → IsCode AnyLetters code → IsExact code
     → ((value : V) → code.IsValue value → back (into value) ≡ value) → IsExact (image (λ value. ⊤) into back code)
-image_exact into back code is exact same value front (inner, seen, spelled) =
-    exact inner front spelled ∙ ap code.short (sym (same inner (is.value front inner spelled)) ∙ ap back (sym seen))
+image_exact into back code is exact same value prefix (inner, seen, spelled) =
+    exact inner prefix spelled ∙ ap code.short (sym (same inner (is.value prefix inner spelled)) ∙ ap back (sym seen))
 
 -- a variant of an enum
 variant_exact : {V W : Type 0} (into : V → W) (inside : W → Option V) (code : Grammar Bool V) → IsExact code → ((held : V) → inside (into held) ≡ Some held) → IsExact (variant into inside code)
-variant_exact {V} {W} into inside code exact told value front (held, same, spelled) =
-    exact held front spelled ∙ sym (ap (λ (one : Option V). option_map_or code.short one []) (ap inside same ∙ told held))
+variant_exact {V} {W} into inside code exact reported value prefix (held, same, spelled) =
+    exact held prefix spelled ∙ sym (ap (λ (one : Option V). option_map_or code.short one []) (ap inside same ∙ reported held))
 
 -- RS, RL and RD
 rs_exact : IsExact rs
@@ -93,7 +93,7 @@ run_exact =
 closing_exact : IsExact closing
 closing_exact =
     image_exact (λ byte. byte == 1) (λ close. if close then 1 else 0) (restrict (λ byte. nat_lt byte 2) rc)
-    (restrict_is_code AnyLetters (λ byte. nat_lt byte 2) rc rc_is_code) (λ value front spelled. fixed_exact 8 value front spelled.1) (λ byte fits. byte_below_two byte fits.0)
+    (restrict_is_code AnyLetters (λ byte. nat_lt byte 2) rc rc_is_code) (λ value prefix spelled. fixed_exact 8 value prefix spelled.1) (λ byte fits. byte_below_two byte fits.0)
 
 -- a point
 words_exact : IsExact words_of_point
@@ -102,9 +102,9 @@ words_exact =
     (seq_exact rd (λ x. seq rd (λ y. rd)) rd_exact (λ x. seq_exact rd (λ y. rd) rd_exact (λ y. rd_exact))) (λ words fits. refl)
 
 -- what follows a code byte
-behind_exact : (code : ℕ) → IsExact (item_by code)
+after_exact : (code : ℕ) → IsExact (item_by code)
 unfolding item_by
-behind_exact code =
+after_exact code =
     of_chosen IsExact (code == 0) _ _ (λ at. variant_exact (λ both. Text both.0 both.1) text_in marked_text text_exact (λ held. refl))
     (λ not. of_chosen IsExact (code == 2) _ _ (λ at. variant_exact Brace brace_in closing closing_exact (λ held. refl))
     (λ not. of_chosen IsExact (code == 3) _ _ (λ at. variant_exact Layer layer_in handle (fixed_exact 64) (λ held. refl))
@@ -113,14 +113,14 @@ behind_exact code =
     (λ not. of_chosen IsExact (nat_le 10 code && nat_le code 13) _ _ (λ at. variant_exact (Point code) point_in words_of_point words_exact (λ held. refl))
     (λ not. of_chosen IsExact (nat_le 40 code && nat_le code 42) _ _ (λ at. variant_exact (Word code) word_in rd rd_exact (λ held. refl))
     (λ not. of_chosen IsExact (code == 70) _ _ (λ at. variant_exact Short short_in rs rs_exact (λ held. refl))
-    (λ not. of_chosen IsExact (code == 71) _ _ (λ at. variant_exact Long long_in rl rl_exact (λ held. refl)) (λ not value front spelled. absurd spelled)))))))))
+    (λ not. of_chosen IsExact (code == 71) _ _ (λ at. variant_exact Long long_in rl rl_exact (λ held. refl)) (λ not value prefix spelled. absurd spelled)))))))))
 
 -- an item
 item_exact : IsExact item
 unfolding item
-item_exact value letters (code, front, back, tagged, spelled, same) =
+item_exact value letters (code, prefix, back, tagged, spelled, same) =
     let own : code_of value ≡ code = (own_code code value ((item_by_is_code code).value back value spelled)).0 in
-    same ∙ ap₂ (λ first rest. first ++ rest) (fixed_exact 8 code front tagged) (behind_exact code value back spelled)
+    same ∙ ap₂ (λ first rest. first ++ rest) (fixed_exact 8 code prefix tagged) (after_exact code value back spelled)
     ∙ ap (λ n. rc.short n ++ (item_by n).short value) (sym own)
 
 -- bytes that are items are what is written of these items

@@ -35,7 +35,7 @@ bounded_by_last objects last ascend is small i within = go (cases_order i end)
     go : (i ≡ end) ⊎ ((i < end) ⊎ (end < i)) → slice_index_or handles i 0 < 2 ^ 63
     go (inl same) = omega (arith, top, small, ap (λ place. slice_index_or handles place 0) same)
     go (inr (inl before)) = omega (arith, top, small, ascend i end 0 before (omega (arith, as_many objects, within)))
-    go (inr (inr behind)) = absurd (omega (arith, behind, within))
+    go (inr (inr after)) = absurd (omega (arith, after, within))
 
 -- so a number that is no handle is at no place
 pub too_great : (objects : List declared.Object) (named : ℕ) (handle : Option ℕ) → Ascend (handles_of (map value_of objects))

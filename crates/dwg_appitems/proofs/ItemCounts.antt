@@ -30,22 +30,22 @@ rc_below value letters spelled = (spelled.0, rc_is_code.value letters value spel
 
 -- a text
 text_counted : (held : List ℕ × List ℕ) (letters : List Bool) → marked_text.Spells held letters → AreCounted 1 258 letters
-text_counted held letters (parts, same, (front, back, one, (mark, text, marked, run, cut), whole)) =
-    let n = rc_below parts.0 front one in
+text_counted held letters (parts, same, (prefix, back, one, (mark, text, marked, run, cut), whole)) =
+    let n = rc_below parts.0 prefix one in
     record {
       count = 3 + parts.0;
-      whole = omega (arith, n.0, bytes_counted 2 parts.1.0 mark marked, bytes_counted parts.0 parts.1.1 text run, ap length cut, ap length whole, length-append front back, length-append mark text);
+      whole = omega (arith, n.0, bytes_counted 2 parts.1.0 mark marked, bytes_counted parts.0 parts.1.1 text run, ap length cut, ap length whole, length-append prefix back, length-append mark text);
       some = omega arith;
       few = omega (arith, n.1);
     }
 
 -- counted bytes
 run_counted : (held : List ℕ) (letters : List Bool) → (counted rc rc).Spells held letters → AreCounted 1 258 letters
-run_counted held letters (parts, same, (front, back, one, run, whole)) =
-    let n = rc_below parts.0 front one in
+run_counted held letters (parts, same, (prefix, back, one, run, whole)) =
+    let n = rc_below parts.0 prefix one in
     record {
       count = 1 + parts.0;
-      whole = omega (arith, n.0, bytes_counted parts.0 parts.1 back run, ap length whole, length-append front back);
+      whole = omega (arith, n.0, bytes_counted parts.0 parts.1 back run, ap length whole, length-append prefix back);
       some = omega arith;
       few = omega (arith, n.1);
     }
@@ -56,16 +56,16 @@ rd_counted value letters (bytes, same, spelled) = bytes_counted 8 bytes letters 
 
 -- three RDs
 words_counted : (point : Point3) (letters : List Bool) → words_of_point.Spells point letters → AreCounted 1 258 letters
-words_counted point letters (words, same, (front, back, one, (second, third, two, three, cut), whole)) = record {
+words_counted point letters (words, same, (prefix, back, one, (second, third, two, three, cut), whole)) = record {
   count = 24;
   whole = omega (
     arith,
-    rd_counted words.0 front one,
+    rd_counted words.0 prefix one,
     rd_counted words.1.0 second two,
     rd_counted words.1.1 third three,
     ap length cut,
     ap length whole,
-    length-append front back,
+    length-append prefix back,
     length-append second third,
   );
   some = omega arith;
@@ -77,9 +77,9 @@ some_counted : (count : ℕ) (letters : List Bool) → length letters ≡ 8 * co
 some_counted count letters whole some few = record { count = count; whole = whole; some = some; few = few }
 
 -- what follows a code byte has 1 to 258 bytes
-behind_counted : (code : ℕ) (value : AppItem) (letters : List Bool) → (item_by code).Spells value letters → AreCounted 1 258 letters
+after_counted : (code : ℕ) (value : AppItem) (letters : List Bool) → (item_by code).Spells value letters → AreCounted 1 258 letters
 unfolding item_by
-behind_counted code value letters =
+after_counted code value letters =
     let Holds : Grammar Bool AppItem → Type 0 = λ by. by.Spells value letters → AreCounted 1 258 letters in
     of_chosen Holds (code == 0) _ _ (λ at spelled. text_counted spelled.0 letters spelled.2)
     (λ not. of_chosen Holds (code == 2) _ _ (λ at spelled. some_counted 1 letters (omega (arith, (rc_below spelled.2.0 letters spelled.2.2.1).0)) (omega arith) (omega arith))
@@ -96,11 +96,11 @@ behind_counted code value letters =
 -- an item has 2 to 259 bytes
 pub item_counted : (value : AppItem) (letters : List Bool) → item.Spells value letters → AreCounted 2 259 letters
 unfolding item
-item_counted value letters (code, front, back, tagged, spelled, same) =
-    let behind = behind_counted code value back spelled in
+item_counted value letters (code, prefix, back, tagged, spelled, same) =
+    let after = after_counted code value back spelled in
     record {
-      count = 1 + behind.count;
-      whole = omega (arith, tagged.0, behind.whole, ap length same, length-append front back);
-      some = omega (arith, behind.some);
-      few = omega (arith, behind.few);
+      count = 1 + after.count;
+      whole = omega (arith, tagged.0, after.whole, ap length same, length-append prefix back);
+      some = omega (arith, after.some);
+      few = omega (arith, after.few);
     }

@@ -1,4 +1,4 @@
--- An item is a code: its parts are, and its code byte is told by its variant.
+-- An item is a code: its parts are, and its code byte is reported by its variant.
 use Rattle.std.proofs.Common.{◌≡◌, refl, sym, ap, subst, ℕ, ◌+◌, ◌^◌, ◌<◌, ◌≤◌, Bool, true, false, List, length, Option, arith}
 use Rattle.std.specs.Prelude.{⊤, ◌==◌, ◌&&◌, nat_lt, nat_le, if◌then◌else◌}
 use Rattle.std.proofs.lemmas.Bool.Decides.{nat_tests}
@@ -35,7 +35,7 @@ text_is_code =
     (λ both fits. ((fits.2, (fits.0, fits.1)), refl))
     (λ parts fits. ap (λ (n : ℕ). (n, parts.1)) fits.1.1.0)
 
--- a byte below 2 is told by whether it is 1
+-- a byte below 2 is reported by whether it is 1
 pub byte_below_two : (byte : ℕ) → nat_lt byte 2 ≡ true → (if byte == 1 then 1 else 0) ≡ byte
 byte_below_two byte small = grind (arith, nat_tests)
 
@@ -48,7 +48,7 @@ closing_is_code =
     both true any = ((refl, omega arith), refl)
     both false any = ((refl, omega arith), refl)
 
--- three RDs, one behind the other
+-- three RDs, one after the other
 abbrev pub three_words : Grammar Bool (ℕ × (ℕ × ℕ))
 three_words = seq rd (λ x. seq rd (λ y. rd))
 

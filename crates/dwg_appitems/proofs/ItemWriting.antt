@@ -19,11 +19,11 @@ use Rattle.dwg_appitems.specs.Items.{marked_text, words_of_point, item_by, code_
 use Rattle.dwg_appitems.specs.ItemLists.{CanBeWritten}
 use Rattle.dwg_appitems.proofs.ItemReading.{by_point, by_word}
 
--- the words of a point behind its code are written as they are
+-- the words of a point after its code are written as they are
 pub point_short : (code : ℕ) (words : Point3) → 10 ≤ code → code ≤ 13 → (item_by code).short (Point code words) ≡ words_of_point.short words
 point_short code words from to = by_point (λ by. by.short (Point code words) ≡ words_of_point.short words) code from to refl
 
--- so is a word behind its own
+-- so is a word after its own
 pub word_short : (code value : ℕ) → 40 ≤ code → code ≤ 42 → (item_by code).short (Word code value) ≡ rd.short value
 word_short code value from to = by_word (λ by. by.short (Word code value) ≡ rd.short value) code from to refl
 
@@ -38,16 +38,16 @@ unfolding chain
 counted_short bytes = refl
 
 -- how many bytes follow the code byte of an item
-abbrev pub size_behind : AppItem → ℕ
-size_behind (Text mark text) = 1 + length mark + length text
-size_behind (Brace close) = 1
-size_behind (Layer named) = 8
-size_behind (Bytes bytes) = 1 + length bytes
-size_behind (Object named) = 8
-size_behind (Point code words) = 24
-size_behind (Word code value) = 8
-size_behind (Short value) = 2
-size_behind (Long value) = 4
+abbrev pub size_after : AppItem → ℕ
+size_after (Text mark text) = 1 + length mark + length text
+size_after (Brace close) = 1
+size_after (Layer named) = 8
+size_after (Bytes bytes) = 1 + length bytes
+size_after (Object named) = 8
+size_after (Point code words) = 24
+size_after (Word code value) = 8
+size_after (Short value) = 2
+size_after (Long value) = 4
 
 -- a text has the bits of each
 pub length_of_text : (mark text : List ℕ) → length (marked_text.short (mark, text)) ≡ 8 * (1 + length mark + length text)
@@ -80,32 +80,32 @@ length_of_words words =
     )
 
 -- what follows the code byte of an item has whole bytes
-pub length_behind : (one : AppItem) → CanBeWritten one → length ((item_by (code_of one)).short one) ≡ 8 * size_behind one
+pub length_after : (one : AppItem) → CanBeWritten one → length ((item_by (code_of one)).short one) ≡ 8 * size_after one
 unfolding item_by
-length_behind (Text mark text) can = length_of_text mark text
-length_behind (Brace close) can = length_of_low_bits 8 (if close then 1 else 0)
-length_behind (Layer named) can = length_of_low_bits 64 named
-length_behind (Bytes bytes) can = length_of_counted bytes
-length_behind (Object named) can = length_of_low_bits 64 named
-length_behind (Point code words) can = ap length (point_short code words can.0 can.1) ∙ length_of_words words
-length_behind (Word code value) can = ap length (word_short code value can.0 can.1) ∙ length_of_rd value
-length_behind (Short value) can = length_of_rs value
-length_behind (Long value) can = length_of_rl value
+length_after (Text mark text) can = length_of_text mark text
+length_after (Brace close) can = length_of_low_bits 8 (if close then 1 else 0)
+length_after (Layer named) can = length_of_low_bits 64 named
+length_after (Bytes bytes) can = length_of_counted bytes
+length_after (Object named) can = length_of_low_bits 64 named
+length_after (Point code words) can = ap length (point_short code words can.0 can.1) ∙ length_of_words words
+length_after (Word code value) can = ap length (word_short code value can.0 can.1) ∙ length_of_rd value
+length_after (Short value) can = length_of_rs value
+length_after (Long value) can = length_of_rl value
 
 -- an item has the bits of its code byte, and of what follows it
-pub length_of_item : (one : AppItem) → CanBeWritten one → length (item.short one) ≡ 8 * (1 + size_behind one)
+pub length_of_item : (one : AppItem) → CanBeWritten one → length (item.short one) ≡ 8 * (1 + size_after one)
 unfolding item
 length_of_item one can =
-    omega (arith, length-append (rc.short (code_of one)) ((item_by (code_of one)).short one), length_of_low_bits 8 (code_of one), length_behind one can)
+    omega (arith, length-append (rc.short (code_of one)) ((item_by (code_of one)).short one), length_of_low_bits 8 (code_of one), length_after one can)
 
--- so has a text behind its code byte
+-- so has a text after its code byte
 pub length_with_text : (one : AppItem) (mark text bytes : List ℕ) (count : ℕ) → one ≡ Text mark text → bytes ≡ text → length (marked_text.short (mark, bytes)) ≡ 8 * count
     → length (item.short one) ≡ 8 * (1 + count)
 unfolding item item_by
 length_with_text one mark text bytes count same run counted =
-    let behind : length (marked_text.short (mark, text)) ≡ 8 * count = subst (λ (all : List ℕ). length (marked_text.short (mark, all)) ≡ 8 * count) run counted in
+    let after : length (marked_text.short (mark, text)) ≡ 8 * count = subst (λ (all : List ℕ). length (marked_text.short (mark, all)) ≡ 8 * count) run counted in
     subst (λ (value : AppItem). length (item.short value) ≡ 8 * (1 + count)) (sym same)
-    (omega (arith, behind, length-append (rc.short 0) (marked_text.short (mark, text)), length_of_low_bits 8 0))
+    (omega (arith, after, length-append (rc.short 0) (marked_text.short (mark, text)), length_of_low_bits 8 0))
 
 -- a sink that grew by the count, the mark and the bytes of a text grew by the text
 pub text_written : (mark text : List ℕ) (s0 s1 s2 s3 : Written) → Extends s0 s1 (rc.short (length text)) → Extends s1 s2 (short_all rc mark) → Extends s2 s3 (short_all rc text)
@@ -113,18 +113,18 @@ pub text_written : (mark text : List ℕ) (s0 s1 s2 s3 : Written) → Extends s0
 text_written mark text s0 s1 s2 s3 count of_mark of_text =
     subst (Extends s0 s3) (sym (text_short mark text)) (extends_by_both s0 s1 s3 _ _ count (extends_by_both s1 s2 s3 _ _ of_mark of_text))
 
--- behind its count there is room for the mark and the bytes of a text, where there was room for the text
-pub room_behind_count : (mark text : List ℕ) (s0 s1 : Written) → length (marked_text.short (mark, text)) ≤ s0.spare → Extends s0 s1 (rc.short (length text)) → 8 * (length mark + length text) ≤ s1.spare
-room_behind_count mark text s0 s1 room count = omega (arith, room, count.spare, length_of_text mark text, length_of_low_bits 8 (length text))
+-- after its count there is room for the mark and the bytes of a text, where there was room for the text
+pub room_after_count : (mark text : List ℕ) (s0 s1 : Written) → length (marked_text.short (mark, text)) ≤ s0.spare → Extends s0 s1 (rc.short (length text)) → 8 * (length mark + length text) ≤ s1.spare
+room_after_count mark text s0 s1 room count = omega (arith, room, count.spare, length_of_text mark text, length_of_low_bits 8 (length text))
 
 -- bytes of a mark and fewer than 256 bytes are those of a text
 pub text_value : (mark text : List ℕ) → length mark ≡ 2 → AreBytes mark → AreBytes text → length text < 2 ^ 8 → marked_text.IsValue (mark, text)
 text_value mark text two bytes all few = ((values_of_bytes 2 mark).1 (two, bytes), (values_of_bytes (length text) text).1 (refl, all), few)
 
 -- and then they are what follows the code of a text
-pub text_behind : (one : AppItem) (mark text bytes : List ℕ) → one ≡ Text mark text → bytes ≡ text → marked_text.IsValue (mark, bytes) → (item_by (code_of one)).IsValue one
+pub text_after : (one : AppItem) (mark text bytes : List ℕ) → one ≡ Text mark text → bytes ≡ text → marked_text.IsValue (mark, bytes) → (item_by (code_of one)).IsValue one
 unfolding item_by
-text_behind one mark text bytes same run fits =
+text_after one mark text bytes same run fits =
     subst (λ (value : AppItem). (item_by (code_of value)).IsValue value) (sym same) ((mark, text), refl, subst (λ (all : List ℕ). marked_text.IsValue (mark, all)) run fits)
 
 -- and counted bytes

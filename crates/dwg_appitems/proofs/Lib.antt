@@ -1,7 +1,7 @@
 pub mod VariantLemmas
 pub mod ItemLemmas
 pub mod ItemCounts
-pub mod ItemFronts
+pub mod ItemPrefixes
 pub mod ItemReading
 pub mod ItemWriting
 pub mod AllItems

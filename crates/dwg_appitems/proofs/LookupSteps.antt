@@ -1,4 +1,4 @@
--- The steps of lookups, one behind the other.
+-- The steps of lookups, one after the other.
 use Rattle.std.proofs.Common.{◌≡◌, refl, sym, ap, ◌∙◌, ℕ, ◌+◌, ◌*◌, ◌^◌, ◌<◌, ◌≤◌, List, [], ◌∷◌, length, map, drop, get_or, Option, Some, arith}
 use Rattle.std.specs.List.{sum_by}
 use Rattle.std.specs.Option.{option_map_or}
@@ -34,9 +34,9 @@ all_left count whole before k fits = omega arith
 pub taken_further : {A : Type 0} (cost : A → ℕ) (count : ℕ) (all : List A) (i : ℕ) (one : A) (whole before mid after : ℕ) → i < length all → one ≡ get_or all i one
     → LeaveAtMost count (sum_by cost (drop i all)) whole before mid → TakeAtMost count (cost one) mid after → LeaveAtMost count (sum_by cost (drop (i + 1) all)) whole before after
 taken_further {A} cost count all i one whole before mid after inside here leaves taken k fits =
-    let behind : ℕ = sum_by cost (drop (i + 1) all) in
-    let left : sum_by cost (drop i all) ≡ cost one + behind = ap (sum_by cost) (left_at all i one inside here) ∙ sum_by-cons cost one (drop (i + 1) all) in
-    let sum : (cost one + behind) * k ≡ cost one * k + behind * k = grind arith in
+    let others : ℕ = sum_by cost (drop (i + 1) all) in
+    let left : sum_by cost (drop i all) ≡ cost one + others = ap (sum_by cost) (left_at all i one inside here) ∙ sum_by-cons cost one (drop (i + 1) all) in
+    let sum : (cost one + others) * k ≡ cost one * k + others * k = grind arith in
     omega (arith, ap (λ n. n * k) left, sum, leaves k fits, taken k fits)
 
 -- whatever is left, no more are taken than those of all

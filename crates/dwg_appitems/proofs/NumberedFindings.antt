@@ -22,7 +22,7 @@ pub found_of_one : {A B : Type 0} (each : ℕ → A → List B) (of_all : ℕ �
 found_of_one each of_all numbered [] first y inside = absurd (none_of_empty (of_all first []) y (numbered.none first) inside)
 found_of_one {A} {B} each of_all numbered (x ∷ xs) first y inside = ⊎_elim
     (λ here. let same : first ≡ first + zero = omega arith in (zero, x, refl, subst (λ (n : ℕ). Contains (each n x) y) same here))
-    (λ behind. let one = found_of_one each of_all numbered xs (first + 1) y behind in
+    (λ after. let one = found_of_one each of_all numbered xs (first + 1) y after in
     let same : first + 1 + one.0 ≡ first + suc one.0 = omega arith in
     (suc one.0, one.1, one.2, subst (λ (n : ℕ). Contains (each n one.1) y) same one.3))
     (Contains-append_cases (each first x) (of_all (first + 1) xs) y (subst (λ (those : List B). Contains those y) (numbered.more first x xs) inside))
@@ -38,11 +38,11 @@ found_of_all {A} {B} each of_all numbered (z ∷ zs) first zero x y at held =
     subst (λ (those : List B). Contains those y) (sym (numbered.more first z zs)) (Contains-append_left (each first z) (of_all (first + 1) zs) y here)
 found_of_all {A} {B} each of_all numbered (z ∷ zs) first (suc i) x y at held =
     let same : first + suc i ≡ first + 1 + i = omega arith in
-    let behind : Contains (of_all (first + 1) zs) y =
+    let after : Contains (of_all (first + 1) zs) y =
     found_of_all each of_all numbered zs (first + 1) i x y at (subst (λ (n : ℕ). Contains (each n x) y) same held) in
-    subst (λ (those : List B). Contains those y) (sym (numbered.more first z zs)) (Contains-append_right (each first z) (of_all (first + 1) zs) y behind)
+    subst (λ (those : List B). Contains those y) (sym (numbered.more first z zs)) (Contains-append_right (each first z) (of_all (first + 1) zs) y after)
 
--- findings are related where those of each thing are, and those of a thing to those of each behind it
+-- findings are related where those of each thing are, and those of a thing to those of each after it
 pub pairs_of_numbered : {A B : Type 0} (R : B → B → Type 0) (each : ℕ → A → List B) (of_all : ℕ → List A → List B) → AreNumbered each of_all
     → ((n : ℕ) (x : A) → AllPairs R (each n x)) → ((n m : ℕ) (x y : A) (z w : B) → n < m → Contains (each n x) z → Contains (each m y) w → R z w)
     → (all : List A) (first : ℕ) → AllPairs R (of_all first all)

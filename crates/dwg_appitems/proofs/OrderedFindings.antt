@@ -1,4 +1,4 @@
--- The findings of items stand in order, each strictly before those behind it.
+-- The findings of items stand in order, each strictly before those after it.
 use Rattle.std.proofs.Common.{◌≡◌, refl, sym, ap, subst₂, inl, inr, ℕ, ◌<◌, Bool, true, false, List, [], ◌∷◌, Option, Some, None, arith}
 use Rattle.std.specs.Prelude.{if◌then◌else◌, Contains, AllPairs}
 use Rattle.std.specs.Option.{option_map_or}
@@ -6,13 +6,13 @@ use Rattle.dwg_common.specs.declared.app_data.AppData.{AppData}
 use Rattle.dwg_graph.proofs.ListLemmas.{pairs_none, pairs_more, pairs_of_joined}
 use Rattle.dwg_graph.proofs.Tests.{IsBefore, objects_ordered}
 use Rattle.dwg_object.specs.Objects.{ObjectValue, handle_of}
-use Rattle.dwg_paths.proofs.MemberLemmas.{contains_none}
+use Rattle.dwg_chains.proofs.MemberLemmas.{contains_none}
 use Rattle.dwg_appitems.specs.declared.finding.AppFinding.{AppFinding}
 use Rattle.dwg_appitems.specs.declared.item.AppItem.{AppItem}
 use Rattle.dwg_appitems.specs.AppFailures.{StandsBefore}
 use Rattle.dwg_appitems.specs.AppFindingLaws.{AppFindingsAreOrdered}
 use Rattle.dwg_appitems.specs.AppFindings.{apps_of, items_in, is_met, item_findings, items_findings, apps_findings, app_findings}
-use Rattle.dwg_appitems.proofs.AppFindingLaws.{finding_at, item_stands, app_tells, apps_tell}
+use Rattle.dwg_appitems.proofs.AppFindingLaws.{finding_at, item_stands, app_reports, apps_report}
 use Rattle.dwg_appitems.proofs.NumberedFindings.{pairs_of_numbered, items_numbered, of_app, apps_numbered}
 
 -- at most one finding stands in order
@@ -42,8 +42,8 @@ pairs_of_some R each (Some x) own = own x
 apps_before : (objects : List ObjectValue) (handle n m : ℕ) (x y : AppData) (one other : AppFinding) → n < m → Contains (of_app objects handle n x) one → Contains (of_app objects handle m y) other
     → StandsBefore one other
 apps_before objects handle n m x y one other less here there =
-    let first = app_tells objects handle n x one here in
-    let second = app_tells objects handle m y other there in
+    let first = app_reports objects handle n x one here in
+    let second = app_reports objects handle m y other there in
     let stand : StandsBefore (finding_at handle n first.place first.one) (finding_at handle m second.place second.one) = inr (refl, inl less) in
     subst₂ StandsBefore (sym first.says) (sym second.says) stand
 
@@ -57,7 +57,7 @@ apps_ordered objects handle apps =
 -- a finding of an object has its handle
 handle_found : (objects : List ObjectValue) (handle : ℕ) (apps : List AppData) (finding : AppFinding) → Contains (apps_findings objects handle 0 apps) finding → finding.handle ≡ handle
 handle_found objects handle apps finding inside =
-    let found = apps_tell objects handle apps finding inside in ap (λ (f : AppFinding). f.handle) found.3.says
+    let found = apps_report objects handle apps finding inside in ap (λ (f : AppFinding). f.handle) found.3.says
 
 -- findings of objects stand in the order of these
 objects_before : (objects : List ObjectValue) (x y : ObjectValue) (one other : AppFinding) → Contains objects x → Contains objects y → IsBefore x y

@@ -12,7 +12,7 @@ use Rattle.dwg_graph.specs.Places.{Ascend, handles_of}
 use Rattle.dwg_graph.proofs.PlacedObjects.{object_placed}
 use Rattle.dwg_graph.proofs.Tests.{object_found}
 use Rattle.dwg_object.specs.Objects.{ObjectValue, handle_of, kind_of}
-use Rattle.dwg_paths.proofs.TestLemmas.{one_of_any, any_of_one}
+use Rattle.dwg_chains.proofs.TestLemmas.{one_of_any, any_of_one}
 
 -- two tests that hold together are the same
 same_test : (one other : Bool) → (one ≡ true → other ≡ true) → (other ≡ true → one ≡ true) → one ≡ other
@@ -55,9 +55,9 @@ unfolding place_in
 place_there [] named = refl
 place_there (x ∷ more) named = go (handle_of x == named) refl (place_in (handles_of more) named) refl (place_there more named)
   where
-    go : (here : Bool) → (handle_of x == named) ≡ here → (behind : Option ℕ) → place_in (handles_of more) named ≡ behind → is_some (place_in (handles_of more) named) ≡ list_any (λ y. handle_of y == named) more
+    go : (here : Bool) → (handle_of x == named) ≡ here → (after : Option ℕ) → place_in (handles_of more) named ≡ after → is_some (place_in (handles_of more) named) ≡ list_any (λ y. handle_of y == named) more
         → is_some (place_in (handles_of (x ∷ more)) named) ≡ list_any (λ y. handle_of y == named) (x ∷ more)
-    go true is behind same again = rw is refl
+    go true is after same again = rw is refl
     go false is None same again = rw (is, same) (ap is_some (sym same) ∙ again)
     go false is (Some place) same again = rw (is, same) (ap is_some (sym same) ∙ again)
 

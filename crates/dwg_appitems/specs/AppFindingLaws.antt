@@ -14,6 +14,6 @@ AppFindingsStand = (objects : List ObjectValue) (finding : AppFinding) → Conta
 abbrev pub NothingIsFoundIfNothingFails : Type 0
 NothingIsFoundIfNothingFails = (objects : List ObjectValue) → (app_findings objects ≡ []) ↔ ((finding : AppFinding) → IsAppFinding objects finding → ⊥)
 
--- what is found of objects whose handles ascend stands in order, each strictly before those behind it
+-- what is found of objects whose handles ascend stands in order, each strictly before those after it
 abbrev pub AppFindingsAreOrdered : Type 0
 AppFindingsAreOrdered = (objects : List ObjectValue) → Ascend (handles_of objects) → AllPairs StandsBefore (app_findings objects)

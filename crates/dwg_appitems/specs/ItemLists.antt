@@ -1,4 +1,4 @@
--- Bytes that are items, one behind the other. A rule of this project.
+-- Bytes that are items, one after the other. A rule of this project.
 use Rattle.std.specs.Prelude.{ℕ, ◌<◌, ◌≤◌, ◌^◌, ⊤, List, length}
 use Rattle.dwg_bits.specs.Bits.{bits}
 use Rattle.dwg_bits.specs.WholeBytes.{whole_bytes}

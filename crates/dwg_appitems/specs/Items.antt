@@ -8,7 +8,7 @@ use Rattle.dwg_grammar.specs.declared.points.Point3.{Point3}
 use Rattle.dwg_appitems.specs.declared.item.AppItem.{AppItem}
 use Rattle.dwg_appitems.specs.declared.item.AppItem.TheVariants.{Text, Brace, Layer, Bytes, Object, Point, Word, Short, Long}
 
--- a code as one variant of an enum, whose part a function tells where a value is that variant
+-- a code as one variant of an enum, whose part a function reports where a value is that variant
 abbrev pub variant : {V W : Type 0} → (V → W) → (W → Option V) → Grammar Bool V → Grammar Bool W
 variant {V} {W} into inside code = record {
   Spells = λ value letters. (held : V) × (value ≡ into held) × code.Spells held letters;

@@ -21,7 +21,7 @@ use dwg_steps::Steps;
 use std::alloc::Global;
 use std::sync::ledger::Ledger;
 
-/// Finds that what an item refers to isn't there. The only refusal is want of memory.
+/// Finds that what an item refers to isn't there. Err: out of memory.
 fn judge_item<L: Ledger>(
     objects: &[Object<'_>],
     known: &Index,
@@ -48,7 +48,7 @@ fn judge_item<L: Ledger>(
     })
 }
 
-/// Finds the items whose references aren't there. The only refusal is want of memory.
+/// Finds the items whose references aren't there. Err: out of memory.
 fn judge_items<L: Ledger>(
     objects: &[Object<'_>],
     known: &Index,
@@ -78,7 +78,7 @@ fn judge_items<L: Ledger>(
     Ok(())
 }
 
-/// Finds what the items of application data fail, nothing where its bytes are none. The only refusal is want of memory.
+/// Finds what the items of application data fail, nothing where its bytes are none. Err: out of memory.
 fn judge_app<L: Ledger>(
     alloc: Global,
     objects: &[Object<'_>],
@@ -108,7 +108,7 @@ fn judge_app<L: Ledger>(
     )
 }
 
-/// Finds what application data fails, one after the other. The only refusal is want of memory.
+/// Finds what application data fails, one after the other. Err: out of memory.
 fn judge_apps<L: Ledger>(
     alloc: Global,
     objects: &[Object<'_>],
@@ -138,7 +138,7 @@ fn judge_apps<L: Ledger>(
     Ok(())
 }
 
-/// Finds what the items of all objects fail. The only refusal is want of memory.
+/// Finds what the items of all objects fail. Err: out of memory.
 fn judge_all<L: Ledger>(
     alloc: Global,
     objects: &[Object<'_>],

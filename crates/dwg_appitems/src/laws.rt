@@ -9,7 +9,7 @@ ghost use Rattle.dwg_appitems.specs.AppFindings.{items_in};
 ghost use Rattle.dwg_appitems.specs.ItemLists.{AreItems, items_bytes};
 ghost use Rattle.dwg_appitems.specs.Items.{item};
 
-/// What holds of items: bits spell at most one item, and no spelling of an item is a proper front of another; bytes are at most
+/// What holds of items: bits spell at most one item, and no spelling of an item is a proper prefix of another; bytes are at most
 /// one list of items; what is written of items are these items, so that they are read back; and the items that are computed of
 /// bytes are those that the bytes are.
 pub fn item_laws()

@@ -8,13 +8,13 @@ ghost use Rattle.dwg_grammar.specs.Codes.{rc};
 ghost use Rattle.dwg_grammar.specs.Combinators.{items};
 ghost use Rattle.dwg_appitems.specs.declared.item.AppItem.{AppItem};
 ghost use Rattle.dwg_appitems.specs.AppFindings.{items_in};
-ghost use Rattle.dwg_appitems.specs.ItemFront.{ReadsItem};
+ghost use Rattle.dwg_appitems.specs.ItemPrefix.{ReadsItem};
 ghost use Rattle.dwg_appitems.specs.ItemLists.{AreItems, CanBeWritten, items_bytes};
 ghost use Rattle.dwg_appitems.specs.Items.{item, item_by};
 
 use crate::handle::CodeHandle;
 use crate::item::AppItem;
-use dwg_base::{Items, NoMemory, bytes_behind};
+use dwg_base::{Items, NoMemory, bytes_after};
 use dwg_bits::BitCursor;
 use dwg_codes::{CodeRC, CodeRD, CodeRL, CodeRS, Point3};
 use dwg_common::{parse_bytes, parse_code};
@@ -32,7 +32,7 @@ fn read_mark(cursor: &mut BitCursor<'_>) -> Option<[u8; 2]>
     Some([first, second])
 }
 
-/// Reads a text behind its code byte.
+/// Reads a text after its code byte.
 #[tactic(auto, unfolding(crate::specs::Items::item_by))]
 fn read_text(alloc: Global, cursor: &mut BitCursor<'_>) -> Result<Option<AppItem>, NoMemory>
     ensures parsed { IfOk result (λ found. (item_by 0).parse (rest cursor.old) ≡ option_map (λ value. (value, rest cursor.new)) found) }
@@ -51,7 +51,7 @@ fn read_text(alloc: Global, cursor: &mut BitCursor<'_>) -> Result<Option<AppItem
     Ok(Some(AppItem::Text { mark, text }))
 }
 
-/// Reads a brace behind its code byte: 0 opens, 1 closes, and no other byte is one.
+/// Reads a brace after its code byte: 0 opens, 1 closes, and no other byte is one.
 #[tactic(auto, unfolding(crate::specs::Items::item_by))]
 fn read_brace(cursor: &mut BitCursor<'_>) -> Option<AppItem>
     ensures parsed { (item_by 2).parse (rest cursor.old) ≡ option_map (λ value. (value, rest cursor.new)) result }
@@ -65,7 +65,7 @@ fn read_brace(cursor: &mut BitCursor<'_>) -> Option<AppItem>
     None
 }
 
-/// Reads counted bytes behind their code byte.
+/// Reads counted bytes after their code byte.
 #[tactic(auto, unfolding(crate::specs::Items::item_by))]
 fn read_counted(alloc: Global, cursor: &mut BitCursor<'_>) -> Result<Option<AppItem>, NoMemory>
     ensures parsed { IfOk result (λ found. (item_by 4).parse (rest cursor.old) ≡ option_map (λ value. (value, rest cursor.new)) found) }
@@ -81,8 +81,8 @@ fn read_counted(alloc: Global, cursor: &mut BitCursor<'_>) -> Result<Option<AppI
     Ok(Some(AppItem::Bytes { bytes }))
 }
 
-/// Reads a point behind its code byte.
-#[tactic(auto, using(crate::proofs::ItemReading::point_behind))]
+/// Reads a point after its code byte.
+#[tactic(auto, using(crate::proofs::ItemReading::point_after))]
 fn read_point(code: u8, cursor: &mut BitCursor<'_>) -> Option<AppItem>
     requires from { 10 ≤ code }
     requires to { code ≤ 13 }
@@ -99,8 +99,8 @@ fn read_point(code: u8, cursor: &mut BitCursor<'_>) -> Option<AppItem>
     })
 }
 
-/// Reads a word behind its code byte.
-#[tactic(auto, using(crate::proofs::ItemReading::word_behind))]
+/// Reads a word after its code byte.
+#[tactic(auto, using(crate::proofs::ItemReading::word_after))]
 fn read_word(code: u8, cursor: &mut BitCursor<'_>) -> Option<AppItem>
     requires from { 40 ≤ code }
     requires to { code ≤ 42 }
@@ -112,7 +112,7 @@ fn read_word(code: u8, cursor: &mut BitCursor<'_>) -> Option<AppItem>
     Some(AppItem::Word { code, value })
 }
 
-/// Reads the handle of a layer behind its code byte.
+/// Reads the handle of a layer after its code byte.
 #[tactic(auto, unfolding(crate::specs::Items::item_by))]
 fn read_layer(cursor: &mut BitCursor<'_>) -> Option<AppItem>
     ensures parsed { (item_by 3).parse (rest cursor.old) ≡ option_map (λ value. (value, rest cursor.new)) result }
@@ -123,7 +123,7 @@ fn read_layer(cursor: &mut BitCursor<'_>) -> Option<AppItem>
     Some(AppItem::Layer { handle })
 }
 
-/// Reads the handle of an object behind its code byte.
+/// Reads the handle of an object after its code byte.
 #[tactic(auto, unfolding(crate::specs::Items::item_by))]
 fn read_object(cursor: &mut BitCursor<'_>) -> Option<AppItem>
     ensures parsed { (item_by 5).parse (rest cursor.old) ≡ option_map (λ value. (value, rest cursor.new)) result }
@@ -134,7 +134,7 @@ fn read_object(cursor: &mut BitCursor<'_>) -> Option<AppItem>
     Some(AppItem::Object { handle })
 }
 
-/// Reads a number of 16 bits behind its code byte.
+/// Reads a number of 16 bits after its code byte.
 #[tactic(auto, unfolding(crate::specs::Items::item_by))]
 fn read_short(cursor: &mut BitCursor<'_>) -> Option<AppItem>
     ensures parsed { (item_by 70).parse (rest cursor.old) ≡ option_map (λ value. (value, rest cursor.new)) result }
@@ -145,7 +145,7 @@ fn read_short(cursor: &mut BitCursor<'_>) -> Option<AppItem>
     Some(AppItem::Short { value })
 }
 
-/// Reads a number of 32 bits behind its code byte.
+/// Reads a number of 32 bits after its code byte.
 #[tactic(auto, unfolding(crate::specs::Items::item_by))]
 fn read_long(cursor: &mut BitCursor<'_>) -> Option<AppItem>
     ensures parsed { (item_by 71).parse (rest cursor.old) ≡ option_map (λ value. (value, rest cursor.new)) result }
@@ -156,9 +156,9 @@ fn read_long(cursor: &mut BitCursor<'_>) -> Option<AppItem>
     Some(AppItem::Long { value })
 }
 
-/// Reads what follows a code byte. None exactly where no front of the rest spells it; the only refusal is want of memory.
-#[tactic(auto, using(crate::proofs::ItemReading::none_behind))]
-fn read_behind(
+/// Reads what follows a code byte. None exactly where no prefix of the rest spells it; the only refusal is out of memory.
+#[tactic(auto, using(crate::proofs::ItemReading::none_after))]
+fn read_after(
     alloc: Global,
     code: u8,
     cursor: &mut BitCursor<'_>,
@@ -181,8 +181,8 @@ fn read_behind(
     }
 }
 
-/// Reads an item: its code byte, and what follows it. None exactly where no front of the rest spells one; the only refusal is
-/// want of memory.
+/// Reads an item: its code byte, and what follows it. None exactly where no prefix of the rest spells one; the only refusal is
+/// out of memory.
 #[tactic(auto, unfolding(crate::specs::Items::item))]
 fn read_item(alloc: Global, cursor: &mut BitCursor<'_>) -> Result<Option<AppItem>, NoMemory>
     ensures parsed { IfOk result (λ found. item.parse (rest cursor.old) ≡ option_map (λ value. (value, rest cursor.new)) found) }
@@ -192,10 +192,10 @@ fn read_item(alloc: Global, cursor: &mut BitCursor<'_>) -> Result<Option<AppItem
     let Some(code) = parse_code::<CodeRC>(&(), cursor) else {
         return Ok(None);
     };
-    read_behind(alloc, code, cursor)
+    read_after(alloc, code, cursor)
 }
 
-/// The most bytes that an item has: a text of 255 bytes behind its code byte, its count and its mark.
+/// The most bytes that an item has: a text of 255 bytes after its code byte, its count and its mark.
 const LONGEST: usize = 259;
 
 /// The first bytes, as many as an item can have.
@@ -209,11 +209,11 @@ fn first_bytes(bytes: &[u8]) -> &[u8]
     &bytes[..LONGEST]
 }
 
-/// Reads the item at the front of bytes, and says how many it is. None exactly where no item is there; the only refusal is want
+/// Reads the item at the begin of bytes, and says how many it is. None exactly where no item is there; the only refusal is want
 /// of memory.
 ///
 /// It looks at no more bytes than an item can have, so their bits are counted in a `u64` however many bytes there are.
-fn read_front(alloc: Global, bytes: &[u8]) -> Result<Option<(AppItem, usize)>, NoMemory>
+fn read_prefix(alloc: Global, bytes: &[u8]) -> Result<Option<(AppItem, usize)>, NoMemory>
     ensures { IfOk result (λ found. ReadsItem found bytes.now) }
 {
     let first = first_bytes(bytes);
@@ -224,7 +224,7 @@ fn read_front(alloc: Global, bytes: &[u8]) -> Result<Option<(AppItem, usize)>, N
     Ok(Some((item, (cursor.place / 8) as usize)))
 }
 
-/// Reads the items that bytes are. None exactly where they are no items one behind the other; the only refusal is want of
+/// Reads the items that bytes are. None exactly where they are no items one after the other; the only refusal is want of
 /// memory, which is taken only for items that are there. What is read can be written, and is written by the same bytes.
 pub fn read_items(alloc: Global, bytes: &[u8]) -> Result<Option<Items<AppItem>>, NoMemory>
     ensures items { IfOk result (λ found. IfSome found (λ all. AreItems all bytes.now)) }
@@ -236,7 +236,7 @@ pub fn read_items(alloc: Global, bytes: &[u8]) -> Result<Option<Items<AppItem>>,
     let mut found = Items::new(alloc);
     let mut place = 0;
     'along: while place < bytes.len() {
-        let Some((item, count)) = read_front(alloc, bytes_behind(bytes, place))? else {
+        let Some((item, count)) = read_prefix(alloc, bytes_after(bytes, place))? else {
             return Ok(None);
         };
         found.add(item)?;

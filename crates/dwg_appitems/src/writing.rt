@@ -14,7 +14,7 @@ ghost use Rattle.dwg_appitems.specs.Items.{code_of, item, item_by, marked_text, 
 
 use crate::handle::CodeHandle;
 use crate::item::AppItem;
-use dwg_base::bounded_bytes;
+use dwg_base::bytes_with_range;
 use dwg_bits::BitSink;
 use dwg_codes::{BitCode, CodeRC, CodeRD, CodeRL, CodeRS, Point3, write_bytes};
 
@@ -72,8 +72,8 @@ fn write_text(mark: &[u8; 2], text: &[u8], sink: &mut BitSink)
     ensures value { marked_text.IsValue (mark.now, text.now) }
 {
     CodeRC::write(&(), &(text.len() as u8), sink);
-    write_bytes(bounded_bytes(mark), sink);
-    write_bytes(bounded_bytes(text), sink);
+    write_bytes(bytes_with_range(mark), sink);
+    write_bytes(bytes_with_range(text), sink);
 }
 
 /// Writes the count of bytes, and the bytes.
@@ -84,7 +84,7 @@ fn write_counted(bytes: &[u8], sink: &mut BitSink)
     ensures value { (counted rc rc).IsValue bytes.now }
 {
     CodeRC::write(&(), &(bytes.len() as u8), sink);
-    write_bytes(bounded_bytes(bytes), sink);
+    write_bytes(bytes_with_range(bytes), sink);
 }
 
 /// Writes the words of a point, x first.
@@ -101,7 +101,7 @@ fn write_point(words: &Point3, sink: &mut BitSink)
 
 /// Writes what follows the code byte of an item.
 #[tactic(auto, unfolding(crate::specs::Items::item_by), using(dwg_bits::proofs::BitLaws::length_of_low_bits))]
-fn write_behind(one: &AppItem, sink: &mut BitSink)
+fn write_after(one: &AppItem, sink: &mut BitSink)
     requires item { CanBeWritten one.now }
     requires room { length ((item_by (code_of one.now)).short one.now) ≤ sink.old.spare }
     ensures written { Extends sink.old sink.new ((item_by (code_of one.now)).short one.now) }
@@ -144,10 +144,10 @@ fn write_item(one: &AppItem, sink: &mut BitSink)
     ensures value { item.IsValue one.now }
 {
     CodeRC::write(&(), &code_of(one), sink);
-    write_behind(one, sink);
+    write_after(one, sink);
 }
 
-/// Writes items, one behind the other. They are items that can be written, and there is room for them; what is written are the bits
+/// Writes items, one after the other. They are items that can be written, and there is room for them; what is written are the bits
 /// of their bytes, which are these items, so that they are read back.
 #[tactic(auto, using(crate::proofs::AllItems::none_written, crate::proofs::AllItems::one_can_be_written, crate::proofs::AllItems::room_at, crate::proofs::AllItems::all_written, crate::proofs::AllItems::written_are))]
 pub fn write_items(all: &[AppItem], sink: &mut BitSink)

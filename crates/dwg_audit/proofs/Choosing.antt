@@ -27,7 +27,7 @@ pub chosen_further : {B : Type 0} (applications : Bool) (f : Slot → List B) (a
     → after ++ flat_map f (chosen applications (drop next all)) ≡ whole
 chosen_further applications f all i next slot before after whole at further is new =
     ap (λ n. after ++ flat_map f (chosen applications (drop n all))) further
-    ∙ ap (λ front. front ++ flat_map f (chosen applications (drop (suc i) all))) new
+    ∙ ap (λ prefix. prefix ++ flat_map f (chosen applications (drop (suc i) all))) new
     ∙ append_assoc before (flat_map f (chosen applications (slot ∷ []))) (flat_map f (chosen applications (drop (suc i) all)))
     ∙ ap (λ rest. before ++ rest)
     (sym (flat_map-append f (chosen applications (slot ∷ [])) (chosen applications (drop (suc i) all)))

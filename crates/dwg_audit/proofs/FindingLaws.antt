@@ -22,9 +22,9 @@ use Rattle.dwg_graph.proofs.ListLemmas.{empty_of_none, none_of_empty, contains_o
 use Rattle.dwg_graph.proofs.Tests.{met_decided, exempt_decided, claimed_decided}
 use Rattle.dwg_kinds.specs.Needs.{need_of}
 use Rattle.dwg_object.specs.Objects.{ObjectValue, TypedValue, PlainValue, RawValue, handle_of, kind_of}
-use Rattle.dwg_paths.proofs.MemberLemmas.{contains_none, contains_first, contains_behind, contains_cases}
-use Rattle.dwg_paths.proofs.TestLemmas.{kept_of_passing, passing_of_kept}
-use Rattle.dwg_paths.specs.Ways.{has_path}
+use Rattle.dwg_chains.proofs.MemberLemmas.{contains_none, contains_first, contains_after, contains_cases}
+use Rattle.dwg_chains.proofs.TestLemmas.{kept_of_passing, passing_of_kept}
+use Rattle.dwg_chains.specs.Ways.{has_path}
 use Rattle.dwg_audit.specs.FindingLaws.{FindingsStand, NothingIsFoundIfSound}
 
 -- a finding stands where a test fails
@@ -34,50 +34,50 @@ unless_stands false one finding = (λ inside. (refl, (contains_one one finding).
 
 -- a finding stands where what a test says doesn't hold
 fails_stands : (holds : Bool) (Holds : Type 0) (one finding : Finding) → IsTrue holds ↔ Holds → Contains (unless holds one) finding ↔ ((Holds → ⊥) × (finding ≡ one))
-fails_stands holds Holds one finding tells = (
-  λ inside. let is = (unless_stands holds one finding).0 inside in (iff_false tells is.0, is.1),
-  λ is. (unless_stands holds one finding).1 (false_from_ne_true holds (λ passes. is.0 (tells.0 passes)), is.1),
+fails_stands holds Holds one finding reports = (
+  λ inside. let is = (unless_stands holds one finding).0 inside in (iff_false reports is.0, is.1),
+  λ is. (unless_stands holds one finding).1 (false_from_ne_true holds (λ passes. is.0 (reports.0 passes)), is.1),
 )
 
--- what stands in joined lists is told by what stands in each
+-- what stands in joined lists is reported by what stands in each
 joined_stands : {A : Type 0} (Here There : Type 0) (xs ys : List A) (x : A) → Contains xs x ↔ Here → Contains ys x ↔ There → Contains (xs ++ ys) x ↔ (Here ⊎ There)
 joined_stands Here There xs ys x here there = (
   λ inside. ⊎_elim (λ first. inl (here.0 first)) (λ second. inr (there.0 second)) (Contains-append_cases xs ys x inside),
-  λ told. ⊎_elim (λ first. Contains-append_left xs ys x (here.1 first)) (λ second. Contains-append_right xs ys x (there.1 second)) told,
+  λ reported. ⊎_elim (λ first. Contains-append_left xs ys x (here.1 first)) (λ second. Contains-append_right xs ys x (there.1 second)) reported,
 )
 
--- what stands in a list that is taken by a test is told by both
+-- what stands in a list that is taken by a test is reported by both
 taken_stands : {A : Type 0} (taken : Bool) (Held : Type 0) (xs : List A) (x : A) → Contains xs x ↔ Held → Contains (if taken then xs else []) x ↔ (IsTrue taken × Held)
-taken_stands true Held xs x held = (λ inside. (refl, held.0 inside), λ told. held.1 told.1)
-taken_stands false Held xs x held = (λ inside. absurd (contains_none x inside), λ told. absurd (true≢false (sym told.0)))
+taken_stands true Held xs x held = (λ inside. (refl, held.0 inside), λ reported. held.1 reported.1)
+taken_stands false Held xs x held = (λ inside. absurd (contains_none x inside), λ reported. absurd (true≢false (sym reported.0)))
 
 -- findings of the table of blocks
 pub control_stands : (objects : List ObjectValue) (finding : Finding) → Contains (control_findings objects) finding ↔ IsControlFinding objects finding
 unfolding control_findings
 control_stands objects finding =
     let count : ℕ = length (block_controls objects) in
-    let told = fails_stands (count == 1) (count ≡ 1) (record { handle = 0; rule = rules.Control; field = None; position = count; target = 0 }) finding (Decides-eqb count 1) in (
-      λ inside. let is = told.0 inside in record { fails = is.0; says = is.1 },
-      λ is. told.1 (is.fails, is.says),
+    let reported = fails_stands (count == 1) (count ≡ 1) (record { handle = 0; rule = rules.Control; field = None; position = count; target = 0 }) finding (Decides-eqb count 1) in (
+      λ inside. let is = reported.0 inside in record { fails = is.0; says = is.1 },
+      λ is. reported.1 (is.fails, is.says),
     )
 
 -- references are the owner and the slots
 reference_stands : (objects : List ObjectValue) (x : ObjectValue) (slot : Slot) → Contains (references (spaces objects) x) slot ↔ IsReferenceOf objects x slot
 unfolding references
 reference_stands objects x slot =
-    let front : List Slot = filter is_application (slots x) in
+    let prefix : List Slot = filter is_application (slots x) in
     let back : List Slot = filter (λ s. not (is_application s)) (slots x) in
     let owner : Slot = owner_slot (spaces objects) x in (
       λ inside. ⊎_elim
           (λ first. inr (passing_of_kept is_application (slots x) slot first).0)
-          (λ behind. ⊎_elim (λ same. inl (sym same)) (λ further. inr (passing_of_kept (λ s. not (is_application s)) (slots x) slot further).0) (contains_cases owner back slot behind))
-          (Contains-append_cases front (owner ∷ back) slot inside),
+          (λ after. ⊎_elim (λ same. inl (sym same)) (λ further. inr (passing_of_kept (λ s. not (is_application s)) (slots x) slot further).0) (contains_cases owner back slot after))
+          (Contains-append_cases prefix (owner ∷ back) slot inside),
       λ is. ⊎_elim
-          (λ same. Contains-append_right front (owner ∷ back) slot (subst (λ (s : Slot). Contains (owner ∷ back) s) (sym same) (contains_first owner back)))
+          (λ same. Contains-append_right prefix (owner ∷ back) slot (subst (λ (s : Slot). Contains (owner ∷ back) s) (sym same) (contains_first owner back)))
           (λ held. ⊎_elim
-          (λ (application : is_application slot ≡ true). Contains-append_left front (owner ∷ back) slot (kept_of_passing is_application (slots x) slot held application))
-          (λ (other : is_application slot ≡ false). Contains-append_right front (owner ∷ back) slot
-          (contains_behind owner back slot (kept_of_passing (λ s. not (is_application s)) (slots x) slot held (not_from_false (is_application slot) other))))
+          (λ (application : is_application slot ≡ true). Contains-append_left prefix (owner ∷ back) slot (kept_of_passing is_application (slots x) slot held application))
+          (λ (other : is_application slot ≡ false). Contains-append_right prefix (owner ∷ back) slot
+          (contains_after owner back slot (kept_of_passing (λ s. not (is_application s)) (slots x) slot held (not_from_false (is_application slot) other))))
           (cases_Bool (is_application slot)))
           is,
     )
@@ -108,11 +108,11 @@ pub claim_stands : (objects : List ObjectValue) (x : ObjectValue) (finding : Fin
     → Contains (claim_findings objects (spaces objects) x) finding ↔ IsClaimFinding objects x finding
 unfolding claim_findings
 claim_stands objects x finding ascend =
-    let told = fails_stands (is_exempt objects (spaces objects) x || is_claimed objects (spaces objects) x) (IsExempt objects x ⊎ IsClaimed objects x)
+    let reported = fails_stands (is_exempt objects (spaces objects) x || is_claimed objects (spaces objects) x) (IsExempt objects x ⊎ IsClaimed objects x)
     (record { handle = handle_of x; rule = rules.Claim; field = None; position = length (claims objects (handle_of x)); target = owner_of (spaces objects) x }) finding
     (Decides-or (is_exempt objects (spaces objects) x) (is_claimed objects (spaces objects) x) (exempt_decided objects x ascend) (claimed_decided objects x ascend)) in (
-      λ inside. let is = told.0 inside in record { asked = λ exempt. is.0 (inl exempt); fails = λ claimed. is.0 (inr claimed); says = is.1 },
-      λ is. told.1 (λ either. ⊎_elim is.asked is.fails either, is.says),
+      λ inside. let is = reported.0 inside in record { asked = λ exempt. is.0 (inl exempt); fails = λ claimed. is.0 (inr claimed); says = is.1 },
+      λ is. reported.1 (λ either. ⊎_elim is.asked is.fails either, is.says),
     )
 
 -- findings of chains
@@ -121,12 +121,12 @@ pub chain_stands : (objects : List ObjectValue) (x : ObjectValue) (finding : Fin
 unfolding chain_findings
 chain_stands objects x finding ascend =
     let chained : Bool = is_chained objects (spaces objects) x (ends_of x) in
-    let told = fails_stands (not (is_header x) || chained) ((IsTrue (is_header x) → ⊥) ⊎ HasMemberChain objects x)
+    let reported = fails_stands (not (is_header x) || chained) ((IsTrue (is_header x) → ⊥) ⊎ HasMemberChain objects x)
     (record { handle = handle_of x; rule = rules.Chain; field = None; position = 0; target = option_map_or (λ (ends : EndHandles). ends.last) (ends_of x) 0 }) finding
     (Decides-or (not (is_header x)) chained (Decides-not (is_header x) (λ is. is, λ is. is)) (chained_decided objects x ascend)) in (
-      λ inside. let is = told.0 inside in
+      λ inside. let is = reported.0 inside in
           record { header = true_from_ne_false (is_header x) (λ none. is.0 (inl (both_ways (is_header x) none))); fails = λ chain. is.0 (inr chain); says = is.1 },
-      λ is. told.1 (λ either. ⊎_elim (λ none. none is.header) is.fails either, is.says),
+      λ is. reported.1 (λ either. ⊎_elim (λ none. none is.header) is.fails either, is.says),
     )
 
 -- findings of paths
@@ -134,11 +134,11 @@ pub path_stands : (objects : List ObjectValue) (x : ObjectValue) (finding : Find
     → Contains (path_findings objects (spaces objects) x) finding ↔ IsPathFinding objects x finding
 unfolding path_findings
 path_stands objects x finding inside =
-    let told = fails_stands (has_path (handles_of objects) (owner_step objects (spaces objects)) (root_at objects (spaces objects)) (handle_of x)) (HasOwnerPath objects x)
+    let reported = fails_stands (has_path (handles_of objects) (owner_step objects (spaces objects)) (root_at objects (spaces objects)) (handle_of x)) (HasOwnerPath objects x)
     (record { handle = handle_of x; rule = rules.Path; field = None; position = 0; target = owner_of (spaces objects) x }) finding
     (owner_path_decided objects x inside) in (
-      λ held. let is = told.0 held in record { fails = is.0; says = is.1 },
-      λ is. told.1 (is.fails, is.says),
+      λ held. let is = reported.0 held in record { fails = is.0; says = is.1 },
+      λ is. reported.1 (is.fails, is.says),
     )
 
 -- findings of one object
@@ -167,11 +167,11 @@ findings_stand objects finding ascend =
       λ is. contained_in_all (findings_of objects (spaces objects)) objects is.0 finding is.1 ((object_stands objects is.0 finding ascend is.1).1 (is.2, is.3)),
     )
 
--- what doesn't fail holds, where a test tells
+-- what doesn't fail holds, where a test reports
 settled : (holds : Bool) (Holds : Type 0) → IsTrue holds ↔ Holds → ((Holds → ⊥) → ⊥) → Holds
-settled holds Holds tells stands = ⊎_elim
-    (λ (passes : holds ≡ true). tells.0 passes)
-    (λ (fails : holds ≡ false). absurd (stands (iff_false tells fails)))
+settled holds Holds reports stands = ⊎_elim
+    (λ (passes : holds ≡ true). reports.0 passes)
+    (λ (fails : holds ≡ false). absurd (stands (iff_false reports fails)))
     (cases_Bool holds)
 
 -- a Typed BLOCK HEADER is Typed

@@ -1,4 +1,4 @@
--- The findings of a drawing stand in order, each strictly before those behind it.
+-- The findings of a drawing stand in order, each strictly before those after it.
 use Rattle.std.proofs.Common.{◌≡◌, sym, refl, ap, ◌∙◌, subst₂, inl, inr, ⊎_elim, arith}
 use Rattle.std.proofs.lemmas.Bool.{not-true}
 use Rattle.std.proofs.lemmas.List.Elements.{Contains-append_cases}
@@ -27,9 +27,9 @@ use Rattle.dwg_kinds.specs.declared.field.Field.TheVariants as fields
 use Rattle.dwg_kinds.specs.Needs.{field_number}
 use Rattle.dwg_object.specs.Objects.{ObjectValue, TypedValue, PlainValue, RawValue, handle_of}
 use Rattle.dwg_object.specs.Written.{IsWhole}
-use Rattle.dwg_paths.proofs.MemberLemmas.{contains_none, contains_cases}
-use Rattle.dwg_paths.proofs.PlaceLaws.{place_of_contained}
-use Rattle.dwg_paths.proofs.TestLemmas.{passing_of_kept}
+use Rattle.dwg_chains.proofs.MemberLemmas.{contains_none, contains_cases}
+use Rattle.dwg_chains.proofs.PlaceLaws.{place_of_contained}
+use Rattle.dwg_chains.proofs.TestLemmas.{passing_of_kept}
 use Rattle.dwg_audit.specs.FindingOrder.{FindingsAreOrdered}
 
 -- the slots of each object of a drawing stand in order
@@ -47,16 +47,16 @@ owner_is_second : field_number fields.Owner ≡ 2
 unfolding field_number
 owner_is_second = refl
 
--- each other field stands behind both
-others_behind : (field : Field) → is_application_field field ≡ false → field ≢ fields.Owner → 2 < field_number field
+-- each other field stands after both
+others_after : (field : Field) → is_application_field field ≡ false → field ≢ fields.Owner → 2 < field_number field
 unfolding field_number
-others_behind fields.Application is other = absurd (cc is)
-others_behind fields.Owner is other = absurd (other refl)
-others_behind field is other = omega arith
+others_after fields.Application is other = absurd (cc is)
+others_after fields.Owner is other = absurd (other refl)
+others_after field is other = omega arith
 
 -- a slot of the field of applications stands before what is of a higher field
-front_before : (one other : Slot) → is_application one ≡ true → 1 < field_number other.field → slot_laws.StandsBefore one other
-front_before one other application higher =
+prefix_before : (one other : Slot) → is_application one ≡ true → 1 < field_number other.field → slot_laws.StandsBefore one other
+prefix_before one other application higher =
     let first : field_number one.field ≡ 1 = application_is_first one.field application in
     let less : field_number one.field < field_number other.field = omega (arith, first, higher) in
     inl less
@@ -65,19 +65,19 @@ front_before one other application higher =
 references_ordered : (known : Option SpaceHandles) (x : ObjectValue) → AllPairs slot_laws.StandsBefore (slots x) → AllPairs slot_laws.StandsBefore (references known x)
 unfolding references
 references_ordered known x ordered =
-    let front : List Slot = filter is_application (slots x) in
+    let prefix : List Slot = filter is_application (slots x) in
     let back : List Slot = filter (λ slot. not (is_application slot)) (slots x) in
     let owner : Slot = owner_slot known x in
-    let behind : (slot : Slot) → Contains back slot → 2 < field_number slot.field =
-    λ slot inside. let kept = passing_of_kept (λ s. not (is_application s)) (slots x) slot inside in others_behind slot.field (not-true (is_application slot) kept.1) (slots_without_owner x slot kept.0) in
-    pairs_joined slot_laws.StandsBefore front (owner ∷ back)
+    let after : (slot : Slot) → Contains back slot → 2 < field_number slot.field =
+    λ slot inside. let kept = passing_of_kept (λ s. not (is_application s)) (slots x) slot inside in others_after slot.field (not-true (is_application slot) kept.1) (slots_without_owner x slot kept.0) in
+    pairs_joined slot_laws.StandsBefore prefix (owner ∷ back)
     (AllPairs-filter slot_laws.StandsBefore is_application (slots x) ordered)
     (pairs_more slot_laws.StandsBefore owner back
-    (λ slot inside. let less : field_number fields.Owner < field_number slot.field = omega (arith, owner_is_second, behind slot inside) in inl less)
+    (λ slot inside. let less : field_number fields.Owner < field_number slot.field = omega (arith, owner_is_second, after slot inside) in inl less)
     (AllPairs-filter slot_laws.StandsBefore (λ slot. not (is_application slot)) (slots x) ordered))
-    (λ one other here there. front_before one other (passing_of_kept is_application (slots x) one here).1 (⊎_elim
+    (λ one other here there. prefix_before one other (passing_of_kept is_application (slots x) one here).1 (⊎_elim
     (λ same. let second : field_number fields.Owner ≡ field_number other.field = ap (λ (s : Slot). field_number s.field) same in omega (arith, owner_is_second, second))
-    (λ further. omega (arith, behind other further))
+    (λ further. omega (arith, after other further))
     (contains_cases owner back other there)))
 
 -- at most one finding stands in order

@@ -12,10 +12,10 @@ use Rattle.dwg_graph.specs.Places.{Ascend, handles_of}
 use Rattle.dwg_graph.proofs.ListLemmas.{contains_map}
 use Rattle.dwg_graph.proofs.Tests.{members_among, none_of_any, any_of_none, owners_closed}
 use Rattle.dwg_object.specs.Objects.{ObjectValue, handle_of}
-use Rattle.dwg_paths.specs.ChainTests.{AreChainTests}
-use Rattle.dwg_paths.specs.Ways.{has_path}
-use Rattle.dwg_paths.proofs.ChainLaws.{chain_decided}
-use Rattle.dwg_paths.proofs.PathLaws.{path_decided}
+use Rattle.dwg_chains.specs.ChainTests.{AreChainTests}
+use Rattle.dwg_chains.specs.Ways.{has_path}
+use Rattle.dwg_chains.proofs.ChainLaws.{chain_decided}
+use Rattle.dwg_chains.proofs.PathLaws.{path_decided}
 
 -- what the tests of a chain say of handles
 chain_tests : (objects : List ObjectValue) (known : Option SpaceHandles) (header : ObjectValue) (ends : EndHandles)

@@ -19,8 +19,8 @@ places_long handles held given places same are = ap length are ∙ length-map he
 -- and each is where the target stands
 pub place_there : (handles : List ℕ) (held given : List Slot) (places : List (Option ℕ)) (i : ℕ) (slot : Slot) (place : Option ℕ) → given ≡ held → places ≡ slot_places handles held
     → i < length given → slot ≡ get_or given i slot → place ≡ get_or places i None → place ≡ place_in handles slot.target
-place_there handles held given places i slot place same are within is told =
-    told
+place_there handles held given places i slot place same are within is reported =
+    reported
     ∙ get_or_from_slice_get places i (place_in handles slot.target) None
     (ap (λ (all : List (Option ℕ)). slice_get all i) are
     ∙ slice_get-map (λ (s : Slot). place_in handles s.target) held i

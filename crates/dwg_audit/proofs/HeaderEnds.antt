@@ -24,35 +24,35 @@ use Rattle.dwg_tables.specs.declared.block_header.Ends.{Ends}
 abbrev is_same : Field → Field → Bool
 is_same field other = field_number field == field_number other
 
--- the first slot of a field stands behind those of another
-behind_field : (field other : Field) (at : ℕ) (references : List Reference) (back : List Slot) → is_same field other ≡ false
+-- the first slot of a field stands after those of another
+after_field : (field other : Field) (at : ℕ) (references : List Reference) (back : List Slot) → is_same field other ≡ false
     → find (is_of field) (slots_from other at references ++ back) ≡ find (is_of field) back
 unfolding slots_from
-behind_field field other at [] back differ = refl
-behind_field field other at (reference ∷ more) back differ =
+after_field field other at [] back differ = refl
+after_field field other at (reference ∷ more) back differ =
     ap (λ found. if found then Some (record { field = other; position = at; target = reference.target }) else find (is_of field) (slots_from other (at + 1) more ++ back)) differ
-    ∙ behind_field field other (at + 1) more back differ
+    ∙ after_field field other (at + 1) more back differ
 
--- and behind those of others
-behind_fields : (field : Field) (front back : List FieldReferences) → IsTrue (each_field (λ other. not (is_same field other)) front)
-    → find (is_of field) (slots_of (front ++ back)) ≡ find (is_of field) (slots_of back)
+-- and after those of others
+after_fields : (field : Field) (prefix back : List FieldReferences) → IsTrue (each_field (λ other. not (is_same field other)) prefix)
+    → find (is_of field) (slots_of (prefix ++ back)) ≡ find (is_of field) (slots_of back)
 unfolding slots_of
-behind_fields field [] back differ = refl
-behind_fields field (held ∷ front) back differ =
-    let both = and_parts (not (is_same field held.field)) (each_field (λ other. not (is_same field other)) front) differ in
-    behind_field field held.field 0 held.references (slots_of (front ++ back)) (not-true (is_same field held.field) both.0)
-    ∙ behind_fields field front back both.1
+after_fields field [] back differ = refl
+after_fields field (held ∷ prefix) back differ =
+    let both = and_parts (not (is_same field held.field)) (each_field (λ other. not (is_same field other)) prefix) differ in
+    after_field field held.field 0 held.references (slots_of (prefix ++ back)) (not-true (is_same field held.field) both.0)
+    ∙ after_fields field prefix back both.1
 
 -- no common part has a first or a last entity of a block
-first_behind_common : (common : Common) → IsTrue (each_field (λ other. not (is_same fields.First other)) (held_by_common common))
+first_after_common : (common : Common) → IsTrue (each_field (λ other. not (is_same fields.First other)) (held_by_common common))
 unfolding held_by_common held_by_entity held_by_object field_number
-first_behind_common (commons.Entity common) = refl
-first_behind_common (commons.Object common) = refl
+first_after_common (commons.Entity common) = refl
+first_after_common (commons.Object common) = refl
 
-last_behind_common : (common : Common) → IsTrue (each_field (λ other. not (is_same fields.Last other)) (held_by_common common))
+last_after_common : (common : Common) → IsTrue (each_field (λ other. not (is_same fields.Last other)) (held_by_common common))
 unfolding held_by_common held_by_entity held_by_object field_number
-last_behind_common (commons.Entity common) = refl
-last_behind_common (commons.Object common) = refl
+last_after_common (commons.Entity common) = refl
+last_after_common (commons.Object common) = refl
 
 -- the first end
 pub first_end : (handles : List ℕ) (number handle : ℕ) (common : Common) (header : BlockHeader) (ends : Ends) → header.ends ≡ Some ends
@@ -61,7 +61,7 @@ unfolding slots held_by_body slots_of slots_from field_number
 first_end handles number handle common header ends is =
     let here : find (is_of fields.First) (slots_of (held_by_body (bodies.BlockHeader header))) ≡ Some (record { field = fields.First; position = 0; target = ends.first.target }) = rw is refl in
     ap (option_and_then (λ (slot : Slot). place_in handles slot.target))
-    (behind_fields fields.First (held_by_common common) (held_by_body (bodies.BlockHeader header)) (first_behind_common common) ∙ here)
+    (after_fields fields.First (held_by_common common) (held_by_body (bodies.BlockHeader header)) (first_after_common common) ∙ here)
 
 -- the last end
 pub last_end : (handles : List ℕ) (number handle : ℕ) (common : Common) (header : BlockHeader) (ends : Ends) → header.ends ≡ Some ends
@@ -70,7 +70,7 @@ unfolding slots held_by_body slots_of slots_from field_number
 last_end handles number handle common header ends is =
     let here : find (is_of fields.Last) (slots_of (held_by_body (bodies.BlockHeader header))) ≡ Some (record { field = fields.Last; position = 0; target = ends.last.target }) = rw is refl in
     ap (option_and_then (λ (slot : Slot). place_in handles slot.target))
-    (behind_fields fields.Last (held_by_common common) (held_by_body (bodies.BlockHeader header)) (last_behind_common common) ∙ here)
+    (after_fields fields.Last (held_by_common common) (held_by_body (bodies.BlockHeader header)) (last_after_common common) ∙ here)
 
 -- the ends of a block that names some
 pub ends_known : (number handle : ℕ) (common : Common) (header : BlockHeader) (ends : Ends) → header.ends ≡ Some ends → ends_of (TypedValue number handle common (bodies.BlockHeader header)) ≡ known_ends ends

@@ -43,7 +43,7 @@ pub one_further : {A B : Type 0} (f : A → List B) (all : List A) (place next :
     → before ++ flat_map f (drop place all) ≡ whole → after ≡ before ++ f x → after ++ flat_map f (drop next all) ≡ whole
 one_further {A} {B} f all place next x before after whole at further is new =
     ap (λ n. after ++ flat_map f (drop n all)) further
-    ∙ ap (λ front. front ++ flat_map f (drop (suc place) all)) new
+    ∙ ap (λ prefix. prefix ++ flat_map f (drop (suc place) all)) new
     ∙ append_assoc before (f x) (flat_map f (drop (suc place) all))
     ∙ ap (λ rest. before ++ flat_map f rest) (sym (drop_at_place all place x at))
     ∙ is
@@ -52,11 +52,11 @@ one_further {A} {B} f all place next x before after whole at further is new =
 pub findings_begin : (objects : List ObjectValue) (none found : List Finding) → none ≡ [] → found ≡ none ++ control_findings objects
     → found ++ flat_map (findings_of objects (spaces objects)) (drop 0 objects) ≡ findings objects
 unfolding findings
-findings_begin objects none found empty first = ap (λ front. front ++ flat_map (findings_of objects (spaces objects)) objects) (first ∙ ap (λ front. front ++ control_findings objects) empty)
+findings_begin objects none found empty first = ap (λ prefix. prefix ++ flat_map (findings_of objects (spaces objects)) objects) (first ∙ ap (λ prefix. prefix ++ control_findings objects) empty)
 
--- behind all objects nothing is left to find
+-- after all objects nothing is left to find
 pub all_found : {A B : Type 0} (f : A → List B) (all : List A) (place : ℕ) (found whole : List B) → length all ≤ place → found ++ flat_map f (drop place all) ≡ whole → found ≡ whole
-all_found {A} {B} f all place found whole behind is = sym (append-nil found) ∙ ap (λ rest. found ++ flat_map f rest) (sym (drop_of_length-le all behind)) ∙ is
+all_found {A} {B} f all place found whole after is = sym (append-nil found) ∙ ap (λ rest. found ++ flat_map f rest) (sym (drop_of_length-le all after)) ∙ is
 
 -- a list that is all of another is empty exactly where the other is
 pub empty_alike : {V : Type 0} (all : List V) (P : Type 0) (result : Result (List V) NoMemory) → IfOk result (λ found. found ≡ all) → (all ≡ []) ↔ P → IfOk result (λ found. (found ≡ []) ↔ P)

@@ -4,7 +4,7 @@ use Rattle.std.proofs.lemmas.List.{length-map}
 use Rattle.std.proofs.lemmas.Simd.{map-map}
 use Rattle.dwg_audit.proofs.LookupSteps.{all_taken}
 use Rattle.dwg_audit.proofs.Slicing.{slots_counted}
-use Rattle.dwg_audit.specs.declared.lookups.Gathered.{Gathered}
+use Rattle.dwg_audit.specs.declared.lookups.ObjectReferences.{ObjectReferences}
 use Rattle.dwg_audit.specs.declared.lookups.Lookups.{Lookups}
 use Rattle.dwg_audit.specs.Lookups.{AreGathered, AreLookups, AreStarts, TakeAtMost, all_slots}
 use Rattle.dwg_graph.specs.declared.owner.SpaceHandles.{SpaceHandles}
@@ -19,12 +19,12 @@ use Rattle.dwg_object.specs.Objects.{ObjectValue, handle_of, value_of}
 -- what objects name, looked up
 named_there : (f : ObjectValue → ℕ) (objects : List ObjectValue) (index named : List ℕ) (places : List (Option ℕ)) → index ≡ handles_of objects → named ≡ map f objects
     → places ≡ map (λ (name : ℕ). place_in index name) named → places ≡ map (λ (x : ObjectValue). place_in (handles_of objects) (f x)) objects
-named_there f objects index named places is are told =
-    told ∙ ap (map (λ (name : ℕ). place_in index name)) are ∙ map-map (λ (name : ℕ). place_in index name) f objects
+named_there f objects index named places is are reported =
+    reported ∙ ap (map (λ (name : ℕ). place_in index name)) are ∙ map-map (λ (name : ℕ). place_in index name) f objects
     ∙ ap (λ (handles : List ℕ). map (λ (x : ObjectValue). place_in handles (f x)) objects) is
 
 -- all that is gathered is looked up
-pub are_looked_up : (objects : List ObjectValue) (known : Option SpaceHandles) (gathered : Gathered) (lookups : Lookups) (index : List ℕ) → index ≡ handles_of objects → AreGathered objects known gathered
+pub are_looked_up : (objects : List ObjectValue) (known : Option SpaceHandles) (gathered : ObjectReferences) (lookups : Lookups) (index : List ℕ) → index ≡ handles_of objects → AreGathered objects known gathered
     → lookups.owners.items ≡ map (λ (name : ℕ). place_in index name) gathered.owners.items → lookups.next.items ≡ map (λ (name : ℕ). place_in index name) gathered.next.items
     → lookups.slots.places.items ≡ map (λ (slot : Slot). place_in index slot.target) gathered.slots → lookups.slots.slots ≡ gathered.slots → lookups.slots.starts ≡ gathered.starts
     → AreLookups objects known lookups
@@ -39,7 +39,7 @@ are_looked_up objects known gathered lookups index is are owners next places slo
 }
 
 -- each lookup takes its steps
-pub steps_taken : (objects : List declared.Object) (known : Option SpaceHandles) (gathered : Gathered) (index owners next : List ℕ) (held : List Slot) (first second third fourth : ℕ)
+pub steps_taken : (objects : List declared.Object) (known : Option SpaceHandles) (gathered : ObjectReferences) (index owners next : List ℕ) (held : List Slot) (first second third fourth : ℕ)
     → index ≡ handles_of (map value_of objects) → AreGathered (map value_of objects) known gathered → owners ≡ gathered.owners.items → next ≡ gathered.next.items → held ≡ gathered.slots
     → TakeAtMost (length index) (length owners) first second → TakeAtMost (length index) (length next) second third → TakeAtMost (length index) (length held) third fourth
     → TakeAtMost (length objects) (2 * length objects + reference_count (map value_of objects)) first fourth

@@ -1,4 +1,4 @@
--- The steps of lookups, one behind the other.
+-- The steps of lookups, one after the other.
 use Rattle.std.proofs.Common.{◌≡◌, sym, ap, ◌∙◌, ◌<◌, ◌≤◌, ◌+◌, ◌*◌, ℕ, arith}
 use Rattle.std.proofs.Math.Nat.{mul-le-mul_right}
 use Rattle.dwg_audit.specs.Lookups.{TakeAtMost}

@@ -8,7 +8,7 @@ use Rattle.std.proofs.lemmas.Grind.{flat_map-append}
 use Rattle.std.proofs.lemmas.List.Concat.{length-flat_map}
 use Rattle.std.proofs.lemmas.List.Sums.{sum_by-take-le}
 use Rattle.std.proofs.lemmas.Option.{same_Some, slice_get_within, get_or_from_slice_get}
-use Rattle.dwg_audit.specs.declared.lookups.Gathered.{Gathered}
+use Rattle.dwg_audit.specs.declared.lookups.ObjectReferences.{ObjectReferences}
 use Rattle.dwg_audit.specs.Lookups.{AreGathered, AreStarts, all_slots, part_of}
 use Rattle.dwg_graph.specs.declared.owner.SpaceHandles.{SpaceHandles}
 use Rattle.dwg_graph.specs.Claimed.{reference_count}
@@ -19,13 +19,13 @@ use Rattle.dwg_graph.proofs.Counting.{value_there}
 use Rattle.dwg_object.specs.declared.object.Object as declared
 use Rattle.dwg_object.specs.Objects.{ObjectValue, value_of}
 
--- a front of joined lists is the first of them
-front_taken : {A : Type 0} (front back : List A) → take (length front) (front ++ back) ≡ front
-front_taken front back = take_at front back (length front) refl
+-- a prefix of joined lists is the first of them
+prefix_taken : {A : Type 0} (prefix back : List A) → take (length prefix) (prefix ++ back) ≡ prefix
+prefix_taken prefix back = take_at prefix back (length prefix) refl
 
--- what is left behind it
-front_dropped : {A : Type 0} (front back : List A) (more : ℕ) → drop (length front + more) (front ++ back) ≡ drop more back
-front_dropped front back more = sym (drop-drop more (length front) (front ++ back)) ∙ ap (drop more) (drop_at front back (length front) refl)
+-- what is left after it
+prefix_dropped : {A : Type 0} (prefix back : List A) (more : ℕ) → drop (length prefix + more) (prefix ++ back) ≡ drop more back
+prefix_dropped prefix back more = sym (drop-drop more (length prefix) (prefix ++ back)) ∙ ap (drop more) (drop_at prefix back (length prefix) refl)
 
 -- of joined lists, the one of a thing is the part between the lists before it and those with it
 pub part_of_all : {A B : Type 0} (f : A → List B) (things : List A) (place : ℕ) (x : A) → slice_get things place ≡ Some x
@@ -33,7 +33,7 @@ pub part_of_all : {A B : Type 0} (f : A → List B) (things : List A) (place : �
 part_of_all {A} {B} f [] place x at = absurd (cc at)
 part_of_all {A} {B} f (first ∷ more) zero x at =
     let one : length (f first ++ []) - 0 ≡ length (f first) = omega (arith, ap length (append-nil (f first))) in
-    ap (λ (n : ℕ). take n (f first ++ flat_map f more)) one ∙ front_taken (f first) (flat_map f more) ∙ ap f (same_Some first x at)
+    ap (λ (n : ℕ). take n (f first ++ flat_map f more)) one ∙ prefix_taken (f first) (flat_map f more) ∙ ap f (same_Some first x at)
 part_of_all {A} {B} f (first ∷ more) (suc place) x at =
     let before : ℕ = length (flat_map f (take place more)) in
     let with : ℕ = length (flat_map f (take (suc place) more)) in
@@ -42,7 +42,7 @@ part_of_all {A} {B} f (first ∷ more) (suc place) x at =
     let wide : length (f first ++ flat_map f (take (suc place) more)) - length (f first ++ flat_map f (take place more)) ≡ with - before = omega (arith, from, to) in
     ap (λ (n : ℕ). take n (drop (length (f first ++ flat_map f (take place more))) (f first ++ flat_map f more))) wide
     ∙ ap (λ (n : ℕ). take (with - before) (drop n (f first ++ flat_map f more))) from
-    ∙ ap (take (with - before)) (front_dropped (f first) (flat_map f more) before)
+    ∙ ap (take (with - before)) (prefix_dropped (f first) (flat_map f more) before)
     ∙ part_of_all f more place x at
 
 -- a part of what is seen is what is seen of the part
@@ -95,12 +95,12 @@ starts_more objects x starts end are is = record {
     each place most (inl before) =
         get_or_append_left starts (end ∷ []) 0 place before
         ∙ are.each place (omega (arith, before, are.count))
-        ∙ ap (λ (front : List ObjectValue). length (all_slots front)) (sym (take-append-le place objects (x ∷ []) (omega (arith, before, are.count))))
-    each place most (inr behind) =
-        let last : length starts ≡ place = omega (arith, behind, most, length-append objects (x ∷ []), are.count) in
+        ∙ ap (λ (prefix : List ObjectValue). length (all_slots prefix)) (sym (take-append-le place objects (x ∷ []) (omega (arith, before, are.count))))
+    each place most (inr after) =
+        let last : length starts ≡ place = omega (arith, after, most, length-append objects (x ∷ []), are.count) in
         get_or_push starts end 0 place last
         ∙ is
-        ∙ ap (λ (front : List ObjectValue). length (all_slots front)) (sym (take_all place (objects ++ x ∷ []) (omega (arith, last, length-append objects (x ∷ []), are.count))))
+        ∙ ap (λ (prefix : List ObjectValue). length (all_slots prefix)) (sym (take_all place (objects ++ x ∷ []) (omega (arith, last, length-append objects (x ∷ []), are.count))))
 
 -- no slot of no object
 pub starts_begin : (starts : List ℕ) → starts ≡ 0 ∷ [] → AreStarts [] starts
@@ -126,21 +126,21 @@ one_object_more objects i object within is =
     ∙ ap (λ (x : ObjectValue). take i (map value_of objects) ++ x ∷ []) (get_or_from_slice_get (map value_of objects) i (value_of object) (value_of object) there))
 
 -- what one object more refers to is gathered
-pub gathers_more : (objects : List ObjectValue) (known : Option SpaceHandles) (x : ObjectValue) (before after : Gathered) → AreGathered objects known before
+pub gathers_more : (objects : List ObjectValue) (known : Option SpaceHandles) (x : ObjectValue) (before after : ObjectReferences) → AreGathered objects known before
     → after.owners.items ≡ before.owners.items ++ owner_of known x ∷ [] → after.next.items ≡ before.next.items ++ next_of x ∷ []
     → after.slots ≡ before.slots ++ slots x → after.starts.items ≡ before.starts.items ++ length after.slots ∷ [] → AreGathered (objects ++ x ∷ []) known after
 gathers_more objects known x before after are owner next grown start = record {
-  owners = owner ∙ ap (λ front. front ++ owner_of known x ∷ []) are.owners ∙ sym (map-append (owner_of known) objects (x ∷ []));
-  next = next ∙ ap (λ front. front ++ next_of x ∷ []) are.next ∙ sym (map-append next_of objects (x ∷ []));
+  owners = owner ∙ ap (λ prefix. prefix ++ owner_of known x ∷ []) are.owners ∙ sym (map-append (owner_of known) objects (x ∷ []));
+  next = next ∙ ap (λ prefix. prefix ++ next_of x ∷ []) are.next ∙ sym (map-append next_of objects (x ∷ []));
   slots = all;
   starts = subst (AreStarts (objects ++ x ∷ [])) (sym start) (starts_more objects x before.starts.items (length after.slots) are.starts (ap length all));
 }
   where
     all : after.slots ≡ all_slots (objects ++ x ∷ [])
-    all = grown ∙ ap (λ front. front ++ slots x) are.slots ∙ sym (slots_of_more objects x)
+    all = grown ∙ ap (λ prefix. prefix ++ slots x) are.slots ∙ sym (slots_of_more objects x)
 
 -- nothing is gathered of no object
-pub gathers_none : (known : Option SpaceHandles) (gathered : Gathered) → gathered.owners.items ≡ [] → gathered.next.items ≡ [] → gathered.slots ≡ [] → gathered.starts.items ≡ 0 ∷ []
+pub gathers_none : (known : Option SpaceHandles) (gathered : ObjectReferences) → gathered.owners.items ≡ [] → gathered.next.items ≡ [] → gathered.slots ≡ [] → gathered.starts.items ≡ 0 ∷ []
     → AreGathered [] known gathered
 gathers_none known gathered owners next slots starts = record {
   owners = owners;
@@ -154,9 +154,9 @@ pub record AreBounds (objects : List ObjectValue) (place from to : ℕ) : Type 0
   pub begins : from ≡ length (all_slots (take place objects))
   pub ends : to ≡ length (all_slots (take (suc place) objects))
 
-pub bounds_told : (objects : List ObjectValue) (starts : List ℕ) (place next from to : ℕ) → AreStarts objects starts → place < length objects → next ≡ suc place
+pub bounds_reported : (objects : List ObjectValue) (starts : List ℕ) (place next from to : ℕ) → AreStarts objects starts → place < length objects → next ≡ suc place
     → from ≡ slice_index_or starts place 0 → to ≡ slice_index_or starts next 0 → AreBounds objects place from to
-bounds_told objects starts place next from to are within further begins ends_there = record {
+bounds_reported objects starts place next from to are within further begins ends_there = record {
   begins = begins ∙ are.each place (omega (arith, within));
   ends = ends_there ∙ are.each next (omega (arith, within, further))
       ∙ ap (λ (n : ℕ). length (all_slots (take n objects))) further;
@@ -166,7 +166,7 @@ bounds_told objects starts place next from to are within further begins ends_the
 pub bounds_there : (objects : List declared.Object) (starts : List ℕ) (place from to : ℕ) → AreStarts (map value_of objects) starts → place < length objects
     → from ≡ slice_index_or starts place 0 → to ≡ slice_index_or starts (place + 1) 0 → AreBounds (map value_of objects) place from to
 bounds_there objects starts place from to are within begins ends =
-    bounds_told (map value_of objects) starts place (place + 1) from to are (omega (arith, within, length-map objects value_of)) (omega arith) begins ends
+    bounds_reported (map value_of objects) starts place (place + 1) from to are (omega (arith, within, length-map objects value_of)) (omega arith) begins ends
 
 pub bounds_ordered : (objects : List ObjectValue) (place from to : ℕ) → AreBounds objects place from to → from ≤ to
 bounds_ordered objects place from to are = omega (arith, are.begins, are.ends, starts_grow objects place)
@@ -175,8 +175,8 @@ pub bounds_within : (objects : List ObjectValue) (place from to : ℕ) → AreBo
 bounds_within objects place from to are = omega (arith, are.ends, starts_within objects (suc place))
 
 -- the part between them is that of the object
-pub part_told : {T : Type 0} (objects : List ObjectValue) (place from to : ℕ) (things : List T) → AreBounds objects place from to → take (to - from) (drop from things) ≡ part_of objects place things
-part_told objects place from to things are =
+pub part_reported : {T : Type 0} (objects : List ObjectValue) (place from to : ℕ) (things : List T) → AreBounds objects place from to → take (to - from) (drop from things) ≡ part_of objects place things
+part_reported objects place from to things are =
     ap (λ (n : ℕ). take (n - from) (drop from things)) are.ends ∙ ap (λ (n : ℕ). take (length (all_slots (take (suc place) objects)) - n) (drop n things)) are.begins
 
 -- of all slots it has those of the object

@@ -8,7 +8,7 @@ use Rattle.std.proofs.lemmas.Option.{get_or_from_slice_get, slice_get-map, slice
 use Rattle.dwg_audit.specs.declared.tables.Tables.{Tables}
 use Rattle.dwg_audit.specs.Findings.{is_chained}
 use Rattle.dwg_audit.proofs.FindingTests.{chained_decided}
-use Rattle.dwg_audit.specs.Standing.{IsStanding}
+use Rattle.dwg_audit.specs.ObjectFacts.{IsStanding}
 use Rattle.dwg_audit.specs.Tabled.{AreTables}
 use Rattle.dwg_graph.specs.Claimed.{claims_held}
 use Rattle.dwg_graph.specs.Graph.{claims, ends_of}
@@ -18,7 +18,7 @@ use Rattle.dwg_graph.specs.Places.{Ascend, handles_of}
 use Rattle.dwg_graph.proofs.PlacedChains.{chain_placed}
 use Rattle.dwg_graph.proofs.PlacedPaths.{in_table, path_placed}
 use Rattle.dwg_object.specs.Objects.{ObjectValue, handle_of}
-use Rattle.dwg_paths.specs.Tables.{leads, marked}
+use Rattle.dwg_chains.specs.Tables.{leads, marked}
 
 -- what a table of numbers says of an object
 number_of_object : (objects : List ObjectValue) (f : ObjectValue → Option ℕ) (table : List (Option ℕ)) (place : ℕ) (x : ObjectValue) → table ≡ map f objects → slice_get objects place ≡ Some x → leads table place ≡ f x

@@ -13,7 +13,7 @@ use Rattle.dwg_graph.specs.Tests.{is_met, is_exempt, is_claimed}
 use Rattle.dwg_kinds.specs.declared.field.Field.{Field}
 use Rattle.dwg_kinds.specs.declared.field.Field.TheVariants as fields
 use Rattle.dwg_object.specs.Objects.{ObjectValue, handle_of}
-use Rattle.dwg_paths.specs.Ways.{has_path, has_chain}
+use Rattle.dwg_chains.specs.Ways.{has_path, has_chain}
 
 -- a finding where a test fails, and none where it holds
 abbrev pub unless : Bool → Finding → List Finding
@@ -42,7 +42,7 @@ is_application slot = is_application_field slot.field
 abbrev pub owner_slot : Option SpaceHandles → ObjectValue → Slot
 owner_slot known x = record { field = fields.Owner; position = 0; target = owner_of known x }
 
--- the references of an object in the order of fields, where the owner stands behind the applications
+-- the references of an object in the order of fields, where the owner stands after the applications
 unfoldable pub references : Option SpaceHandles → ObjectValue → List Slot
 references known x = filter is_application (slots x) ++ owner_slot known x ∷ filter (λ slot. not (is_application slot)) (slots x)
 

@@ -8,11 +8,11 @@ pub mod Lookups
 pub mod Auditable
 -- The findings of a drawing whose handles ascend are exactly its failures, and there are none exactly where it is sound.
 pub mod FindingLaws
--- The findings of a drawing stand in order, each strictly before those behind it.
+-- The findings of a drawing stand in order, each strictly before those after it.
 pub mod FindingOrder
 -- The slots of applications, and all others.
 pub mod Held
 -- What is known of all objects before the first of them is judged.
 pub mod Tabled
 -- What the tables say of one object.
-pub mod Standing
+pub mod ObjectFacts

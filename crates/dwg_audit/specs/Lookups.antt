@@ -2,7 +2,7 @@
 use Rattle.std.specs.Prelude.{◌≡◌, ◌==◌, ◌<◌, ◌≤◌, ◌+◌, ◌-◌, ◌*◌, ◌^◌, ℕ, suc, Bool, List, length, map, take, drop, find, flat_map, Option}
 use Rattle.std.specs.List.{slice_index_or}
 use Rattle.std.specs.Option.{option_and_then}
-use Rattle.dwg_audit.specs.declared.lookups.Gathered.{Gathered}
+use Rattle.dwg_audit.specs.declared.lookups.ObjectReferences.{ObjectReferences}
 use Rattle.dwg_audit.specs.declared.lookups.Lookups.{Lookups}
 use Rattle.dwg_audit.specs.declared.lookups.SlotTable.{SlotTable}
 use Rattle.dwg_graph.specs.declared.owner.SpaceHandles.{SpaceHandles}
@@ -35,7 +35,7 @@ place_of handles field held = option_and_then (λ (slot : Slot). place_in handle
 unfoldable pub all_slots : List ObjectValue → List Slot
 all_slots objects = flat_map slots objects
 
--- where the slots of each object begin, and behind the last object where they end
+-- where the slots of each object begin, and after the last object where they end
 pub record AreStarts (objects : List ObjectValue) (starts : List ℕ) : Type 0 where
   pub count : length starts ≡ length objects + 1
   pub each : (place : ℕ) → place ≤ length objects → slice_index_or starts place 0 ≡ length (all_slots (take place objects))
@@ -52,7 +52,7 @@ part_of {T} objects place things =
     take (length (all_slots (take (suc place) objects)) - length (all_slots (take place objects))) (drop (length (all_slots (take place objects))) things)
 
 -- what objects refer to is gathered
-pub record AreGathered (objects : List ObjectValue) (known : Option SpaceHandles) (gathered : Gathered) : Type 0 where
+pub record AreGathered (objects : List ObjectValue) (known : Option SpaceHandles) (gathered : ObjectReferences) : Type 0 where
   pub owners : gathered.owners.items ≡ map (owner_of known) objects
   pub next : gathered.next.items ≡ map next_of objects
   pub slots : gathered.slots ≡ all_slots objects

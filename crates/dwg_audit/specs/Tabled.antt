@@ -6,7 +6,7 @@ use Rattle.dwg_graph.specs.Claimed.{AreBothCounted}
 use Rattle.dwg_graph.specs.Owners.{spaces}
 use Rattle.dwg_graph.specs.Placed.{owner_table, next_table, root_table, home_table, end_table}
 use Rattle.dwg_object.specs.Objects.{ObjectValue}
-use Rattle.dwg_paths.specs.Tables.{leads, marked, ends_at, RankIs, HasChainAt}
+use Rattle.dwg_chains.specs.Tables.{leads, marked, ends_at, RankIs, HasChainAt}
 
 -- the tables say of the objects what they are for
 pub record AreTables (objects : List ObjectValue) (tables : Tables) : Type 0 where

@@ -4,7 +4,7 @@ ghost use Rattle.std.specs.Prelude.{◌≡◌, ◌↔◌, ◌<◌, ◌≤◌, �
 ghost use Rattle.std.specs.List.{AllByRecursion};
 ghost use Rattle.dwg_audit.specs.Findings.{control_findings, findings, findings_of};
 ghost use Rattle.dwg_audit.specs.Lookups.{slot_places};
-ghost use Rattle.dwg_audit.specs.Standing.{IsStanding};
+ghost use Rattle.dwg_audit.specs.ObjectFacts.{IsStanding};
 ghost use Rattle.dwg_audit.specs.Tabled.{AreTables};
 ghost use Rattle.dwg_graph.specs.Claimed.{reference_count};
 ghost use Rattle.dwg_graph.specs.Owners.{spaces};
@@ -17,9 +17,9 @@ ghost use Rattle.dwg_object.specs.Written.{IsWhole};
 use crate::finding::{Finding, Rule};
 use crate::laws::finding_laws;
 use crate::lookups::{places_at, slots_at};
+use crate::object_facts::{ObjectFacts, standing_at};
 use crate::resolving::push_unresolved;
 use crate::rules::{push_lost, push_unchained, push_unclaimed, push_unless};
-use crate::standing::{Standing, standing_at};
 use crate::tables::{Tables, tabulate};
 use dwg_base::{Handle, Items, NoMemory};
 use dwg_graph::{Slot, SpaceHandles, control_count, is_typed, slot_laws};
@@ -28,7 +28,7 @@ use dwg_steps::Steps;
 use std::alloc::Global;
 use std::sync::ledger::Ledger;
 
-/// Finds that there isn't exactly one Typed table of blocks. The only refusal is want of memory.
+/// Finds that there isn't exactly one Typed table of blocks. Err: out of memory.
 #[tactic(auto, unfolding(crate::specs::Findings::control_findings))]
 fn push_control(objects: &[Object<'_>], found: &mut Items<Finding>) -> Result<(), NoMemory>
     ensures { OnOk result (found.new ≡ found.old ++ control_findings (map value_of objects.now)) }
@@ -44,14 +44,14 @@ fn push_control(objects: &[Object<'_>], found: &mut Items<Finding>) -> Result<()
     push_unless(found, count == 1, finding)
 }
 
-/// Finds what an object fails, in the order of rules, nothing of one that isn't Typed. The only refusal is want of memory.
+/// Finds what an object fails, in the order of rules, nothing of one that isn't Typed. Err: out of memory.
 fn judge(
     objects: &[Object<'_>],
     known: &Option<SpaceHandles>,
     object: &Object<'_>,
     held: &[Slot],
     places: &[Option<usize>],
-    standing: &Standing,
+    standing: &ObjectFacts,
     found: &mut Items<Finding>,
 ) -> Result<(), NoMemory>
     requires known { known.now ≡ spaces (map value_of objects.now) }
@@ -80,7 +80,7 @@ fn judge(
     push_lost(objects, known, object, standing.reached, found)
 }
 
-/// What objects fail, by what is known of all of them. The only refusal is want of memory.
+/// What objects fail, by what is known of all of them. Err: out of memory.
 fn judge_all(
     alloc: Global,
     objects: &[Object<'_>],
@@ -110,7 +110,7 @@ fn judge_all(
 /// What the references of objects fail (a rule of this project): none exactly where the drawing is sound. The findings stand in order
 /// of handle, rule, field and position. A step is one probe of the index of handles. They are bounded by what lookups of each owner, of
 /// what follows each object in a block and of each other reference take, once each, where a lookup takes as many probes as the count of
-/// objects has binary digits. The only refusal is want of memory.
+/// objects has binary digits. Err: out of memory.
 pub fn audit<L: Ledger>(
     alloc: Global,
     objects: &[Object<'_>],

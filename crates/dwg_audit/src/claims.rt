@@ -41,7 +41,7 @@ fn count_holder(
     }
 }
 
-/// How often each object is claimed, and how often by its owner. Want of memory is the only refusal.
+/// How often each object is claimed, and how often by its owner. Err: out of memory.
 #[tactic(auto, using(dwg_graph::proofs::HolderLoops::none_counted))]
 pub(crate) fn count_claims(
     alloc: Global,

@@ -6,10 +6,10 @@ mod claims;
 mod finding;
 mod laws;
 mod lookups;
+mod object_facts;
 mod places;
 mod resolving;
 mod rules;
-mod standing;
 mod tables;
 mod whole;
 

@@ -9,7 +9,7 @@ ghost use Rattle.dwg_graph.specs.Places.{Ascend, handles_of};
 ghost use Rattle.dwg_graph.specs.Slots.{slots};
 ghost use Rattle.dwg_object.specs.Objects.{ObjectValue, value_of};
 
-use dwg_base::{Handle, Items, NoMemory, push_item, with_room};
+use dwg_base::{Handle, Items, NoMemory, push_item, vec_with_capacity};
 use dwg_graph::{Index, Slot, SpaceHandles, next_of, owner_of, with_slots};
 use dwg_object::Object;
 use dwg_steps::Steps;
@@ -21,7 +21,7 @@ use std::sync::ledger::Ledger;
 pub(crate) struct SlotTable {
     slots: Items<Slot>,
     places: Vec<Option<usize>>,
-    // Where the slots of each object begin, and behind the last object where they end.
+    // Where the slots of each object begin, and after the last object where they end.
     starts: Vec<usize>,
 }
 
@@ -102,7 +102,7 @@ fn find_or_same<L: Ledger>(
 }
 
 /// Where the objects stand that are named, each looked up once, and not again where the next names it too, as most entities have the
-/// owner of the one before. Want of memory is the only refusal.
+/// owner of the one before. Err: out of memory.
 fn find_all<T: Names, L: Ledger>(
     alloc: Global,
     names: &[T],
@@ -113,7 +113,7 @@ fn find_all<T: Names, L: Ledger>(
     ensures places { IfOk result (λ places. places.items ≡ map (λ name. place_in index.now (T.named name)) names.now) }
     ensures steps { TakeAtMost (length index.now) (length names.now) steps.old steps.new }
 {
-    let mut places = with_room(alloc, names.len())?;
+    let mut places = vec_with_capacity(alloc, names.len())?;
     let mut last = None;
     let mut place = None;
     'along: for name in names {
@@ -127,7 +127,7 @@ fn find_all<T: Names, L: Ledger>(
 
 /// What all objects refer to.
 #[derive(Drop)]
-pub(crate) struct Gathered {
+pub(crate) struct ObjectReferences {
     // The owner of each, and what follows each in a block.
     owners: Vec<Handle>,
     next: Vec<Handle>,
@@ -135,15 +135,15 @@ pub(crate) struct Gathered {
     starts: Vec<usize>,
 }
 
-/// What the objects so far refer to, and one more. The only refusal is want of memory.
+/// What the objects so far refer to, and one more. Err: out of memory.
 fn with_object(
-    gathered: Gathered,
+    gathered: ObjectReferences,
     object: &Object<'_>,
     known: &Option<SpaceHandles>,
-) -> Result<Gathered, NoMemory>
+) -> Result<ObjectReferences, NoMemory>
     ensures { IfOk result (λ more. (objects : List ObjectValue) → AreGathered objects known.now gathered → AreGathered (objects ++ value_of object.now ∷ []) known.now more) }
 {
-    let Gathered {
+    let ObjectReferences {
         owners,
         next,
         slots,
@@ -156,7 +156,7 @@ fn with_object(
     push_item(&mut owners, owner_of(object, *known))?;
     push_item(&mut next, next_of(object))?;
     push_item(&mut starts, slots.as_slice().len())?;
-    Ok(Gathered {
+    Ok(ObjectReferences {
         owners,
         next,
         slots,
@@ -164,27 +164,27 @@ fn with_object(
     })
 }
 
-/// No references, with room for those of so many objects. The only refusal is want of memory.
-fn none_gathered(alloc: Global, count: usize) -> Result<Gathered, NoMemory>
+/// No references, with room for those of so many objects. Err: out of memory.
+fn none_gathered(alloc: Global, count: usize) -> Result<ObjectReferences, NoMemory>
     requires { count < 2 ^ 63 }
     ensures { IfOk result (λ gathered. (known : _) → AreGathered [] known gathered) }
 {
-    let mut starts = with_room(alloc, count + 1)?;
+    let mut starts = vec_with_capacity(alloc, count + 1)?;
     push_item(&mut starts, 0)?;
-    Ok(Gathered {
-        owners: with_room(alloc, count)?,
-        next: with_room(alloc, count)?,
+    Ok(ObjectReferences {
+        owners: vec_with_capacity(alloc, count)?,
+        next: vec_with_capacity(alloc, count)?,
         slots: Items::new(alloc),
         starts,
     })
 }
 
-/// What all objects refer to, each object walked over once. The only refusal is want of memory.
+/// What all objects refer to, each object walked over once. Err: out of memory.
 fn gather(
     alloc: Global,
     objects: &[Object<'_>],
     known: &Option<SpaceHandles>,
-) -> Result<Gathered, NoMemory>
+) -> Result<ObjectReferences, NoMemory>
     ensures { IfOk result (AreGathered (map value_of objects.now) known.now) }
 {
     let mut gathered = none_gathered(alloc, objects.len())?;
@@ -194,12 +194,12 @@ fn gather(
     Ok(gathered)
 }
 
-/// Looks up what objects refer to. The only refusal is want of memory.
+/// Looks up what objects refer to. Err: out of memory.
 fn look_up_gathered<L: Ledger>(
     alloc: Global,
     objects: &[Object<'_>],
     known: &Option<SpaceHandles>,
-    gathered: Gathered,
+    gathered: ObjectReferences,
     steps: &mut Steps<L>,
 ) -> Result<Lookups, NoMemory>
     requires ascend { Ascend (handles_of (map value_of objects.now)) }
@@ -222,7 +222,7 @@ fn look_up_gathered<L: Ledger>(
     })
 }
 
-/// Looks up each reference of all objects once: owners, what follows in a block, and slots. The only refusal is want of memory.
+/// Looks up each reference of all objects once: owners, what follows in a block, and slots. Err: out of memory.
 pub(crate) fn look_up<L: Ledger>(
     alloc: Global,
     objects: &[Object<'_>],

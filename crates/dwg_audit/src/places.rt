@@ -10,14 +10,14 @@ ghost use Rattle.dwg_object.specs.Objects.{value_of};
 
 use crate::lookups::{SlotTable, places_at, slots_at};
 use dwg_base::{NoMemory, push_item};
+use dwg_chains::ChainEnds;
 use dwg_graph::{Slot, SpaceHandles, home_of, is_root};
 use dwg_kinds::{Field, number_of};
 use dwg_object::{Body, Object};
-use dwg_paths::ChainEnds;
 use dwg_tables::Ends;
 use std::alloc::Global;
 
-/// For each object whether it is a root. Want of memory is the only refusal.
+/// For each object whether it is a root. Err: out of memory.
 pub(crate) fn root_marks(
     alloc: Global,
     objects: &[Object<'_>],
@@ -32,7 +32,7 @@ pub(crate) fn root_marks(
     Ok(marks)
 }
 
-/// For each object where the block stands of which it is a member, by where the owners stand. Want of memory is the only refusal.
+/// For each object where the block stands of which it is a member, by where the owners stand. Err: out of memory.
 #[tactic(auto, using(crate::proofs::Homes::home_by_owner))]
 pub(crate) fn homes(
     alloc: Global,
@@ -80,7 +80,7 @@ fn placed_ends(ends: &Ends, first: Option<usize>, last: Option<usize>) -> Option
     Some(ChainEnds { first, last })
 }
 
-/// Where the ends of the block of an object stand, none of what isn't a Typed BLOCK HEADER. Its slots tell it.
+/// Where the ends of the block of an object stand, none of what isn't a Typed BLOCK HEADER. Its slots report it.
 #[tactic(auto, unfolding(dwg_graph::specs::Graph::ends_of))]
 fn ends_at(object: &Object<'_>, held: &[Slot], places: &[Option<usize>]) -> Option<ChainEnds>
     requires held_slots { held.now ≡ slots (value_of object.now) }
@@ -103,7 +103,7 @@ fn ends_at(object: &Object<'_>, held: &[Slot], places: &[Option<usize>]) -> Opti
     }
 }
 
-/// For each object where the ends of its block stand. Want of memory is the only refusal.
+/// For each object where the ends of its block stand. Err: out of memory.
 pub(crate) fn end_places(
     alloc: Global,
     objects: &[Object<'_>],

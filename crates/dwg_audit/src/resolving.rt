@@ -29,7 +29,7 @@ fn is_application(field: Field) -> bool
     }
 }
 
-/// Finds a reference that doesn't meet its need. The only refusal is want of memory.
+/// Finds a reference that doesn't meet its need. Err: out of memory.
 #[tactic(auto, unfolding(dwg_graph::specs::Tests::is_met))]
 #[inline(always)]
 fn push_unmet(
@@ -76,7 +76,7 @@ fn push_chosen(
     Ok(())
 }
 
-/// Finds each slot of an object that doesn't meet its need, of applications or of all others. The only refusal is want of memory.
+/// Finds each slot of an object that doesn't meet its need, of applications or of all others. Err: out of memory.
 #[inline(always)]
 fn push_slots(
     objects: &[Object<'_>],
@@ -104,8 +104,8 @@ fn push_slots(
     Ok(())
 }
 
-/// Finds each reference of an object that doesn't meet its need, in the order of fields, where the owner stands behind the
-/// applications. The only refusal is want of memory.
+/// Finds each reference of an object that doesn't meet its need, in the order of fields, where the owner stands after the
+/// applications. Err: out of memory.
 #[tactic(auto, unfolding(crate::specs::Findings::resolve_findings, crate::specs::Findings::references))]
 pub(crate) fn push_unresolved(
     objects: &[Object<'_>],

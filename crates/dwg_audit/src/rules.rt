@@ -10,14 +10,14 @@ ghost use Rattle.dwg_graph.specs.Owners.{owner_of};
 ghost use Rattle.dwg_graph.specs.Placed.{home_place, owner_place};
 ghost use Rattle.dwg_graph.specs.Places.{handles_of};
 ghost use Rattle.dwg_object.specs.Objects.{handle_of, value_of};
-ghost use Rattle.dwg_paths.specs.Ways.{has_path};
+ghost use Rattle.dwg_chains.specs.Ways.{has_path};
 
 use crate::finding::{Finding, Rule};
 use dwg_base::{Handle, Items, NoMemory};
 use dwg_graph::{ClaimCounts, SpaceHandles, is_claimed, is_exempt, is_header, owner_of};
 use dwg_object::{Body, Object};
 
-/// Puts a finding behind those that are found, unless a test holds. The only refusal is want of memory.
+/// Puts a finding after those that are found, unless a test holds. Err: out of memory.
 pub(crate) fn push_unless(
     found: &mut Items<Finding>,
     holds: bool,
@@ -31,7 +31,7 @@ pub(crate) fn push_unless(
     found.add(finding)
 }
 
-/// Finds an object of which a claim is asked and that isn't claimed as it should be. The only refusal is want of memory.
+/// Finds an object of which a claim is asked and that isn't claimed as it should be. Err: out of memory.
 #[tactic(auto, unfolding(crate::specs::Findings::claim_findings))]
 pub(crate) fn push_unclaimed(
     objects: &[Object<'_>],
@@ -81,7 +81,7 @@ fn last_of(object: &Object<'_>) -> Handle
     }
 }
 
-/// Finds a block whose members don't stand in a chain. The only refusal is want of memory.
+/// Finds a block whose members don't stand in a chain. Err: out of memory.
 #[tactic(auto, unfolding(crate::specs::Findings::chain_findings))]
 pub(crate) fn push_unchained(
     objects: &[Object<'_>],
@@ -109,7 +109,7 @@ pub(crate) fn push_unchained(
     found.add(finding)
 }
 
-/// Finds an object whose owners don't lead to a root. The only refusal is want of memory.
+/// Finds an object whose owners don't lead to a root. Err: out of memory.
 #[tactic(auto, unfolding(crate::specs::Findings::path_findings))]
 pub(crate) fn push_lost(
     objects: &[Object<'_>],

@@ -7,16 +7,16 @@ ghost use Rattle.dwg_graph.specs.Claimed.{reference_count};
 ghost use Rattle.dwg_graph.specs.Owners.{spaces};
 ghost use Rattle.dwg_graph.specs.Placed.{end_table, home_table, next_table, owner_table, root_table};
 ghost use Rattle.dwg_graph.specs.Places.{Ascend, handles_of};
-ghost use Rattle.dwg_paths.specs.Tables.{HasChainAt, RankIs, ends_at, leads, marked};
+ghost use Rattle.dwg_chains.specs.Tables.{HasChainAt, RankIs, ends_at, leads, marked};
 ghost use Rattle.dwg_object.specs.Objects.{value_of};
 
 use crate::claims::count_claims;
 use crate::lookups::{Lookups, look_up};
 use crate::places::{end_places, homes, root_marks};
 use dwg_base::NoMemory;
+use dwg_chains::{chains, ranks};
 use dwg_graph::{Claimed, SpaceHandles, spaces};
 use dwg_object::Object;
-use dwg_paths::{chains, ranks};
 use dwg_steps::Steps;
 use std::alloc::Global;
 use std::sync::ledger::Ledger;
@@ -38,7 +38,7 @@ pub(crate) struct Tables {
     pub(crate) claims: Claimed,
 }
 
-/// Which blocks have a chain of their members. Want of memory is the only refusal.
+/// Which blocks have a chain of their members. Err: out of memory.
 #[tactic(auto, using(dwg_graph::proofs::PlacedPaths::homes_fit))]
 fn chained(
     alloc: Global,
@@ -55,7 +55,7 @@ fn chained(
     chains(alloc, homes, &lookups.next, &ends)
 }
 
-/// How many owners there are from each object to a root. Want of memory is the only refusal.
+/// How many owners there are from each object to a root. Err: out of memory.
 #[tactic(auto, using(dwg_graph::proofs::PlacedPaths::owners_fit))]
 fn ranked(
     alloc: Global,
@@ -71,7 +71,7 @@ fn ranked(
     ranks(alloc, &lookups.owners, &roots)
 }
 
-/// All that is known of objects, by where their references lead. Want of memory is the only refusal.
+/// All that is known of objects, by where their references lead. Err: out of memory.
 fn tabulate_by(
     alloc: Global,
     objects: &[Object<'_>],
@@ -99,7 +99,7 @@ fn tabulate_by(
     })
 }
 
-/// All that is known of objects. Each owner, each next and each slot is looked up once. Want of memory is the only refusal.
+/// All that is known of objects. Each owner, each next and each slot is looked up once. Err: out of memory.
 pub(crate) fn tabulate<L: Ledger>(
     alloc: Global,
     objects: &[Object<'_>],

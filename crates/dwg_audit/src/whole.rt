@@ -15,7 +15,7 @@ use std::alloc::Global;
 use std::marker::Brand;
 use std::sync::ledger::{Blank, Ledger};
 
-/// What the references of a drawing fail, with a counter of the ledger that the blank opens. The only refusal is want of memory.
+/// What the references of a drawing fail, with a counter of the ledger that the blank opens. Err: out of memory.
 fn audit_counted<L: Ledger>(
     alloc: Global,
     drawing: &Drawing<'_>,
@@ -34,7 +34,7 @@ fn audit_counted<L: Ledger>(
 }
 
 /// What the references of a drawing fail (a rule of this project): nothing exactly where the drawing is sound. The findings stand
-/// in order of handle, rule, field and position. The only refusal is want of memory.
+/// in order of handle, rule, field and position. Err: out of memory.
 pub fn audit_drawing(alloc: Global, drawing: &Drawing<'_>) -> Result<Items<Finding>, NoMemory>
     ensures findings { IfOk result (λ found. found ≡ findings (contents_of drawing.now).objects) }
     ensures sound { IfOk result (λ found. (found ≡ []) ↔ IsSound (contents_of drawing.now).objects) }

@@ -11,9 +11,9 @@ found_here test from count inside passes =
     let one : count - from ≡ suc (count - (from + 1)) = omega arith in
     ap (λ n. find test (range_with_len from n)) one ∙ cond-true (test from) (Some from) _ passes
 
--- where it fails, the search goes on behind it
-pub found_behind : (test : ℕ → Bool) (from count : ℕ) → from < count → test from ≡ false → find test (range_with_len (from + 1) (count - (from + 1))) ≡ find test (range_with_len from (count - from))
-found_behind test from count inside fails =
+-- where it fails, the search goes on after it
+pub found_after : (test : ℕ → Bool) (from count : ℕ) → from < count → test from ≡ false → find test (range_with_len (from + 1) (count - (from + 1))) ≡ find test (range_with_len from (count - from))
+found_after test from count inside fails =
     let one : count - from ≡ suc (count - (from + 1)) = omega arith in
     sym (ap (λ n. find test (range_with_len from n)) one ∙ cond-false (test from) (Some from) _ fails)
 
@@ -30,10 +30,10 @@ pub record IsFirst (test : ℕ → Bool) (from count number : ℕ) : Type 0 wher
   pub passes : test number ≡ true
   pub before : (k : ℕ) → from ≤ k → k < number → test k ≡ false
 
--- the number in front, or one behind it
-front_or_behind : (test : ℕ → Bool) (from count number : ℕ) (here : Bool) (behind : Option ℕ) → test from ≡ here → cond here (Some from) behind ≡ Some number
-    → (behind ≡ Some number → IsFirst test (from + 1) count number) → IsFirst test from (suc count) number
-front_or_behind test from count number true behind passes found others =
+-- the number before, or one after it
+before_or_after : (test : ℕ → Bool) (from count number : ℕ) (here : Bool) (after : Option ℕ) → test from ≡ here → cond here (Some from) after ≡ Some number
+    → (after ≡ Some number → IsFirst test (from + 1) count number) → IsFirst test from (suc count) number
+before_or_after test from count number true after passes found others =
     let same : from ≡ number = same_Some from number found in
     record {
       least = omega arith;
@@ -41,7 +41,7 @@ front_or_behind test from count number true behind passes found others =
       passes = ap test (sym same) ∙ passes;
       before = λ k least below. absurd (omega arith);
     }
-front_or_behind test from count number false behind fails found others =
+before_or_after test from count number false after fails found others =
     let is = others found in
     record {
       least = omega (arith, is.least);
@@ -54,7 +54,7 @@ front_or_behind test from count number false behind fails found others =
 pub first_from_found : (test : ℕ → Bool) (from count number : ℕ) → find test (range_with_len from count) ≡ Some number → IsFirst test from count number
 first_from_found test from zero number found = absurd cc
 first_from_found test from (suc count) number found =
-    front_or_behind test from count number (test from) (find test (range_with_len (from + 1) count)) refl found (first_from_found test (from + 1) count number)
+    before_or_after test from count number (test from) (find test (range_with_len (from + 1) count)) refl found (first_from_found test (from + 1) count number)
 
 -- the first that passes is found
 pub found_from_first : (test : ℕ → Bool) (from count number : ℕ) → IsFirst test from count number → find test (range_with_len from count) ≡ Some number
@@ -73,12 +73,12 @@ found_from_first test from (suc count) number is =
 pub each_fails : (test : ℕ → Bool) (from count : ℕ) → find test (range_with_len from count) ≡ None → (k : ℕ) → from ≤ k → k < from + count → test k ≡ false
 each_fails test from zero none k least below = absurd (omega arith)
 each_fails test from (suc count) none k least below =
-    let parts = none_in_front (test from) (find test (range_with_len (from + 1) count)) none in
+    let parts = none_before (test from) (find test (range_with_len (from + 1) count)) none in
     elim (cases_eq k from) [ inl same ↦ ap test same ∙ parts.0 | inr other ↦ each_fails test (from + 1) count parts.1 k (omega arith) (omega arith) ]
   where
-    none_in_front : (here : Bool) (behind : Option ℕ) → cond here (Some from) behind ≡ None → (here ≡ false) × (behind ≡ None)
-    none_in_front true behind none = absurd cc
-    none_in_front false behind none = (refl, none)
+    none_before : (here : Bool) (after : Option ℕ) → cond here (Some from) after ≡ None → (here ≡ false) × (after ≡ None)
+    none_before true after none = absurd cc
+    none_before false after none = (refl, none)
 
 -- and where each fails, none is found
 pub none_found : (test : ℕ → Bool) (from count : ℕ) → ((k : ℕ) → from ≤ k → k < from + count → test k ≡ false) → find test (range_with_len from count) ≡ None

@@ -9,6 +9,6 @@ AreBytes bytes = AllByRecursion (λ byte. byte < 2 ^ 8) bytes
 -- these letters stand among the others at a place
 pub record StandsAt {A : Type 0} (letters : List A) (place : ℕ) (piece : List A) : Type 0 where
   pub before : List A
-  pub behind : List A
-  pub whole : letters ≡ before ++ (piece ++ behind)
+  pub after : List A
+  pub whole : letters ≡ before ++ (piece ++ after)
   pub far : length before ≡ place

@@ -22,19 +22,19 @@ pub record Counts {T E : Type 0} (before now : ℕ) (result : Result T E) : Type
   pub ok : OnOk result (now ≡ before)
   pub err : OnErr result (Rose before now)
 
--- the whole begins with the front
-abbrev pub IsFront : List ℕ → List ℕ → Type 0
-IsFront front whole = (rest : List ℕ) × (whole ≡ front ++ rest)
+-- the whole begins with the prefix
+abbrev pub IsPrefix : List ℕ → List ℕ → Type 0
+IsPrefix prefix whole = (rest : List ℕ) × (whole ≡ prefix ++ rest)
 
--- known bytes grow by a front of the whole
-abbrev pub AppendsFront : Option (List ℕ) → Option (List ℕ) → List ℕ → Type 0
-AppendsFront old new whole = (front : List ℕ) × IsFront front whole × Appends old new front
+-- known bytes grow by a prefix of the whole
+abbrev pub AppendsPrefix : Option (List ℕ) → Option (List ℕ) → List ℕ → Type 0
+AppendsPrefix old new whole = (prefix : List ℕ) × IsPrefix prefix whole × Appends old new prefix
 
--- a call that sends the whole to a sink: all of it at Ok, and a front of it at Err
+-- a call that sends the whole to a sink: all of it at Ok, and a prefix of it at Err
 abbrev pub Sends : {T E : Type 0} → Option (List ℕ) → Option (List ℕ) → List ℕ → Result T E → Type 0
-Sends old new whole result = MatchResult result (λ _. Appends old new whole) (λ _. AppendsFront old new whole)
+Sends old new whole result = MatchResult result (λ _. Appends old new whole) (λ _. AppendsPrefix old new whole)
 
--- some bytes came from a source, by what it tells before them and behind them, and this holds of these bytes
+-- some bytes came from a source, by what it reports before them and after them, and this holds of these bytes
 abbrev pub Came : Option (List ℕ) → Option (List ℕ) → (List ℕ → Type 0) → Type 0
 Came old new Holds = (came : List ℕ) × Consumes old new came × AreBytes came × Holds came
 

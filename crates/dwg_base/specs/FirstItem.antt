@@ -8,7 +8,7 @@ HaveOther number_of number items = AllByRecursion (λ item. number_of item ≢ n
 
 -- an item has the number, and none of those before it has
 pub record IsFirstOf {A : Type 0} (number_of : A → ℕ) (items : List A) (number : ℕ) (item : A) (before : List A) : Type 0 where
-  pub behind : List A
-  pub whole : items ≡ before ++ item ∷ behind
+  pub after : List A
+  pub whole : items ≡ before ++ item ∷ after
   pub has : number_of item ≡ number
   pub others : HaveOther number_of number before

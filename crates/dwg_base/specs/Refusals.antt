@@ -18,10 +18,10 @@ abbrev pub first_fault : List RefusalRow → List ℕ → Option Refusal
 first_fault [] bytes = None
 first_fault (row ∷ rows) bytes = option_or (row bytes) (first_fault rows bytes)
 
--- what a fault tells: a refusal is the first one, and want of memory tells nothing
-abbrev pub Tells : Fault → Option Refusal → Type 0
-Tells NoMemory first = ⊤
-Tells (Refused refusal) first = first ≡ Some refusal
+-- what a fault reports: a refusal is the first one, and out of memory reports nothing
+abbrev pub Reports : Fault → Option Refusal → Type 0
+Reports NoMemory first = ⊤
+Reports (Refused refusal) first = first ≡ Some refusal
 
 -- what a group of lines that is tried item by item gives: the value that was read, or the first refusal
 abbrev pub Tried : Type 0 → Type 0
@@ -32,7 +32,7 @@ abbrev pub fault_of : {V : Type 0} → Tried V → Option Refusal
 fault_of (Ok value) = None
 fault_of (Err refusal) = Some refusal
 
--- a call answers what was tried: its value or its refusal; want of memory tells nothing
+-- a call answers what was tried: its value or its refusal; out of memory reports nothing
 abbrev pub Answers : {V : Type 0} → Result V Fault → Tried V → Type 0
 Answers (Ok value) tried = tried ≡ Ok value
 Answers (Err NoMemory) tried = ⊤

@@ -19,7 +19,7 @@ impl Model for ByteRun {
 }
 
 impl ByteRun {
-    /// A copy of the bytes. The only refusal is want of memory.
+    /// A copy of the bytes. Err: out of memory.
     pub fn from_slice(alloc: Global, bytes: &[u8]) -> Result<ByteRun, NoMemory>
         ensures { IfOk result (λ run. run ≡ bytes.now) }
     {
@@ -44,7 +44,7 @@ impl ByteRun {
     }
 }
 
-/// Puts bytes behind others, where there is room for them. It takes no memory.
+/// Puts bytes after others, where there is room for them. It takes no memory.
 pub fn append_bytes(bytes: &mut Vec<u8>, more: &[u8])
     requires room { length bytes.old.items + length more.now ≤ vec_capacity bytes.old }
     ensures both { bytes.new.items ≡ bytes.old.items ++ more.now }

@@ -5,7 +5,7 @@ ghost use Rattle.std.specs.Io.{ReadsAtMost, WritesAtMost};
 ghost use Rattle.std.specs.Io.KnownBytes.{ReadConsumes, WriteAppends};
 ghost use Rattle.dwg_base.specs.Devices.{Counts, Sends};
 
-use crate::slices::bytes_behind;
+use crate::slices::bytes_after;
 
 /// One call of a device failed.
 #[derive(Clone, Copy, Debug, PartialEq, Eq)]
@@ -21,13 +21,13 @@ pub struct WriteFault;
 
 /// What gives bytes.
 pub trait Source {
-    /// The bytes still to come, where the source tells them.
+    /// The bytes still to come, where the source reports them.
     ghost left: { Self → Option (List ℕ) };
 
     /// How many calls failed. The count never falls.
     ghost faults: { Self → ℕ };
 
-    /// Fills the front of `buf` with the next bytes and says how many. None come into a buffer that isn't empty only
+    /// Fills the prefix of `buf` with the next bytes and says how many. None come into a buffer that isn't empty only
     /// where nothing is left. A failing call gives nothing and raises the count of faults.
     fn read(&mut self, buf: &mut [u8]) -> Result<usize, Failed>
         ensures bound { ReadsAtMost result buf.new }
@@ -37,13 +37,13 @@ pub trait Source {
 
 /// What takes bytes.
 pub trait Sink {
-    /// The bytes taken so far, where the sink tells them.
+    /// The bytes taken so far, where the sink reports them.
     ghost taken: { Self → Option (List ℕ) };
 
     /// How many calls failed. The count never falls.
     ghost faults: { Self → ℕ };
 
-    /// Takes a front of `piece` and says how many bytes that is, at least one where the piece isn't empty. A failing
+    /// Takes a prefix of `piece` and says how many bytes that is, at least one where the piece isn't empty. A failing
     /// call takes nothing and raises the count of faults.
     fn write(&mut self, piece: &[u8]) -> Result<usize, Failed>
         ensures bound { WritesAtMost result piece.now }
@@ -52,14 +52,14 @@ pub trait Sink {
         ensures counts { Counts (faults self.old) (faults self.new) result };
 }
 
-/// Sends the whole piece. After a fault the sink took a front of it. It takes no memory.
+/// Sends the whole piece. After a fault the sink took a prefix of it. It takes no memory.
 pub fn put_all<W: Sink>(sink: &mut W, piece: &[u8]) -> Result<(), WriteFault>
     ensures bytes { Sends (W.taken sink.old) (W.taken sink.new) piece.now result }
     ensures counts { Counts (W.faults sink.old) (W.faults sink.new) result }
 {
     let mut sent = 0;
     while sent < piece.len() {
-        match sink.write(bytes_behind(piece, sent)) {
+        match sink.write(bytes_after(piece, sent)) {
             Ok(n) => sent += n,
             Err(Failed) => return Err(WriteFault),
         }

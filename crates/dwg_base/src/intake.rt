@@ -7,14 +7,14 @@ ghost use Rattle.dwg_base.specs.Devices.{Came, LAST_COUNT, Rose};
 
 use crate::bytes::ByteRun;
 use crate::device::{Failed, Source};
-use crate::slices::bounded_bytes;
+use crate::slices::bytes_with_range;
 use std::alloc::Global;
 use thiserror::Error;
 
 /// Why a source was not read to its end.
 #[derive(Clone, Copy, Debug, PartialEq, Eq, Error)]
 pub enum Intake {
-    /// Want of memory.
+    /// Out of memory.
     #[error("out of memory")]
     NoMemory,
     /// A call of the source failed.
@@ -60,7 +60,7 @@ pub fn read_all<R: Source>(alloc: Global, source: &mut R, limit: u64) -> Result<
         match source.read(&mut piece[..room]) {
             Err(Failed) => return Err(Intake::ReadFault),
             Ok(0) => return Ok(ByteRun::from_vec(bytes)),
-            Ok(n) => match bytes.extend_from_slice(bounded_bytes(&piece[..n])) {
+            Ok(n) => match bytes.extend_from_slice(bytes_with_range(&piece[..n])) {
                 Ok(()) => {}
                 Err(_) => return Err(Intake::NoMemory),
             },

@@ -35,7 +35,7 @@ impl<T> Items<T> {
         Items { items }
     }
 
-    /// Puts an item at the end. The only refusal is want of memory, which hands the item back and changes nothing.
+    /// Puts an item at the end. Err: out of memory, which hands the item back and changes nothing.
     pub fn push(&mut self, item: T) -> Result<(), T>
         ensures ok { OnOk result (self.new ≡ self.old ++ item ∷ []) }
         ensures handed_back { IfErr result (λ back. back ≡ item) }
@@ -56,7 +56,7 @@ impl<T> Items<T> {
 }
 
 impl<T: Drop> Items<T> {
-    /// Puts an item at the end. The only refusal is want of memory.
+    /// Puts an item at the end. Err: out of memory.
     pub fn add(&mut self, item: T) -> Result<(), NoMemory>
         ensures { OnOk result (self.new ≡ self.old ++ item ∷ []) }
     {
@@ -66,7 +66,7 @@ impl<T: Drop> Items<T> {
         }
     }
 
-    /// The list and one item more at its end. The only refusal is want of memory.
+    /// The list and one item more at its end. Err: out of memory.
     pub fn with(self, item: T) -> Result<Items<T>, NoMemory>
         ensures { IfOk result (λ more. more ≡ self ++ item ∷ []) }
     {

@@ -1,12 +1,12 @@
-//! Lists that grow, where want of memory is a refusal of its own.
+//! Lists that grow, where out of memory is a refusal of its own.
 
 ghost use Rattle.std.specs.Prelude.{◌≡◌, ◌≤◌, [], ◌∷◌, ◌++◌, IfOk, OnOk, vec_capacity};
 
 use crate::device::NoMemory;
 use std::alloc::Global;
 
-/// An empty list with room for so many items. The only refusal is want of memory.
-pub fn with_room<T: Drop>(alloc: Global, count: usize) -> Result<Vec<T>, NoMemory>
+/// An empty list with room for so many items. Err: out of memory.
+pub fn vec_with_capacity<T: Drop>(alloc: Global, count: usize) -> Result<Vec<T>, NoMemory>
     ensures empty { IfOk result (λ items. items.items ≡ []) }
     ensures room { IfOk result (λ items. count ≤ vec_capacity items) }
 {
@@ -16,7 +16,7 @@ pub fn with_room<T: Drop>(alloc: Global, count: usize) -> Result<Vec<T>, NoMemor
     }
 }
 
-/// Puts an item at the end. The only refusal is want of memory.
+/// Puts an item at the end. Err: out of memory.
 pub fn push_item<T: Drop>(items: &mut Vec<T>, item: T) -> Result<(), NoMemory>
     ensures { OnOk result (items.new.items ≡ items.old.items ++ item ∷ []) }
 {
@@ -26,7 +26,7 @@ pub fn push_item<T: Drop>(items: &mut Vec<T>, item: T) -> Result<(), NoMemory>
     }
 }
 
-/// The items and one more at the end. The only refusal is want of memory.
+/// The items and one more at the end. Err: out of memory.
 pub fn with_item<T: Drop>(items: Vec<T>, item: T) -> Result<Vec<T>, NoMemory>
     ensures { IfOk result (λ more. more.items ≡ items.items ++ item ∷ []) }
 {

@@ -9,7 +9,7 @@ ghost use Rattle.dwg_base.specs.Memory.{given_count, IsFailingRead, after_read, 
 use crate::bytes::ByteRun;
 use crate::device::{Failed, NoMemory, Sink, Source};
 use crate::items::Items;
-use crate::slices::bytes_behind;
+use crate::slices::bytes_after;
 use std::alloc::Global;
 use std::marker::Model;
 
@@ -53,8 +53,8 @@ impl MemSource {
     }
 }
 
-/// Copies the first `count` bytes into the front of the buffer.
-fn copy_front(bytes: &[u8], buf: &mut [u8], count: usize)
+/// Copies the first `count` bytes into the prefix of the buffer.
+fn copy_prefix(bytes: &[u8], buf: &mut [u8], count: usize)
     requires there { count ≤ length bytes.now }
     requires room { count ≤ length buf.old }
     ensures { take count buf.new ≡ take count bytes.now }
@@ -82,9 +82,9 @@ impl Source for MemSource {
             self.faults = self.faults.saturating_add(1);
             return Err(Failed);
         }
-        let rest = bytes_behind(self.bytes.as_slice(), self.place);
+        let rest = bytes_after(self.bytes.as_slice(), self.place);
         let n = rest.len().min(buf.len().min(self.most));
-        copy_front(rest, buf, n);
+        copy_prefix(rest, buf, n);
         self.place += n;
         Ok(n)
     }
@@ -113,7 +113,7 @@ impl Model for MemSink {
 }
 
 impl MemSink {
-    /// An empty sink with the memory for `room` bytes, which takes no more later. The only refusal is want of memory.
+    /// An empty sink with the memory for `room` bytes, which takes no more later. Err: out of memory.
     pub fn new(
         alloc: Global,
         room: usize,

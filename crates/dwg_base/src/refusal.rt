@@ -10,14 +10,14 @@ pub struct Refusal {
     pub line: u8,
     /// Which locator, class, page or pair of that part, or which entry of a certificate, counted from 0.
     pub index: u64,
-    /// The place in the input, in bytes from its begin; of a drawing behind a certificate, from the drawing's begin.
+    /// The place in the input, in bytes from its begin; of a drawing after a certificate, from the drawing's begin.
     pub place: u64,
 }
 
 /// Why a part could not be read.
 #[derive(Clone, Copy, Debug, PartialEq, Eq)]
 pub enum Fault {
-    /// Want of memory.
+    /// Out of memory.
     NoMemory,
     /// The input fails a line of the table.
     Refused(Refusal),

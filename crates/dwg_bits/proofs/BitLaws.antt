@@ -104,7 +104,7 @@ pub bits_joined : (a b : List ℕ) → bits (a ++ b) ≡ bits a ++ bits b
 unfolding bits
 bits_joined a b = flat_map-append (low_bits 8) a b
 
--- a byte behind others has its bits behind theirs
+-- a byte after others has its bits after theirs
 pub bits_more : (bytes : List ℕ) (byte : ℕ) → bits (bytes ++ byte ∷ []) ≡ bits bytes ++ low_bits 8 byte
 unfolding bits
 bits_more bytes byte = flat_map-append (low_bits 8) bytes (byte ∷ []) ∙ ap (λ last. bits bytes ++ last) (append-nil (low_bits 8 byte))
@@ -125,9 +125,9 @@ bits_same (x ∷ a) [] p q same = absurd (omega (arith, ap length same, length-a
 bits_same (x ∷ a) (y ∷ b) p q same =
     let first : low_bits 8 x ≡ low_bits 8 y =
     sym (take_at (low_bits 8 x) (bits a) 8 (length_of_low_bits 8 x)) ∙ ap (take 8) same ∙ take_at (low_bits 8 y) (bits b) 8 (length_of_low_bits 8 y) in
-    let behind : bits a ≡ bits b =
+    let after : bits a ≡ bits b =
     sym (drop_at (low_bits 8 x) (bits a) 8 (length_of_low_bits 8 x)) ∙ ap (drop 8) same ∙ drop_at (low_bits 8 y) (bits b) 8 (length_of_low_bits 8 y) in
-    ap₂ ◌∷◌ (sym (num_of_low_bits 8 x p.0) ∙ ap num first ∙ num_of_low_bits 8 y q.0) (bits_same a b p.1 q.1 behind)
+    ap₂ ◌∷◌ (sym (num_of_low_bits 8 x p.0) ∙ ap num first ∙ num_of_low_bits 8 y q.0) (bits_same a b p.1 q.1 after)
 
 -- the bits between two places are as many as the places are apart
 pub length_of_bits_between : (bytes : List ℕ) (from to : ℕ) → to ≤ 8 * length bytes → length (bits_between bytes from to) ≡ to - from
@@ -160,12 +160,12 @@ pub bits_between_all : (bytes : List ℕ) (to : ℕ) → to ≡ 8 * length bytes
 unfolding bits_between
 bits_between_all bytes to last = take_all (to - 0) (bits bytes) (omega (arith, length_of_bits bytes))
 
--- the bits taken as a number stand in front of those that are left then
-pub taken_front : (bytes : List ℕ) (place count end value : ℕ) → place + count ≤ end → end ≤ 8 * length bytes → value ≡ num (bits_between bytes place (place + count))
+-- the bits taken as a number stand before those that are left then
+pub taken_prefix : (bytes : List ℕ) (place count end value : ℕ) → place + count ≤ end → end ≤ 8 * length bytes → value ≡ num (bits_between bytes place (place + count))
     → bits_between bytes place end ≡ low_bits count value ++ bits_between bytes (place + count) end
-taken_front bytes place count end value within reach spelled =
-    let front : List Bool = bits_between bytes place (place + count) in
-    let long : length front ≡ count = run_counted bytes place count (omega arith) in
-    let same : low_bits count value ≡ front = ap₂ low_bits (sym long) spelled ∙ low_bits_of_num front in
+taken_prefix bytes place count end value within reach spelled =
+    let prefix : List Bool = bits_between bytes place (place + count) in
+    let long : length prefix ≡ count = run_counted bytes place count (omega arith) in
+    let same : low_bits count value ≡ prefix = ap₂ low_bits (sym long) spelled ∙ low_bits_of_num prefix in
     sym (bits_between_joined bytes place (place + count) end (omega arith) within)
     ∙ ap (λ first. first ++ bits_between bytes (place + count) end) (sym same)

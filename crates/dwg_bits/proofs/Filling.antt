@@ -1,4 +1,4 @@
--- Bytes that are filled up by zero bits, and more bits behind those they hold.
+-- Bytes that are filled up by zero bits, and more bits after those they hold.
 use Rattle.std.proofs.Common.{◌≡◌, refl, sym, ◌∙◌, ap, ap₂, subst, ℕ, zero, suc, ◌+◌, ◌-◌, ◌*◌, ◌/◌, ◌%◌, ◌^◌, ◌<◌, ◌≤◌, ◌≢◌, Bool, false, List, [], ◌∷◌, ◌++◌, length, take, drop, set, get_or, replicate, arith, pow-suc, mod-eq_of_lt}
 use Rattle.std.specs.Prelude.{bit_or, ◌==◌}
 use Rattle.std.proofs.lemmas.Nat.Bits.{bit_at-zero}
@@ -15,11 +15,11 @@ use Rattle.dwg_bits.specs.Filled.{AreFilled, HoldsMore}
 use Rattle.dwg_bits.proofs.WordParts.{shifted_fits}
 
 -- the first bits of bytes, where their bits begin with a list of that length
-pub begins : (bytes : List ℕ) (front rest : List Bool) (count : ℕ) → length front ≡ count → bits bytes ≡ front ++ rest → bits_between bytes 0 count ≡ front
+pub begins : (bytes : List ℕ) (prefix rest : List Bool) (count : ℕ) → length prefix ≡ count → bits bytes ≡ prefix ++ rest → bits_between bytes 0 count ≡ prefix
 unfolding bits_between
-begins bytes front rest count long whole =
+begins bytes prefix rest count long whole =
     let all : count - 0 ≡ count = omega arith in
-    ap (λ n. take n (bits bytes)) all ∙ ap (take count) whole ∙ take_at front rest count long
+    ap (λ n. take n (bits bytes)) all ∙ ap (take count) whole ∙ take_at prefix rest count long
 
 -- the bits that are held are as many as they are counted
 pub length_held : (bytes : List ℕ) (count : ℕ) → AreFilled bytes count → length (bits_between bytes 0 count) ≡ count
@@ -32,13 +32,13 @@ holds_more old new count rest more filled left whole =
     let held : List Bool = bits_between old 0 count in
     let split : bits new ≡ (held ++ more) ++ replicate rest false = whole ∙ sym (append_assoc held more (replicate rest false)) in
     let long : length (held ++ more) ≡ count + length more = length-append held more ∙ ap (λ n. n + length more) (length_held old count filled) in
-    let front : bits_between new 0 (count + length more) ≡ held ++ more = begins new _ _ (count + length more) long split in
+    let prefix : bits_between new 0 (count + length more) ≡ held ++ more = begins new _ _ (count + length more) long split in
     record {
-      bits = front;
+      bits = prefix;
       filled =
           record {
             whole = omega (arith, left, long, sym (length_of_bits new) ∙ ap length split, length-append (held ++ more) (replicate rest false), length-replicate rest false);
-            zeros = split ∙ ap₂ (λ a n. a ++ replicate n false) (sym front) (sym left);
+            zeros = split ∙ ap₂ (λ a n. a ++ replicate n false) (sym prefix) (sym left);
           };
     }
 
@@ -60,7 +60,7 @@ pub all_held : (bytes : List ℕ) (count : ℕ) → AreFilled bytes count → le
 all_held bytes count filled even =
     sym (bits_between_all bytes count (omega (arith, filled.whole, length_held bytes count filled)))
 
--- the zero bits behind the bits held are their padding
+-- the zero bits after the bits held are their padding
 pub pad_held : (bytes : List ℕ) (count : ℕ) → AreFilled bytes count → bits_between bytes 0 (count + missing_bits count) ≡ bits_between bytes 0 count ++ padding (bits_between bytes 0 count)
 pad_held bytes count filled =
     bits_between_all bytes (count + missing_bits count) filled.whole
@@ -87,7 +87,7 @@ unfolding num
 zeros_spell zero = refl
 zeros_spell (suc count) = ap (λ n. 0 + n) (zeros_spell count)
 
--- a number shifted up has its bits, and zero bits behind them
+-- a number shifted up has its bits, and zero bits after them
 shifted_bits : (count up value : ℕ) → low_bits (count + up) (value * 2 ^ up) ≡ low_bits count value ++ replicate up false
 shifted_bits count up value =
     let none : value * 2 ^ up ≡ value * 2 ^ up + 0 = omega arith in
@@ -140,21 +140,21 @@ pub bits_appended : (old new more : List ℕ) (value width count : ℕ) → widt
 bits_appended old new more value width count most whole is grown =
     ap bits grown ∙ bits_joined old more ∙ ap (λ rest. bits old ++ rest) (ap bits is ∙ word_bits value width count most (omega arith))
 
--- in the byte that is begun, zero bits stand behind those held: a number that fits there takes their place
+-- in the byte that is begun, zero bits stand after those held: a number that fits there takes their place
 pub byte_completed : (bytes : List ℕ) (count low last byte : ℕ) → AreFilled bytes count → count % 8 ≢ 0 → low < 2 ^ missing_bits count → last + 1 ≡ length bytes → byte ≡ get_or bytes last 0
     → bits (set bytes last (bit_or byte low)) ≡ bits_between bytes 0 count ++ low_bits (missing_bits count) low
 byte_completed bytes count low last byte filled begun fits ends here =
     let free : ℕ = missing_bits count in
     let used : ℕ = 8 - free in
-    let front : List ℕ = take last bytes in
+    let prefix : List ℕ = take last bytes in
     let high : ℕ = byte / 2 ^ free in
-    let held : List Bool = bits front ++ low_bits used high in
+    let held : List Bool = bits prefix ++ low_bits used high in
     let eight : used + free ≡ 8 = omega arith in
     let long : length held ≡ count =
-    length-append (bits front) (low_bits used high) ∙ ap₂ ◌+◌ (length_of_bits front ∙ ap (λ n. 8 * n) (length-take-le last bytes (omega arith))) (length_of_low_bits used high) ∙ omega (arith, filled.whole) in
-    let split : bytes ≡ front ++ byte ∷ [] =
-    sym (take_all (last + 1) bytes (omega arith)) ∙ take_more bytes last 0 (omega arith) ∙ ap (λ b. front ++ b ∷ []) (sym here) in
-    let cut : bits bytes ≡ held ++ low_bits free (byte % 2 ^ free) = ap bits split ∙ with_last front byte used free eight in
+    length-append (bits prefix) (low_bits used high) ∙ ap₂ ◌+◌ (length_of_bits prefix ∙ ap (λ n. 8 * n) (length-take-le last bytes (omega arith))) (length_of_low_bits used high) ∙ omega (arith, filled.whole) in
+    let split : bytes ≡ prefix ++ byte ∷ [] =
+    sym (take_all (last + 1) bytes (omega arith)) ∙ take_more bytes last 0 (omega arith) ∙ ap (λ b. prefix ++ b ∷ []) (sym here) in
+    let cut : bits bytes ≡ held ++ low_bits free (byte % 2 ^ free) = ap bits split ∙ with_last prefix byte used free eight in
     let same : bits_between bytes 0 count ≡ held = begins bytes held _ count long cut in
     let zeros : low_bits free (byte % 2 ^ free) ≡ replicate free false =
     sym (drop_at held (low_bits free (byte % 2 ^ free)) count long) ∙ ap (drop count) (sym cut ∙ filled.zeros)
@@ -163,18 +163,18 @@ byte_completed bytes count low last byte filled begun fits ends here =
     let joined : bit_or byte low ≡ high * 2 ^ free + low =
     ap (λ b. bit_or b low) (sym (div-add-mod' byte (2 ^ free)) ∙ ap (λ r. high * 2 ^ free + r) empty ∙ omega arith) ∙ or_shifted high free low fits in
     ap (λ xs. bits (set xs last (bit_or byte low))) split
-    ∙ ap bits (set_at front byte [] (bit_or byte low) last (length-take-le last bytes (omega arith)))
-    ∙ ap (λ b. bits (front ++ b ∷ [])) joined
-    ∙ with_last front (high * 2 ^ free + low) used free eight
-    ∙ ap₂ (λ q r. (bits front ++ low_bits used q) ++ low_bits free r) (div-mul-add high (2 ^ free) low fits) (mod-mul-add high (2 ^ free) low fits)
+    ∙ ap bits (set_at prefix byte [] (bit_or byte low) last (length-take-le last bytes (omega arith)))
+    ∙ ap (λ b. bits (prefix ++ b ∷ [])) joined
+    ∙ with_last prefix (high * 2 ^ free + low) used free eight
+    ∙ ap₂ (λ q r. (bits prefix ++ low_bits used q) ++ low_bits free r) (div-mul-add high (2 ^ free) low fits) (mod-mul-add high (2 ^ free) low fits)
     ∙ ap (λ first. first ++ low_bits free low) (sym same)
   where
-    with_last : (front : List ℕ) (byte used free : ℕ) → used + free ≡ 8 → bits (front ++ byte ∷ []) ≡ (bits front ++ low_bits used (byte / 2 ^ free)) ++ low_bits free (byte % 2 ^ free)
-    with_last front byte used free eight =
-        bits_more front byte ∙ ap (λ rest. bits front ++ rest) (ap (λ n. low_bits n byte) (sym eight) ∙ low_bits_split used free byte)
-        ∙ sym (append_assoc (bits front) (low_bits used (byte / 2 ^ free)) (low_bits free (byte % 2 ^ free)))
+    with_last : (prefix : List ℕ) (byte used free : ℕ) → used + free ≡ 8 → bits (prefix ++ byte ∷ []) ≡ (bits prefix ++ low_bits used (byte / 2 ^ free)) ++ low_bits free (byte % 2 ^ free)
+    with_last prefix byte used free eight =
+        bits_more prefix byte ∙ ap (λ rest. bits prefix ++ rest) (ap (λ n. low_bits n byte) (sym eight) ∙ low_bits_split used free byte)
+        ∙ sym (append_assoc (bits prefix) (low_bits used (byte / 2 ^ free)) (low_bits free (byte % 2 ^ free)))
 
--- nothing is put behind them
+-- nothing is put after them
 pub none_put : (old : List ℕ) (count value width : ℕ) → AreFilled old count → width ≡ 0 → HoldsMore old old count (low_bits width value)
 unfolding low_bits
 none_put old count value width filled none =
@@ -192,7 +192,7 @@ pub all_appended : (old new : List ℕ) (count value width : ℕ) → AreFilled 
 all_appended old new count value width filled even is =
     let missing : missing_bits (count + length (low_bits width value)) ≡ missing_bits width = omega (arith, length_of_low_bits width value) in
     holds_more old new count (missing_bits width) (low_bits width value) filled missing
-    (is ∙ ap (λ front. front ++ (low_bits width value ++ replicate (missing_bits width) false)) (sym (bits_between_all old count (omega (arith, filled.whole)))))
+    (is ∙ ap (λ prefix. prefix ++ (low_bits width value ++ replicate (missing_bits width) false)) (sym (bits_between_all old count (omega (arith, filled.whole)))))
 
 -- what a byte that is begun takes is less than a byte
 pub byte_at_most : (k : ℕ) → k < 8 → 2 ^ k ≤ 2 ^ 7
@@ -223,13 +223,13 @@ all_completed old new count value width up low filled fits some is put =
 pub both_put : (old mid new : List ℕ) (count value width left : ℕ) → AreFilled old count → count % 8 ≢ 0 → missing_bits count + left ≡ width
     → bits mid ≡ bits_between old 0 count ++ low_bits (missing_bits count) (value / 2 ^ left) → bits new ≡ bits mid ++ (low_bits left value ++ replicate (missing_bits left) false)
     → HoldsMore old new count (low_bits width value)
-both_put old mid new count value width left filled begun whole first behind =
+both_put old mid new count value width left filled begun whole first after =
     let free : ℕ = missing_bits count in
     let zeros : List Bool = replicate (missing_bits left) false in
     let high : List Bool = low_bits free (value / 2 ^ left) in
     let missing : missing_bits (count + length (low_bits width value)) ≡ missing_bits left = omega (arith, whole, length_of_low_bits width value) in
     holds_more old new count (missing_bits left) (low_bits width value) filled missing
-    (behind ∙ ap (λ front. front ++ (low_bits left value ++ zeros)) first
+    (after ∙ ap (λ prefix. prefix ++ (low_bits left value ++ zeros)) first
     ∙ append_assoc (bits_between old 0 count) high (low_bits left value ++ zeros)
     ∙ ap (λ rest. bits_between old 0 count ++ rest)
-    (sym (append_assoc high (low_bits left value) zeros) ∙ ap (λ front. front ++ zeros) (sym (low_bits_joined free left value) ∙ ap (λ n. low_bits n value) whole)))
+    (sym (append_assoc high (low_bits left value) zeros) ∙ ap (λ prefix. prefix ++ zeros) (sym (low_bits_joined free left value) ∙ ap (λ n. low_bits n value) whole)))

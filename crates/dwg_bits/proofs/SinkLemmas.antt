@@ -13,6 +13,6 @@ extends_by_none sink = record {
 -- a sink that grew by some bits and then by others grew by both
 pub extends_by_both : (first second third : Written) (some others : List Bool) → Extends first second some → Extends second third others → Extends first third (some ++ others)
 extends_by_both first second third some others by_some by_others = record {
-  bits = by_others.bits ∙ ap (λ front. front ++ others) by_some.bits ∙ append_assoc first.written some others;
+  bits = by_others.bits ∙ ap (λ prefix. prefix ++ others) by_some.bits ∙ append_assoc first.written some others;
   spare = omega (arith, by_some.spare, by_others.spare, length-append some others);
 }

@@ -18,7 +18,7 @@ unfolding whole_bytes bits
 bits_of_whole [] whole = refl
 bits_of_whole (a ∷ b ∷ c ∷ d ∷ e ∷ f ∷ g ∷ h ∷ rest) whole =
     let less : length rest % 8 ≡ 0 = omega arith in
-    ap₂ (λ front back. front ++ back) (low_bits_of_num (a ∷ b ∷ c ∷ d ∷ e ∷ f ∷ g ∷ h ∷ [])) (bits_of_whole rest less)
+    ap₂ (λ prefix back. prefix ++ back) (low_bits_of_num (a ∷ b ∷ c ∷ d ∷ e ∷ f ∷ g ∷ h ∷ [])) (bits_of_whole rest less)
 bits_of_whole _ whole = absurd (omega arith)
 
 -- bytes are those of their bits
@@ -31,9 +31,9 @@ whole_of_bits bytes all =
 pub length_of_whole : (s : List Bool) → length s % 8 ≡ 0 → length s ≡ 8 * length (whole_bytes s)
 length_of_whole s whole = sym (ap length (bits_of_whole s whole)) ∙ length_of_bits (whole_bytes s)
 
--- the bits of bytes behind whole bytes make these bytes behind those
+-- the bits of bytes after whole bytes make these bytes after those
 pub whole_joined : (s : List Bool) (bytes : List ℕ) → length s % 8 ≡ 0 → AreBytes bytes → whole_bytes (s ++ bits bytes) ≡ whole_bytes s ++ bytes
 whole_joined s bytes whole all =
     bits_same (whole_bytes (s ++ bits bytes)) (whole_bytes s ++ bytes) (whole_are_bytes (s ++ bits bytes)) (joined_are_bytes (whole_bytes s) bytes (whole_are_bytes s) all)
     (bits_of_whole (s ++ bits bytes) (omega (arith, whole, length-append s (bits bytes), length_of_bits bytes))
-    ∙ ap (λ front. front ++ bits bytes) (sym (bits_of_whole s whole)) ∙ sym (bits_joined (whole_bytes s) bytes))
+    ∙ ap (λ prefix. prefix ++ bits bytes) (sym (bits_of_whole s whole)) ∙ sym (bits_joined (whole_bytes s) bytes))

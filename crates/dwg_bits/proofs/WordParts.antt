@@ -10,35 +10,35 @@ use Rattle.dwg_bits.specs.Cursor.{bits_between}
 use Rattle.dwg_bits.proofs.BitLaws.{length_of_bits, length_of_bits_between, run_counted, bits_between_joined, bits_between_none, num_of_low_bits, num_joined, num_fits, bits_joined}
 
 -- a number shifted up, and one that fits below
-pub joined_number : (front behind count : ℕ) → front * 2 ^ count < 2 ^ 64 → behind < 2 ^ count → bit_or (front * 2 ^ count % 2 ^ 64) behind ≡ front * 2 ^ count + behind
-joined_number front behind count fits below =
-    ap (λ high. bit_or high behind) (mod-eq_of_lt fits) ∙ or_shifted front count behind below
+pub joined_number : (prefix after count : ℕ) → prefix * 2 ^ count < 2 ^ 64 → after < 2 ^ count → bit_or (prefix * 2 ^ count % 2 ^ 64) after ≡ prefix * 2 ^ count + after
+joined_number prefix after count fits below =
+    ap (λ high. bit_or high after) (mod-eq_of_lt fits) ∙ or_shifted prefix count after below
 
 -- the bits of a run of whole bytes among others
 pub bits_of_run : (bytes : List ℕ) (at count : ℕ) → at + count ≤ length bytes → bits_between bytes (8 * at) (8 * at + 8 * count) ≡ bits (take count (drop at bytes))
 unfolding bits_between
 bits_of_run bytes at count within =
-    let front : List ℕ = take at bytes in
+    let prefix : List ℕ = take at bytes in
     let run : List ℕ = take count (drop at bytes) in
-    let behind : List ℕ = drop count (drop at bytes) in
-    let long : length (bits front) ≡ 8 * at = length_of_bits front ∙ ap (λ n. 8 * n) (length-take-le at bytes (omega arith)) in
+    let after : List ℕ = drop count (drop at bytes) in
+    let long : length (bits prefix) ≡ 8 * at = length_of_bits prefix ∙ ap (λ n. 8 * n) (length-take-le at bytes (omega arith)) in
     let width : length (bits run) ≡ 8 * at + 8 * count - 8 * at = length_of_bits run ∙ ap (λ n. 8 * n) (length-take-le count (drop at bytes) (omega (arith, length-drop at bytes))) ∙ omega arith in
     let rest : drop (8 * at) (bits bytes) ≡ bits (drop at bytes) =
-    ap (λ all. drop (8 * at) (bits all)) (sym (take-append-drop at bytes)) ∙ ap (drop (8 * at)) (bits_joined front (drop at bytes)) ∙ drop_at (bits front) (bits (drop at bytes)) (8 * at) long in
-    let cut : bits (drop at bytes) ≡ bits run ++ bits behind = ap bits (sym (take-append-drop count (drop at bytes))) ∙ bits_joined run behind in
-    ap (take (8 * at + 8 * count - 8 * at)) (rest ∙ cut) ∙ take_at (bits run) (bits behind) (8 * at + 8 * count - 8 * at) width
+    ap (λ all. drop (8 * at) (bits all)) (sym (take-append-drop at bytes)) ∙ ap (drop (8 * at)) (bits_joined prefix (drop at bytes)) ∙ drop_at (bits prefix) (bits (drop at bytes)) (8 * at) long in
+    let cut : bits (drop at bytes) ≡ bits run ++ bits after = ap bits (sym (take-append-drop count (drop at bytes))) ∙ bits_joined run after in
+    ap (take (8 * at + 8 * count - 8 * at)) (rest ∙ cut) ∙ take_at (bits run) (bits after) (8 * at + 8 * count - 8 * at) width
 
--- a byte in front of others, as numbers
-pub byte_in_front : (byte : ℕ) (bytes : List ℕ) → byte < 256 → num (bits (byte ∷ bytes)) ≡ byte * 2 ^ (8 * length bytes) + num (bits bytes)
+-- a byte before others, as numbers
+pub byte_before : (byte : ℕ) (bytes : List ℕ) → byte < 256 → num (bits (byte ∷ bytes)) ≡ byte * 2 ^ (8 * length bytes) + num (bits bytes)
 unfolding bits
-byte_in_front byte bytes h =
+byte_before byte bytes h =
     num_joined (low_bits 8 byte) (bits bytes) ∙ ap₂ (λ v n. v * 2 ^ n + num (bits bytes)) (num_of_low_bits 8 byte h) (length_of_bits bytes)
 
 -- a number shifted up is below a power of two as much higher
 pub shifted_fits : (x k m w : ℕ) → x < 2 ^ k → k + m ≡ w → x * 2 ^ m < 2 ^ w
 shifted_fits x k m w h e = subst (λ (p : ℕ). x * 2 ^ m < p) (sym (pow-add 2 k m) ∙ ap (λ n. 2 ^ n) e) (mul-lt-mul_of_pos_right h (pow_pos m))
 
--- a part in the middle of so many bits: shifting up drops what is before it, and shifting down what is behind it
+-- a part in the middle of so many bits: shifting up drops what is before it, and shifting down what is after it
 pub middle_of : (a b c : List Bool) (width : ℕ) → length a + (length b + length c) ≡ width → num (a ++ (b ++ c)) * 2 ^ length a % 2 ^ width / 2 ^ (width - length b) ≡ num b
 middle_of a b c width whole =
     let m : ℕ = length a in
@@ -63,18 +63,18 @@ middle_of a b c width whole =
 -- so of the bits between two places, whose number two shifts cut out of that of a longer run around them
 pub part_of_run : (bytes : List ℕ) (first place count last width word : ℕ) → first ≤ place → place + count ≤ last → last ≤ 8 * length bytes → first + width ≡ last
     → word ≡ num (bits_between bytes first last) → word * 2 ^ (place - first) % 2 ^ width / 2 ^ (width - count) ≡ num (bits_between bytes place (place + count))
-part_of_run bytes first place count last width word before behind within whole is =
+part_of_run bytes first place count last width word before after within whole is =
     let a : List Bool = bits_between bytes first place in
     let b : List Bool = bits_between bytes place (place + count) in
     let c : List Bool = bits_between bytes (place + count) last in
-    let in_front : length a ≡ place - first = length_of_bits_between bytes first place (omega arith) in
+    let before_it : length a ≡ place - first = length_of_bits_between bytes first place (omega arith) in
     let middle : length b ≡ count = run_counted bytes place count (omega arith) in
     let left : length c ≡ last - (place + count) = length_of_bits_between bytes (place + count) last within in
     let split : bits_between bytes first last ≡ a ++ (b ++ c) =
-    sym (bits_between_joined bytes first place last before (omega arith)) ∙ ap (λ rest. a ++ rest) (sym (bits_between_joined bytes place (place + count) last (omega arith) behind)) in
-    ap₂ (λ v m. v * 2 ^ m % 2 ^ width / 2 ^ (width - count)) (is ∙ ap num split) (sym in_front)
+    sym (bits_between_joined bytes first place last before (omega arith)) ∙ ap (λ rest. a ++ rest) (sym (bits_between_joined bytes place (place + count) last (omega arith) after)) in
+    ap₂ (λ v m. v * 2 ^ m % 2 ^ width / 2 ^ (width - count)) (is ∙ ap num split) (sym before_it)
     ∙ ap (λ k. num (a ++ (b ++ c)) * 2 ^ length a % 2 ^ width / 2 ^ (width - k)) (sym middle)
-    ∙ middle_of a b c width (omega (arith, in_front, middle, left))
+    ∙ middle_of a b c width (omega (arith, before_it, middle, left))
 
 -- so many bits spell a number below that power of two
 pub count_fits : (bytes : List ℕ) (place count value : ℕ) → place + count ≤ 8 * length bytes → value ≡ num (bits_between bytes place (place + count)) → value < 2 ^ count
@@ -91,7 +91,7 @@ no_bytes = refl
 pub byte_spells : (bytes : List ℕ) (at byte : ℕ) → at < length bytes → byte < 256 → byte ≡ get_or bytes at 0 → byte ≡ num (bits_between bytes (8 * at) (8 * at + 8))
 byte_spells bytes at byte within fits is =
     let one : take 1 (drop at bytes) ≡ byte ∷ [] = ap (take 1) (drop-cons bytes at 0 within) ∙ ap (λ b. b ∷ []) (sym is) in
-    sym (ap num (bits_of_run bytes at 1 (omega arith) ∙ ap bits one) ∙ byte_in_front byte [] fits ∙ omega (arith, no_bytes))
+    sym (ap num (bits_of_run bytes at 1 (omega arith) ∙ ap bits one) ∙ byte_before byte [] fits ∙ omega (arith, no_bytes))
 
 -- the bits of one byte
 pub part_of_byte : (bytes : List ℕ) (place count byte : ℕ) → place / 8 < length bytes → place % 8 + count ≤ 8 → byte < 256 → byte ≡ get_or bytes (place / 8) 0
@@ -110,7 +110,7 @@ part_of_byte_fits bytes place count byte there inside fits is =
 -- the bits of eight bytes
 pub part_of_word : (bytes : List ℕ) (at place count word : ℕ) → at + 8 ≤ length bytes → 8 * at ≤ place → place + count ≤ 8 * at + 64 → word ≡ num (bits_between bytes (8 * at) (8 * at + 64))
     → word * 2 ^ (place - 8 * at) % 2 ^ 64 / 2 ^ (64 - count) ≡ num (bits_between bytes place (place + count))
-part_of_word bytes at place count word there behind inside is =
+part_of_word bytes at place count word there after inside is =
     part_of_run bytes (8 * at) place count (8 * at + 64) 64 word (omega arith) (omega arith) (omega arith) refl is
 
 -- eight bytes, the first of them highest, are the number of their bits
@@ -119,14 +119,14 @@ eight_bytes : (a b c d e f g h : ℕ) → a < 256 → b < 256 → c < 256 → d 
 eight_bytes a b c d e f g h p q r s t u v w =
     omega (
       arith,
-      byte_in_front a (b ∷ c ∷ d ∷ e ∷ f ∷ g ∷ h ∷ []) p,
-      byte_in_front b (c ∷ d ∷ e ∷ f ∷ g ∷ h ∷ []) q,
-      byte_in_front c (d ∷ e ∷ f ∷ g ∷ h ∷ []) r,
-      byte_in_front d (e ∷ f ∷ g ∷ h ∷ []) s,
-      byte_in_front e (f ∷ g ∷ h ∷ []) t,
-      byte_in_front f (g ∷ h ∷ []) u,
-      byte_in_front g (h ∷ []) v,
-      byte_in_front h [] w,
+      byte_before a (b ∷ c ∷ d ∷ e ∷ f ∷ g ∷ h ∷ []) p,
+      byte_before b (c ∷ d ∷ e ∷ f ∷ g ∷ h ∷ []) q,
+      byte_before c (d ∷ e ∷ f ∷ g ∷ h ∷ []) r,
+      byte_before d (e ∷ f ∷ g ∷ h ∷ []) s,
+      byte_before e (f ∷ g ∷ h ∷ []) t,
+      byte_before f (g ∷ h ∷ []) u,
+      byte_before g (h ∷ []) v,
+      byte_before h [] w,
       no_bytes,
     )
 
@@ -157,14 +157,14 @@ pub no_bits : (bytes : List ℕ) (place : ℕ) → 0 ≡ num (bits_between bytes
 unfolding num
 no_bits bytes place = sym (ap num (bits_between_none bytes place))
 
--- the bits up to a place, moved up, and those behind it
-pub more_bits : (bytes : List ℕ) (from place count value behind : ℕ) → from ≤ place → place + count ≤ 8 * length bytes → value ≡ num (bits_between bytes from place) → behind ≡ num (bits_between bytes place (place + count))
-    → value * 2 ^ count + behind ≡ num (bits_between bytes from (place + count))
-more_bits bytes from place count value behind ordered within front more =
+-- the bits up to a place, moved up, and those after it
+pub more_bits : (bytes : List ℕ) (from place count value after : ℕ) → from ≤ place → place + count ≤ 8 * length bytes → value ≡ num (bits_between bytes from place) → after ≡ num (bits_between bytes place (place + count))
+    → value * 2 ^ count + after ≡ num (bits_between bytes from (place + count))
+more_bits bytes from place count value after ordered within prefix more =
     let a : List Bool = bits_between bytes from place in
     let b : List Bool = bits_between bytes place (place + count) in
     let long : length b ≡ count = run_counted bytes place count within in
-    ap₂ (λ v w. v * 2 ^ count + w) front more ∙ ap (λ n. num a * 2 ^ n + num b) (sym long) ∙ sym (num_joined a b)
+    ap₂ (λ v w. v * 2 ^ count + w) prefix more ∙ ap (λ n. num a * 2 ^ n + num b) (sym long) ∙ sym (num_joined a b)
     ∙ ap num (bits_between_joined bytes from place (place + count) ordered (omega arith))
 
 -- moved up by no more than there is room for, it has a word's bits
@@ -178,10 +178,10 @@ moved_fits bytes from place count value ordered within few is =
     raised : (k : ℕ) → k ≤ 64 → 2 ^ k ≤ 2 ^ 64
     raised k h = pow-le-pow_right (omega arith) h
 
--- the bits of a word, moved up, and those of the byte behind it
+-- the bits of a word, moved up, and those of the byte after it
 pub word_and_byte : (bytes : List ℕ) (place count first more rest word byte : ℕ) → first + more ≡ count → rest ≡ place + first → place + count ≤ 8 * length bytes
     → word ≡ num (bits_between bytes place (place + first)) → byte ≡ num (bits_between bytes rest (rest + more)) → word * 2 ^ more + byte ≡ num (bits_between bytes place (place + count))
-word_and_byte bytes place count first more rest word byte whole at within front behind =
+word_and_byte bytes place count first more rest word byte whole at within prefix after =
     let last : rest + more ≡ place + count = omega (arith, whole, at) in
-    more_bits bytes place rest more word byte (omega (arith, at)) (omega (arith, last)) (front ∙ ap (λ to. num (bits_between bytes place to)) (sym at)) behind
+    more_bits bytes place rest more word byte (omega (arith, at)) (omega (arith, last)) (prefix ∙ ap (λ to. num (bits_between bytes place to)) (sym at)) after
     ∙ ap (λ to. num (bits_between bytes place to)) last

@@ -15,7 +15,7 @@ pub struct BitCursor<'a> {
     pub bytes: &'a [u8],
     /// The place of the next bit.
     pub place: u64,
-    /// The place behind the last bit.
+    /// The place after the last bit.
     pub end: u64,
     pub ghost ordered: { place ≤ end },
     pub ghost within: { end ≤ 8 * length bytes.now },
@@ -56,12 +56,12 @@ impl<'a> BitCursor<'a> {
 
     /// Takes the next `count` bits as a number, the first of them highest. None, with nothing moved, exactly where fewer
     /// are left.
-    #[tactic(auto, using(crate::proofs::BitLaws::taken_front, crate::proofs::WordParts::count_fits))]
+    #[tactic(auto, using(crate::proofs::BitLaws::taken_prefix, crate::proofs::WordParts::count_fits))]
     pub fn take(&mut self, count: u32) -> Option<u64>
         requires { count ≤ 64 }
         ensures there { IsSome result ↔ (count ≤ self.old.end - self.old.place) }
         ensures value { IfSome result (λ value. value ≡ num (bits_between self.old.bytes.now self.old.place (self.old.place + count))) }
-        ensures front { IfSome result (λ value. rest self.old ≡ low_bits count value ++ rest self.new) }
+        ensures prefix { IfSome result (λ value. rest self.old ≡ low_bits count value ++ rest self.new) }
         ensures bound { IfSome result (λ value. value < 2 ^ count) }
         ensures moved { self.new.place ≡ (if is_some result then self.old.place + count else self.old.place) }
         ensures same_bytes { self.new.bytes.now ≡ self.old.bytes.now }
@@ -81,7 +81,7 @@ impl<'a> BitCursor<'a> {
         ensures there { IsSome result ↔ (count ≤ self.old.end - self.old.place) }
         ensures span { IfSome result (λ span. span ≡ bits_between self.old.bytes.now self.old.place (self.old.place + count)) }
         ensures counted { IfSome result (λ span. length span ≡ count) }
-        ensures front { IfSome result (λ span. rest self.old ≡ span ++ rest self.new) }
+        ensures prefix { IfSome result (λ span. rest self.old ≡ span ++ rest self.new) }
         ensures moved { self.new.place ≡ (if is_some result then self.old.place + count else self.old.place) }
         ensures same_bytes { self.new.bytes.now ≡ self.old.bytes.now }
         ensures same_end { self.new.end ≡ self.old.end }

@@ -1,4 +1,4 @@
-//! Bits put behind those that bytes hold, the last byte filled up by zero bits.
+//! Bits put after those that bytes hold, the last byte filled up by zero bits.
 
 ghost use Rattle.std.specs.Prelude.{◌≡◌, ◌≢◌, ◌+◌, ◌*◌, ◌%◌, ◌^◌, ◌<◌, ◌≤◌, ◌++◌, false, length, replicate, vec_capacity};
 ghost use Rattle.dwg_bits.specs.Bits.{bits, low_bits};
@@ -36,7 +36,7 @@ fn append(bytes: &mut Vec<u8>, value: u64, width: u32)
     }
 }
 
-/// Puts the low bits of a number behind the first `count` bits: what the byte that is begun takes, and the rest by whole
+/// Puts the low bits of a number after the first `count` bits: what the byte that is begun takes, and the rest by whole
 /// bytes. Takes no memory.
 pub(crate) fn put(bytes: &mut Vec<u8>, count: u64, value: u64, width: u32)
     requires filled { AreFilled bytes.old.items count }

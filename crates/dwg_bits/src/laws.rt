@@ -1,18 +1,18 @@
 //! Laws of bits, each the contract of a function without code.
 
-ghost use Rattle.dwg_bits.specs.BitLaws.{LowBitsSpell, NumberIsSpelled, NumberFits, LowBitsAreCounted, BytesHaveEightBits, BitsAreJoined, BitsTellBytes, LowBitsSplit, NumbersAreJoined, BetweenIsCounted, BetweenIsJoined};
+ghost use Rattle.dwg_bits.specs.BitLaws.{LowBitsSpell, NumberIsSpelled, NumberFits, LowBitsAreCounted, BytesHaveEightBits, BitsAreJoined, BitsReportBytes, LowBitsSplit, NumbersAreJoined, BetweenIsCounted, BetweenIsJoined};
 ghost use Rattle.dwg_bits.specs.PaddingLaw.{PaddingFills};
 
-/// What holds of the bits of numbers and of bytes: numbers and lists of bits tell each other, and so do bytes and their
+/// What holds of the bits of numbers and of bytes: numbers and lists of bits report each other, and so do bytes and their
 /// bits; joined lists spell joined numbers; and the bits between two places are those up to a third and those from there.
 pub fn bit_laws()
     ensures spelled { LowBitsSpell }
-    ensures told { NumberIsSpelled }
+    ensures reported { NumberIsSpelled }
     ensures fits { NumberFits }
     ensures counted { LowBitsAreCounted }
     ensures eight { BytesHaveEightBits }
     ensures joined { BitsAreJoined }
-    ensures bytes_told { BitsTellBytes }
+    ensures bytes_reported { BitsReportBytes }
     ensures split { LowBitsSplit }
     ensures numbers_joined { NumbersAreJoined }
     ensures between_counted { BetweenIsCounted }

@@ -7,7 +7,7 @@ ghost use Rattle.dwg_bits.specs.Cursor.{bits_between};
 ghost use Rattle.dwg_bits.specs.Parts.{part_bits};
 
 use crate::sink::BitSink;
-use dwg_base::bounded_bytes;
+use dwg_base::bytes_with_range;
 use std::alloc::Global;
 use std::marker::Model;
 
@@ -31,11 +31,11 @@ impl Model for BitRun {
 }
 
 impl BitRun {
-    /// A copy of the bits. None is want of memory alone.
+    /// A copy of the bits. None: out of memory.
     pub fn copy(alloc: Global, part: &BitPart<'_>) -> Option<BitRun>
         ensures { IfSome result (λ run. run ≡ part_bits part.now) }
     {
-        let mut sink = BitSink::with_room(alloc, part.length())?;
+        let mut sink = BitSink::vec_with_capacity(alloc, part.length())?;
         sink.push_part(part);
         Some(sink.into_run())
     }
@@ -79,17 +79,17 @@ impl<'a> BitSpan<'a> {
         BitSpan { bytes, from, to }
     }
 
-    /// A copy of the bits as bytes, where they are whole ones. None is want of memory alone.
+    /// A copy of the bits as bytes, where they are whole ones. None: out of memory.
     #[tactic(auto, using(crate::proofs::BitLaws::length_of_bits_between))]
     pub fn to_bytes(&self, alloc: Global) -> Option<Vec<u8>>
         requires { length self.now % 8 ≡ 0 }
         ensures bits { IfSome result (λ bytes. bits bytes.items ≡ self.now) }
         ensures small { IfSome result (λ bytes. AreBytes bytes.items) }
     {
-        let mut sink = BitSink::with_room(alloc, self.to - self.from)?;
+        let mut sink = BitSink::vec_with_capacity(alloc, self.to - self.from)?;
         sink.push_between(self.bytes, self.from, self.to);
         let bytes = sink.into_bytes();
-        let _bounded = bounded_bytes(bytes.as_slice());
+        let _bounded = bytes_with_range(bytes.as_slice());
         Some(bytes)
     }
 }

@@ -47,9 +47,9 @@ impl BitSink {
         }
     }
 
-    /// An empty sink with room for `bits`. None is want of memory alone.
+    /// An empty sink with room for `bits`. None: out of memory.
     #[tactic(auto, using(crate::proofs::Filling::none_filled, crate::proofs::BitLaws::bits_between_none))]
-    pub(crate) fn with_room(alloc: Global, bits: u64) -> Option<BitSink>
+    pub(crate) fn vec_with_capacity(alloc: Global, bits: u64) -> Option<BitSink>
         ensures empty { IfSome result (λ sink. sink.written ≡ []) }
         ensures room { IfSome result (λ sink. bits ≤ sink.spare) }
     {
@@ -66,7 +66,7 @@ impl BitSink {
         BitRun::of_bytes(self.bytes, self.count)
     }
 
-    /// Makes the spare at least `bits`, and takes memory only where it is less. False is want of memory alone. The bits stay
+    /// Makes the spare at least `bits`, and takes memory only where it is less. False: out of memory. The bits stay
     /// as they were, and the spare never falls.
     #[tactic(auto, using(crate::proofs::Filling::length_held))]
     pub fn reserve(&mut self, bits: u64) -> bool

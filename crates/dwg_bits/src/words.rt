@@ -26,7 +26,7 @@ fn word_at(bytes: &[u8], at: usize) -> u64
 #[tactic(auto, using(crate::proofs::WordParts::part_of_word))]
 fn in_word(bytes: &[u8], at: usize, place: u64, count: u32) -> u64
     requires some { 1 ≤ count }
-    requires behind { 8 * at ≤ place }
+    requires after { 8 * at ≤ place }
     requires inside { place + count ≤ 8 * at + 64 }
     requires there { at + 8 ≤ length bytes.now }
     ensures { result ≡ num (bits_between bytes.now place (place + count)) }
@@ -48,15 +48,15 @@ fn in_byte(bytes: &[u8], place: u64, count: u32) -> u64
     u64::from((byte << (place % 8)) >> (8 - count))
 }
 
-/// A number with another behind it, whose bits are so many.
+/// A number with another after it, whose bits are so many.
 #[tactic(auto, using(crate::proofs::WordParts::joined_number))]
-fn joined(front: u64, behind: u64, count: u32) -> u64
+fn joined(prefix: u64, after: u64, count: u32) -> u64
     requires few { count < 64 }
-    requires fits { front * 2 ^ count < 2 ^ 64 }
-    requires below { behind < 2 ^ count }
-    ensures { result ≡ front * 2 ^ count + behind }
+    requires fits { prefix * 2 ^ count < 2 ^ 64 }
+    requires below { after < 2 ^ count }
+    ensures { result ≡ prefix * 2 ^ count + after }
 {
-    (front << count) | behind
+    (prefix << count) | after
 }
 
 /// The number that bits spell, byte by byte, as where there are fewer than eight bytes.
@@ -78,7 +78,7 @@ fn by_bytes(bytes: &[u8], from: u64, to: u64) -> u64
 }
 
 /// The number that up to 64 bits from a place on spell: of one word where they lie in eight bytes, else of a word and the
-/// byte behind it. In the last bytes the word is the last one there is. Where no bits are asked, no word is read: it would
+/// byte after it. In the last bytes the word is the last one there is. Where no bits are asked, no word is read: it would
 /// be shifted by all of its 64 bits.
 #[tactic(auto, using(crate::proofs::WordParts::word_and_byte, crate::proofs::WordParts::moved_fits))]
 pub(crate) fn number_at(bytes: &[u8], place: u64, count: u32) -> u64

@@ -17,17 +17,17 @@ pub few_written : {V : Type 0} (base : ℕ) (body : BodyGrammar V) (value : V) (
 few_written base body value main references main_left references_left is begins = record {
   main = omega (
     arith,
-    is.least_main value begins.main_front begins.reference_front (length references_left) begins.spelled,
+    is.least_main value begins.main_prefix begins.reference_prefix (length references_left) begins.spelled,
     ap length begins.main_whole,
-    length-append begins.main_front main_left,
+    length-append begins.main_prefix main_left,
     length_of_bits_between main.bytes.now main.place main.end main.within,
     main.within,
   );
   references = omega (
     arith,
-    is.least_references value begins.main_front begins.reference_front (length references_left) begins.spelled,
+    is.least_references value begins.main_prefix begins.reference_prefix (length references_left) begins.spelled,
     ap length begins.references_whole,
-    length-append begins.reference_front references_left,
+    length-append begins.reference_prefix references_left,
     length_of_bits_between references.bytes.now references.place references.end references.within,
     references.within,
   );

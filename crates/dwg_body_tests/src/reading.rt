@@ -8,7 +8,7 @@ use dwg_bits::BitCursor;
 use dwg_common::{BodyCode, BodyCode14};
 use std::alloc::Global;
 
-/// The body in front of the bits, if there is one: it fits, and has no more bits than were there. None for want of memory.
+/// The body before the bits, if there is one: it fits, and has no more bits than were there. None: out of memory.
 pub(crate) fn read_body<B: BodyCode + Drop>(
     alloc: Global,
     base: Handle,

@@ -1,4 +1,4 @@
-//! The tests, by what they are of; and how their cases are read and told.
+//! The tests, by what they are of; and how their cases are read and reported.
 
 mod common;
 mod dicts;

@@ -19,16 +19,16 @@ use Rattle.dwg_graph.proofs.ListLemmas.{contains_map, empty_of_none, none_of_emp
 use Rattle.dwg_graph.proofs.ObjectPaths.{ascending_are_distinct, stands_found, found_there}
 use Rattle.dwg_graph.proofs.Tests.{object_found}
 use Rattle.dwg_object.specs.Objects.{ObjectValue, handle_of}
-use Rattle.dwg_paths.specs.Numbered.{RiseAlong, AreNumberedByPlace}
-use Rattle.dwg_paths.specs.Paths.{AreDistinct, HasRank}
-use Rattle.dwg_paths.proofs.Numbering.{places_rise, contains_there}
-use Rattle.dwg_paths.proofs.RankLemmas.{rank_of_path}
-use Rattle.dwg_paths.proofs.TestLemmas.{passing_of_kept}
+use Rattle.dwg_chains.specs.Numbered.{RiseAlong, AreNumberedByPlace}
+use Rattle.dwg_chains.specs.Paths.{AreDistinct, HasRank}
+use Rattle.dwg_chains.proofs.Numbering.{places_rise, contains_there}
+use Rattle.dwg_chains.proofs.RankLemmas.{rank_of_path}
+use Rattle.dwg_chains.proofs.TestLemmas.{passing_of_kept}
 
--- the first of a list is found and mapped, or what is found behind it is
-found_first : {A B : Type 0} (turn : A → B) (here : Bool) (x : A) (found : Option B) (behind : Option A) → found ≡ option_map turn behind → cond here (Some (turn x)) found ≡ option_map turn (cond here (Some x) behind)
-found_first turn true x found behind same = refl
-found_first turn false x found behind same = same
+-- the first of a list is found and mapped, or what is found after it is
+found_first : {A B : Type 0} (turn : A → B) (here : Bool) (x : A) (found : Option B) (after : Option A) → found ≡ option_map turn after → cond here (Some (turn x)) found ≡ option_map turn (cond here (Some x) after)
+found_first turn true x found after same = refl
+found_first turn false x found after same = same
 
 -- what is found in a map is that of what is found in the list
 found_in_map : {A B : Type 0} (test : B → Bool) (turn : A → B) (xs : List A) → find test (map turn xs) ≡ option_map turn (find (λ x. test (turn x)) xs)

@@ -6,7 +6,7 @@ use Rattle.std.specs.Int.{to_le_bytes}
 use Rattle.dwg_cert.specs.declared.entry.Entry.{Entry}
 use Rattle.dwg_cert.specs.Certificates.{IsSmallEntry, IsCertificate, HaveHandles}
 use Rattle.dwg_cert.specs.WrittenForm.{MAGIC, BeginsWithCertificate, stored, entry_bytes, certificate_bytes, size_of}
-use Rattle.dwg_cert.specs.CertificateLines.{count_at, stored_rank_at, stored_chain_at, unstored, entry_told_at, entry_fails, entries_at, first_failing, tried_certificate}
+use Rattle.dwg_cert.specs.CertificateLines.{count_at, stored_rank_at, stored_chain_at, unstored, entry_stated_at, entry_fails, entries_at, first_failing, tried_certificate}
 use Rattle.dwg_cert.specs.CertificateLaws.{LinesAreExact, CertificateIsRead, CertificateIsUnique, WrittenIsRead}
 use Rattle.dwg_cert.proofs.CertificateSound.{begins_with_certificate}
 use Rattle.dwg_cert.proofs.EntryOrder.{entries_are_few, first_entries, passing_of_certificate}
@@ -28,45 +28,45 @@ same_entry a b handle rank chain =
     ap (λ h. entry_of h a.rank a.chain) handle ∙ (ap (λ r. entry_of b.handle r a.chain) rank ∙ ap (λ c. entry_of b.handle b.rank c) chain)
 
 -- an entry is read where it stands
-entry_there : (entry : Entry) (bytes front rest : List ℕ) (index : ℕ) → bytes ≡ front ++ (entry_bytes entry ++ rest) → length front ≡ size_of index → IsSmallEntry entry → entry.handle < 2 ^ 63
-    → entry ≡ entry_told_at bytes index
-unfolding entry_bytes entry_told_at
-entry_there entry bytes front rest index whole far small in_range =
+entry_there : (entry : Entry) (bytes prefix rest : List ℕ) (index : ℕ) → bytes ≡ prefix ++ (entry_bytes entry ++ rest) → length prefix ≡ size_of index → IsSmallEntry entry → entry.handle < 2 ^ 63
+    → entry ≡ entry_stated_at bytes index
+unfolding entry_bytes entry_stated_at
+entry_there entry bytes prefix rest index whole far small in_range =
     let handle = to_le_bytes w64 entry.handle in
     let rank = to_le_bytes w64 (stored entry.rank) in
     let chain = to_le_bytes w64 (stored entry.chain) in
-    let one : bytes ≡ front ++ (handle ++ (rank ++ (chain ++ rest))) = whole ∙ ap (λ behind. front ++ behind) (append_assoc (handle ++ rank) chain rest ∙ append_assoc handle rank (chain ++ rest)) in
-    let two : bytes ≡ (front ++ handle) ++ (rank ++ (chain ++ rest)) = one ∙ sym (append_assoc front handle (rank ++ (chain ++ rest))) in
-    let three : bytes ≡ (front ++ handle ++ rank) ++ (chain ++ rest) = two ∙ sym (append_assoc (front ++ handle) rank (chain ++ rest)) in
-    let to_rank : length (front ++ handle) ≡ size_of index + 8 = length-append front handle ∙ ap (λ n. n + 8) far in
-    let to_chain : length (front ++ handle ++ rank) ≡ size_of index + 16 = length-append (front ++ handle) rank ∙ (ap (λ n. n + 8) to_rank ∙ omega arith) in
+    let one : bytes ≡ prefix ++ (handle ++ (rank ++ (chain ++ rest))) = whole ∙ ap (λ after. prefix ++ after) (append_assoc (handle ++ rank) chain rest ∙ append_assoc handle rank (chain ++ rest)) in
+    let two : bytes ≡ (prefix ++ handle) ++ (rank ++ (chain ++ rest)) = one ∙ sym (append_assoc prefix handle (rank ++ (chain ++ rest))) in
+    let three : bytes ≡ (prefix ++ handle ++ rank) ++ (chain ++ rest) = two ∙ sym (append_assoc (prefix ++ handle) rank (chain ++ rest)) in
+    let to_rank : length (prefix ++ handle) ≡ size_of index + 8 = length-append prefix handle ∙ ap (λ n. n + 8) far in
+    let to_chain : length (prefix ++ handle ++ rank) ≡ size_of index + 16 = length-append (prefix ++ handle) rank ∙ (ap (λ n. n + 8) to_rank ∙ omega arith) in
     let rank_read : stored_rank_at bytes index ≡ stored entry.rank =
-    number_there bytes (front ++ handle) (chain ++ rest) (stored entry.rank) (size_of index + 8) (omega (arith, stored_small entry.rank small.rank)) two to_rank in
+    number_there bytes (prefix ++ handle) (chain ++ rest) (stored entry.rank) (size_of index + 8) (omega (arith, stored_small entry.rank small.rank)) two to_rank in
     let chain_read : stored_chain_at bytes index ≡ stored entry.chain =
-    number_there bytes (front ++ handle ++ rank) rest (stored entry.chain) (size_of index + 16) (omega (arith, stored_small entry.chain small.chain)) three to_chain in
-    same_entry entry (entry_told_at bytes index)
-    (sym (number_there bytes front (rank ++ (chain ++ rest)) entry.handle (size_of index) (omega arith) one far))
+    number_there bytes (prefix ++ handle ++ rank) rest (stored entry.chain) (size_of index + 16) (omega (arith, stored_small entry.chain small.chain)) three to_chain in
+    same_entry entry (entry_stated_at bytes index)
+    (sym (number_there bytes prefix (rank ++ (chain ++ rest)) entry.handle (size_of index) (omega arith) one far))
     (sym (ap unstored rank_read ∙ unstored_again entry.rank))
     (sym (ap unstored chain_read ∙ unstored_again entry.chain))
 
 -- entries are read where they stand
-entries_there : (entries : List Entry) (bytes front rest : List ℕ) (index : ℕ) → bytes ≡ front ++ (flat_map entry_bytes entries ++ rest) → length front ≡ size_of index → AllByRecursion IsSmallEntry entries → HaveHandles entries
-    → entries ≡ map (entry_told_at bytes) (range_with_len index (length entries))
-entries_there [] bytes front rest index whole far small have = refl
-entries_there (entry ∷ entries) bytes front rest index whole far small have =
+entries_there : (entries : List Entry) (bytes prefix rest : List ℕ) (index : ℕ) → bytes ≡ prefix ++ (flat_map entry_bytes entries ++ rest) → length prefix ≡ size_of index → AllByRecursion IsSmallEntry entries → HaveHandles entries
+    → entries ≡ map (entry_stated_at bytes) (range_with_len index (length entries))
+entries_there [] bytes prefix rest index whole far small have = refl
+entries_there (entry ∷ entries) bytes prefix rest index whole far small have =
     let here = entry_bytes entry in
     let further = flat_map entry_bytes entries in
-    let first : bytes ≡ front ++ (here ++ (further ++ rest)) = whole ∙ ap (λ behind. front ++ behind) (append_assoc here further rest) in
-    let other : bytes ≡ (front ++ here) ++ (further ++ rest) = first ∙ sym (append_assoc front here (further ++ rest)) in
-    let far_more : length (front ++ here) ≡ size_of (index + 1) = omega (arith, length-append front here, length_of_entry entry) in
-    ap₂ ◌∷◌ (entry_there entry bytes front (further ++ rest) index first far small.0 have.0) (entries_there entries bytes (front ++ here) rest (index + 1) other far_more small.1 have.1)
+    let first : bytes ≡ prefix ++ (here ++ (further ++ rest)) = whole ∙ ap (λ after. prefix ++ after) (append_assoc here further rest) in
+    let other : bytes ≡ (prefix ++ here) ++ (further ++ rest) = first ∙ sym (append_assoc prefix here (further ++ rest)) in
+    let far_more : length (prefix ++ here) ≡ size_of (index + 1) = omega (arith, length-append prefix here, length_of_entry entry) in
+    ap₂ ◌∷◌ (entry_there entry bytes prefix (further ++ rest) index first far small.0 have.0) (entries_there entries bytes (prefix ++ here) rest (index + 1) other far_more small.1 have.1)
 
 -- what an input has that begins with the form of a certificate
 record Reads (bytes : List ℕ) (entries : List Entry) (rest : List ℕ) : Type 0 where
   room : HasRoom bytes
   counted : count_at bytes ≡ length entries
   listed : entries ≡ first_entries bytes (length entries)
-  behind : drop (size_of (length entries)) bytes ≡ rest
+  after : drop (size_of (length entries)) bytes ≡ rest
 
 -- where bytes begin with the form of a certificate, its parts are read where they stand
 parts_there : (bytes : List ℕ) (entries : List Entry) (rest : List ℕ) → BeginsWithCertificate bytes entries rest → Reads bytes entries rest
@@ -89,7 +89,7 @@ parts_there bytes entries rest begins =
       };
       counted = counted;
       listed = entries_there entries bytes (MAGIC ++ count) rest 0 entries_stand refl begins.certificate.small begins.handles;
-      behind = ap (drop (size_of (length entries))) begins.whole ∙ drop_at (certificate_bytes entries) rest (size_of (length entries)) form;
+      after = ap (drop (size_of (length entries))) begins.whole ∙ drop_at (certificate_bytes entries) rest (size_of (length entries)) form;
     }
 
 -- so they are read
@@ -101,12 +101,12 @@ read_there bytes entries rest begins reads =
     let none : first_failing bytes ≡ None = none_found (entry_fails bytes) 0 (count_at bytes) (λ k least below. test_from_passes bytes k (passing k (omega arith))) in
     tried_of_none bytes none ∙ ap (λ (list : List Entry). Ok list) all
 
--- where an input begins with the form of a certificate, no line fails, that certificate is read, and the rest is what stands behind it
+-- where an input begins with the form of a certificate, no line fails, that certificate is read, and the rest is what stands after it
 pub certificate_is_read : CertificateIsRead
 certificate_is_read bytes entries rest begins =
     let reads = parts_there bytes entries rest begins in
     let tried = read_there bytes entries rest begins reads in
-    (entries_decide bytes reads.room ∙ none_of_read bytes entries tried, tried, reads.behind)
+    (entries_decide bytes reads.room ∙ none_of_read bytes entries tried, tried, reads.after)
 
 -- an input begins with the form of at most one certificate
 pub certificate_is_unique : CertificateIsUnique

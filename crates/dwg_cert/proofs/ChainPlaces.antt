@@ -18,13 +18,13 @@ use Rattle.dwg_graph.proofs.ObjectPaths.{stands_found}
 use Rattle.dwg_graph.proofs.PlacedObjects.{at_place}
 use Rattle.dwg_graph.proofs.Tests.{object_found, members_among}
 use Rattle.dwg_object.specs.Objects.{ObjectValue, handle_of}
-use Rattle.dwg_paths.specs.ChainTests.{PassesOnce}
-use Rattle.dwg_paths.specs.Paths.{AreDistinct, IsChain}
-use Rattle.dwg_paths.specs.Ways.{way}
-use Rattle.dwg_paths.proofs.ChainLaws.{straight_of_chain}
-use Rattle.dwg_paths.proofs.MemberLemmas.{distinct_at_most}
-use Rattle.dwg_paths.proofs.Numbering.{contains_there}
-use Rattle.dwg_paths.proofs.WayLemmas.{straight_is_found, option_then_found}
+use Rattle.dwg_chains.specs.ChainTests.{PassesOnce}
+use Rattle.dwg_chains.specs.Paths.{AreDistinct, IsChain}
+use Rattle.dwg_chains.specs.Ways.{way}
+use Rattle.dwg_chains.proofs.ChainLaws.{straight_of_chain}
+use Rattle.dwg_chains.proofs.MemberLemmas.{distinct_at_most}
+use Rattle.dwg_chains.proofs.Numbering.{contains_there}
+use Rattle.dwg_chains.proofs.WayLemmas.{straight_is_found, option_then_found}
 
 -- a list is a chain of a block's members from one of its ends to the other
 abbrev pub IsChainOf : List ObjectValue → ObjectValue → EndHandles → List ℕ → Type 0

@@ -7,7 +7,7 @@ use Rattle.std.specs.Option.{option_and_then, option_map_or}
 use Rattle.std.proofs.lemmas.List.{drop_all, drop_more}
 use Rattle.std.proofs.lemmas.List.Sums.{sum_by_more_le_part}
 use Rattle.std.proofs.lemmas.Option.{get_or_from_slice_get, slice_get_within}
-use Rattle.dwg_cert.specs.AcceptTests.{AcceptanceIsTold, are_handles, is_accepted, is_in_place, is_placed, is_placed_in}
+use Rattle.dwg_cert.specs.AcceptTests.{AcceptanceIsReported, are_handles, is_accepted, is_in_place, is_placed, is_placed_in}
 use Rattle.dwg_cert.specs.Accepts.{Accepts, entry_at, handles_in}
 use Rattle.dwg_cert.specs.Certified.{AcceptedIsSound}
 use Rattle.dwg_cert.specs.Checked.{CanBeChecked, Checked}
@@ -71,7 +71,7 @@ pub left_from : {A : Type 0} (things : List A) (i : ℕ) (x : A) → slice_get t
 left_from {A} things i x stands =
     drop_more things i x (slice_get_within things i x stands) ∙ ap (λ (y : A). y ∷ drop (i + 1) things) (get_or_from_slice_get things i x x stands)
 
--- where one more passes, all pass exactly where all those behind it do
+-- where one more passes, all pass exactly where all those after it do
 pub all_further : {A : Type 0} (test : A → Bool) (things : List A) (i : ℕ) (x : A) (whole : Bool) → slice_get things i ≡ Some x → test x ≡ true → list_all test (drop i things) ≡ whole
     → list_all test (drop (i + 1) things) ≡ whole
 all_further {A} test things i x whole stands passes so_far =
@@ -85,15 +85,15 @@ all_fail {A} test things i x whole stands fails so_far =
 -- the same in what the checker shows
 pub entry_seen : (now : Checked) (objects : List ObjectValue) (cert : List Entry) (handle : ℕ) (place : Option ℕ) (found : Option Entry) → now ≡ record { objects = objects; cert = cert } → handles_in cert ≡ handles_of objects
     → place ≡ place_in (handles_of now.objects) handle → found ≡ option_and_then (slice_get cert) place → found ≡ entry_at now.cert handle
-entry_seen now objects cert handle place found is same at told =
-    told
+entry_seen now objects cert handle place found is same at reported =
+    reported
     ∙ entry_placed objects cert handle place same (at ∙ ap (λ (c : Checked). place_in (handles_of c.objects) handle) is)
     ∙ ap (λ (c : Checked). entry_at c.cert handle) (sym is)
 
 -- what a test of the object of a handle says, by the object's place
-pub tested_seen : (now : Checked) (objects : List ObjectValue) (cert : List Entry) (test : ObjectValue → Bool) (handle : ℕ) (place : Option ℕ) (told : Bool) → now ≡ record { objects = objects; cert = cert }
-    → place ≡ place_in (handles_of now.objects) handle → told ≡ option_map_or test (option_and_then (slice_get objects) place) false → told ≡ option_map_or test (object_at now.objects handle) false
-tested_seen now objects cert test handle place told is at says =
+pub tested_seen : (now : Checked) (objects : List ObjectValue) (cert : List Entry) (test : ObjectValue → Bool) (handle : ℕ) (place : Option ℕ) (reported : Bool) → now ≡ record { objects = objects; cert = cert }
+    → place ≡ place_in (handles_of now.objects) handle → reported ≡ option_map_or test (option_and_then (slice_get objects) place) false → reported ≡ option_map_or test (object_at now.objects handle) false
+tested_seen now objects cert test handle place reported is at says =
     says
     ∙ ap (λ (o : Option ℕ). option_map_or test (option_and_then (slice_get objects) o) false) (at ∙ ap (λ (c : Checked). place_in (handles_of c.objects) handle) is)
     ∙ ap (λ (found : Option ObjectValue). option_map_or test found false) (object_placed objects handle)
@@ -127,7 +127,7 @@ handles_further entries objects i entry x test whole at also is so_far =
     ∙ ap (are_handles (drop i entries)) (sym (left_from objects i x also))
     ∙ so_far
 
--- behind the last there is none
+-- after the last there is none
 pub no_handles : (entries : List Entry) (objects : List ObjectValue) (i : ℕ) (whole : Bool) → length entries ≤ i → length objects ≤ i → are_handles (drop i entries) (drop i objects) ≡ whole → true ≡ whole
 unfolding are_handles
 no_handles entries objects i whole past also so_far =
@@ -152,13 +152,13 @@ pub can_seen : (now : Checked) (objects : List ObjectValue) (cert : List Entry) 
 can_seen now objects cert is can = subst (λ (c : Checked). CanBeChecked c.objects) is can
 
 -- a result is what the tests say, and so what they stand for
-pub told_accepts : (objects : List ObjectValue) (cert : List Entry) (result : Result Bool NoMemory) → AcceptanceIsTold → Ascend (handles_of objects) → IfOk result (λ is. is ≡ is_accepted objects cert)
+pub reported_accepts : (objects : List ObjectValue) (cert : List Entry) (result : Result Bool NoMemory) → AcceptanceIsReported → Ascend (handles_of objects) → IfOk result (λ is. is ≡ is_accepted objects cert)
     → IfOk result (λ is. IsTrue is ↔ Accepts objects cert)
-told_accepts objects cert (Ok is) tells ascend told =
-    let decided = tells objects cert ascend in (λ holds. decided.0 (sym told ∙ holds), λ accepts. told ∙ decided.1 accepts)
-told_accepts objects cert (Err fault) tells ascend told = tt
+reported_accepts objects cert (Ok is) reports ascend reported =
+    let decided = reports objects cert ascend in (λ holds. decided.0 (sym reported ∙ holds), λ accepts. reported ∙ decided.1 accepts)
+reported_accepts objects cert (Err fault) reports ascend reported = tt
 
-pub told_sound : (objects : List ObjectValue) (cert : List Entry) (result : Result Bool NoMemory) → AcceptedIsSound → Ascend (handles_of objects) → IfOk result (λ is. IsTrue is ↔ Accepts objects cert)
+pub reported_sound : (objects : List ObjectValue) (cert : List Entry) (result : Result Bool NoMemory) → AcceptedIsSound → Ascend (handles_of objects) → IfOk result (λ is. IsTrue is ↔ Accepts objects cert)
     → IfOk result (λ is. IsTrue is → IsSound objects)
-told_sound objects cert (Ok is) sound ascend accepts = λ holds. sound objects cert ascend (accepts.0 holds)
-told_sound objects cert (Err fault) sound ascend accepts = tt
+reported_sound objects cert (Ok is) sound ascend accepts = λ holds. sound objects cert ascend (accepts.0 holds)
+reported_sound objects cert (Err fault) sound ascend accepts = tt

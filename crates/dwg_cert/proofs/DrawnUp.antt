@@ -24,12 +24,12 @@ use Rattle.dwg_graph.proofs.PlacedPaths.{steps_closed}
 use Rattle.dwg_graph.proofs.Tests.{object_found, members_among}
 use Rattle.dwg_object.specs.declared.object.Object as declared
 use Rattle.dwg_object.specs.Objects.{ObjectValue, handle_of, value_of}
-use Rattle.dwg_paths.specs.Ways.{way}
-use Rattle.dwg_paths.proofs.ChainLaws.{straight_of_chain}
-use Rattle.dwg_paths.proofs.MemberLemmas.{contains_first, contains_behind}
-use Rattle.dwg_paths.proofs.Numbering.{rank_at_place, stands_at, contains_there}
-use Rattle.dwg_paths.proofs.RankLemmas.{IsStraight}
-use Rattle.dwg_paths.proofs.WayLemmas.{option_map_found, option_then_found}
+use Rattle.dwg_chains.specs.Ways.{way}
+use Rattle.dwg_chains.proofs.ChainLaws.{straight_of_chain}
+use Rattle.dwg_chains.proofs.MemberLemmas.{contains_first, contains_after}
+use Rattle.dwg_chains.proofs.Numbering.{rank_at_place, stands_at, contains_there}
+use Rattle.dwg_chains.proofs.RankLemmas.{IsStraight}
+use Rattle.dwg_chains.proofs.WayLemmas.{option_map_found, option_then_found}
 
 -- a way that is found in so many steps has no more
 way_is_short : {A : Type 0} (step : A → Option A) (goal : A → Bool) (count : ℕ) (x : A) (path : List A) → way step goal count x ≡ Some path → length path ≤ count + 1
@@ -42,9 +42,9 @@ way_is_short {A} step goal (suc count) x path found = ⊎_elim
     (λ (here : goal x ≡ true). let same : x ∷ [] ≡ path = same_Some (x ∷ []) path (rw here at found) in omega (arith, ap length same))
     (λ (away : goal x ≡ false).
     let mapped : option_map (λ rest. x ∷ rest) (option_and_then (way step goal count) (step x)) ≡ Some path = rw away at found in
-    let behind = option_map_found (λ rest. x ∷ rest) (option_and_then (way step goal count) (step x)) path mapped in
-    let next = option_then_found (way step goal count) (step x) behind.0 behind.1 in
-    omega (arith, way_is_short step goal count next.0 behind.0 next.2, ap length behind.2))
+    let after = option_map_found (λ rest. x ∷ rest) (option_and_then (way step goal count) (step x)) path mapped in
+    let next = option_then_found (way step goal count) (step x) after.0 after.1 in
+    omega (arith, way_is_short step goal count next.0 after.0 next.2, ap length after.2))
     (cases_Bool (goal x))
 
 -- so there are no more steps than so many
@@ -126,7 +126,7 @@ straight_by step goal other x [] same straight = same x (contains_first x []) �
 straight_by step goal other x (y ∷ rest) same straight = (
   same x (contains_first x (y ∷ rest)) ∙ straight.0,
   straight.1,
-  straight_by step goal other y rest (λ z along. same z (contains_behind x (y ∷ rest) z along)) straight.2,
+  straight_by step goal other y rest (λ z along. same z (contains_after x (y ∷ rest) z along)) straight.2,
 )
 
 -- the ends of the block of a member are its block's
@@ -148,7 +148,7 @@ last_in_chain objects block ends chain ascend stands known is handle along =
     ∙ ap (λ (those : Option EndHandles). option_map_or (λ (one : EndHandles). handle_of x == one.last) those false) (ends_of_member objects block x ascend stands member.2 ∙ known)
     ∙ ap (λ (n : ℕ). n == ends.last) has
 
--- as many steps are left from a place of a chain as stand behind it
+-- as many steps are left from a place of a chain as stand after it
 left_in_chain : (objects : List ObjectValue) (block : ObjectValue) (ends : EndHandles) (chain : List ℕ) → Ascend (handles_of objects) → Contains objects block → ends_of block ≡ Some ends → IsChainOf objects block ends chain
     → (place left handle : ℕ) → slice_get chain place ≡ Some handle → left + place + 1 ≡ length chain → steps_left objects handle ≡ Some left
 unfolding next_step steps_to steps_left
@@ -217,7 +217,7 @@ same_maps : {A B : Type 0} (f g : A → B) (xs : List A) → ((x : A) → Contai
 same_maps f g [] same = refl
 same_maps {A} {B} f g (x ∷ xs) same =
     let first : f x ≡ g x = same x (contains_first x xs) in
-    let rest : map f xs ≡ map g xs = same_maps f g xs (λ y inside. same y (contains_behind x xs y inside)) in
+    let rest : map f xs ≡ map g xs = same_maps f g xs (λ y inside. same y (contains_after x xs y inside)) in
     cc (first, rest)
 
 -- what is drawn up of sound objects is their certificate

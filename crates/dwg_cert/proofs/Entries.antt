@@ -16,11 +16,11 @@ use Rattle.dwg_graph.proofs.ListLemmas.{contains_map}
 use Rattle.dwg_graph.proofs.ObjectPaths.{stands_found}
 use Rattle.dwg_graph.proofs.Tests.{object_found}
 use Rattle.dwg_object.specs.Objects.{ObjectValue, handle_of, kind_of}
-use Rattle.dwg_paths.specs.Numbered.{PassesThese}
-use Rattle.dwg_paths.specs.Tables.{is_at}
-use Rattle.dwg_paths.proofs.MemberLemmas.{contains_none, contains_first, contains_behind, contains_cases}
-use Rattle.dwg_paths.proofs.TestLemmas.{passing_of_found, kept_of_passing, passing_of_kept}
-use Rattle.dwg_paths.proofs.WayLemmas.{option_then_found}
+use Rattle.dwg_chains.specs.Numbered.{PassesThese}
+use Rattle.dwg_chains.specs.Tables.{is_at}
+use Rattle.dwg_chains.proofs.MemberLemmas.{contains_none, contains_first, contains_after, contains_cases}
+use Rattle.dwg_chains.proofs.TestLemmas.{passing_of_found, kept_of_passing, passing_of_kept}
+use Rattle.dwg_chains.proofs.WayLemmas.{option_then_found}
 
 -- a list is empty or isn't
 pub empty_or_not : {A : Type 0} (xs : List A) → (xs ≡ []) ⊎ (xs ≢ [])
@@ -34,8 +34,8 @@ some_there (Some x) is = (x, refl)
 
 -- a test of what may be there passes exactly where something is there of which it says so
 pub map_or_decided : {A : Type 0} (test : A → Bool) (P : A → Type 0) (found : Option A) → ((x : A) → IsTrue (test x) ↔ P x) → IsTrue (option_map_or test found false) ↔ ((x : A) × (found ≡ Some x) × P x)
-map_or_decided test P None tells = (λ is. absurd (cc is), λ has. absurd (cc has.1))
-map_or_decided test P (Some x) tells = (λ is. (x, refl, (tells x).0 is), λ has. (tells x).1 (subst P (sym (same_Some x has.0 has.1)) has.2))
+map_or_decided test P None reports = (λ is. absurd (cc is), λ has. absurd (cc has.1))
+map_or_decided test P (Some x) reports = (λ is. (x, refl, (reports x).0 is), λ has. (reports x).1 (subst P (sym (same_Some x has.0 has.1)) has.2))
 
 -- a number that may be there is that one exactly where the test for it says so
 pub at_decided : (at : Option ℕ) (n : ℕ) → IsTrue (is_at at n) ↔ (at ≡ Some n)
@@ -47,12 +47,12 @@ pub contained_in_map : {A B : Type 0} (turn : A → B) (xs : List A) (y : B) →
 contained_in_map turn [] y inside = absurd (contains_none y inside)
 contained_in_map turn (x ∷ xs) y inside = ⊎_elim
     (λ same. (x, contains_first x xs, same))
-    (λ behind. let further = contained_in_map turn xs y behind in (further.0, contains_behind x xs further.0 further.1, further.2))
+    (λ after. let further = contained_in_map turn xs y after in (further.0, contains_after x xs further.0 further.1, further.2))
     (contains_cases (turn x) (map turn xs) y inside)
 
 -- lists of one thing and more are equal where both are
 same_lists : {A : Type 0} (x y : A) (xs ys : List A) → ((x ≡ y) × (xs ≡ ys)) ↔ (x ∷ xs ≡ y ∷ ys)
-same_lists x y xs ys = (λ same. let here = same.0 in let behind = same.1 in cc (here, behind), λ same. (cc same, cc same))
+same_lists x y xs ys = (λ same. let here = same.0 in let after = same.1 in cc (here, after), λ same. (cc same, cc same))
 
 -- the test for that says whether the handles of entries are those of objects
 pub handles_are : (cert : List Entry) (objects : List ObjectValue) → IsTrue (are_handles cert objects) ↔ (handles_in cert ≡ handles_of objects)

@@ -17,7 +17,7 @@ first_refused bytes refusal tried =
     record {
       index = parts.0;
       inside = omega (arith, is.inside);
-      tells = parts.2;
+      reports = parts.2;
       fails = fails_from_test bytes parts.0 is.passes;
       first = λ earlier before. holds_from_test bytes earlier (is.before earlier (omega arith) before);
     }
@@ -34,7 +34,7 @@ refused_first bytes refusal is =
       passes = test_from_fails bytes is.index is.fails;
       before = λ k least below. test_from_holds bytes k (is.first k below);
     }))
-    ∙ ap (λ (one : Refusal). Err one) (sym is.tells)
+    ∙ ap (λ (one : Refusal). Err one) (sym is.reports)
 
 -- the line on entries refuses exactly the first entry that fails
 pub refused_is_first : RefusedEntryIsFirst

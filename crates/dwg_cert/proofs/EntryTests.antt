@@ -5,10 +5,10 @@ use Rattle.std.proofs.lemmas.Bool.{or_parts, or_from, false_from_ne_true}
 use Rattle.std.proofs.lemmas.Bool.Decides.{nat_tests}
 use Rattle.dwg_cert.specs.CertificateLines.{stored_handle_at, stored_rank_at, stored_chain_at, least_handle, entry_fails, IsNotAbove, EntryFails}
 
--- the least handle behind an entry
-pub least_behind : (bytes : List ℕ) (index : ℕ) → least_handle bytes (index + 1) ≡ stored_handle_at bytes index + 1
+-- the least handle after an entry
+pub least_after : (bytes : List ℕ) (index : ℕ) → least_handle bytes (index + 1) ≡ stored_handle_at bytes index + 1
 unfolding least_handle
-least_behind bytes index = let next : index + 1 ≡ suc index = omega arith in ap (least_handle bytes) next
+least_after bytes index = let next : index + 1 ≡ suc index = omega arith in ap (least_handle bytes) next
 
 -- the first entry may have any handle
 pub least_first : (bytes : List ℕ) → least_handle bytes 0 ≡ 0
@@ -27,12 +27,12 @@ pub passes_from_test : (bytes : List ℕ) (index : ℕ) → entry_fails bytes in
 unfolding entry_fails
 passes_from_test bytes index fails =
     let all = or_parts _ _ fails in
-    let front = or_parts _ _ all.0 in
-    let handle = or_parts _ _ front.0 in
+    let prefix = or_parts _ _ all.0 in
+    let handle = or_parts _ _ prefix.0 in
     record {
       least = ltb-false _ _ handle.0;
       handle = let test : nat_le (2 ^ 63) (stored_handle_at bytes index) ≡ false = handle.1 in grind (arith, nat_tests);
-      rank = ltb-false _ _ front.1;
+      rank = ltb-false _ _ prefix.1;
       chain = ltb-false _ _ all.1;
     }
 
@@ -53,7 +53,7 @@ not_above bytes (suc index) less = (index, omega arith, omega (arith, less))
 both_never : (bytes : List ℕ) (index : ℕ) → Passes bytes index → EntryFails bytes index → ⊥
 both_never bytes index passes (inl large) = omega (arith, passes.handle)
 both_never bytes index passes (inr (inl (before, next, less))) =
-    let least : least_handle bytes index ≡ stored_handle_at bytes before + 1 = ap (least_handle bytes) (sym next) ∙ least_behind bytes before in
+    let least : least_handle bytes index ≡ stored_handle_at bytes before + 1 = ap (least_handle bytes) (sym next) ∙ least_after bytes before in
     omega (arith, passes.least)
 both_never bytes index passes (inr (inr (inl large))) = omega (arith, passes.rank)
 both_never bytes index passes (inr (inr (inr large))) = omega (arith, passes.chain)

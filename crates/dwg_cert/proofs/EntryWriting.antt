@@ -24,9 +24,9 @@ pub entry_put : (s0 s1 s2 s3 : Written) (entry : Entry) (handle rank chain : ℕ
     → Extends s0 s3 (bits (entry_bytes entry))
 unfolding entry_bytes
 entry_put s0 s1 s2 s3 entry handle rank chain of_handle of_rank of_chain one two three =
-    let front = to_le_bytes w64 handle ++ to_le_bytes w64 rank in
-    let all = put_both s0 s2 s3 front (to_le_bytes w64 chain) (put_both s0 s1 s2 (to_le_bytes w64 handle) (to_le_bytes w64 rank) one two) three in
-    let same : front ++ to_le_bytes w64 chain ≡ to_le_bytes w64 entry.handle ++ to_le_bytes w64 (stored entry.rank) ++ to_le_bytes w64 (stored entry.chain) =
+    let prefix = to_le_bytes w64 handle ++ to_le_bytes w64 rank in
+    let all = put_both s0 s2 s3 prefix (to_le_bytes w64 chain) (put_both s0 s1 s2 (to_le_bytes w64 handle) (to_le_bytes w64 rank) one two) three in
+    let same : prefix ++ to_le_bytes w64 chain ≡ to_le_bytes w64 entry.handle ++ to_le_bytes w64 (stored entry.rank) ++ to_le_bytes w64 (stored entry.chain) =
     ap₂ ◌++◌ (ap₂ (λ a b. to_le_bytes w64 a ++ to_le_bytes w64 b) of_handle of_rank) (ap (to_le_bytes w64) of_chain) in
     subst (λ bytes. Extends s0 s3 (bits bytes)) same all
 

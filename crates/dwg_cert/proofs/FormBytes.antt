@@ -37,8 +37,8 @@ number_is_bytes i (suc count) value = (below i, number_is_bytes (suc i) count va
 entry_is_bytes : (entry : Entry) → AreBytes (entry_bytes entry)
 unfolding entry_bytes
 entry_is_bytes entry =
-    let front = to_le_bytes w64 entry.handle ++ to_le_bytes w64 (stored entry.rank) in
-    joined_are_bytes front (to_le_bytes w64 (stored entry.chain))
+    let prefix = to_le_bytes w64 entry.handle ++ to_le_bytes w64 (stored entry.rank) in
+    joined_are_bytes prefix (to_le_bytes w64 (stored entry.chain))
     (joined_are_bytes (to_le_bytes w64 entry.handle) (to_le_bytes w64 (stored entry.rank)) (number_is_bytes 0 8 entry.handle) (number_is_bytes 0 8 (stored entry.rank)))
     (number_is_bytes 0 8 (stored entry.chain))
 

@@ -2,8 +2,8 @@ pub mod Entries
 pub mod Checking
 pub mod MemberCounts
 pub mod SoundOfAccepted
-pub mod RightTold
-pub mod Told
+pub mod RightReported
+pub mod Reported
 pub mod Ranks
 pub mod ChainPlaces
 pub mod AcceptedOfSound

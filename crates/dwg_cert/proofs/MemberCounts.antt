@@ -1,4 +1,4 @@
--- The members of each block are counted one behind the other.
+-- The members of each block are counted one after the other.
 use Rattle.std.proofs.Common.{◌≡◌, ◌≢◌, refl, sym, ap, ◌∙◌, subst, ◌<◌, ◌≤◌, ◌+◌, ◌^◌, ℕ, Bool, true, false, List, [], ◌∷◌, ◌++◌, length, take, get_or, replicate, Option, Some, None, inl, inr, arith}
 use Rattle.std.specs.Prelude.{◌⊎◌, if◌then◌else◌}
 use Rattle.std.specs.List.{filter, slice_get}
@@ -21,7 +21,7 @@ use Rattle.dwg_graph.proofs.HolderLoops.{tabled}
 use Rattle.dwg_graph.proofs.PlacedObjects.{found_there}
 use Rattle.dwg_graph.proofs.Tests.{member_owner}
 use Rattle.dwg_object.specs.Objects.{ObjectValue, handle_of}
-use Rattle.dwg_paths.proofs.WayLemmas.{option_then_found}
+use Rattle.dwg_chains.proofs.WayLemmas.{option_then_found}
 
 -- none are counted
 pub none_counted : (objects : List ObjectValue) (known : Option SpaceHandles) (counts : List ℕ) → counts ≡ replicate (length objects) 0 → CountsMembers objects known 0 counts
@@ -59,7 +59,7 @@ home_within objects known x home is =
     let parts = cond_some (is_member known at.0 x) owner.0 home at.2 in
     slice_get_within objects home at.0 (ap (slice_get objects) (sym parts.1) ∙ at.1)
 
--- one more object, of which a test tells whether it is counted
+-- one more object, of which a test reports whether it is counted
 counted_more : (objects : List ObjectValue) (test : ObjectValue → Bool) (i : ℕ) (x : ObjectValue) → slice_get objects i ≡ Some x
     → length (filter test (take (i + 1) objects)) ≡ length (filter test (take i objects)) + (if test x then 1 else 0)
 counted_more objects test i x stands =
@@ -135,6 +135,6 @@ all_members objects count counts most are =
 -- an object's home, by the index of handles
 pub home_by_index : (objects : List ObjectValue) (known : Option SpaceHandles) (x : ObjectValue) (index : List ℕ) (owner : ℕ) (at home : Option ℕ) → index ≡ handles_of objects → owner ≡ owner_of known x
     → at ≡ place_in index owner → home ≡ option_and_then (home_at objects known x) at → home ≡ home_place objects known x
-home_by_index objects known x index owner at home same is found told =
-    told
+home_by_index objects known x index owner at home same is found reported =
+    reported
     ∙ ap (option_and_then (home_at objects known x)) (found ∙ ap (λ (handles : List ℕ). place_in handles owner) same ∙ ap (place_in (handles_of objects)) is)

@@ -21,14 +21,14 @@ number_back bytes place all within =
     sym (le_bytes_8 (take 8 (drop place bytes)) _ eight (byte_below _ (are_bytes_at bytes place 8 all)) refl)
 
 -- the number whose bytes stand at a place is read there
-pub number_there : (bytes front rest : List ℕ) (number place : ℕ) → number < 2 ^ 64 → bytes ≡ front ++ (to_le_bytes w64 number ++ rest) → length front ≡ place → number_at bytes place ≡ number
+pub number_there : (bytes prefix rest : List ℕ) (number place : ℕ) → number < 2 ^ 64 → bytes ≡ prefix ++ (to_le_bytes w64 number ++ rest) → length prefix ≡ place → number_at bytes place ≡ number
 unfolding number_at
-number_there bytes front rest number place small whole far =
-    ap (λ piece. from_le_bytes w64 (take 8 piece)) (ap (drop place) whole ∙ drop_at front (to_le_bytes w64 number ++ rest) place far)
+number_there bytes prefix rest number place small whole far =
+    ap (λ piece. from_le_bytes w64 (take 8 piece)) (ap (drop place) whole ∙ drop_at prefix (to_le_bytes w64 number ++ rest) place far)
     ∙ ap (from_le_bytes w64) (take_at (to_le_bytes w64 number) rest 8 refl)
     ∙ from_le_bytes-to_le_bytes_8 number small
 
--- a known front, and the known piece behind it, are a longer known front
-pub front_more : (bytes front piece : List ℕ) (place count : ℕ) → take place bytes ≡ front → take count (drop place bytes) ≡ piece → take (place + count) bytes ≡ front ++ piece
-front_more bytes front piece place count known behind =
-    take-add place count bytes ∙ (ap (λ xs. xs ++ take count (drop place bytes)) known ∙ ap (λ ys. front ++ ys) behind)
+-- a known prefix, and the known piece after it, are a longer known prefix
+pub prefix_more : (bytes prefix piece : List ℕ) (place count : ℕ) → take place bytes ≡ prefix → take count (drop place bytes) ≡ piece → take (place + count) bytes ≡ prefix ++ piece
+prefix_more bytes prefix piece place count known after =
+    take-add place count bytes ∙ (ap (λ xs. xs ++ take count (drop place bytes)) known ∙ ap (λ ys. prefix ++ ys) after)

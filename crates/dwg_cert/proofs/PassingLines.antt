@@ -4,7 +4,7 @@ use Rattle.std.specs.Prelude.{Ok, Err}
 use Rattle.std.specs.Option.{option_or}
 use Rattle.std.proofs.lemmas.Bool.{not-false, not_from_true}
 use Rattle.std.proofs.lemmas.Slice.Eq.{bytes_eq-Decides}
-use Rattle.dwg_base.specs.Refusals.{Tried, Answers, Tells, refuse_if, fault_of, first_fault}
+use Rattle.dwg_base.specs.Refusals.{Tried, Answers, Reports, refuse_if, fault_of, first_fault}
 use Rattle.dwg_base.specs.declared.refusal.Refusal.{Refusal}
 use Rattle.dwg_base.specs.declared.refusal.Fault.{Fault}
 use Rattle.dwg_base.specs.declared.refusal.Fault.TheVariants.{NoMemory, Refused}
@@ -69,8 +69,8 @@ room_from_none bytes none =
     (room_from_lines bytes short.0 begin.0 long.0, (both_none (entry_line bytes) None long.1).0)
 
 -- where the three lines before the entries give none, the input has room
-pub room_from_front : (bytes : List ℕ) → option_or (short_line bytes) (option_or (begin_line bytes) (option_or (length_line bytes) None)) ≡ None → HasRoom bytes
-room_from_front bytes none =
+pub room_from_prefix : (bytes : List ℕ) → option_or (short_line bytes) (option_or (begin_line bytes) (option_or (length_line bytes) None)) ≡ None → HasRoom bytes
+room_from_prefix bytes none =
     let short = both_none (short_line bytes) _ none in
     let begin = both_none (begin_line bytes) _ short.1 in
     room_from_lines bytes short.0 begin.0 (both_none (length_line bytes) None begin.1).0
@@ -89,8 +89,8 @@ read_of_none bytes none = given (tried_certificate bytes) refl none
     given (Ok entries) same none = (entries, same)
     given (Err refusal) same none = absurd cc
 
--- a fault in reading the entries tells the first line that fails
-pub fault_tells : (bytes : List ℕ) (fault : Fault) → HasRoom bytes → Answers {V = List Entry} (Err fault) (tried_certificate bytes) → Tells fault (first_fault CERTIFICATE_LINES bytes)
+-- a fault in reading the entries reports the first line that fails
+pub fault_reports : (bytes : List ℕ) (fault : Fault) → HasRoom bytes → Answers {V = List Entry} (Err fault) (tried_certificate bytes) → Reports fault (first_fault CERTIFICATE_LINES bytes)
 unfolding entry_line
-fault_tells bytes NoMemory room answers = tt
-fault_tells bytes (Refused refusal) room answers = entries_decide bytes room ∙ ap (λ (t : Tried (List Entry)). fault_of t) answers
+fault_reports bytes NoMemory room answers = tt
+fault_reports bytes (Refused refusal) room answers = entries_decide bytes room ∙ ap (λ (t : Tried (List Entry)). fault_of t) answers

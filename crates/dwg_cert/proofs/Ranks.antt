@@ -10,11 +10,11 @@ use Rattle.dwg_graph.specs.Places.{handles_of}
 use Rattle.dwg_graph.proofs.ListLemmas.{contains_map}
 use Rattle.dwg_graph.proofs.Tests.{owners_closed}
 use Rattle.dwg_object.specs.Objects.{ObjectValue, handle_of}
-use Rattle.dwg_paths.specs.Paths.{HasRank}
-use Rattle.dwg_paths.specs.Ways.{way, IsClosed}
-use Rattle.dwg_paths.proofs.PathLaws.{straight_is_short}
-use Rattle.dwg_paths.proofs.RankLemmas.{straight_of_rank, rank_of_straight}
-use Rattle.dwg_paths.proofs.WayLemmas.{straight_is_found, found_is_straight, option_map_found}
+use Rattle.dwg_chains.specs.Paths.{HasRank}
+use Rattle.dwg_chains.specs.Ways.{way, IsClosed}
+use Rattle.dwg_chains.proofs.PathLaws.{straight_is_short}
+use Rattle.dwg_chains.proofs.RankLemmas.{straight_of_rank, rank_of_straight}
+use Rattle.dwg_chains.proofs.WayLemmas.{straight_is_found, found_is_straight, option_map_found}
 
 -- as many steps as the way has that is found in so many as there are things lead to a goal
 pub rank_of_way : {A : Type 0} (step : A → Option A) (goal : A → Bool) (count : ℕ) (x : A) (rank : ℕ) → option_map (λ (path : List A). length path - 1) (way step goal count x) ≡ Some rank → HasRank step goal x rank

@@ -14,8 +14,8 @@ use Rattle.dwg_graph.specs.Places.{Ascend, handles_of}
 use Rattle.dwg_graph.proofs.ListLemmas.{contains_map, none_of_empty}
 use Rattle.dwg_graph.proofs.Tests.{object_found}
 use Rattle.dwg_object.specs.Objects.{ObjectValue, handle_of}
-use Rattle.dwg_paths.specs.Numbered.{FallToGoals, RiseAlong}
-use Rattle.dwg_paths.proofs.Numbering.{path_of_number, chain_of_numbers}
+use Rattle.dwg_chains.specs.Numbered.{FallToGoals, RiseAlong}
+use Rattle.dwg_chains.proofs.Numbering.{path_of_number, chain_of_numbers}
 
 -- the handle of a root passes the test for roots
 root_found : (objects : List ObjectValue) (handle : ℕ) (x : ObjectValue) → object_at objects handle ≡ Some x → IsTrue (is_root (spaces objects) x) → IsTrue (root_at objects (spaces objects) handle)
@@ -29,9 +29,9 @@ unfolding owner_step
 owner_next objects handle x owner found next = step_leads objects (owner_of (spaces objects)) handle x owner found next
 
 -- what follows an object in a block is the next in a chain
-block_next : (objects : List ObjectValue) (handle : ℕ) (x behind : ObjectValue) → object_at objects handle ≡ Some x → object_at objects (next_of x) ≡ Some behind → next_step objects handle ≡ Some (next_of x)
+block_next : (objects : List ObjectValue) (handle : ℕ) (x after : ObjectValue) → object_at objects handle ≡ Some x → object_at objects (next_of x) ≡ Some after → next_step objects handle ≡ Some (next_of x)
 unfolding next_step
-block_next objects handle x behind found next = step_leads objects next_of handle x behind found next
+block_next objects handle x after found next = step_leads objects next_of handle x after found next
 
 -- accepted ranks fall along owners to roots
 ranks_fall_to_roots : (objects : List ObjectValue) (cert : List Entry) → Ascend (handles_of objects) → Accepts objects cert

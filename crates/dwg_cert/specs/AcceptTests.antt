@@ -11,7 +11,7 @@ use Rattle.dwg_graph.specs.Slots.{slots}
 use Rattle.dwg_graph.specs.Tests.{is_met, is_exempt, is_claimed}
 use Rattle.dwg_kinds.specs.declared.field.Field.TheVariants as fields
 use Rattle.dwg_object.specs.Objects.{ObjectValue, handle_of}
-use Rattle.dwg_paths.specs.Tables.{is_at}
+use Rattle.dwg_chains.specs.Tables.{is_at}
 
 -- the handles of entries are those of objects
 unfoldable pub are_handles : List Entry → List ObjectValue → Bool
@@ -31,7 +31,7 @@ is_ranked objects cert x = option_map_or (is_rank objects cert x) (rank_at cert 
 unfoldable pub is_member_at : List ObjectValue → List Entry → ObjectValue → ℕ → ℕ → Bool
 is_member_at objects cert block handle place = option_map_or (is_member (spaces objects) block) (object_at objects handle) false && is_at (place_at cert handle) place
 
--- a place is right of a member of a block: what follows it is the member of the place behind, where that is below the count of members, and else it is the last
+-- a place is right of a member of a block: what follows it is the member of the place after, where that is below the count of members, and else it is the last
 unfoldable pub is_place : List ObjectValue → List Entry → ObjectValue → EndHandles → ObjectValue → ℕ → Bool
 is_place objects cert block ends x place =
     if nat_lt (place + 1) (length (members_of objects block)) then is_member_at objects cert block (next_of x) (place + 1)
@@ -71,5 +71,5 @@ unfoldable pub is_accepted : List ObjectValue → List Entry → Bool
 is_accepted objects cert = are_handles cert objects && ((length (block_controls objects) == 1) && list_all (is_right objects cert) objects)
 
 -- the tests say whether a certificate is one of these objects
-abbrev pub AcceptanceIsTold : Type 0
-AcceptanceIsTold = (objects : List ObjectValue) (cert : List Entry) → Ascend (handles_of objects) → IsTrue (is_accepted objects cert) ↔ Accepts objects cert
+abbrev pub AcceptanceIsReported : Type 0
+AcceptanceIsReported = (objects : List ObjectValue) (cert : List Entry) → Ascend (handles_of objects) → IsTrue (is_accepted objects cert) ↔ Accepts objects cert

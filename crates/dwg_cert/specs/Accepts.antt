@@ -44,7 +44,7 @@ pub record IsMemberAt (objects : List ObjectValue) (cert : List Entry) (block : 
   pub has : handle_of member ≡ handle
   pub placed : place_at cert handle ≡ Some place
 
--- places go along the members of a block from its first to its last: the first is a member of place 0; each member has a place below their count; what follows a member in the block is the member of the place behind, where that is below their count too; and else the member is the last
+-- places go along the members of a block from its first to its last: the first is a member of place 0; each member has a place below their count; what follows a member in the block is the member of the place after, where that is below their count too; and else the member is the last
 pub record AreInPlace (objects : List ObjectValue) (cert : List Entry) (block : ObjectValue) (ends : EndHandles) : Type 0 where
   pub first : IsMemberAt objects cert block ends.first 0
   pub below : (x : ObjectValue) → Contains (members_of objects block) x → (place : ℕ) × (place_at cert (handle_of x) ≡ Some place) × (place < length (members_of objects block))

@@ -6,7 +6,7 @@ use Rattle.dwg_base.specs.declared.refusal.Refusal.{Refusal}
 use Rattle.dwg_cert.specs.declared.entry.Entry.{Entry}
 use Rattle.dwg_cert.specs.Certificates.{IsCertificate, HaveHandles}
 use Rattle.dwg_cert.specs.WrittenForm.{BeginsWithCertificate, certificate_bytes, size_of}
-use Rattle.dwg_cert.specs.CertificateLines.{CERTIFICATE_LINES, RefusesEntry, behind_certificate, tried_certificate}
+use Rattle.dwg_cert.specs.CertificateLines.{CERTIFICATE_LINES, RefusesEntry, after_certificate, tried_certificate}
 
 -- the input begins with the form of some certificate
 abbrev pub HasCertificate : List ℕ → Type 0
@@ -16,19 +16,19 @@ HasCertificate bytes = (entries : List Entry) × (rest : List ℕ) × BeginsWith
 abbrev pub LinesAreExact : Type 0
 LinesAreExact = (bytes : List ℕ) → AreBytes bytes → (first_fault CERTIFICATE_LINES bytes ≡ None) ↔ HasCertificate bytes
 
--- bytes in which no line fails begin with the certificate that is read, and the rest stands behind it
+-- bytes in which no line fails begin with the certificate that is read, and the rest stands after it
 abbrev pub PassingBytesBeginWithCertificate : Type 0
 PassingBytesBeginWithCertificate =
     (bytes : List ℕ) (entries : List Entry) → AreBytes bytes → first_fault CERTIFICATE_LINES bytes ≡ None → tried_certificate bytes ≡ Ok entries
-    → BeginsWithCertificate bytes entries (behind_certificate entries bytes)
+    → BeginsWithCertificate bytes entries (after_certificate entries bytes)
 
--- where an input begins with the form of a certificate, no line fails, that certificate is read, and the rest is what stands behind it
+-- where an input begins with the form of a certificate, no line fails, that certificate is read, and the rest is what stands after it
 abbrev pub CertificateIsRead : Type 0
 CertificateIsRead =
     (bytes : List ℕ) (entries : List Entry) (rest : List ℕ) → BeginsWithCertificate bytes entries rest
-    → (first_fault CERTIFICATE_LINES bytes ≡ None) × (tried_certificate bytes ≡ Ok entries) × (behind_certificate entries bytes ≡ rest)
+    → (first_fault CERTIFICATE_LINES bytes ≡ None) × (tried_certificate bytes ≡ Ok entries) × (after_certificate entries bytes ≡ rest)
 
--- an input begins with the form of at most one certificate, and so there is one rest behind it
+-- an input begins with the form of at most one certificate, and so there is one rest after it
 abbrev pub CertificateIsUnique : Type 0
 CertificateIsUnique =
     (bytes : List ℕ) (entries others : List Entry) (rest more : List ℕ) → BeginsWithCertificate bytes entries rest → BeginsWithCertificate bytes others more

@@ -42,8 +42,8 @@ abbrev pub unstored : ℕ → Option ℕ
 unstored number = if number == 0 then None else Some (number - 1)
 
 -- the entry of an index
-unfoldable pub entry_told_at : List ℕ → ℕ → Entry
-entry_told_at bytes index = record {
+unfoldable pub entry_stated_at : List ℕ → ℕ → Entry
+entry_stated_at bytes index = record {
   handle = stored_handle_at bytes index;
   rank = unstored (stored_rank_at bytes index);
   chain = unstored (stored_chain_at bytes index);
@@ -66,7 +66,7 @@ entry_refusal index = record { line = 37; index = index; place = size_of index }
 
 -- the entries that the input says its certificate has
 unfoldable pub entries_at : List ℕ → List Entry
-entries_at bytes = map (entry_told_at bytes) (range_with_len 0 (count_at bytes))
+entries_at bytes = map (entry_stated_at bytes) (range_with_len 0 (count_at bytes))
 
 -- the first of them that fails
 unfoldable pub first_failing : List ℕ → Option ℕ
@@ -89,9 +89,9 @@ entry_line bytes = fault_of (tried_certificate bytes)
 abbrev pub CERTIFICATE_LINES : List RefusalRow
 CERTIFICATE_LINES = short_line ∷ begin_line ∷ length_line ∷ entry_line ∷ []
 
--- what stands behind the certificate of these entries
-abbrev pub behind_certificate : List Entry → List ℕ → List ℕ
-behind_certificate entries bytes = drop (size_of (length entries)) bytes
+-- what stands after the certificate of these entries
+abbrev pub after_certificate : List Entry → List ℕ → List ℕ
+after_certificate entries bytes = drop (size_of (length entries)) bytes
 
 -- the handle of the entry of an index isn't above that of the entry before it, if there is one
 abbrev pub IsNotAbove : List ℕ → ℕ → Type 0
@@ -106,6 +106,6 @@ EntryFails bytes index =
 pub record RefusesEntry (bytes : List ℕ) (refusal : Refusal) : Type 0 where
   pub index : ℕ
   pub inside : index < count_at bytes
-  pub tells : refusal ≡ entry_refusal index
+  pub reports : refusal ≡ entry_refusal index
   pub fails : EntryFails bytes index
   pub first : (earlier : ℕ) → earlier < index → EntryFails bytes earlier → ⊥

@@ -10,8 +10,8 @@ use Rattle.dwg_graph.specs.Placed.{place_in}
 use Rattle.dwg_graph.specs.Places.{Ascend, handles_of}
 use Rattle.dwg_graph.specs.Sound.{IsSound}
 use Rattle.dwg_object.specs.Objects.{ObjectValue, handle_of}
-use Rattle.dwg_paths.specs.Paths.{HasRank, IsChain}
-use Rattle.dwg_paths.specs.Ways.{way}
+use Rattle.dwg_chains.specs.Paths.{HasRank, IsChain}
+use Rattle.dwg_chains.specs.Ways.{way}
 
 -- how many owners lead from an object to a root
 unfoldable pub rank_of : List ObjectValue → ObjectValue → Option ℕ

@@ -7,7 +7,7 @@ use Rattle.dwg_graph.specs.Graph.{object_at, there, is_member, EndHandles, ends_
 use Rattle.dwg_graph.specs.Owners.{spaces, owner_of, next_of}
 use Rattle.dwg_graph.specs.Placed.{owner_table}
 use Rattle.dwg_object.specs.Objects.{ObjectValue, handle_of}
-use Rattle.dwg_paths.specs.Ways.{way}
+use Rattle.dwg_chains.specs.Ways.{way}
 
 -- how many steps lead from a handle to that of an object that passes a test, where each object leads to a handle
 unfoldable pub steps_to : List ObjectValue → (ObjectValue → ℕ) → (ObjectValue → Bool) → ℕ → Option ℕ

@@ -91,14 +91,14 @@ fn tested(alloc: Global, objects: &[Object<'_>], entries: &[Entry]) -> Result<bo
 
 /// Whether a certificate is one of these objects (a rule of this project): exactly where it has an entry for each of them, its ranks lead
 /// to roots and its places follow the chains of blocks, and what needs no certificate holds. Then the references of the objects hold
-/// together, whoever made the certificate. The only refusal is want of memory.
+/// together, whoever made the certificate. Err: out of memory.
 pub fn accepts(alloc: Global, objects: &[Object<'_>], cert: &Certificate) -> Result<bool, NoMemory>
     requires ascending { Ascend (handles_of (map value_of objects.now)) }
     requires whole { AllByRecursion IsWhole (map value_of objects.now) }
     requires few { length objects.now + reference_count (map value_of objects.now) < 2 ^ 58 }
     // It is true exactly where the certificate is one of these objects, and by the tests that say so.
     ensures accepted { IfOk result (λ is. IsTrue is ↔ Accepts (map value_of objects.now) cert.now) }
-    ensures told { IfOk result (λ is. is ≡ is_accepted (map value_of objects.now) cert.now) }
+    ensures reported { IfOk result (λ is. is ≡ is_accepted (map value_of objects.now) cert.now) }
 
     // What is accepted is sound.
     ensures sound { IfOk result (λ is. IsTrue is → IsSound (map value_of objects.now)) }

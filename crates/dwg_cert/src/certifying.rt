@@ -11,14 +11,14 @@ ghost use Rattle.dwg_graph.specs.Places.{Ascend, handles_of};
 ghost use Rattle.dwg_graph.specs.Sound.{IsSound};
 ghost use Rattle.dwg_object.specs.Objects.{value_of};
 ghost use Rattle.dwg_object.specs.Written.{IsWhole};
-ghost use Rattle.dwg_paths.specs.Tables.{leads};
+ghost use Rattle.dwg_chains.specs.Tables.{leads};
 
 use crate::acceptance::acceptance_laws;
 use crate::accepting::accepts;
 use crate::certificate::Certificate;
 use crate::entry::Entry;
 use crate::placing::{Indexed, Tables};
-use dwg_base::{Handle, Items, NoMemory, push_item, with_room};
+use dwg_base::{Handle, Items, NoMemory, push_item, vec_with_capacity};
 use dwg_object::Object;
 use std::alloc::Global;
 
@@ -45,12 +45,12 @@ fn steps_between(from: Option<usize>, to: Option<usize>) -> Option<u64>
     }
 }
 
-/// What a table says of a place, none behind its end.
-fn told_at(table: &[Option<usize>], place: usize) -> Option<usize>
+/// What a table says of a place, none after its end.
+fn reported_at(table: &[Option<usize>], place: usize) -> Option<usize>
     ensures { result ≡ leads table.now place }
 {
     match table.get(place) {
-        Some(told) => *told,
+        Some(reported) => *reported,
         None => None,
     }
 }
@@ -62,7 +62,7 @@ fn left_at(drawing: &Indexed<'_, '_>, left: &[Option<usize>], handle: Handle) ->
     ensures { result ≡ steps_left drawing.now handle }
 {
     match drawing.place_of(handle) {
-        Some(place) => told_at(left, place),
+        Some(place) => reported_at(left, place),
         None => None,
     }
 }
@@ -88,7 +88,7 @@ fn chain_place(
 }
 
 /// The entry of the object at a place.
-#[tactic(auto, using(crate::proofs::StepTables::told_at))]
+#[tactic(auto, using(crate::proofs::StepTables::reported_at))]
 fn entry(drawing: &Indexed<'_, '_>, tables: &Tables, object: &Object<'_>, place: usize) -> Entry
     requires tables { AreTables drawing.now tables.now.owners.items tables.now.ranks.items tables.now.left.items }
     requires there { slice_get drawing.now place ≡ Some (value_of object.now) }
@@ -107,7 +107,7 @@ fn entry(drawing: &Indexed<'_, '_>, tables: &Tables, object: &Object<'_>, place:
     }
 }
 
-/// The entries of all objects. The only refusal is want of memory.
+/// The entries of all objects. Err: out of memory.
 #[tactic(auto, unfolding(crate::specs::Drawn::drawn), using(dwg_graph::proofs::Counting::value_there))]
 fn entries(
     alloc: Global,
@@ -117,14 +117,14 @@ fn entries(
     requires tables { AreTables drawing.now tables.now.owners.items tables.now.ranks.items tables.now.left.items }
     ensures { IfOk result (λ entries. entries ≡ drawn drawing.now) }
 {
-    let mut entries = with_room(alloc, drawing.objects.len())?;
+    let mut entries = vec_with_capacity(alloc, drawing.objects.len())?;
     'along: for (place, object) in drawing.objects.iter().enumerate() {
         push_item(&mut entries, entry(drawing, tables, object, place))?;
     }
     Ok(Items::from_vec(entries))
 }
 
-/// The certificate that is drawn up of objects, whether their references hold together or not. The only refusal is want of memory.
+/// The certificate that is drawn up of objects, whether their references hold together or not. Err: out of memory.
 #[tactic(auto, using(crate::proofs::DrawnUp::drawn_of_sound))]
 fn draw_up(alloc: Global, objects: &[Object<'_>]) -> Result<Certificate, NoMemory>
     requires ascending { Ascend (handles_of (map value_of objects.now)) }
@@ -141,7 +141,7 @@ fn draw_up(alloc: Global, objects: &[Object<'_>]) -> Result<Certificate, NoMemor
 }
 
 /// The certificate of objects (a rule of this project), None exactly where their references don't hold together: of each its handle, how
-/// many owners lead from it to a root, and where it stands in the chain of its block. The only refusal is want of memory.
+/// many owners lead from it to a root, and where it stands in the chain of its block. Err: out of memory.
 pub fn certify(alloc: Global, objects: &[Object<'_>]) -> Result<Option<Certificate>, NoMemory>
     requires ascending { Ascend (handles_of (map value_of objects.now)) }
     requires whole { AllByRecursion IsWhole (map value_of objects.now) }

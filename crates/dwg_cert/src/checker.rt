@@ -167,7 +167,7 @@ impl<'d, 'o> Checker<'d, 'o> {
         self.is_member_of(block, handle) && self.chain_place_at(handle) == Some(place)
     }
 
-    /// Whether a place is right of a member of a block that has so many: the member of the place behind follows it, where there is
+    /// Whether a place is right of a member of a block that has so many: the member of the place after follows it, where there is
     /// such a place, and else it is the last.
     #[tactic(auto, unfolding(crate::specs::AcceptTests::is_place))]
     fn is_place(
@@ -231,7 +231,7 @@ impl<'d, 'o> Checker<'d, 'o> {
         ensures whole { (x : ObjectValue) → slice_get self.now.objects place ≡ Some x → IsWhole x }
         ensures few { (x : ObjectValue) → slice_get self.now.objects place ≡ Some x → length (slots x) < 2 ^ 58 }
     {
-        // What holds of the objects is told where a field is read.
+        // What holds of the objects is reported where a field is read.
         let _known = self.known;
     }
 

@@ -11,7 +11,8 @@ ghost use Rattle.dwg_object.specs.Objects.{value_of};
 use crate::lookup::place_of;
 use dwg_base::NoMemory;
 use dwg_graph::{
-    Claimed, Index, SpaceHandles, count_slot, home_of, owner_of, raise, slot_at, slot_count, zeros,
+    Claimed, Index, SpaceHandles, count_slot, home_of, increment, owner_of, slot_at, slot_count,
+    zeroed,
 };
 use dwg_object::Object;
 use std::alloc::Global;
@@ -38,12 +39,12 @@ fn count_member(
         object,
         place_of(index, owner_of(object, *known)),
     ) {
-        Some(home) => raise(counts, home, 1),
+        Some(home) => increment(counts, home, 1),
         None => {}
     }
 }
 
-/// How many members each block has, by place. The only refusal is want of memory.
+/// How many members each block has, by place. Err: out of memory.
 pub(crate) fn count_members(
     alloc: Global,
     objects: &[Object<'_>],
@@ -55,7 +56,7 @@ pub(crate) fn count_members(
     requires known { known.now ≡ spaces (map value_of objects.now) }
     ensures { IfOk result (λ counts. counts.items ≡ member_counts (map value_of objects.now)) }
 {
-    let mut counts = zeros(alloc, objects.len())?;
+    let mut counts = zeroed(alloc, objects.len())?;
     'along: for place in 0..objects.len() {
         count_member(objects, known, index, place, &mut counts);
     }
@@ -84,7 +85,7 @@ fn count_holder(
     }
 }
 
-/// How often each object is claimed, and how often by its owner. The only refusal is want of memory.
+/// How often each object is claimed, and how often by its owner. Err: out of memory.
 #[tactic(auto, using(dwg_graph::proofs::HolderLoops::none_counted))]
 pub(crate) fn count_claims(
     alloc: Global,

@@ -15,9 +15,9 @@ ghost use Rattle.dwg_object.specs.Objects.{value_of};
 use crate::ends::{BlockEnds, ends_of};
 use crate::lookup::place_of;
 use dwg_base::{Handle, NoMemory, push_item};
+use dwg_chains::ranks;
 use dwg_graph::{Index, SpaceHandles, is_member, is_root, next_of, owner_of, spaces};
 use dwg_object::Object;
-use dwg_paths::ranks;
 use std::alloc::Global;
 use std::marker::Model;
 
@@ -57,7 +57,7 @@ pub(crate) struct Tables {
 }
 
 impl<'d, 'o> Indexed<'d, 'o> {
-    /// Objects with their index. The only refusal is want of memory.
+    /// Objects with their index. Err: out of memory.
     pub(crate) fn build(
         alloc: Global,
         objects: &'d [Object<'o>],
@@ -80,7 +80,7 @@ impl<'d, 'o> Indexed<'d, 'o> {
         place_of(&self.index, handle)
     }
 
-    /// Where the owner of each object stands. The only refusal is want of memory.
+    /// Where the owner of each object stands. Err: out of memory.
     fn owners(&self, alloc: Global) -> Result<Vec<Option<usize>>, NoMemory>
         ensures { IfOk result (λ places. places.items ≡ owner_table self.now (spaces self.now)) }
     {
@@ -91,7 +91,7 @@ impl<'d, 'o> Indexed<'d, 'o> {
         Ok(places)
     }
 
-    /// Where what follows each object in a block stands. The only refusal is want of memory.
+    /// Where what follows each object in a block stands. Err: out of memory.
     fn next(&self, alloc: Global) -> Result<Vec<Option<usize>>, NoMemory>
         ensures { IfOk result (λ places. places.items ≡ next_table self.now) }
     {
@@ -102,7 +102,7 @@ impl<'d, 'o> Indexed<'d, 'o> {
         Ok(places)
     }
 
-    /// For each object whether it is a root. The only refusal is want of memory.
+    /// For each object whether it is a root. Err: out of memory.
     fn roots(&self, alloc: Global) -> Result<Vec<bool>, NoMemory>
         ensures { IfOk result (λ marks. marks.items ≡ root_table self.now (spaces self.now)) }
     {
@@ -153,8 +153,8 @@ impl<'d, 'o> Indexed<'d, 'o> {
         }
     }
 
-    /// For each object whether it is the last of its block. The only refusal is want of memory.
-    #[tactic(auto, using(crate::proofs::StepTables::told_at, dwg_graph::proofs::Counting::value_there))]
+    /// For each object whether it is the last of its block. Err: out of memory.
+    #[tactic(auto, using(crate::proofs::StepTables::reported_at, dwg_graph::proofs::Counting::value_there))]
     fn lasts(&self, alloc: Global, owners: &[Option<usize>]) -> Result<Vec<bool>, NoMemory>
         requires owners { owners.now ≡ owner_table self.now (spaces self.now) }
         ensures { IfOk result (λ marks. marks.items ≡ map (is_last self.now) self.now) }
@@ -166,8 +166,8 @@ impl<'d, 'o> Indexed<'d, 'o> {
         Ok(marks)
     }
 
-    /// How many owners lead from each object to a root. The only refusal is want of memory.
-    #[tactic(auto, using(dwg_graph::proofs::PlacedPaths::owners_fit, crate::proofs::StepTables::owners_told))]
+    /// How many owners lead from each object to a root. Err: out of memory.
+    #[tactic(auto, using(dwg_graph::proofs::PlacedPaths::owners_fit, crate::proofs::StepTables::owners_reported))]
     fn steps_up(
         &self,
         alloc: Global,
@@ -182,7 +182,7 @@ impl<'d, 'o> Indexed<'d, 'o> {
         ranks(alloc, owners, &roots)
     }
 
-    /// How many steps are left from each object to the last of its block. The only refusal is want of memory.
+    /// How many steps are left from each object to the last of its block. Err: out of memory.
     #[tactic(auto, using(crate::proofs::StepTables::next_fit))]
     fn steps_left(
         &self,
@@ -200,7 +200,7 @@ impl<'d, 'o> Indexed<'d, 'o> {
         Ok(steps)
     }
 
-    /// What is known of all objects. The only refusal is want of memory.
+    /// What is known of all objects. Err: out of memory.
     pub(crate) fn tables(&self, alloc: Global) -> Result<Tables, NoMemory>
         ensures { IfOk result (λ tables. AreTables self.now tables.owners.items tables.ranks.items tables.left.items) }
     {

@@ -1,9 +1,9 @@
 //! Reading certificates.
 
 ghost use Rattle.std.specs.Prelude.{◌≡◌, ◌+◌, ◌*◌, ◌≤◌, true, false, [], ◌∷◌, length, take, drop, bytes_eq, IfSome, IfNone, IfOk, IfErr, OnOk, MatchOption};
-ghost use Rattle.dwg_base.specs.Refusals.{first_fault, Answers, Tells, IsFaultOfTable, IsOfTable};
+ghost use Rattle.dwg_base.specs.Refusals.{first_fault, Answers, Reports, IsFaultOfTable, IsOfTable};
 ghost use Rattle.dwg_cert.specs.WrittenForm.{MAGIC, BeginsWithCertificate, size_of};
-ghost use Rattle.dwg_cert.specs.CertificateLines.{CERTIFICATE_LINES, count_at, number_at, unstored, entry_told_at, entry_fails, least_handle, short_line, begin_line, length_line, tried_certificate};
+ghost use Rattle.dwg_cert.specs.CertificateLines.{CERTIFICATE_LINES, count_at, number_at, unstored, entry_stated_at, entry_fails, least_handle, short_line, begin_line, length_line, tried_certificate};
 
 use crate::certificate::Certificate;
 use crate::entry::Entry;
@@ -28,7 +28,7 @@ const MOST_STORED: u64 = 1 << 62;
 pub struct ReadCertificate {
     /// The certificate.
     pub certificate: Certificate,
-    /// The place behind it, in bytes from the begin of the input.
+    /// The place after it, in bytes from the begin of the input.
     pub end: usize,
 }
 
@@ -69,7 +69,7 @@ fn has_magic(bytes: &[u8]) -> bool
 
 /// The first line that fails, of those before the entries. Where none fails, the input has all bytes of the entries.
 #[tactic(auto, unfolding(crate::specs::CertificateLines::short_line, crate::specs::CertificateLines::begin_line, crate::specs::CertificateLines::length_line))]
-fn refusal_of_front(bytes: &[u8]) -> Option<Refusal>
+fn refusal_of_prefix(bytes: &[u8]) -> Option<Refusal>
     ensures first { result ≡ first_fault (short_line ∷ begin_line ∷ length_line ∷ []) bytes.now }
     ensures outcome { MatchOption result (size_of (count_at bytes.now) ≤ length bytes.now) IsOfTable }
 {
@@ -88,7 +88,7 @@ fn refusal_of_front(bytes: &[u8]) -> Option<Refusal>
             place: 0,
         });
     }
-    // Divided, since the bytes of as many entries as it says may be more than a number can tell.
+    // Divided, since the bytes of as many entries as it says may be more than a number can report.
     let most = ((length - ENTRIES_PLACE) / ENTRY_SIZE) as u64;
     if most < count(bytes) {
         return Some(Refusal {
@@ -108,11 +108,11 @@ fn unstored(number: u64) -> Option<u64>
 }
 
 /// The entry of an index, where it doesn't fail: `least` is the least handle that it may have.
-#[tactic(auto, unfolding(crate::specs::CertificateLines::entry_fails, crate::specs::CertificateLines::entry_told_at))]
+#[tactic(auto, unfolding(crate::specs::CertificateLines::entry_fails, crate::specs::CertificateLines::entry_stated_at))]
 fn read_entry(bytes: &[u8], index: usize, least: u64) -> Option<Entry>
     requires within { size_of index + 24 ≤ length bytes.now }
     requires least { least ≡ least_handle bytes.now index }
-    ensures passes { IfSome result (λ entry. (entry_fails bytes.now index ≡ false) × (entry ≡ entry_told_at bytes.now index)) }
+    ensures passes { IfSome result (λ entry. (entry_fails bytes.now index ≡ false) × (entry ≡ entry_stated_at bytes.now index)) }
     ensures fails { IfNone result (entry_fails bytes.now index ≡ true) }
 {
     let place = ENTRIES_PLACE + ENTRY_SIZE * index;
@@ -162,21 +162,21 @@ fn read_entries(alloc: Global, bytes: &[u8], count: usize) -> Result<Items<Entry
 
 /// Reads the certificate at the begin of the input (a rule of this project). It is refused by the first of its lines that
 /// fails: the input is short, it begins with other bytes than `DWGCERT1`, it is too short for as many entries as it says, or an
-/// entry fails, and then the first such is told: its handle is 2^63 or more, or isn't above the one before it, or its rank or
+/// entry fails, and then the first such is reported: its handle is 2^63 or more, or isn't above the one before it, or its rank or
 /// its place in a chain is stored as more than 2^62. Memory is taken only for entries that are there.
 pub fn read_certificate(alloc: Global, bytes: &[u8]) -> Result<ReadCertificate, Fault>
-    // The certificate that the input begins with, and the place behind it; there is one exactly where no line on it fails.
+    // The certificate that the input begins with, and the place after it; there is one exactly where no line on it fails.
     ensures begins { IfOk result (λ read. BeginsWithCertificate bytes.now read.certificate (drop read.end bytes.now)) }
     ensures tried { IfOk result (λ read. tried_certificate bytes.now ≡ Ok read.certificate) }
     ensures end { IfOk result (λ read. read.end ≡ size_of (length read.certificate)) }
     ensures within { IfOk result (λ read. read.end ≤ length bytes.now) }
     ensures holds { OnOk result (first_fault CERTIFICATE_LINES bytes.now ≡ None) }
 
-    // The first line that fails, or want of memory.
-    ensures refused { IfErr result (λ fault. Tells fault (first_fault CERTIFICATE_LINES bytes.now)) }
+    // The first line that fails, or out of memory.
+    ensures refused { IfErr result (λ fault. Reports fault (first_fault CERTIFICATE_LINES bytes.now)) }
     ensures of_table { IfErr result IsFaultOfTable }
 {
-    if let Some(refusal) = refusal_of_front(bytes) {
+    if let Some(refusal) = refusal_of_prefix(bytes) {
         return Err(Fault::Refused(refusal));
     }
     let count = count(bytes) as usize;

@@ -67,7 +67,7 @@ fn write_entry(entry: &Entry, sink: &mut BitSink)
     put_number(stored(entry.chain), sink);
 }
 
-/// Writes entries, one behind the other.
+/// Writes entries, one after the other.
 fn write_entries(entries: &[Entry], sink: &mut BitSink)
     requires small { AllByRecursion IsSmallEntry entries.now }
     requires room { 192 * length entries.now ≤ sink.old.spare }

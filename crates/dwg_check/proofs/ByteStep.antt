@@ -65,24 +65,24 @@ tables_are : TABLES ≡ map (λ row. map (halves (8 * suc row)) (range_with_len 
 unfolding halves half turn
 tables_are = refl
 
--- a byte and bytes 0 behind it are as many bytes 0, begun as the byte
-byte_of_start : (byte behind : ℕ) → byte < 2 ^ 8 → check_word 0 (byte ∷ replicate behind 0) ≡ halves (8 * suc behind) byte
+-- a byte and bytes 0 after it are as many bytes 0, begun as the byte
+byte_of_start : (byte after : ℕ) → byte < 2 ^ 8 → check_word 0 (byte ∷ replicate after 0) ≡ halves (8 * suc after) byte
 unfolding check_word halves half
-byte_of_start byte behind h =
-    check_word_cons 0 byte (replicate behind 0)
-    ∙ ap (λ w. check_word w (replicate behind 0)) (byte_halves 0 byte h ∙ ap (halves 8) (xor_comm 0 byte ∙ xor_zero_r byte))
-    ∙ check_word_zeros (suc behind) byte
+byte_of_start byte after h =
+    check_word_cons 0 byte (replicate after 0)
+    ∙ ap (λ w. check_word w (replicate after 0)) (byte_halves 0 byte h ∙ ap (halves 8) (xor_comm 0 byte ∙ xor_zero_r byte))
+    ∙ check_word_zeros (suc after) byte
 
--- so the entry of a row at a byte is what the byte and as many bytes 0 behind it make of a word of 0
-pub entry_is : (behind byte : ℕ) → behind < 8 → byte < 2 ^ 8 → get_or (get_or TABLES behind []) byte 0 ≡ check_word 0 (byte ∷ replicate behind 0)
-entry_is behind byte some low =
-    ap (λ t. get_or (get_or t behind []) byte 0) tables_are
-    ∙ ap (λ row. get_or row byte 0) (get_or-map-range_with_len (λ row. map (halves (8 * suc row)) (range_with_len 0 256)) 0 8 behind behind [] some (omega arith))
-    ∙ get_or-map-range_with_len (halves (8 * suc behind)) 0 256 byte byte 0 low (omega arith)
-    ∙ sym (byte_of_start byte behind low)
+-- so the entry of a row at a byte is what the byte and as many bytes 0 after it make of a word of 0
+pub entry_is : (after byte : ℕ) → after < 8 → byte < 2 ^ 8 → get_or (get_or TABLES after []) byte 0 ≡ check_word 0 (byte ∷ replicate after 0)
+entry_is after byte some low =
+    ap (λ t. get_or (get_or t after []) byte 0) tables_are
+    ∙ ap (λ row. get_or row byte 0) (get_or-map-range_with_len (λ row. map (halves (8 * suc row)) (range_with_len 0 256)) 0 8 after after [] some (omega arith))
+    ∙ get_or-map-range_with_len (halves (8 * suc after)) 0 256 byte byte 0 low (omega arith)
+    ∙ sym (byte_of_start byte after low)
 
--- the check word of a byte and those behind it is that of those, begun as the word's high byte, xored with what the word's low byte
--- xored with the byte, and as many bytes 0 behind it, make of a word of 0
+-- the check word of a byte and those after it is that of those, begun as the word's high byte, xored with what the word's low byte
+-- xored with the byte, and as many bytes 0 after it, make of a word of 0
 pub byte_apart : (word byte : ℕ) (bytes : List ℕ) → byte < 2 ^ 8
     → check_word word (byte ∷ bytes)
     ≡ bit_xor (check_word 0 (bit_xor (word % 2 ^ 8) byte ∷ replicate (length bytes) 0)) (check_word (word / 2 ^ 8) bytes)
@@ -95,12 +95,12 @@ byte_apart word byte bytes h =
     let low_fits : first < 2 ^ 8 = xor_lt 8 (word % 2 ^ 8) byte (mod_below word (2 ^ 8) (omega arith)) h in
     let turned : fold turn word (low_bits_first byte) ≡ bit_xor (word / 2 ^ 8) (halves 8 first) =
     byte_halves word byte h ∙ halves_by_bytes mixed ∙ ap₂ (λ p q. bit_xor p (halves 8 q)) high low in
-    let behind : check_word (halves 8 first) (replicate (length bytes) 0) ≡ check_word 0 (first ∷ replicate (length bytes) 0) =
+    let after : check_word (halves 8 first) (replicate (length bytes) 0) ≡ check_word 0 (first ∷ replicate (length bytes) 0) =
     check_word_zeros (suc (length bytes)) first ∙ sym (byte_of_start first (length bytes) low_fits) in
     ap (λ w. check_word w bytes) turned
     ∙ check_word_xor (word / 2 ^ 8) (halves 8 first) bytes
     ∙ xor_comm (check_word (word / 2 ^ 8) bytes) (check_word (halves 8 first) (replicate (length bytes) 0))
-    ∙ ap (λ w. bit_xor w (check_word (word / 2 ^ 8) bytes)) behind
+    ∙ ap (λ w. bit_xor w (check_word (word / 2 ^ 8) bytes)) after
 
 -- the word after a byte is its high byte, xored with what its low byte xored with the byte makes of a word of 0
 pub check_word_of_byte : (word byte : ℕ) → byte < 2 ^ 8
@@ -110,7 +110,7 @@ check_word_of_byte word byte h =
     ∙ xor_comm (check_word 0 (bit_xor (word % 2 ^ 8) byte ∷ [])) (check_word (word / 2 ^ 8) [])
     ∙ ap (λ w. bit_xor w (check_word 0 (bit_xor (word % 2 ^ 8) byte ∷ []))) (check_word_none (word / 2 ^ 8))
 
--- the word after the byte at an index gives with the bytes behind it what the word before gave with the byte
+-- the word after the byte at an index gives with the bytes after it what the word before gave with the byte
 pub one_byte_less : (word : ℕ) (bytes : List ℕ) (i : ℕ) → i < length bytes
     → check_word (check_word word (get_or bytes i 0 ∷ [])) (drop (i + 1) bytes) ≡ check_word word (drop i bytes)
 one_byte_less word bytes i inside =

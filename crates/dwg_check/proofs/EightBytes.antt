@@ -8,11 +8,11 @@ use Rattle.dwg_check.specs.CheckWord.{check_word}
 use Rattle.dwg_check.proofs.CheckWordLaws.{check_word_append}
 use Rattle.dwg_check.proofs.ByteStep.{byte_apart}
 
--- what a byte and so many bytes 0 behind it make of a word of 0
+-- what a byte and so many bytes 0 after it make of a word of 0
 abbrev pub alone : ℕ → ℕ → ℕ
-alone behind byte = check_word 0 (byte ∷ replicate behind 0)
+alone after byte = check_word 0 (byte ∷ replicate after 0)
 
--- from a word of 0 a byte counts alone, so it can be xored in before those behind it
+-- from a word of 0 a byte counts alone, so it can be xored in before those after it
 next_apart : (others byte : ℕ) (bytes : List ℕ) → byte < 2 ^ 8
     → bit_xor others (check_word 0 (byte ∷ bytes)) ≡ bit_xor (bit_xor others (alone (length bytes) byte)) (check_word 0 bytes)
 next_apart others byte bytes h =
@@ -43,7 +43,7 @@ eight_apart word a b c d e f g h fits fa fb fc fd fe ff fg =
     ∙ next_apart _ f (g ∷ h ∷ []) ff
     ∙ next_apart _ g (h ∷ []) fg
 
--- the bytes from a place on are the byte there and those behind it
+-- the bytes from a place on are the byte there and those after it
 drop_one : (xs : List ℕ) (k : ℕ) → k < length xs → drop k xs ≡ get_or xs k 0 ∷ drop (k + 1) xs
 drop_one xs k inside = rw (add-one, drop-cons xs k 0)
 
@@ -65,7 +65,7 @@ next_eight xs at within =
     next : (k after : ℕ) → k + 1 ≡ after → k < length xs → drop k xs ≡ get_or xs k 0 ∷ drop after xs
     next k after is inside = drop_one xs k inside ∙ ap (λ j. get_or xs k 0 ∷ drop j xs) is
 
--- the word after the eight bytes from a place on gives with the bytes behind them what the word before gave with them
+-- the word after the eight bytes from a place on gives with the bytes after them what the word before gave with them
 pub eight_bytes_less : (word : ℕ) (bytes : List ℕ) (at : ℕ) → at + 8 ≤ length bytes → word < 2 ^ 16
     → get_or bytes at 0 < 2 ^ 8 → get_or bytes (at + 1) 0 < 2 ^ 8 → get_or bytes (at + 2) 0 < 2 ^ 8 → get_or bytes (at + 3) 0 < 2 ^ 8
     → get_or bytes (at + 4) 0 < 2 ^ 8 → get_or bytes (at + 5) 0 < 2 ^ 8 → get_or bytes (at + 6) 0 < 2 ^ 8

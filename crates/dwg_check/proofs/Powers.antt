@@ -107,5 +107,5 @@ one_bit_less k bit whole rest h within =
 pub no_bit_left : (k bit whole rest : ℕ) → k < 15 → 16 ≤ bit → bit_xor whole (applied (drop bit (get_or POWERS k [])) rest) ≡ whole
 unfolding applied
 no_bit_left k bit whole rest h all =
-    let behind : length (get_or POWERS k []) ≤ bit = omega (arith, all, row_length k h) in
-    ap (λ row. bit_xor whole (applied row rest)) (drop_all bit (get_or POWERS k []) behind) ∙ xor_zero_r whole
+    let after : length (get_or POWERS k []) ≤ bit = omega (arith, all, row_length k h) in
+    ap (λ row. bit_xor whole (applied row rest)) (drop_all bit (get_or POWERS k []) after) ∙ xor_zero_r whole

@@ -45,7 +45,7 @@ halves_apart n a b small small_too same =
     xor_apart a b (halves_none n (bit_xor a b) (xor_lt 16 a b small small_too)
     (halves_xor n a b ∙ ap (λ word. bit_xor word (halves n b)) same ∙ xor_self (halves n b)))
 
--- the check word of bytes tells its start
+-- the check word of bytes reports its start
 pub start_apart : (a b : ℕ) (bytes : List ℕ) → a < 2 ^ 16 → b < 2 ^ 16 → check_word a bytes ≡ check_word b bytes → a ≡ b
 start_apart a b bytes small small_too same =
     let change : ℕ = bit_xor b a in
@@ -75,7 +75,7 @@ two_bytes word low high h g =
 xored_apart : (word a b : ℕ) → bit_xor word a ≡ bit_xor word b → a ≡ b
 xored_apart word a b same = sym (xor_back a word) ∙ ap (bit_xor word) (xor_comm a word ∙ same ∙ xor_comm word b) ∙ xor_back b word
 
--- one byte is told by its check word
+-- one byte is reported by its check word
 one_byte_apart : (word a b : ℕ) → word < 2 ^ 16 → a < 2 ^ 8 → b < 2 ^ 8 → check_word word (a ∷ []) ≡ check_word word (b ∷ []) → a ≡ b
 one_byte_apart word a b small h g same =
     let wide : a < 2 ^ 16 = omega arith in
@@ -89,7 +89,7 @@ unfolding halves half
 halves_fit zero word h = h
 halves_fit (suc n) word h = halves_fit n (half word) (turn_fits word 0 h)
 
--- two bytes are told by their check word, as one number
+-- two bytes are reported by their check word, as one number
 two_bytes_apart : (word low high other_low other_high : ℕ) → word < 2 ^ 16 → low < 2 ^ 8 → high < 2 ^ 8 → other_low < 2 ^ 8 → other_high < 2 ^ 8
     → check_word word (low ∷ high ∷ []) ≡ check_word word (other_low ∷ other_high ∷ []) → high * 2 ^ 8 + low ≡ other_high * 2 ^ 8 + other_low
 two_bytes_apart word low high other_low other_high small h g k l same =
@@ -101,7 +101,7 @@ two_bytes_apart word low high other_low other_high small h g k l same =
     (halves_apart 8 (halves 8 a) (halves 8 b) (halves_fit 8 a fits) (halves_fit 8 b fits_too)
     (sym (two_bytes word low high h g) ∙ same ∙ two_bytes word other_low other_high k l)))
 
--- no more than two bytes are told by their check word
+-- no more than two bytes are reported by their check word
 few_apart : (word : ℕ) (here there : List ℕ) → word < 2 ^ 16 → AreBytes here → AreBytes there → length here ≡ length there → length here ≤ 2
     → check_word word here ≡ check_word word there → here ≡ there
 few_apart word [] [] small _ _ _ _ same = refl
@@ -123,9 +123,9 @@ few_apart word (a ∷ b ∷ c ∷ here) (d ∷ e ∷ there) small _ _ long few s
 few_apart word (a ∷ b ∷ []) (c ∷ d ∷ e ∷ there) small _ _ long few same = absurd (omega arith)
 
 -- bytes are bytes in each of their parts
-front_bytes : (a b : List ℕ) → AreBytes (a ++ b) → AreBytes a
-front_bytes [] b all = tt
-front_bytes (byte ∷ a) b all = (all.0, front_bytes a b all.1)
+prefix_bytes : (a b : List ℕ) → AreBytes (a ++ b) → AreBytes a
+prefix_bytes [] b all = tt
+prefix_bytes (byte ∷ a) b all = (all.0, prefix_bytes a b all.1)
 
 back_bytes : (a b : List ℕ) → AreBytes (a ++ b) → AreBytes b
 back_bytes [] b all = all
@@ -139,13 +139,13 @@ pub short_damage_shows : ShortDamageShows
 short_damage_shows start one other small first second apart same =
     let word : ℕ = check_word start apart.before in
     let fits : word < 2 ^ 16 = check_word_fits start apart.before small in
-    let split : (part : List ℕ) → check_word start (apart.before ++ part ++ apart.behind) ≡ check_word (check_word word part) apart.behind =
-    λ part. check_word_append start (apart.before ++ part) apart.behind ∙ ap (λ w. check_word w apart.behind) (check_word_append start apart.before part) in
+    let split : (part : List ℕ) → check_word start (apart.before ++ part ++ apart.after) ≡ check_word (check_word word part) apart.after =
+    λ part. check_word_append start (apart.before ++ part) apart.after ∙ ap (λ w. check_word w apart.after) (check_word_append start apart.before part) in
     let middle : check_word word apart.here ≡ check_word word apart.there =
-    start_apart (check_word word apart.here) (check_word word apart.there) apart.behind (check_word_fits word apart.here fits) (check_word_fits word apart.there fits)
+    start_apart (check_word word apart.here) (check_word word apart.there) apart.after (check_word_fits word apart.here fits) (check_word_fits word apart.there fits)
     (sym (split apart.here) ∙ ap (check_word start) (sym apart.first) ∙ same ∙ ap (check_word start) apart.second ∙ split apart.there) in
-    let all_here : AreBytes apart.here = back_bytes apart.before apart.here (front_bytes (apart.before ++ apart.here) apart.behind (subst AreBytes apart.first first)) in
-    let all_there : AreBytes apart.there = back_bytes apart.before apart.there (front_bytes (apart.before ++ apart.there) apart.behind (subst AreBytes apart.second second)) in
+    let all_here : AreBytes apart.here = back_bytes apart.before apart.here (prefix_bytes (apart.before ++ apart.here) apart.after (subst AreBytes apart.first first)) in
+    let all_there : AreBytes apart.there = back_bytes apart.before apart.there (prefix_bytes (apart.before ++ apart.there) apart.after (subst AreBytes apart.second second)) in
     apart.differ (few_apart word apart.here apart.there fits all_here all_there apart.long apart.few middle)
 
 -- two bytes follow a word and come to 0 exactly where they are that word
@@ -180,13 +180,13 @@ sealed_is_zero start bytes seal small _ all long =
     (λ is. check_word_append start bytes seal ∙ of_word.0 is, λ none. of_word.1 (sym (check_word_append start bytes seal) ∙ none))
 
 pub damage_under_seal_shows : DamageUnderSealShows
-damage_under_seal_shows start front body seal other word small all_front all_body all_seal all_other all_word long long_too apart is is_too =
-    let begun : ℕ = check_word start front in
-    let split : (a b : List ℕ) → check_word begun (a ++ b) ≡ check_word start ((front ++ a) ++ b) =
-    λ a b. sym (check_word_append start front (a ++ b)) ∙ ap (check_word start) (sym (append_assoc front a b)) in
+damage_under_seal_shows start prefix body seal other word small all_prefix all_body all_seal all_other all_word long long_too apart is is_too =
+    let begun : ℕ = check_word start prefix in
+    let split : (a b : List ℕ) → check_word begun (a ++ b) ≡ check_word start ((prefix ++ a) ++ b) =
+    λ a b. sym (check_word_append start prefix (a ++ b)) ∙ ap (check_word start) (sym (append_assoc prefix a b)) in
     let none : check_word begun (body ++ seal) ≡ 0 =
-    split body seal ∙ (sealed_is_zero start (front ++ body) seal small (both_bytes front body all_front all_body) all_seal long).0 is in
+    split body seal ∙ (sealed_is_zero start (prefix ++ body) seal small (both_bytes prefix body all_prefix all_body) all_seal long).0 is in
     let none_too : check_word begun (other ++ word) ≡ 0 =
-    split other word ∙ (sealed_is_zero start (front ++ other) word small (both_bytes front other all_front all_other) all_word long_too).0 is_too in
-    short_damage_shows begun (body ++ seal) (other ++ word) (check_word_fits start front small) (both_bytes body seal all_body all_seal) (both_bytes other word all_other all_word)
+    split other word ∙ (sealed_is_zero start (prefix ++ other) word small (both_bytes prefix other all_prefix all_other) all_word long_too).0 is_too in
+    short_damage_shows begun (body ++ seal) (other ++ word) (check_word_fits start prefix small) (both_bytes body seal all_body all_seal) (both_bytes other word all_other all_word)
     apart (none ∙ sym none_too)

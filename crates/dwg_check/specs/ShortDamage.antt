@@ -9,9 +9,9 @@ pub record DifferShortly (one other : List ℕ) : Type 0 where
   pub before : List ℕ
   pub here : List ℕ
   pub there : List ℕ
-  pub behind : List ℕ
-  pub first : one ≡ before ++ here ++ behind
-  pub second : other ≡ before ++ there ++ behind
+  pub after : List ℕ
+  pub first : one ≡ before ++ here ++ after
+  pub second : other ≡ before ++ there ++ after
   pub long : length here ≡ length there
   pub few : length here ≤ 2
   pub differ : here ≢ there
@@ -31,7 +31,7 @@ SealedIsZero =
 -- so of bytes that carry their check word and others that differ shortly from them, check word included, only one carries it
 abbrev pub DamageUnderSealShows : Type 0
 DamageUnderSealShows =
-    (start : ℕ) (front body seal other word : List ℕ)
-    → start < 2 ^ 16 → AreBytes front → AreBytes body → AreBytes seal → AreBytes other → AreBytes word → length seal ≡ 2 → length word ≡ 2
+    (start : ℕ) (prefix body seal other word : List ℕ)
+    → start < 2 ^ 16 → AreBytes prefix → AreBytes body → AreBytes seal → AreBytes other → AreBytes word → length seal ≡ 2 → length word ≡ 2
     → DifferShortly (body ++ seal) (other ++ word)
-    → seal ≡ to_le_bytes w16 (check_word start (front ++ body)) → word ≡ to_le_bytes w16 (check_word start (front ++ other)) → ⊥
+    → seal ≡ to_le_bytes w16 (check_word start (prefix ++ body)) → word ≡ to_le_bytes w16 (check_word start (prefix ++ other)) → ⊥

@@ -12,7 +12,7 @@ use std::alloc::Global;
 use std::marker::Model;
 use std::sync::ledger::Ledger;
 
-/// The check word of each front of the bytes, begun as 0, from the empty one to all. The only refusal is want of memory.
+/// The check word of each prefix of the bytes, begun as 0, from the empty one to all. Err: out of memory.
 #[tactic(auto, using(crate::proofs::PrefixWords::one_prefix_more, crate::proofs::PrefixWords::one_byte_more))]
 fn words_of(alloc: Global, bytes: &[u8]) -> Result<Vec<u16>, NoMemory>
     ensures { IfOk result (λ words. words.items ≡ prefix_words bytes.now) }
@@ -33,7 +33,7 @@ fn words_of(alloc: Global, bytes: &[u8]) -> Result<Vec<u16>, NoMemory>
     Ok(words)
 }
 
-/// The check words of the spans of a run of bytes (a rule of this project: it keeps the word of each front of the bytes, two bytes of
+/// The check words of the spans of a run of bytes (a rule of this project: it keeps the word of each prefix of the bytes, two bytes of
 /// memory for each byte). Contracts see the bytes.
 #[derive(Drop)]
 pub struct SpanChecks<'a> {
@@ -53,7 +53,7 @@ impl<'a> Model for SpanChecks<'a> {
 }
 
 impl<'a> SpanChecks<'a> {
-    /// The check words of the spans of the bytes. The only refusal is want of memory.
+    /// The check words of the spans of the bytes. Err: out of memory.
     pub fn build(alloc: Global, bytes: &'a [u8]) -> Result<SpanChecks<'a>, NoMemory>
         ensures { IfOk result (λ checks. checks ≡ bytes.now) }
     {

@@ -1,4 +1,4 @@
-//! The check word's tables: what a byte makes of a word of 0, alone and with further bytes of 0 behind it.
+//! The check word's tables: what a byte makes of a word of 0, alone and with further bytes of 0 after it.
 
 ghost use Rattle.std.specs.Prelude.{◌≡◌, ◌<◌, ◌≤◌, ◌+◌, [], ◌∷◌, length, drop, replicate};
 ghost use Rattle.dwg_check.specs.CheckWord.{check_word};
@@ -216,13 +216,13 @@ const TABLES: [[u16; 256]; 8] = [
     ],
 ];
 
-/// What a byte and so many bytes of 0 behind it make of a word of 0.
+/// What a byte and so many bytes of 0 after it make of a word of 0.
 #[tactic(auto, using(crate::proofs::ByteStep::entry_is))]
-fn entry(behind: usize, byte: u8) -> u16
-    requires { behind < 8 }
-    ensures { result ≡ check_word 0 (byte ∷ replicate behind 0) }
+fn entry(after: usize, byte: u8) -> u16
+    requires { after < 8 }
+    ensures { result ≡ check_word 0 (byte ∷ replicate after 0) }
 {
-    TABLES[behind][usize::from(byte)]
+    TABLES[after][usize::from(byte)]
 }
 
 /// The word after one byte.
@@ -234,7 +234,7 @@ pub fn after_byte(word: u16, byte: u8) -> u16
 }
 
 /// The word after the eight bytes from a place on, in one step (slicing by eight). The check word is linear, so each byte can be looked
-/// up alone, in the row for the bytes behind it; the word itself counts with the first two.
+/// up alone, in the row for the bytes after it; the word itself counts with the first two.
 #[tactic(auto, using(crate::proofs::EightBytes::eight_bytes_less))]
 pub(crate) fn after_eight(word: u16, bytes: &[u8], at: usize) -> u16
     requires { at + 8 ≤ length bytes.now }

@@ -68,26 +68,26 @@ numbered_class_is_lawful = lawful_of_code AnyLetters numbered_class numbered_cla
 
 -- a BS has at least two bits
 length_of_bs : (value : ℕ) (letters : List Bool) → bs.Spells value letters → 2 ≤ length letters
-length_of_bs value letters (tag, front, back, first, behind, same) = omega (arith, first.0, ap length same, length-append front back)
+length_of_bs value letters (tag, prefix, back, first, after, same) = omega (arith, first.0, ap length same, length-append prefix back)
 
--- and behind its tag 16, where its value is a number of a class
-length_behind_tag : (tag value : ℕ) (back : List Bool) → LEAST_NUMBER ≤ value → (bs_by tag).Spells value back → 16 ≤ length back
-length_behind_tag zero value back enough spelled = omega (arith, rs_is_code.least back value spelled, length_of_rs value)
-length_behind_tag (suc zero) value back enough spelled = absurd (omega (arith, rc_is_code.value back value spelled))
-length_behind_tag (suc (suc zero)) value back enough spelled = absurd (omega (arith, spelled.0))
-length_behind_tag (suc (suc (suc zero))) value back enough spelled = absurd (omega (arith, spelled.0))
-length_behind_tag (suc (suc (suc (suc tag)))) value back enough spelled = absurd spelled
+-- and after its tag 16, where its value is a number of a class
+length_after_tag : (tag value : ℕ) (back : List Bool) → LEAST_NUMBER ≤ value → (bs_by tag).Spells value back → 16 ≤ length back
+length_after_tag zero value back enough spelled = omega (arith, rs_is_code.least back value spelled, length_of_rs value)
+length_after_tag (suc zero) value back enough spelled = absurd (omega (arith, rc_is_code.value back value spelled))
+length_after_tag (suc (suc zero)) value back enough spelled = absurd (omega (arith, spelled.0))
+length_after_tag (suc (suc (suc zero))) value back enough spelled = absurd (omega (arith, spelled.0))
+length_after_tag (suc (suc (suc (suc tag)))) value back enough spelled = absurd spelled
 
 -- so 18 in all
 length_of_number : (value : ℕ) (letters : List Bool) → LEAST_NUMBER ≤ value → bs.Spells value letters → 18 ≤ length letters
-length_of_number value letters enough (tag, front, back, first, behind, same) =
-    omega (arith, length_behind_tag tag value back enough behind, first.0, ap length same, length-append front back)
+length_of_number value letters enough (tag, prefix, back, first, after, same) =
+    omega (arith, length_after_tag tag value back enough after, first.0, ap length same, length-append prefix back)
 
 -- a TV has at least two bits
 length_of_tv : (text : List ℕ) (letters : List Bool) → tv.Spells text letters → 2 ≤ length letters
 unfolding tv
-length_of_tv text letters (inner, seen, (front, back, first, behind, same)) =
-    omega (arith, length_of_bs inner.0 front first, ap length same, length-append front back)
+length_of_tv text letters (inner, seen, (prefix, back, first, after, same)) =
+    omega (arith, length_of_bs inner.0 prefix first, ap length same, length-append prefix back)
 
 -- a B has one bit
 length_of_b : (value : Bool) (letters : List Bool) → b.Spells value letters → length letters ≡ 1

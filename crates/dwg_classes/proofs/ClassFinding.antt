@@ -5,7 +5,7 @@ use Rattle.std.specs.List.{position, position_from}
 use Rattle.std.proofs.lemmas.Bool.Decides.{Decides-eqb}
 use Rattle.std.proofs.lemmas.Iterator.Adapters.{position_from-zero}
 use Rattle.dwg_base.specs.FirstItem.{HaveOther}
-use Rattle.dwg_base.proofs.FirstItem.{other_number, first_in_front, first_behind}
+use Rattle.dwg_base.proofs.FirstItem.{other_number, first_before, first_after}
 use Rattle.dwg_classes.specs.declared.class.Class.{Class}
 use Rattle.dwg_classes.specs.FirstClass.{number_of, IsFirst}
 
@@ -14,36 +14,36 @@ abbrev IsFound : List Class → ℕ → ℕ → Option ℕ → Type 0
 IsFound classes number from (Some place) = (more : ℕ) × (place ≡ from + more) × IsFirst classes number more
 IsFound classes number from None = HaveOther number_of number classes
 
--- one class more in front, by what its test says
-one_in_front : (class : Class) (classes : List Class) (number from : ℕ) (test : Bool) (others : Option ℕ) → (class.number == number) ≡ test → IsFound classes number (from + 1) others
+-- one class more before, by what its test says
+one_before : (class : Class) (classes : List Class) (number from : ℕ) (test : Bool) (others : Option ℕ) → (class.number == number) ≡ test → IsFound classes number (from + 1) others
     → IsFound (class ∷ classes) number from (cond test (Some from) others)
-one_in_front class classes number from true others passed behind = (
+one_before class classes number from true others passed after = (
   0,
   omega arith,
   record {
     class = class;
     before = [];
-    first = first_in_front number_of class classes number ((Decides-eqb class.number number).0 passed);
+    first = first_before number_of class classes number ((Decides-eqb class.number number).0 passed);
     far = refl;
   },
 )
-one_in_front class classes number from false (Some place) failed (more, at, is) = (
+one_before class classes number from false (Some place) failed (more, at, is) = (
   more + 1,
   omega (arith, at),
   record {
     class = is.class;
     before = class ∷ is.before;
-    first = first_behind number_of class is.class classes is.before number (other_number class.number number failed) is.first;
+    first = first_after number_of class is.class classes is.before number (other_number class.number number failed) is.first;
     far = omega (arith, is.far);
   },
 )
-one_in_front class classes number from false None failed behind = (other_number class.number number failed, behind)
+one_before class classes number from false None failed after = (other_number class.number number failed, after)
 
 -- the first place from a place on
 found_from : (classes : List Class) (number from : ℕ) → IsFound classes number from (position_from (λ (class : Class). class.number == number) from classes)
 found_from [] number from = tt
 found_from (class ∷ classes) number from =
-    one_in_front class classes number from (class.number == number) (position_from (λ (class : Class). class.number == number) (from + 1) classes) refl (found_from classes number (from + 1))
+    one_before class classes number from (class.number == number) (position_from (λ (class : Class). class.number == number) (from + 1) classes) refl (found_from classes number (from + 1))
 
 -- the first place from the begin on
 found_first : (classes : List Class) (number : ℕ) → IsFound classes number 0 (position (λ (class : Class). class.number == number) classes)

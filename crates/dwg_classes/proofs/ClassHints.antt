@@ -19,38 +19,38 @@ none_found (class ∷ classes) number others =
     let test : (class.number == number) ≡ false = grind (arith, nat_tests, others.0) in
     rw test (none_found classes number others.1)
 
--- behind classes with other numbers, the first that has it is found
-one_found : (before behind : List Class) (class : Class) (number : ℕ) → HaveOther number_of number before → class.number ≡ number → first_with number (before ++ class ∷ behind) ≡ Some class
-one_found [] behind class number others has =
+-- after classes with other numbers, the first that has it is found
+one_found : (before after : List Class) (class : Class) (number : ℕ) → HaveOther number_of number before → class.number ≡ number → first_with number (before ++ class ∷ after) ≡ Some class
+one_found [] after class number others has =
     let test : (class.number == number) ≡ true = grind (arith, nat_tests) in
     rw test refl
-one_found (other ∷ before) behind class number others has =
+one_found (other ∷ before) after class number others has =
     let test : (other.number == number) ≡ false = grind (arith, nat_tests, others.0) in
-    rw test (one_found before behind class number others.1 has)
+    rw test (one_found before after class number others.1 has)
 
--- the class behind others stands at the place of their length
-class_there : (before behind : List Class) (class other : Class) → get_or (before ++ class ∷ behind) (length before) other ≡ class
-class_there [] behind class other = refl
-class_there (first ∷ before) behind class other = class_there before behind class other
+-- the class after others stands at the place of their length
+class_there : (before after : List Class) (class other : Class) → get_or (before ++ class ∷ after) (length before) other ≡ class
+class_there [] after class other = refl
+class_there (first ∷ before) after class other = class_there before after class other
 
 -- where no class has the number, its hint is that it is absent
-pub none_told : (classes : List Class) (number : ℕ) → HaveOther number_of number classes → hint_at classes number ≡ Absent
+pub none_reported : (classes : List Class) (number : ℕ) → HaveOther number_of number classes → hint_at classes number ≡ Absent
 unfolding hint_at
-none_told classes number others = ap hint_of_any (none_found classes number others)
+none_reported classes number others = ap hint_of_any (none_found classes number others)
 
 -- where a class is the first with the number, it decides
-pub first_told : (classes : List Class) (number place : ℕ) (is : IsFirst classes number place) → hint_at classes number ≡ hint_of_class is.class
+pub first_reported : (classes : List Class) (number place : ℕ) (is : IsFirst classes number place) → hint_at classes number ≡ hint_of_class is.class
 unfolding hint_at
-first_told classes number place is =
+first_reported classes number place is =
     let first = is.first in
-    ap (λ all. hint_of_any (first_with number all)) first.whole ∙ ap hint_of_any (one_found is.before first.behind is.class number first.others first.has)
+    ap (λ all. hint_of_any (first_with number all)) first.whole ∙ ap hint_of_any (one_found is.before first.after is.class number first.others first.has)
 
 -- and so does what stands at its place
-pub place_told : (classes : List Class) (number place : ℕ) (class : Class) → IsFirst classes number place → class ≡ get_or classes place class → hint_of_class class ≡ hint_at classes number
-place_told classes number place class is here =
+pub place_reported : (classes : List Class) (number place : ℕ) (class : Class) → IsFirst classes number place → class ≡ get_or classes place class → hint_of_class class ≡ hint_at classes number
+place_reported classes number place class is here =
     let there : get_or classes place class ≡ is.class =
-    ap (λ all. get_or all place class) is.first.whole ∙ (ap (λ at. get_or (is.before ++ is.class ∷ is.first.behind) at class) (sym is.far) ∙ class_there is.before is.first.behind is.class class) in
-    ap hint_of_class (here ∙ there) ∙ sym (first_told classes number place is)
+    ap (λ all. get_or all place class) is.first.whole ∙ (ap (λ at. get_or (is.before ++ is.class ∷ is.first.after) at class) (sym is.far) ∙ class_there is.before is.first.after is.class class) in
+    ap hint_of_class (here ∙ there) ∙ sym (first_reported classes number place is)
 
 -- no class says that it is absent
 pub never_absent : (class : Class) → hint_of_class class ≢ Absent

@@ -12,16 +12,16 @@ use Rattle.dwg_grammar.specs.ToEnd.{SpellsAll}
 use Rattle.dwg_grammar.proofs.ToEndLemmas.{all_to_end, spells_one_more, no_cut_to_end}
 use Rattle.dwg_classes.specs.declared.class.Class.{Class}
 use Rattle.dwg_classes.specs.Class.{any_class, numbered_class, LEAST_BITS, LEAST_NUMBER, AreClasses}
-use Rattle.dwg_classes.specs.ClassLines.{spelling_refusal, number_refusal, ClassFails, RefusesClass, with_class, classes_behind, tried_classes}
+use Rattle.dwg_classes.specs.ClassLines.{spelling_refusal, number_refusal, ClassFails, RefusesClass, with_class, classes_after, tried_classes}
 use Rattle.dwg_classes.proofs.ClassCode.{any_class_is_code, numbered_class_is_code, class_least, classes_cut_uniquely}
 
--- two spellings of values in front of the same letters, behind each of which no other value is spelled, spell the same values and leave the same letters
+-- two spellings of values before the same letters, after each of which no other value is spelled, spell the same values and leave the same letters
 stuck_alike : {A V : Type 0} (IsText : List A → Type 0) (code : Grammar A V) → IsCode IsText code
-    → (values others : List V) (front rest other_front other_rest : List A) → SpellsAll code values front → SpellsAll code others other_front → front ++ rest ≡ other_front ++ other_rest
+    → (values others : List V) (prefix rest other_prefix other_rest : List A) → SpellsAll code values prefix → SpellsAll code others other_prefix → prefix ++ rest ≡ other_prefix ++ other_rest
     → (BeginsWith code rest → ⊥) → (BeginsWith code other_rest → ⊥) → (values ≡ others) × (rest ≡ other_rest)
-stuck_alike IsText code is [] [] front rest other_front other_rest spelled other_spelled same none other_none =
+stuck_alike IsText code is [] [] prefix rest other_prefix other_rest spelled other_spelled same none other_none =
     (refl, ap (λ first. first ++ rest) (sym spelled) ∙ same ∙ ap (λ first. first ++ other_rest) other_spelled)
-stuck_alike IsText code is [] (other ∷ others) front rest other_front other_rest spelled (first, back, one, more, whole) same none other_none =
+stuck_alike IsText code is [] (other ∷ others) prefix rest other_prefix other_rest spelled (first, back, one, more, whole) same none other_none =
     absurd (none (
       other,
       first,
@@ -29,7 +29,7 @@ stuck_alike IsText code is [] (other ∷ others) front rest other_front other_re
       one,
       ap (λ all. all ++ rest) (sym spelled) ∙ same ∙ ap (λ all. all ++ other_rest) whole ∙ append_assoc first back other_rest,
     ))
-stuck_alike IsText code is (value ∷ values) [] front rest other_front other_rest (first, back, one, more, whole) other_spelled same none other_none =
+stuck_alike IsText code is (value ∷ values) [] prefix rest other_prefix other_rest (first, back, one, more, whole) other_spelled same none other_none =
     absurd (other_none (
       value,
       first,
@@ -37,60 +37,60 @@ stuck_alike IsText code is (value ∷ values) [] front rest other_front other_re
       one,
       ap (λ all. all ++ other_rest) (sym other_spelled) ∙ sym same ∙ ap (λ all. all ++ rest) whole ∙ append_assoc first back rest,
     ))
-stuck_alike IsText code is (value ∷ values) (other ∷ others) front rest other_front other_rest (first, back, one, more, whole) (other_first, other_back, other_one, other_more, other_whole) same none other_none =
+stuck_alike IsText code is (value ∷ values) (other ∷ others) prefix rest other_prefix other_rest (first, back, one, more, whole) (other_first, other_back, other_one, other_more, other_whole) same none other_none =
     let joined : first ++ (back ++ rest) ≡ other_first ++ (other_back ++ other_rest) =
     sym (append_assoc first back rest) ∙ ap (λ all. all ++ rest) (sym whole) ∙ same ∙ ap (λ all. all ++ other_rest) other_whole ∙ append_assoc other_first other_back other_rest in
     let alike = unique_of_code IsText code is value other first other_first (back ++ rest) (other_back ++ other_rest) one other_one joined in
-    let behind : back ++ rest ≡ other_back ++ other_rest =
+    let after : back ++ rest ≡ other_back ++ other_rest =
     append_cancel_left first (back ++ rest) (other_back ++ other_rest) (joined ∙ ap (λ all. all ++ (other_back ++ other_rest)) (sym alike.1)) in
-    let further = stuck_alike IsText code is values others back rest other_back other_rest more other_more behind none other_none in
+    let further = stuck_alike IsText code is values others back rest other_back other_rest more other_more after none other_none in
     (ap₂ ◌∷◌ alike.0 further.0, further.1)
 
 -- a class with a number is a class
 begins_with_any : (letters : List Bool) → BeginsWith numbered_class letters → BeginsWith any_class letters
-begins_with_any letters (class, front, rest, spelled, whole) = (class, front, rest, spelled.1, whole)
+begins_with_any letters (class, prefix, rest, spelled, whole) = (class, prefix, rest, spelled.1, whole)
 
 -- where a class is spelled whose number is too small, no class with a number is spelled
-small_unread : (class : Class) (spelling behind letters : List Bool) → any_class.Spells class spelling → letters ≡ spelling ++ behind → class.number < LEAST_NUMBER → BeginsWith numbered_class letters → ⊥
-small_unread class spelling behind letters spelled same small (other, front, rest, other_spelled, whole) =
-    let alike = unique_of_code AnyLetters any_class any_class_is_code class other spelling front behind rest spelled other_spelled.1 (sym same ∙ whole) in
+small_unread : (class : Class) (spelling after letters : List Bool) → any_class.Spells class spelling → letters ≡ spelling ++ after → class.number < LEAST_NUMBER → BeginsWith numbered_class letters → ⊥
+small_unread class spelling after letters spelled same small (other, prefix, rest, other_spelled, whole) =
+    let alike = unique_of_code AnyLetters any_class any_class_is_code class other spelling prefix after rest spelled other_spelled.1 (sym same ∙ whole) in
     let enough : LEAST_NUMBER ≤ other.number = let passed = other_spelled.0 in grind (arith, nat_tests) in
     omega (arith, enough, small, ap (λ (one : Class). one.number) alike.0)
 
 -- where the next class fails, no class with a number is spelled
 failed_unread : (place index first : ℕ) (rest : List Bool) (refusal : Refusal) → ClassFails place index first rest refusal → BeginsWith numbered_class rest → ⊥
 failed_unread place index first rest refusal (inl (same, none)) begins = none (begins_with_any rest begins)
-failed_unread place index first rest refusal (inr (same, class, spelling, behind, spelled, whole, small)) begins =
-    small_unread class spelling behind rest spelled whole small begins
+failed_unread place index first rest refusal (inr (same, class, spelling, after, spelled, whole, small)) begins =
+    small_unread class spelling after rest spelled whole small begins
 
 -- the next class fails in one way
 fails_alike : (place index first : ℕ) (rest : List Bool) (refusal other : Refusal) → ClassFails place index first rest refusal → ClassFails place index first rest other → refusal ≡ other
 fails_alike place index first rest refusal other (inl (same, none)) (inl (other_same, other_none)) = same ∙ sym other_same
-fails_alike place index first rest refusal other (inl (same, none)) (inr (other_same, class, spelling, behind, spelled, whole, small)) =
-    absurd (none (class, spelling, behind, spelled, whole))
-fails_alike place index first rest refusal other (inr (same, class, spelling, behind, spelled, whole, small)) (inl (other_same, other_none)) =
-    absurd (other_none (class, spelling, behind, spelled, whole))
+fails_alike place index first rest refusal other (inl (same, none)) (inr (other_same, class, spelling, after, spelled, whole, small)) =
+    absurd (none (class, spelling, after, spelled, whole))
+fails_alike place index first rest refusal other (inr (same, class, spelling, after, spelled, whole, small)) (inl (other_same, other_none)) =
+    absurd (other_none (class, spelling, after, spelled, whole))
 fails_alike place index first rest refusal other (inr number) (inr other_number) = number.0 ∙ sym other_number.0
 
 -- a content has one refusal at the most
 refusals_alike : (place : ℕ) (content : List ℕ) (refusal other : Refusal) → RefusesClass place content refusal → RefusesClass place content other → refusal ≡ other
 refusals_alike place content refusal other refuses others =
-    let alike = stuck_alike AnyLetters numbered_class numbered_class_is_code refuses.before others.before refuses.front refuses.rest others.front others.rest refuses.spelled others.spelled
-    (sym refuses.whole ∙ others.whole) (failed_unread place (length refuses.before) (length refuses.front) refuses.rest refusal refuses.fails)
-    (failed_unread place (length others.before) (length others.front) others.rest other others.fails) in
-    let front : length refuses.front ≡ length others.front =
-    omega (arith, ap length (sym refuses.whole ∙ others.whole), ap length alike.1, length-append refuses.front refuses.rest, length-append others.front others.rest) in
-    let fails : ClassFails place (length others.before) (length others.front) others.rest refusal =
-    subst (λ index. ClassFails place index (length others.front) others.rest refusal) (ap length alike.0)
-    (subst (λ first. ClassFails place (length refuses.before) first others.rest refusal) front
-    (subst (λ rest. ClassFails place (length refuses.before) (length refuses.front) rest refusal) alike.1 refuses.fails)) in
-    fails_alike place (length others.before) (length others.front) others.rest refusal other fails others.fails
+    let alike = stuck_alike AnyLetters numbered_class numbered_class_is_code refuses.before others.before refuses.prefix refuses.rest others.prefix others.rest refuses.spelled others.spelled
+    (sym refuses.whole ∙ others.whole) (failed_unread place (length refuses.before) (length refuses.prefix) refuses.rest refusal refuses.fails)
+    (failed_unread place (length others.before) (length others.prefix) others.rest other others.fails) in
+    let prefix : length refuses.prefix ≡ length others.prefix =
+    omega (arith, ap length (sym refuses.whole ∙ others.whole), ap length alike.1, length-append refuses.prefix refuses.rest, length-append others.prefix others.rest) in
+    let fails : ClassFails place (length others.before) (length others.prefix) others.rest refusal =
+    subst (λ index. ClassFails place index (length others.prefix) others.rest refusal) (ap length alike.0)
+    (subst (λ first. ClassFails place (length refuses.before) first others.rest refusal) prefix
+    (subst (λ rest. ClassFails place (length refuses.before) (length refuses.prefix) rest refusal) alike.1 refuses.fails)) in
+    fails_alike place (length others.before) (length others.prefix) others.rest refusal other fails others.fails
 
 -- a content that has a refusal is cut into no classes
 refused_uncut : (place : ℕ) (content : List ℕ) (refusal : Refusal) (classes : List Class) → RefusesClass place content refusal → AreClasses content classes → ⊥
 refused_uncut place content refusal classes refuses (slack, cut) =
-    no_cut_to_end AnyLetters LEAST_BITS numbered_class numbered_class_is_code refuses.before (bits content) refuses.front refuses.rest refuses.spelled refuses.whole refuses.more
-    (failed_unread place (length refuses.before) (length refuses.front) refuses.rest refusal refuses.fails) classes slack cut
+    no_cut_to_end AnyLetters LEAST_BITS numbered_class numbered_class_is_code refuses.before (bits content) refuses.prefix refuses.rest refuses.spelled refuses.whole refuses.more
+    (failed_unread place (length refuses.before) (length refuses.prefix) refuses.rest refusal refuses.fails) classes slack cut
 
 -- a content is cut into classes in one way at the most
 pub classes_alike : (content : List ℕ) (classes others : List Class) → AreClasses content classes → AreClasses content others → classes ≡ others
@@ -107,13 +107,13 @@ holds_by : (place : ℕ) (content : List ℕ) (chosen otherwise : Tried (List Cl
 holds_by place content chosen otherwise true first second = first refl
 holds_by place content chosen otherwise false first second = second refl
 
--- the class behind those that are spelled is refused where it fails a line at the first bit behind them
-refused_behind : (place : ℕ) (content : List ℕ) (before : List Class) (front rest : List Bool) (first : ℕ) (refusal : Refusal)
-    → SpellsAll numbered_class before front → bits content ≡ front ++ rest → LEAST_BITS ≤ length rest → first ≡ length front
+-- the class after those that are spelled is refused where it fails a line at the first bit after them
+refused_after : (place : ℕ) (content : List ℕ) (before : List Class) (prefix rest : List Bool) (first : ℕ) (refusal : Refusal)
+    → SpellsAll numbered_class before prefix → bits content ≡ prefix ++ rest → LEAST_BITS ≤ length rest → first ≡ length prefix
     → ClassFails place (length before) first rest refusal → RefusesClass place content refusal
-refused_behind place content before front rest first refusal spelled whole more counted fails = record {
+refused_after place content before prefix rest first refusal spelled whole more counted fails = record {
   before = before;
-  front = front;
+  prefix = prefix;
   rest = rest;
   spelled = spelled;
   whole = whole;
@@ -121,51 +121,51 @@ refused_behind place content before front rest first refusal spelled whole more 
   fails = subst (λ (bit : ℕ). ClassFails place (length before) bit rest refusal) counted fails;
 }
 
--- what a class that was parsed gives holds, where what the bits behind it give does
-with_class_holds : (place : ℕ) (content : List ℕ) (before : List Class) (front rest : List Bool) (first : ℕ) (others : Class → List Bool → Tried (List Class)) (found : Option (Class × List Bool))
-    → SpellsAll numbered_class before front → bits content ≡ front ++ rest → LEAST_BITS ≤ length rest → first ≡ length front → any_class.parse rest ≡ found
-    → ((class : Class) (spelling behind : List Bool) → any_class.Spells class spelling → rest ≡ spelling ++ behind → LEAST_NUMBER ≤ class.number → Holds place content (others class behind))
+-- what a class that was parsed gives holds, where what the bits after it give does
+with_class_holds : (place : ℕ) (content : List ℕ) (before : List Class) (prefix rest : List Bool) (first : ℕ) (others : Class → List Bool → Tried (List Class)) (found : Option (Class × List Bool))
+    → SpellsAll numbered_class before prefix → bits content ≡ prefix ++ rest → LEAST_BITS ≤ length rest → first ≡ length prefix → any_class.parse rest ≡ found
+    → ((class : Class) (spelling after : List Bool) → any_class.Spells class spelling → rest ≡ spelling ++ after → LEAST_NUMBER ≤ class.number → Holds place content (others class after))
     → Holds place content (with_class place before first others found)
-with_class_holds place content before front rest first others None spelled whole more counted parsed behind_holds =
-    refused_behind place content before front rest first (spelling_refusal place (length before) first) spelled whole more counted
+with_class_holds place content before prefix rest first others None spelled whole more counted parsed after_holds =
+    refused_after place content before prefix rest first (spelling_refusal place (length before) first) spelled whole more counted
     (inl (refl, (reads_none AnyLetters any_class rest any_class_is_code parsed).0))
-with_class_holds place content before front rest first others (Some (class, behind)) spelled whole more counted parsed behind_holds =
-    let found = reads_some AnyLetters any_class rest behind class any_class_is_code tt parsed in
-    holds_by place content (Err (number_refusal place (length before) first)) (others class behind) (nat_lt class.number LEAST_NUMBER)
+with_class_holds place content before prefix rest first others (Some (class, after)) spelled whole more counted parsed after_holds =
+    let found = reads_some AnyLetters any_class rest after class any_class_is_code tt parsed in
+    holds_by place content (Err (number_refusal place (length before) first)) (others class after) (nat_lt class.number LEAST_NUMBER)
     (λ small.
-    refused_behind place content before front rest first (number_refusal place (length before) first) spelled whole more counted
-    (inr (refl, class, found.0, behind, found.1, found.2, grind (arith, nat_tests))))
-    (λ enough. behind_holds class found.0 behind found.1 found.2 (grind (arith, nat_tests)))
+    refused_after place content before prefix rest first (number_refusal place (length before) first) spelled whole more counted
+    (inr (refl, class, found.0, after, found.1, found.2, grind (arith, nat_tests))))
+    (λ enough. after_holds class found.0 after found.1 found.2 (grind (arith, nat_tests)))
 
--- what is tried behind classes that are spelled holds of the content
-behind_holds : (place : ℕ) (content : List ℕ) (fuel : ℕ) (before : List Class) (front rest : List Bool) (first : ℕ)
-    → SpellsAll numbered_class before front → bits content ≡ front ++ rest → length rest ≤ fuel → first ≡ length front
-    → Holds place content (classes_behind place fuel before first rest)
-unfolding classes_behind
-behind_holds place content zero before front rest first spelled whole enough counted =
-    (rest, all_to_end LEAST_BITS numbered_class before (bits content) front rest spelled whole (omega arith))
-behind_holds place content (suc fuel) before front rest first spelled whole enough counted =
+-- what is tried after classes that are spelled holds of the content
+after_holds : (place : ℕ) (content : List ℕ) (fuel : ℕ) (before : List Class) (prefix rest : List Bool) (first : ℕ)
+    → SpellsAll numbered_class before prefix → bits content ≡ prefix ++ rest → length rest ≤ fuel → first ≡ length prefix
+    → Holds place content (classes_after place fuel before first rest)
+unfolding classes_after
+after_holds place content zero before prefix rest first spelled whole enough counted =
+    (rest, all_to_end LEAST_BITS numbered_class before (bits content) prefix rest spelled whole (omega arith))
+after_holds place content (suc fuel) before prefix rest first spelled whole enough counted =
     holds_by place content (Ok before) _ (nat_lt (length rest) LEAST_BITS)
-    (λ short. (rest, all_to_end LEAST_BITS numbered_class before (bits content) front rest spelled whole (grind (arith, nat_tests))))
+    (λ short. (rest, all_to_end LEAST_BITS numbered_class before (bits content) prefix rest spelled whole (grind (arith, nat_tests))))
     (λ long.
     let more : LEAST_BITS ≤ length rest = grind (arith, nat_tests) in
-    with_class_holds place content before front rest first
-    (λ class behind. classes_behind place fuel (before ++ class ∷ []) (first + (length rest - length behind)) behind)
+    with_class_holds place content before prefix rest first
+    (λ class after. classes_after place fuel (before ++ class ∷ []) (first + (length rest - length after)) after)
     (any_class.parse rest) spelled whole more counted refl
-    (λ class spelling behind one same number.
+    (λ class spelling after one same number.
     let numbered : numbered_class.Spells class spelling = (grind (arith, nat_tests), one) in
     let long_one : LEAST_BITS ≤ length spelling = class_least class spelling numbered in
-    let sum : length rest ≡ length spelling + length behind = ap length same ∙ length-append spelling behind in
-    behind_holds place content fuel (before ++ class ∷ []) (front ++ spelling) behind (first + (length rest - length behind))
-    (spells_one_more numbered_class before class front spelling spelled numbered)
-    (whole ∙ ap (λ all. front ++ all) same ∙ sym (append_assoc front spelling behind))
+    let sum : length rest ≡ length spelling + length after = ap length same ∙ length-append spelling after in
+    after_holds place content fuel (before ++ class ∷ []) (prefix ++ spelling) after (first + (length rest - length after))
+    (spells_one_more numbered_class before class prefix spelling spelled numbered)
+    (whole ∙ ap (λ all. prefix ++ all) same ∙ sym (append_assoc prefix spelling after))
     (omega (arith, sum, long_one))
-    (omega (arith, sum, length-append front spelling))))
+    (omega (arith, sum, length-append prefix spelling))))
 
 -- what is tried holds
 tried_holds : (place : ℕ) (content : List ℕ) → Holds place content (tried_classes place content)
 unfolding tried_classes
-tried_holds place content = behind_holds place content (length (bits content)) [] [] (bits content) 0 refl refl (omega arith) refl
+tried_holds place content = after_holds place content (length (bits content)) [] [] (bits content) 0 refl refl (omega arith) refl
 
 -- what holds of a content that is cut into classes are these classes
 ok_alike : (place : ℕ) (content : List ℕ) (classes : List Class) (tried : Tried (List Class)) → Holds place content tried → AreClasses content classes → tried ≡ Ok classes

@@ -20,10 +20,10 @@ unparsed : {A V : Type 0} (code : Grammar A V) (letters : List A) (found : Optio
 unparsed code letters None is none same = refl
 unparsed code letters (Some one) is none same = let parts = is.sound letters one.1 one.0 tt same in absurd (none (one.0, parts.0, one.1, parts.1, parts.2))
 
--- what was read is what is parsed, and what is left are the letters behind
+-- what was read is what is parsed, and what is left are the letters after
 parsed : {A V : Type 0} (code : Grammar A V) (found : Option V) (old new : List A) → IsCode AnyLetters code → Reads code found old new
     → code.parse old ≡ option_map (λ (value : V). (value, new)) found
-parsed code (Some value) old new is (front, spelled, whole) = ap code.parse whole ∙ is.complete front new value spelled
+parsed code (Some value) old new is (prefix, spelled, whole) = ap code.parse whole ∙ is.complete prefix new value spelled
 parsed code None old new is (none, same) = unparsed code old (code.parse old) is none refl
 
 -- so of a BS

@@ -1,4 +1,4 @@
--- Writing a class: the bits of its parts, one behind the other.
+-- Writing a class: the bits of its parts, one after the other.
 use Rattle.std.proofs.Common.{◌≡◌, refl, sym, ◌∙◌, ap, subst, ℕ, ◌+◌, ◌%◌, ◌<◌, ◌≤◌, Bool, List, [], ◌∷◌, ◌++◌, length, drop, get_or, arith}
 use Rattle.std.specs.Prelude.{false, replicate}
 use Rattle.std.proofs.lemmas.Bool.Decides.{nat_tests}
@@ -54,7 +54,7 @@ class_written class s0 s1 s2 s3 s4 s5 s6 s7 number version application cpp_name 
     (extends_by_both s0 s1 s7 _ _ number (extends_by_both s1 s2 s7 _ _ version (extends_by_both s2 s3 s7 _ _ application
     (extends_by_both s3 s4 s7 _ _ cpp_name (extends_by_both s4 s5 s7 _ _ dxf_name (extends_by_both s5 s6 s7 _ _ proxy item))))))
 
--- what is left from a place on is the class there and what is left behind it
+-- what is left from a place on is the class there and what is left after it
 left_at : (classes : List Class) (i : ℕ) (class : Class) → i < length classes → class ≡ get_or classes i class → drop i classes ≡ class ∷ drop (i + 1) classes
 left_at classes i class inside here = drop_more classes i class inside ∙ ap (λ (first : Class). first ∷ drop (i + 1) classes) (sym here)
 
@@ -68,7 +68,7 @@ pub record AreCounted (classes left : List Class) (count : ℕ) : Type 0 where
 pub none_counted : (classes : List Class) → AreWritable classes → AreCounted classes (drop 0 classes) 0
 none_counted classes writable = record { writable = writable; bits = omega arith; values = λ are. are }
 
--- with the first of them counted, those behind it are left
+-- with the first of them counted, those after it are left
 one_counted : (classes left : List Class) (class : Class) (count : ℕ) → IsClass class → AreCounted classes (class ∷ left) count → AreCounted classes left (count + length (any_class.short class))
 one_counted classes left class count is counted =
     let numbered : LEAST_NUMBER ≤ class.number = counted.writable.0.number in
@@ -105,7 +105,7 @@ none_so_far classes sink writable = record {
   writable = writable;
 }
 
--- with the first of those that are left written, those behind it are left
+-- with the first of those that are left written, those after it are left
 one_so_far : (classes left : List Class) (class : Class) (old mid new : Written) → Extends mid new (any_class.short class) → AreWrittenSoFar classes (class ∷ left) old mid → AreWrittenSoFar classes left old new
 one_so_far classes left class old mid new more so_far = record {
   done = so_far.done ++ any_class.short class;
@@ -137,6 +137,6 @@ all_so_far classes i old new past so_far =
     so_far.whole ∙ ap (λ (rest : List Class). so_far.done ++ short_all numbered_class rest) (drop_all i classes past) ∙ append-nil so_far.done in
     subst (Extends old new) (sym whole) so_far.grown
 
--- behind whole bytes the bits that fill up all are those that fill up what was written last
-padding_behind : (front back : List Bool) → length front % 8 ≡ 0 → padding (front ++ back) ≡ padding back
-padding_behind front back whole = let same : missing_bits (length (front ++ back)) ≡ missing_bits (length back) = omega (arith, length-append front back) in ap (λ n. replicate n false) same
+-- after whole bytes the bits that fill up all are those that fill up what was written last
+padding_after : (prefix back : List Bool) → length prefix % 8 ≡ 0 → padding (prefix ++ back) ≡ padding back
+padding_after prefix back whole = let same : missing_bits (length (prefix ++ back)) ≡ missing_bits (length back) = omega (arith, length-append prefix back) in ap (λ n. replicate n false) same

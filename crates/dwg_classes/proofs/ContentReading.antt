@@ -20,47 +20,47 @@ use Rattle.dwg_classes.proofs.ClassLineLemmas.{tried_ok, tried_err}
 
 -- the classes so far are spelled by so many bits of the content, and these are left
 pub record AreReadSoFar (content : List ℕ) (classes : List Class) (first : ℕ) (left : List Bool) : Type 0 where
-  pub front : List Bool
-  pub spelled : SpellsAll numbered_class classes front
-  pub whole : bits content ≡ front ++ left
-  pub far : length front ≡ first
+  pub prefix : List Bool
+  pub spelled : SpellsAll numbered_class classes prefix
+  pub whole : bits content ≡ prefix ++ left
+  pub far : length prefix ≡ first
 
 -- at the begin no class is read, and all bits are left
 pub none_so_far : (content : List ℕ) (classes : List Class) (bytes : List ℕ) (first end : ℕ) → classes ≡ [] → bytes ≡ content → first ≡ 0 → end ≡ 8 * length content
     → AreReadSoFar content classes first (bits_between bytes first end)
 none_so_far content classes bytes first end none same begin last = record {
-  front = [];
+  prefix = [];
   spelled = subst (λ read. SpellsAll numbered_class read []) (sym none) refl;
   whole = sym (bits_between_all content end last) ∙ ap₂ (λ held at. bits_between held at end) (sym same) (sym begin);
   far = sym begin;
 }
 
--- a class more is read, and the bits behind it are left
-pub one_so_far : (content : List ℕ) (classes : List Class) (class : Class) (first next : ℕ) (left behind : List Bool) → AreReadSoFar content classes first left → Reads numbered_class (Some class) left behind
-    → next + length behind ≡ first + length left → AreReadSoFar content (classes ++ class ∷ []) next behind
-one_so_far content classes class first next left behind so_far taken moved = record {
-  front = so_far.front ++ taken.0;
-  spelled = spells_one_more numbered_class classes class so_far.front taken.0 so_far.spelled taken.1;
-  whole = so_far.whole ∙ ap (λ rest. so_far.front ++ rest) taken.2 ∙ sym (append_assoc so_far.front taken.0 behind);
-  far = omega (arith, so_far.far, length-append so_far.front taken.0, ap length taken.2, length-append taken.0 behind);
+-- a class more is read, and the bits after it are left
+pub one_so_far : (content : List ℕ) (classes : List Class) (class : Class) (first next : ℕ) (left after : List Bool) → AreReadSoFar content classes first left → Reads numbered_class (Some class) left after
+    → next + length after ≡ first + length left → AreReadSoFar content (classes ++ class ∷ []) next after
+one_so_far content classes class first next left after so_far taken moved = record {
+  prefix = so_far.prefix ++ taken.0;
+  spelled = spells_one_more numbered_class classes class so_far.prefix taken.0 so_far.spelled taken.1;
+  whole = so_far.whole ∙ ap (λ rest. so_far.prefix ++ rest) taken.2 ∙ sym (append_assoc so_far.prefix taken.0 after);
+  far = omega (arith, so_far.far, length-append so_far.prefix taken.0, ap length taken.2, length-append taken.0 after);
 }
 
 -- a class that was taken leaves fewer bits
-pub fewer_left : (class : Class) (left behind : List Bool) → Reads numbered_class (Some class) left behind → length behind < length left
-fewer_left class left behind taken =
-    omega (arith, class_least class taken.0 taken.1, ap length taken.2, length-append taken.0 behind)
+pub fewer_left : (class : Class) (left after : List Bool) → Reads numbered_class (Some class) left after → length after < length left
+fewer_left class left after taken =
+    omega (arith, class_least class taken.0 taken.1, ap length taken.2, length-append taken.0 after)
 
 -- where fewer bits than a class has are left, the content is cut into the classes so far
 pub all_read : (content : List ℕ) (classes : List Class) (first : ℕ) (left : List Bool) → AreReadSoFar content classes first left → length left < LEAST_BITS → AreClasses content classes
 all_read content classes first left so_far few =
-    (left, all_to_end LEAST_BITS numbered_class classes (bits content) so_far.front left so_far.spelled so_far.whole few)
+    (left, all_to_end LEAST_BITS numbered_class classes (bits content) so_far.prefix left so_far.spelled so_far.whole few)
 
 -- where as many are left and the next class fails, the content is refused
 class_refused : (place : ℕ) (content : List ℕ) (classes : List Class) (first : ℕ) (left : List Bool) (refusal : Refusal) → AreReadSoFar content classes first left → LEAST_BITS ≤ length left
     → ClassFails place (length classes) first left refusal → RefusesClass place content refusal
 class_refused place content classes first left refusal so_far enough fails = record {
   before = classes;
-  front = so_far.front;
+  prefix = so_far.prefix;
   rest = left;
   spelled = so_far.spelled;
   whole = so_far.whole;
@@ -91,4 +91,4 @@ failed_of_table place index first rest refusal (inr number) = subst IsOfTable (s
 
 pub refused_of_table : (place : ℕ) (content : List ℕ) (fault : Fault) → IfRefused fault (RefusesClass place content) → IsFaultOfTable fault
 refused_of_table place content NoMemory refuses = tt
-refused_of_table place content (Refused refusal) refuses = failed_of_table place (length refuses.before) (length refuses.front) refuses.rest refusal refuses.fails
+refused_of_table place content (Refused refusal) refuses = failed_of_table place (length refuses.before) (length refuses.prefix) refuses.rest refusal refuses.fails

@@ -57,12 +57,12 @@ writable_of_numbered (class ∷ classes) are = (
 -- what a content is cut into has spellings, and is written by no more bits
 pub read_are_values : (content : List ℕ) (classes : List Class) → AreClasses content classes → AreValues numbered_class classes × (length (short_all numbered_class classes) ≤ 8 * length content)
 read_are_values content classes (slack, cut) = (
-  value_all AnyLetters numbered_class classes cut.front numbered_class_is_code cut.spelled,
+  value_all AnyLetters numbered_class classes cut.prefix numbered_class_is_code cut.spelled,
   omega (
     arith,
-    least_all AnyLetters numbered_class classes cut.front numbered_class_is_code cut.spelled,
+    least_all AnyLetters numbered_class classes cut.prefix numbered_class_is_code cut.spelled,
     ap length cut.whole,
-    length-append cut.front slack,
+    length-append cut.prefix slack,
     length_of_bits content,
   ),
 )

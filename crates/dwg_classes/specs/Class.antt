@@ -63,6 +63,6 @@ numbered_class = restrict (λ class. nat_le LEAST_NUMBER class.number) any_class
 abbrev pub LEAST_BITS : ℕ
 LEAST_BITS = 29
 
--- the bits of the content are the classes, one behind the other, and fewer bits of slack than a class has
+-- the bits of the content are the classes, one after the other, and fewer bits of slack than a class has
 abbrev pub AreClasses : List ℕ → List Class → Type 0
 AreClasses content classes = (slack : List Bool) × SpellsToEnd LEAST_BITS numbered_class classes (bits content) slack

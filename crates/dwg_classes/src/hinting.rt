@@ -42,7 +42,7 @@ pub(crate) fn hint_of(class: &Class) -> ClassHint
 /// What the classes of a drawing say of a type number: the first class with it decides, and Absent comes exactly where none
 /// has it (Open Design Specification, "Classes").
 pub fn hint(classes: &[Class], number: u16) -> ClassHint
-    ensures told { result ≡ hint_at classes.now number }
+    ensures reported { result ≡ hint_at classes.now number }
     ensures absent { (result ≡ Absent) ↔ HaveOther number_of number classes.now }
     ensures first { (place : ℕ) (is : IsFirst classes.now number place) → result ≡ hint_of_class is.class }
 {

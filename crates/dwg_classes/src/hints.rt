@@ -15,7 +15,7 @@ use std::alloc::Global;
 use std::collections::BTreeMap;
 use std::marker::Model;
 
-/// Classes, with what they say of each type number: contracts see the classes. What they say is told in as many steps as an
+/// Classes, with what they say of each type number: contracts see the classes. What they say is reported in as many steps as an
 /// ordered map takes, however many classes there are, and memory grows with the numbers that differ.
 #[derive(Drop)]
 pub struct Hints<'c> {
@@ -37,7 +37,7 @@ impl<'c> Model for Hints<'c> {
     ghost invariant = { λ hints. AreFirsts hints.classes.now hints.firsts };
 }
 
-/// Notes what a class says of its number, where nothing is noted of that yet. The only refusal is want of memory.
+/// Notes what a class says of its number, where nothing is noted of that yet. Err: out of memory.
 fn note(firsts: &mut BTreeMap<u16, ClassHint>, class: &Class) -> Result<(), NoMemory>
     ensures { OnOk result ((number : ℕ) → tree.get nat_cmp firsts.new number ≡ option_or (tree.get nat_cmp firsts.old number) (if class.now.number == number then Some (hint_of_class class.now) else None)) }
 {
@@ -62,7 +62,7 @@ fn firsts_of(alloc: Global, classes: &[Class]) -> Result<BTreeMap<u16, ClassHint
 }
 
 impl<'c> Hints<'c> {
-    /// The table of the classes. The only refusal is want of memory.
+    /// The table of the classes. Err: out of memory.
     pub fn build(alloc: Global, classes: &'c [Class]) -> Result<Hints<'c>, NoMemory>
         ensures { IfOk result (λ hints. hints ≡ classes.now) }
     {

@@ -11,7 +11,7 @@ ghost use Rattle.dwg_classes.specs.Class.{any_class, numbered_class, AreClasses}
 ghost use Rattle.dwg_classes.specs.ClassLines.{RefusesClass, tried_classes};
 ghost use Rattle.dwg_classes.specs.WrittenClasses.{IsNumbered, padded};
 
-/// What holds of classes: letters spell at most one, and no spelling is a proper front of another; one with a number from 500
+/// What holds of classes: letters spell at most one, and no spelling is a proper prefix of another; one with a number from 500
 /// on has at least 29 bits; a content is cut into classes in one way at the most; what is tried class by class gives classes
 /// exactly where a content is cut into them, and a refusal exactly where it is that of the first class that fails a line;
 /// which lists of classes have spellings; that bytes which hold what is written of them are cut into them; and that what a

@@ -1,4 +1,4 @@
-//! The classes of a drawing: what stands behind the type numbers from 500 on (Open Design Specification, "Classes").
+//! The classes of a drawing: what stands after the type numbers from 500 on (Open Design Specification, "Classes").
 #![tactic(auto)]
 
 mod class;

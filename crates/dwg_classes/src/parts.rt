@@ -30,7 +30,7 @@ pub fn read_proxy(cursor: &mut BitCursor<'_>) -> Option<bool>
     CodeB::read(&(), cursor)
 }
 
-/// A text of a class. The only refusal is want of memory.
+/// A text of a class. Err: out of memory.
 #[tactic(auto, using(crate::proofs::ClassReading::tv_parsed))]
 pub fn read_name(alloc: Global, cursor: &mut BitCursor<'_>) -> Result<Option<ByteRun>, NoMemory>
     ensures parsed { IfOk result (λ found. tv.parse (rest cursor.old) ≡ option_map (λ name. (name, rest cursor.new)) found) }

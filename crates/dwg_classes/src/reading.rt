@@ -28,7 +28,7 @@ const SPELLING_LINE: u8 = 19;
 /// The line of the table of refusals on a number below 500.
 const NUMBER_LINE: u8 = 20;
 
-/// Reads a class, whatever its number. None exactly where no front of the rest spells one; the only refusal is want of memory,
+/// Reads a class, whatever its number. None exactly where no prefix of the rest spells one; the only refusal is out of memory,
 /// which is taken only for bytes that are there.
 #[tactic(auto, unfolding(crate::specs::Class::any_class))]
 fn read_class(alloc: Global, cursor: &mut BitCursor<'_>) -> Result<Option<Class>, NoMemory>
@@ -68,7 +68,7 @@ fn read_class(alloc: Global, cursor: &mut BitCursor<'_>) -> Result<Option<Class>
     }))
 }
 
-/// A refusal by a line of the table, of the class behind so many others, which begins at a bit of the content.
+/// A refusal by a line of the table, of the class after so many others, which begins at a bit of the content.
 fn refused(line: u8, index: u64, place: u64, first: u64) -> Fault
     requires place { place < 2 ^ 62 }
     ensures { result ≡ Fault.Refused (record { line = line; index = index; place = place + first / 8 }) }
@@ -80,7 +80,7 @@ fn refused(line: u8, index: u64, place: u64, first: u64) -> Fault
     })
 }
 
-/// Reads the class behind `index` others, in a content at `place`.
+/// Reads the class after `index` others, in a content at `place`.
 #[tactic(auto, using(crate::proofs::ClassReading::class_taken, crate::proofs::ClassReading::class_unread, crate::proofs::ClassReading::class_too_small))]
 fn next_class(
     alloc: Global,
@@ -110,8 +110,8 @@ fn next_class(
 /// input, in bytes. What is read can be written, and by no more bits.
 ///
 /// A refusal has the index of a class, from 0, and the place of the byte in which it begins: at least 29 bits are left, but no
-/// front of them spells a class, whatever its number; or one does whose number is below 500. Each class is tried whole before
-/// the next. Memory is taken only for what is there, and want of it tells nothing of the content.
+/// prefix of them spells a class, whatever its number; or one does whose number is below 500. Each class is tried whole before
+/// the next. Memory is taken only for what is there, and want of it reports nothing of the content.
 pub fn read_classes(alloc: Global, content: &[u8], place: u64) -> Result<Items<Class>, Fault>
     requires content { length content.now < 2 ^ 32 }
     requires place { place < 2 ^ 62 }

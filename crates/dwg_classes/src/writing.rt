@@ -85,7 +85,7 @@ pub fn classes_bits(classes: &[Class]) -> u64
     bits
 }
 
-/// Writes classes, one behind the other.
+/// Writes classes, one after the other.
 fn write_all(classes: &[Class], sink: &mut BitSink)
     requires writable { AreWritable classes.now }
     requires room { length (short_all numbered_class classes.now) ≤ sink.old.spare }

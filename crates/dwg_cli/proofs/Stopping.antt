@@ -1,9 +1,9 @@
 -- What a run that stopped left on output and notes.
 use Rattle.std.proofs.Common.{◌≡◌, subst, sym, inl, inr}
-use Rattle.dwg_answers.specs.declared.status.Status.{Status}
-use Rattle.dwg_answers.specs.declared.status.Status.TheVariants.{Done, Found, Usage, Refused, ReadFault, WriteFault, NoMemory, TooLong, TooLarge}
-use Rattle.dwg_answers.specs.declared.answer.Answer.{Answer}
-use Rattle.dwg_answers.specs.Run.{IsSettled, IsStopped, DeliversFront, Sent, Sinks}
+use Rattle.dwg_commands.specs.declared.status.Status.{Status}
+use Rattle.dwg_commands.specs.declared.status.Status.TheVariants.{Done, Found, Usage, Refused, ReadFault, WriteFault, NoMemory, TooLong, TooLarge}
+use Rattle.dwg_commands.specs.declared.answer.Answer.{Answer}
+use Rattle.dwg_commands.specs.Run.{IsSettled, IsStopped, DeliversPrefix, Sent, Sinks}
 
 -- a status that is settled isn't one at which the run stopped
 settled_goes_on : (status : Status) → IsSettled status → IsStopped status → ⊥
@@ -17,11 +17,11 @@ settled_goes_on NoMemory settled stopped = settled
 settled_goes_on TooLong settled stopped = stopped
 settled_goes_on (TooLarge size) settled stopped = stopped
 
--- a run that stopped as it sent its answer left a front of what was told
-pub stopped_is_cut : (answer told : Answer) (status : Status) (before behind : Sinks) → answer ≡ told → IsSettled answer.status → Sent answer status before behind → IsStopped status
-    → DeliversFront told before.output behind.output before.notes behind.notes
-stopped_is_cut answer told status before behind is settled sent stopped =
+-- a run that stopped as it sent its answer left a prefix of what was reported
+pub stopped_is_cut : (answer reported : Answer) (status : Status) (before after : Sinks) → answer ≡ reported → IsSettled answer.status → Sent answer status before after → IsStopped status
+    → DeliversPrefix reported before.output after.output before.notes after.notes
+stopped_is_cut answer reported status before after is settled sent stopped =
     elim sent.1 [
       | inl whole ↦ absurd (settled_goes_on status (subst IsSettled (sym whole.0) settled) stopped)
-      | inr broken ↦ subst (λ (one : Answer). DeliversFront one before.output behind.output before.notes behind.notes) is broken.1
+      | inr broken ↦ subst (λ (one : Answer). DeliversPrefix one before.output after.output before.notes after.notes) is broken.1
     ]

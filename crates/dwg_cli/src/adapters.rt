@@ -1,4 +1,4 @@
-//! The program's devices: std's readers and writers as sources and sinks that tell no bytes.
+//! The program's devices: std's readers and writers as sources and sinks that report no bytes.
 
 ghost use Rattle.std.specs.Prelude.{◌≡◌, None};
 

@@ -7,13 +7,13 @@ mod run;
 mod tests;
 
 use adapters::{ReaderSource, WriterSink};
-use dwg_answers::Status;
+use dwg_commands::Status;
 use std::env;
 use std::io::ErrorKind;
 use std::process::ExitCode;
 
-/// The arguments behind the program's name, and no word where one of them isn't UTF-8, so that they get the usage note.
-/// The only refusal is want of memory.
+/// The arguments after the program's name, and no word where one of them isn't UTF-8, so that they get the usage note.
+/// Err: out of memory.
 fn arguments(rt: &HostRuntime) -> Result<Vec<String>, Status> {
     let mut arguments = match env::args(rt) {
         Ok(arguments) => arguments,

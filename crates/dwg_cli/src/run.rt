@@ -2,22 +2,22 @@
 
 ghost use Rattle.std.specs.Prelude.{◌≡◌, ◌<◌, ◌⊎◌, ℕ, ◌≤◌, length, List, [], Some, IfSome};
 ghost use Rattle.std.specs.Io.KnownBytes.{Appends};
-ghost use Rattle.dwg_base.specs.Devices.{Came, Rose, AppendsFront, MOST_BYTES};
+ghost use Rattle.dwg_base.specs.Devices.{Came, Rose, AppendsPrefix, MOST_BYTES};
 ghost use Rattle.dwg_text.specs.Notes as texts;
-ghost use Rattle.dwg_answers.specs.Words.{texts as words_of, command_of, IsReading, IsUsage};
-ghost use Rattle.dwg_answers.specs.Outcome.{outcome};
-ghost use Rattle.dwg_answers.specs.Run.{Feeds, AnswersTo, IsSettled, IsStopped, IsFailed, IsDrained, Delivers, DeliversFront, StopsAtFault};
+ghost use Rattle.dwg_commands.specs.Words.{texts as words_of, command_of, IsReading, IsUsage};
+ghost use Rattle.dwg_commands.specs.Outcome.{outcome};
+ghost use Rattle.dwg_commands.specs.Run.{Feeds, AnswersTo, IsSettled, IsStopped, IsFailed, IsDrained, Delivers, DeliversPrefix, StopsAtFault};
 
-use dwg_answers::{Status, Stop, answer_request, request_for};
 use dwg_base::{Sink, Source, put_all};
+use dwg_commands::{Status, Stop, answer_request, request_for};
 use dwg_text::read_fault_note;
 use std::alloc::Global;
 
 /// Notes that the input failed.
-fn tell_read_fault<N: Sink>(notes: &mut N) -> Status
+fn report_read_fault<N: Sink>(notes: &mut N) -> Status
     ensures never_falls { N.faults notes.old ≤ N.faults notes.new }
-    ensures told { result ≡ Status.ReadFault → Appends (N.taken notes.old) (N.taken notes.new) texts.read_fault_note }
-    ensures cut { IsStopped result → AppendsFront (N.taken notes.old) (N.taken notes.new) texts.read_fault_note }
+    ensures reported { result ≡ Status.ReadFault → Appends (N.taken notes.old) (N.taken notes.new) texts.read_fault_note }
+    ensures cut { IsStopped result → AppendsPrefix (N.taken notes.old) (N.taken notes.new) texts.read_fault_note }
     ensures ends { (result ≡ Status.ReadFault) × (N.faults notes.new ≡ N.faults notes.old) ⊎ (result ≡ Status.WriteFault) × Rose (N.faults notes.old) (N.faults notes.new) }
 {
     match put_all(notes, read_fault_note()) {
@@ -26,7 +26,7 @@ fn tell_read_fault<N: Sink>(notes: &mut N) -> Status
     }
 }
 
-/// Runs the program: `words` are the arguments behind its name.
+/// Runs the program: `words` are the arguments after its name.
 pub fn run<R: Source, W: Sink, N: Sink>(
     alloc: Global,
     words: &[String],
@@ -35,7 +35,7 @@ pub fn run<R: Source, W: Sink, N: Sink>(
     notes: &mut N,
 ) -> Status
     // Where neither a device nor memory failed, status, output and notes are the defined ones: for the bytes that the
-    // input tells, and, whatever it tells, for those that came.
+    // input reports, and, whatever it reports, for those that came.
     ensures outcome { IsSettled result → (bytes : List ℕ) → Feeds (command_of (words_of words.now)) (R.left input.old) bytes →
         (result ≡ (outcome (words_of words.now) bytes).status)
         × Delivers (outcome (words_of words.now) bytes) (W.taken output.old) (W.taken output.new) (N.taken notes.old) (N.taken notes.new) }
@@ -43,9 +43,9 @@ pub fn run<R: Source, W: Sink, N: Sink>(
         AnswersTo (words_of words.now) came result (W.taken output.old) (W.taken output.new) (N.taken notes.old) (N.taken notes.new)) }
 
     // Usage comes only where the words stand in no line of the command table, or ask for a made drawing of no size that it has; and
-    // there it comes, unless the run stopped. That is so whatever the devices tell.
+    // there it comes, unless the run stopped. That is so whatever the devices report.
     ensures usage { result ≡ Status.Usage → IsUsage (command_of (words_of words.now)) }
-    ensures usage_told { IsUsage (command_of (words_of words.now)) → (result ≡ Status.Usage) ⊎ IsStopped result }
+    ensures usage_reported { IsUsage (command_of (words_of words.now)) → (result ≡ Status.Usage) ⊎ IsStopped result }
 
     // A read fault comes only where the command reads and the input's faults rose, and no more than the limit came before
     // it: nothing went to the output.
@@ -58,12 +58,12 @@ pub fn run<R: Source, W: Sink, N: Sink>(
     // A write fault comes only where the faults of output or notes rose.
     ensures write_fault { result ≡ Status.WriteFault → Rose (W.faults output.old) (W.faults output.new) ⊎ Rose (N.faults notes.old) (N.faults notes.new) }
 
-    // A run that stopped wrote a front of what is defined, or stopped at a fault of its input.
+    // A run that stopped wrote a prefix of what is defined, or stopped at a fault of its input.
     ensures stopped { IsStopped result → (bytes : List ℕ) → Feeds (command_of (words_of words.now)) (R.left input.old) bytes →
-        DeliversFront (outcome (words_of words.now) bytes) (W.taken output.old) (W.taken output.new) (N.taken notes.old) (N.taken notes.new)
+        DeliversPrefix (outcome (words_of words.now) bytes) (W.taken output.old) (W.taken output.new) (N.taken notes.old) (N.taken notes.new)
         ⊎ StopsAtFault (command_of (words_of words.now)) (R.faults input.old) (R.faults input.new) (W.taken output.old) (W.taken output.new) (N.taken notes.old) (N.taken notes.new) }
     ensures stopped_came { IsStopped result → Came (R.left input.old) (R.left input.new) (λ came.
-        DeliversFront (outcome (words_of words.now) came) (W.taken output.old) (W.taken output.new) (N.taken notes.old) (N.taken notes.new)
+        DeliversPrefix (outcome (words_of words.now) came) (W.taken output.old) (W.taken output.new) (N.taken notes.old) (N.taken notes.new)
         ⊎ StopsAtFault (command_of (words_of words.now)) (R.faults input.old) (R.faults input.new) (W.taken output.old) (W.taken output.new) (N.taken notes.old) (N.taken notes.new)) }
     ensures stopped_at_fault { IsStopped result → R.faults input.old < R.faults input.new →
         StopsAtFault (command_of (words_of words.now)) (R.faults input.old) (R.faults input.new) (W.taken output.old) (W.taken output.new) (N.taken notes.old) (N.taken notes.new) }
@@ -86,7 +86,7 @@ pub fn run<R: Source, W: Sink, N: Sink>(
 {
     match request_for(alloc, words, input) {
         Ok(request) => answer_request(alloc, &request, output, notes),
-        Err(Stop::ReadFault) => tell_read_fault(notes),
+        Err(Stop::ReadFault) => report_read_fault(notes),
         Err(Stop::NoMemory) => Status::NoMemory,
     }
 }

@@ -13,16 +13,16 @@ fixed_read : (count value : ℕ) (old new : List Bool) → value < 2 ^ count →
 fixed_read count value old new fits taken = (low_bits count value, (length_of_low_bits count value, sym (num_of_low_bits count value fits)), taken)
 
 -- a list begins with no spelling where it is shorter than each
-pub none_read : {V : Type 0} (code : Grammar Bool V) (count : ℕ) (old new : List Bool) → ((value : V) (front : List Bool) → code.Spells value front → length front ≡ count)
+pub none_read : {V : Type 0} (code : Grammar Bool V) (count : ℕ) (old new : List Bool) → ((value : V) (prefix : List Bool) → code.Spells value prefix → length prefix ≡ count)
     → length old < count → new ≡ old → Reads code None old new
 none_read {V} code count old new long short same = (begins, same)
   where
     begins : BeginsWith code old → ⊥
-    begins (value, front, rest, spelled, whole) = omega (arith, long value front spelled, ap length whole, length-append front rest)
+    begins (value, prefix, rest, spelled, whole) = omega (arith, long value prefix spelled, ap length whole, length-append prefix rest)
 
 -- a list that is shorter than a fixed count begins with no spelling of it
 fixed_unread : (count : ℕ) (old new : List Bool) → length old < count → new ≡ old → Reads (fixed count) None old new
-fixed_unread count old new short same = none_read (fixed count) count old new (λ value front spelled. spelled.0) short same
+fixed_unread count old new short same = none_read (fixed count) count old new (λ value prefix spelled. spelled.0) short same
 
 -- what was taken, or wasn't there, was read
 pub fixed_reads : (count : ℕ) (result : Option ℕ) (old new : List Bool) → IfSome result (λ value. value < 2 ^ count) → IfSome result (λ value. old ≡ low_bits count value ++ new)
@@ -33,4 +33,4 @@ fixed_reads count None old new fits taken short same = fixed_unread count old ne
 -- a cursor that didn't move has the same bits left
 pub rest_stays : (bytes same : List ℕ) (from place end last : ℕ) → same ≡ bytes → place ≡ from → last ≡ end → bits_between same place last ≡ bits_between bytes from end
 rest_stays bytes same from place end last alike unmoved still =
-    ap (λ all. bits_between all place last) alike ∙ ap₂ (λ first behind. bits_between bytes first behind) unmoved still
+    ap (λ all. bits_between all place last) alike ∙ ap₂ (λ first after. bits_between bytes first after) unmoved still

@@ -9,9 +9,9 @@ use Rattle.dwg_bits.specs.Bits.{low_bits, bits}
 use Rattle.dwg_bits.specs.Sink.{Written, Extends}
 use Rattle.dwg_bits.proofs.SinkLemmas.{extends_by_both}
 use Rattle.dwg_grammar.specs.Combinators.{always, choose}
-use Rattle.dwg_grammar.specs.ModularCodes.{behind_group, mc_within}
+use Rattle.dwg_grammar.specs.ModularCodes.{after_group, mc_within}
 
--- a byte behind a front is written by its bits
+-- a byte after a prefix is written by its bits
 pub byte_written : (old mid new : Written) (byte : ℕ) (others : List ℕ) → Extends old mid (low_bits 8 byte) → Extends mid new (bits others) → Extends old new (bits (byte ∷ others))
 unfolding bits
 byte_written old mid new byte others first rest = extends_by_both old mid new (low_bits 8 byte) (bits others) first rest
@@ -30,8 +30,8 @@ mc_short_last (suc more) value some small =
     ap
     (λ test. (if test then value else 128 + value % 128)
     ∷ (choose (nat_lt (if test then value else 128 + value % 128) 128) (always {A = ℕ} (if test then value else 128 + value % 128))
-    (behind_group 128 ((if test then value else 128 + value % 128) - 128) (mc_within more))).short value) one
-    ∙ ap (λ test. value ∷ (choose test (always {A = ℕ} value) (behind_group 128 (value - 128) (mc_within more))).short value) one
+    (after_group 128 ((if test then value else 128 + value % 128) - 128) (mc_within more))).short value) one
+    ∙ ap (λ test. value ∷ (choose test (always {A = ℕ} value) (after_group 128 (value - 128) (mc_within more))).short value) one
 
 -- a greater one by its low group and the number above it
 pub mc_short_more : (more value : ℕ) → 0 < more → 128 ≤ value → (mc_within more).short value ≡ (128 + value % 128) ∷ (mc_within (more - 1)).short (value / 128)
@@ -45,24 +45,24 @@ mc_short_more (suc more) value some big =
     ap
     (λ test. (if test then value else 128 + value % 128)
     ∷ (choose (nat_lt (if test then value else 128 + value % 128) 128) (always {A = ℕ} (if test then value else 128 + value % 128))
-    (behind_group 128 ((if test then value else 128 + value % 128) - 128) (mc_within more))).short value) many
-    ∙ ap (λ test. tag ∷ (choose test (always {A = ℕ} tag) (behind_group 128 (tag - 128) (mc_within more))).short value) up
+    (after_group 128 ((if test then value else 128 + value % 128) - 128) (mc_within more))).short value) many
+    ∙ ap (λ test. tag ∷ (choose test (always {A = ℕ} tag) (after_group 128 (tag - 128) (mc_within more))).short value) up
     ∙ ap (λ n. tag ∷ (mc_within n).short (value / 128)) (sym less)
 
 -- what is above a group has one group less
-pub above_below : (worth more value : ℕ) → 0 < worth → 0 < more → value < worth ^ more → value / worth < worth ^ (more - 1)
-above_below worth zero value positive some below = absurd (omega arith)
-above_below worth (suc more) value positive some below =
+pub above_below : (weight more value : ℕ) → 0 < weight → 0 < more → value < weight ^ more → value / weight < weight ^ (more - 1)
+above_below weight zero value positive some below = absurd (omega arith)
+above_below weight (suc more) value positive some below =
     let less : suc more - 1 ≡ more = omega arith in
-    subst (λ n. value / worth < worth ^ n) (sym less) (div_below value worth (worth ^ more) positive (omega (arith, pow-suc worth more)))
+    subst (λ n. value / weight < weight ^ n) (sym less) (div_below value weight (weight ^ more) positive (omega (arith, pow-suc weight more)))
 
 -- and where a number is more than a group there is one left
-pub groups_left : (worth more value : ℕ) → 0 < more → worth ≤ value → value < worth ^ more → 0 < more - 1
-groups_left worth zero value some big below = absurd (omega arith)
-groups_left worth (suc zero) value some big below =
-    let one : worth ^ 1 ≡ 1 * worth = pow-suc worth 0 ∙ ap (λ n. n * worth) (pow-zero worth) in
+pub groups_left : (weight more value : ℕ) → 0 < more → weight ≤ value → value < weight ^ more → 0 < more - 1
+groups_left weight zero value some big below = absurd (omega arith)
+groups_left weight (suc zero) value some big below =
+    let one : weight ^ 1 ≡ 1 * weight = pow-suc weight 0 ∙ ap (λ n. n * weight) (pow-zero weight) in
     absurd (omega (arith, one))
-groups_left worth (suc (suc more)) value some big below = omega arith
+groups_left weight (suc (suc more)) value some big below = omega arith
 
 -- a number of one group is written by one byte
 pub mc_length_last : (more value : ℕ) → 0 < more → value < 128 → length ((mc_within more).short value) ≡ 1

@@ -5,7 +5,7 @@ pub mod SeqReading
 pub mod DefaultReading
 pub mod PointReading
 pub mod GroupReading
-pub mod FrontReading
+pub mod PrefixReading
 pub mod GroupWriting
 pub mod ShortReading
 pub mod SignedReading

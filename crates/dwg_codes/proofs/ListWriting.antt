@@ -1,4 +1,4 @@
--- Values written one behind the other, and their bits counted.
+-- Values written one after the other, and their bits counted.
 use Rattle.std.proofs.Common.{◌≡◌, ℕ, ◌+◌, Bool, List, ◌++◌, length}
 use Rattle.dwg_bits.specs.Sink.{Written, Extends}
 use Rattle.dwg_grammar.specs.Grammar.{Grammar}

@@ -16,33 +16,33 @@ abbrev three_words : Grammar Bool (ℕ × (ℕ × ℕ))
 three_words = seq bd (λ x. two_words)
 
 -- three words that were read give a point
-pub point_read : (x y z : ℕ) (point : Point3) (old behind_x behind_y new : List Bool) → point ≡ record { x = x; y = y; z = z }
-    → Reads bd (Some x) old behind_x → Reads bd (Some y) behind_x behind_y → Reads bd (Some z) behind_y new → Reads bd3 (Some point) old new
-point_read x y z point old behind_x behind_y new same one two three =
-    let others = seq_read bd (λ y. bd) y z behind_x behind_y new two three in
-    let all = seq_read bd (λ x. two_words) x (y, z) old behind_x new one others in
+pub point_read : (x y z : ℕ) (point : Point3) (old after_x after_y new : List Bool) → point ≡ record { x = x; y = y; z = z }
+    → Reads bd (Some x) old after_x → Reads bd (Some y) after_x after_y → Reads bd (Some z) after_y new → Reads bd3 (Some point) old new
+point_read x y z point old after_x after_y new same one two three =
+    let others = seq_read bd (λ y. bd) y z after_x after_y new two three in
+    let all = seq_read bd (λ x. two_words) x (y, z) old after_x new one others in
     (all.0, ((x, (y, z)), same, all.1), all.2)
 
 -- where there aren't three words, there is no point
 none_read : (result : Option Point3) (old : List Bool) → result ≡ None → (BeginsWith three_words old → ⊥) → Reads bd3 result old old
-none_read result old none unread = unread_through three_words bd3 result old old (λ value front spelled. (spelled.0, spelled.2)) none unread refl
+none_read result old none unread = unread_through three_words bd3 result old old (λ value prefix spelled. (spelled.0, spelled.2)) none unread refl
 
 -- there is no x
 pub x_unread : (result : Option Point3) (old left : List Bool) → result ≡ None → Reads bd None old left → Reads bd3 result old old
 x_unread result old left none one = none_read result old none (first_unread bd (λ x. two_words) old one.0)
 
--- there is no y behind x
-pub y_unread : (x : ℕ) (result : Option Point3) (old behind_x left : List Bool) → result ≡ None → Reads bd (Some x) old behind_x → Reads bd None behind_x left → Reads bd3 result old old
-y_unread x result old behind_x left none one two =
-    none_read result old none (second_unread bd (λ x. two_words) x old behind_x bd_is_code one (first_unread bd (λ y. bd) behind_x two.0))
+-- there is no y after x
+pub y_unread : (x : ℕ) (result : Option Point3) (old after_x left : List Bool) → result ≡ None → Reads bd (Some x) old after_x → Reads bd None after_x left → Reads bd3 result old old
+y_unread x result old after_x left none one two =
+    none_read result old none (second_unread bd (λ x. two_words) x old after_x bd_is_code one (first_unread bd (λ y. bd) after_x two.0))
 
--- there is no z behind these
-pub z_unread : (x y : ℕ) (result : Option Point3) (old behind_x behind_y left : List Bool) → result ≡ None
-    → Reads bd (Some x) old behind_x → Reads bd (Some y) behind_x behind_y → Reads bd None behind_y left → Reads bd3 result old old
-z_unread x y result old behind_x behind_y left none one two three =
+-- there is no z after these
+pub z_unread : (x y : ℕ) (result : Option Point3) (old after_x after_y left : List Bool) → result ≡ None
+    → Reads bd (Some x) old after_x → Reads bd (Some y) after_x after_y → Reads bd None after_y left → Reads bd3 result old old
+z_unread x y result old after_x after_y left none one two three =
     none_read result old none
-    (second_unread bd (λ x. two_words) x old behind_x bd_is_code one (second_unread bd (λ y. bd) y behind_x behind_y bd_is_code two three.0))
+    (second_unread bd (λ x. two_words) x old after_x bd_is_code one (second_unread bd (λ y. bd) y after_x after_y bd_is_code two three.0))
 
--- behind the tag 0 stands a point of words
+-- after the tag 0 stands a point of words
 pub point_at : (tag : ℕ) (point : Point3) → tag ≡ 0 → (be_by tag).IsValue point → IsPoint3 point
 point_at tag point at fits = subst (λ n. (be_by n).IsValue point) at fits

@@ -33,8 +33,8 @@ unfolding chain
 run_unread count old short = (begins, refl)
   where
     begins : BeginsWith (items rc count) old → ⊥
-    begins (bytes, front, rest, spelled, whole) =
-        omega (arith, spelled.0, spelling_counted 0 bytes front spelled.1, ap length whole, length-append front rest)
+    begins (bytes, prefix, rest, spelled, whole) =
+        omega (arith, spelled.0, spelling_counted 0 bytes prefix spelled.1, ap length whole, length-append prefix rest)
 
 -- what is written of bytes has eight bits for each
 pub length_of_run : (bytes : List ℕ) → length (short_all rc bytes) ≡ 8 * length bytes

@@ -10,13 +10,13 @@ use Rattle.dwg_bits.specs.Bits.{low_bits, bits}
 use Rattle.dwg_bits.proofs.BitLaws.{bits_joined, length_of_bits}
 use Rattle.dwg_bits.specs.Sink.{Written, Extends}
 use Rattle.dwg_bits.proofs.SinkLemmas.{extends_by_both}
-use Rattle.dwg_grammar.specs.Grammar.{ReadsFront}
+use Rattle.dwg_grammar.specs.Grammar.{ReadsPrefix}
 use Rattle.dwg_grammar.specs.Combinators.{always, choose, chain}
-use Rattle.dwg_grammar.specs.ModularCodes.{behind_group, unit, ms_within, ms}
+use Rattle.dwg_grammar.specs.ModularCodes.{after_group, unit, ms_within, ms}
 use Rattle.dwg_grammar.proofs.ModularLemmas.{ms_is_code, length_of_unit}
-use Rattle.dwg_codes.proofs.GroupReading.{behind_parse}
+use Rattle.dwg_codes.proofs.GroupReading.{after_parse}
 use Rattle.dwg_codes.proofs.GroupWriting.{byte_written, one_byte_written}
-use Rattle.dwg_codes.proofs.FrontReading.{front_read, front_unread}
+use Rattle.dwg_codes.proofs.PrefixReading.{prefix_read, prefix_unread}
 
 -- two bytes are a unit
 pub unit_found : (low high : ℕ) (rest : List ℕ) → unit.parse (low ∷ high ∷ rest) ≡ Some (low + 256 * high, rest)
@@ -49,7 +49,7 @@ pub ms_of_none : (more : ℕ) (bytes : List ℕ) → unit.parse bytes ≡ None �
 unfolding ms_within
 ms_of_none zero bytes none = refl
 ms_of_none (suc more) bytes none =
-    ap (option_and_then (λ (one : ℕ × List ℕ). (choose (nat_lt one.0 32768) (always {A = ℕ} one.0) (behind_group 32768 (one.0 - 32768) (ms_within more))).parse one.1)) none
+    ap (option_and_then (λ (one : ℕ × List ℕ). (choose (nat_lt one.0 32768) (always {A = ℕ} one.0) (after_group 32768 (one.0 - 32768) (ms_within more))).parse one.1)) none
 
 -- a unit with its flag down is the last
 pub ms_last : (more group : ℕ) (bytes rest : List ℕ) → 0 < more → unit.parse bytes ≡ Some (group, rest) → group < 32768 → (ms_within more).parse bytes ≡ Some (group, rest)
@@ -57,38 +57,38 @@ unfolding ms_within
 ms_last zero group bytes rest some first small = absurd (omega arith)
 ms_last (suc more) group bytes rest some first small =
     let down : nat_lt group 32768 ≡ true = grind (arith, nat_tests) in
-    ap (option_and_then (λ (one : ℕ × List ℕ). (choose (nat_lt one.0 32768) (always {A = ℕ} one.0) (behind_group 32768 (one.0 - 32768) (ms_within more))).parse one.1)) first
-    ∙ ap (λ test. (choose test (always {A = ℕ} group) (behind_group 32768 (group - 32768) (ms_within more))).parse rest) down
+    ap (option_and_then (λ (one : ℕ × List ℕ). (choose (nat_lt one.0 32768) (always {A = ℕ} one.0) (after_group 32768 (one.0 - 32768) (ms_within more))).parse one.1)) first
+    ∙ ap (λ test. (choose test (always {A = ℕ} group) (after_group 32768 (group - 32768) (ms_within more))).parse rest) down
 
--- behind a unit with its flag up stands the number above it
-ms_behind : (more group : ℕ) (bytes rest : List ℕ) (found : Option (ℕ × List ℕ)) → 0 < more → unit.parse bytes ≡ Some (group, rest) → 32768 ≤ group
+-- after a unit with its flag up stands the number above it
+ms_after : (more group : ℕ) (bytes rest : List ℕ) (found : Option (ℕ × List ℕ)) → 0 < more → unit.parse bytes ≡ Some (group, rest) → 32768 ≤ group
     → (ms_within (more - 1)).parse rest ≡ found → (ms_within more).parse bytes ≡ option_map (λ (one : ℕ × List ℕ). (group - 32768 + 32768 * one.0, one.1)) found
 unfolding ms_within
-ms_behind zero group bytes rest found some first big same = absurd (omega arith)
-ms_behind (suc more) group bytes rest found some first big same =
+ms_after zero group bytes rest found some first big same = absurd (omega arith)
+ms_after (suc more) group bytes rest found some first big same =
     let up : nat_lt group 32768 ≡ false = grind (arith, nat_tests) in
     let less : suc more - 1 ≡ more = omega arith in
-    ap (option_and_then (λ (one : ℕ × List ℕ). (choose (nat_lt one.0 32768) (always {A = ℕ} one.0) (behind_group 32768 (one.0 - 32768) (ms_within more))).parse one.1)) first
-    ∙ ap (λ test. (choose test (always {A = ℕ} group) (behind_group 32768 (group - 32768) (ms_within more))).parse rest) up
-    ∙ behind_parse 32768 (group - 32768) (ms_within more) rest found (subst (λ n. (ms_within n).parse rest ≡ found) less same)
+    ap (option_and_then (λ (one : ℕ × List ℕ). (choose (nat_lt one.0 32768) (always {A = ℕ} one.0) (after_group 32768 (one.0 - 32768) (ms_within more))).parse one.1)) first
+    ∙ ap (λ test. (choose test (always {A = ℕ} group) (after_group 32768 (group - 32768) (ms_within more))).parse rest) up
+    ∙ after_parse 32768 (group - 32768) (ms_within more) rest found (subst (λ n. (ms_within n).parse rest ≡ found) less same)
 
 -- nothing where no number stands there
 pub ms_cut : (more group : ℕ) (bytes rest : List ℕ) → 0 < more → unit.parse bytes ≡ Some (group, rest) → 32768 ≤ group
     → (ms_within (more - 1)).parse rest ≡ None → (ms_within more).parse bytes ≡ None
-ms_cut more group bytes rest some first big same = ms_behind more group bytes rest None some first big same
+ms_cut more group bytes rest some first big same = ms_after more group bytes rest None some first big same
 
 -- and the group and that number where one does
 pub ms_more : (more group high : ℕ) (bytes rest left : List ℕ) → 0 < more → unit.parse bytes ≡ Some (group, rest) → 32768 ≤ group
     → (ms_within (more - 1)).parse rest ≡ Some (high, left) → (ms_within more).parse bytes ≡ Some (group - 32768 + 32768 * high, left)
-ms_more more group high bytes rest left some first big same = ms_behind more group bytes rest (Some (high, left)) some first big same
+ms_more more group high bytes rest left some first big same = ms_after more group bytes rest (Some (high, left)) some first big same
 
--- behind a unit stands what is behind its two bytes
+-- after a unit stands what is after its two bytes
 pub ms_found : (more group high used : ℕ) (bytes rest : List ℕ) → 0 < more → unit.parse bytes ≡ Some (group, rest) → rest ≡ drop 2 bytes → 32768 ≤ group
     → (ms_within (more - 1)).parse rest ≡ Some (high, drop used rest) → (ms_within more).parse bytes ≡ Some (group - 32768 + 32768 * high, drop (used + 2) bytes)
-ms_found more group high used bytes rest some first behind big same =
+ms_found more group high used bytes rest some first after big same =
     let turned : 2 + used ≡ used + 2 = omega arith in
     ms_more more group high bytes rest (drop used rest) some first big same
-    ∙ ap (λ left. Some (group - 32768 + 32768 * high, left)) (ap (drop used) behind ∙ drop-drop used 2 bytes ∙ ap (λ n. drop n bytes) turned)
+    ∙ ap (λ left. Some (group - 32768 + 32768 * high, left)) (ap (drop used) after ∙ drop-drop used 2 bytes ∙ ap (λ n. drop n bytes) turned)
 
 -- numbers of at most three groups of fifteen bits are small
 pub three_groups : (more high : ℕ) → more ≤ 3 → high < 32768 ^ more → high < 2 ^ 45
@@ -96,12 +96,12 @@ three_groups more high few below = omega (arith, pow-le-pow_right {n = 32768} (o
 
 -- at most four groups are an MS
 pub ms_read : (bytes : List ℕ) (value used : ℕ) → ((i : ℕ) → get_or bytes i 0 < 256) → used ≤ length bytes
-    → (ms_within 4).parse bytes ≡ Some (value, drop used bytes) → ReadsFront ms (Some (value, used)) bytes
-ms_read bytes value used small within found = front_read ms bytes value used ms_is_code small within found
+    → (ms_within 4).parse bytes ≡ Some (value, drop used bytes) → ReadsPrefix ms (Some (value, used)) bytes
+ms_read bytes value used small within found = prefix_read ms bytes value used ms_is_code small within found
 
 -- and where there are none there is none
-pub ms_missing : (bytes : List ℕ) → (ms_within 4).parse bytes ≡ None → ReadsFront ms None bytes
-ms_missing bytes none = front_unread ms bytes ms_is_code none
+pub ms_missing : (bytes : List ℕ) → (ms_within 4).parse bytes ≡ None → ReadsPrefix ms None bytes
+ms_missing bytes none = prefix_unread ms bytes ms_is_code none
 
 -- a unit is written by its low byte and its high byte
 pub unit_short : (group : ℕ) → group < 65536 → unit.short group ≡ group % 256 ∷ group / 256 ∷ []
@@ -124,8 +124,8 @@ ms_short_last (suc more) value some small =
     ap
     (λ test. unit.short (if test then value else 32768 + value % 32768)
     ++ (choose (nat_lt (if test then value else 32768 + value % 32768) 32768) (always {A = ℕ} (if test then value else 32768 + value % 32768))
-    (behind_group 32768 ((if test then value else 32768 + value % 32768) - 32768) (ms_within more))).short value) one
-    ∙ ap (λ test. unit.short value ++ (choose test (always {A = ℕ} value) (behind_group 32768 (value - 32768) (ms_within more))).short value) one
+    (after_group 32768 ((if test then value else 32768 + value % 32768) - 32768) (ms_within more))).short value) one
+    ∙ ap (λ test. unit.short value ++ (choose test (always {A = ℕ} value) (after_group 32768 (value - 32768) (ms_within more))).short value) one
     ∙ append-nil (unit.short value)
 
 -- a greater one by its low group and the number above it
@@ -141,8 +141,8 @@ ms_short_more (suc more) value some big =
     ap
     (λ test. unit.short (if test then value else 32768 + value % 32768)
     ++ (choose (nat_lt (if test then value else 32768 + value % 32768) 32768) (always {A = ℕ} (if test then value else 32768 + value % 32768))
-    (behind_group 32768 ((if test then value else 32768 + value % 32768) - 32768) (ms_within more))).short value) many
-    ∙ ap (λ test. unit.short tag ++ (choose test (always {A = ℕ} tag) (behind_group 32768 (tag - 32768) (ms_within more))).short value) up
+    (after_group 32768 ((if test then value else 32768 + value % 32768) - 32768) (ms_within more))).short value) many
+    ∙ ap (λ test. unit.short tag ++ (choose test (always {A = ℕ} tag) (after_group 32768 (tag - 32768) (ms_within more))).short value) up
     ∙ ap (λ n. unit.short tag ++ (ms_within n).short (value / 32768)) (sym less)
 
 -- a number of one group is written by two bytes

@@ -6,12 +6,12 @@ use Rattle.std.proofs.Math.Nat.{pow-suc}
 use Rattle.std.proofs.lemmas.Bool.Decides.{nat_tests}
 use Rattle.dwg_bits.specs.Bits.{low_bits, bits}
 use Rattle.dwg_bits.specs.Sink.{Written, Extends}
-use Rattle.dwg_grammar.specs.Grammar.{Grammar, ReadsFront}
+use Rattle.dwg_grammar.specs.Grammar.{Grammar, ReadsPrefix}
 use Rattle.dwg_grammar.specs.Combinators.{always, choose, restrict}
 use Rattle.dwg_grammar.specs.ModularCodes.{Signed, last_of, signed_mc_within, signed_number, signed_mc}
-use Rattle.dwg_grammar.proofs.SignedLemmas.{behind_signed, signed_by, signed_byte, signed_mc_is_code}
+use Rattle.dwg_grammar.proofs.SignedLemmas.{after_signed, signed_by, signed_byte, signed_mc_is_code}
 use Rattle.dwg_codes.proofs.GroupWriting.{byte_written, one_byte_written}
-use Rattle.dwg_codes.proofs.FrontReading.{front_read, front_unread, passed, refused, missing}
+use Rattle.dwg_codes.proofs.PrefixReading.{prefix_read, prefix_unread, passed, refused, missing}
 
 -- nothing is parsed of no bytes
 pub signed_of_none : (more : ℕ) (bytes : List ℕ) → length bytes ≡ 0 → (signed_mc_within more).parse bytes ≡ None
@@ -32,33 +32,33 @@ unfolding signed_mc_within
 signed_last zero byte rest some small = absurd (omega arith)
 signed_last (suc more) byte rest some small =
     let down : nat_lt byte 128 ≡ true = grind (arith, nat_tests) in
-    ap (λ test. (choose test (always (last_of byte)) (behind_signed (byte - 128) (signed_mc_within more))).parse rest) down
+    ap (λ test. (choose test (always (last_of byte)) (after_signed (byte - 128) (signed_mc_within more))).parse rest) down
 
--- what is parsed behind a group
+-- what is parsed after a group
 signed_parse : (low : ℕ) (code : Grammar ℕ Signed) (rest : List ℕ) (found : Option (Signed × List ℕ)) → code.parse rest ≡ found
-    → (behind_signed low code).parse rest ≡ option_map (λ (one : Signed × List ℕ). ((one.0.0, low + 128 * one.0.1), one.1)) found
+    → (after_signed low code).parse rest ≡ option_map (λ (one : Signed × List ℕ). ((one.0.0, low + 128 * one.0.1), one.1)) found
 signed_parse low code rest found same = ap (option_map (λ (one : Signed × List ℕ). ((one.0.0, low + 128 * one.0.1), one.1))) same
 
--- behind a byte with its flag up stands the number above it
-signed_behind : (more byte : ℕ) (rest : List ℕ) (found : Option (Signed × List ℕ)) → 0 < more → 128 ≤ byte → (signed_mc_within (more - 1)).parse rest ≡ found
+-- after a byte with its flag up stands the number above it
+signed_after : (more byte : ℕ) (rest : List ℕ) (found : Option (Signed × List ℕ)) → 0 < more → 128 ≤ byte → (signed_mc_within (more - 1)).parse rest ≡ found
     → (signed_mc_within more).parse (byte ∷ rest) ≡ option_map (λ (one : Signed × List ℕ). ((one.0.0, byte - 128 + 128 * one.0.1), one.1)) found
 unfolding signed_mc_within
-signed_behind zero byte rest found some big same = absurd (omega arith)
-signed_behind (suc more) byte rest found some big same =
+signed_after zero byte rest found some big same = absurd (omega arith)
+signed_after (suc more) byte rest found some big same =
     let up : nat_lt byte 128 ≡ false = grind (arith, nat_tests) in
     let less : suc more - 1 ≡ more = omega arith in
-    ap (λ test. (choose test (always (last_of byte)) (behind_signed (byte - 128) (signed_mc_within more))).parse rest) up
+    ap (λ test. (choose test (always (last_of byte)) (after_signed (byte - 128) (signed_mc_within more))).parse rest) up
     ∙ signed_parse (byte - 128) (signed_mc_within more) rest found (subst (λ n. (signed_mc_within n).parse rest ≡ found) less same)
 
 -- nothing where no number stands there
 pub signed_cut : (more byte : ℕ) (rest : List ℕ) → 0 < more → 128 ≤ byte → (signed_mc_within (more - 1)).parse rest ≡ None
     → (signed_mc_within more).parse (byte ∷ rest) ≡ None
-signed_cut more byte rest some big same = signed_behind more byte rest None some big same
+signed_cut more byte rest some big same = signed_after more byte rest None some big same
 
 -- and the group and that number where one does
 pub signed_more : (more byte high : ℕ) (negative : Bool) (rest left : List ℕ) → 0 < more → 128 ≤ byte → (signed_mc_within (more - 1)).parse rest ≡ Some ((negative, high), left)
     → (signed_mc_within more).parse (byte ∷ rest) ≡ Some ((negative, byte - 128 + 128 * high), left)
-signed_more more byte high negative rest left some big same = signed_behind more byte rest (Some ((negative, high), left)) some big same
+signed_more more byte high negative rest left some big same = signed_after more byte rest (Some ((negative, high), left)) some big same
 
 -- a number below zero is that of its magnitude
 pub number_below : (magnitude : ℕ) → neg_ℤ (pos magnitude) ≡ signed_number (true, magnitude)
@@ -81,23 +81,23 @@ unseen bytes none = ap (option_map (λ (one : Signed × List ℕ). (signed_numbe
 
 -- a magnitude below 2^63 is a signed MC
 pub signed_read : (bytes : List ℕ) (negative : Bool) (magnitude used : ℕ) (number : ℤ) → ((i : ℕ) → get_or bytes i 0 < 256) → magnitude < 2 ^ 63 → used ≤ length bytes
-    → (signed_mc_within 10).parse bytes ≡ Some ((negative, magnitude), drop used bytes) → number ≡ signed_number (negative, magnitude) → ReadsFront signed_mc (Some (number, used)) bytes
+    → (signed_mc_within 10).parse bytes ≡ Some ((negative, magnitude), drop used bytes) → number ≡ signed_number (negative, magnitude) → ReadsPrefix signed_mc (Some (number, used)) bytes
 signed_read bytes negative magnitude used number small below within found same =
-    front_read signed_mc bytes number used signed_mc_is_code small within
+    prefix_read signed_mc bytes number used signed_mc_is_code small within
     (seen bytes (drop used bytes) (negative, magnitude) number same
     (passed (λ (value : Signed). nat_lt value.1 (2 ^ 63)) (signed_mc_within 10) bytes (drop used bytes) (negative, magnitude) (grind (arith, nat_tests)) found))
 
 -- a greater one is none
 pub signed_large : (bytes rest : List ℕ) (negative : Bool) (magnitude : ℕ) → 2 ^ 63 ≤ magnitude → (signed_mc_within 10).parse bytes ≡ Some ((negative, magnitude), rest)
-    → ReadsFront signed_mc None bytes
+    → ReadsPrefix signed_mc None bytes
 signed_large bytes rest negative magnitude large found =
-    front_unread signed_mc bytes signed_mc_is_code
+    prefix_unread signed_mc bytes signed_mc_is_code
     (unseen bytes (refused (λ (value : Signed). nat_lt value.1 (2 ^ 63)) (signed_mc_within 10) bytes rest (negative, magnitude) (grind (arith, nat_tests)) found))
 
 -- and where there are no groups there is none
-pub signed_missing : (bytes : List ℕ) → (signed_mc_within 10).parse bytes ≡ None → ReadsFront signed_mc None bytes
+pub signed_missing : (bytes : List ℕ) → (signed_mc_within 10).parse bytes ≡ None → ReadsPrefix signed_mc None bytes
 signed_missing bytes none =
-    front_unread signed_mc bytes signed_mc_is_code (unseen bytes (missing (λ (value : Signed). nat_lt value.1 (2 ^ 63)) (signed_mc_within 10) bytes none))
+    prefix_unread signed_mc bytes signed_mc_is_code (unseen bytes (missing (λ (value : Signed). nat_lt value.1 (2 ^ 63)) (signed_mc_within 10) bytes none))
 
 -- a last group is written with its sign
 pub signed_short_last : (more : ℕ) (negative : Bool) (magnitude : ℕ) → 0 < more → magnitude < 64
@@ -108,12 +108,12 @@ signed_short_last (suc more) true magnitude some small =
     let one : nat_lt magnitude 64 ≡ true = grind (arith, nat_tests) in
     let low : nat_lt (64 + magnitude) 128 ≡ true = grind (arith, nat_tests) in
     ap (λ test. signed_byte test true magnitude ∷ (signed_by (signed_mc_within more) (signed_byte test true magnitude)).short (true, magnitude)) one
-    ∙ ap (λ test. (64 + magnitude) ∷ (choose test (always (last_of (64 + magnitude))) (behind_signed (64 + magnitude - 128) (signed_mc_within more))).short (true, magnitude)) low
+    ∙ ap (λ test. (64 + magnitude) ∷ (choose test (always (last_of (64 + magnitude))) (after_signed (64 + magnitude - 128) (signed_mc_within more))).short (true, magnitude)) low
 signed_short_last (suc more) false magnitude some small =
     let one : nat_lt magnitude 64 ≡ true = grind (arith, nat_tests) in
     let low : nat_lt magnitude 128 ≡ true = grind (arith, nat_tests) in
     ap (λ test. signed_byte test false magnitude ∷ (signed_by (signed_mc_within more) (signed_byte test false magnitude)).short (false, magnitude)) one
-    ∙ ap (λ test. magnitude ∷ (choose test (always (last_of magnitude)) (behind_signed (magnitude - 128) (signed_mc_within more))).short (false, magnitude)) low
+    ∙ ap (λ test. magnitude ∷ (choose test (always (last_of magnitude)) (after_signed (magnitude - 128) (signed_mc_within more))).short (false, magnitude)) low
 
 -- a greater magnitude by its low group and the number above it
 pub signed_short_more : (more : ℕ) (negative : Bool) (magnitude : ℕ) → 0 < more → 64 ≤ magnitude
@@ -126,7 +126,7 @@ signed_short_more (suc more) negative magnitude some big =
     let tag : ℕ = 128 + magnitude % 128 in
     let up : nat_lt tag 128 ≡ false = grind (arith, nat_tests) in
     ap (λ test. signed_byte test negative magnitude ∷ (signed_by (signed_mc_within more) (signed_byte test negative magnitude)).short (negative, magnitude)) many
-    ∙ ap (λ test. tag ∷ (choose test (always (last_of tag)) (behind_signed (tag - 128) (signed_mc_within more))).short (negative, magnitude)) up
+    ∙ ap (λ test. tag ∷ (choose test (always (last_of tag)) (after_signed (tag - 128) (signed_mc_within more))).short (negative, magnitude)) up
     ∙ ap (λ n. tag ∷ (signed_mc_within n).short (negative, magnitude / 128)) (sym less)
 
 -- what is above a group has one group less, and there is one

@@ -28,8 +28,8 @@ unfolding tv chain
 tv_written old mid new bytes first second = extends_by_both old mid new (bs.short (length bytes)) (short_all rc bytes) first second
 
 -- so many bytes that were read, as many as the length says
-run_behind : (count wide : ℕ) (found run : Option (List ℕ)) (mid new : List Bool) → wide ≡ count → found ≡ run → Reads (items rc wide) found mid new → Reads (items rc count) run mid new
-run_behind count wide found run mid new same is read =
+run_after : (count wide : ℕ) (found run : Option (List ℕ)) (mid new : List Bool) → wide ≡ count → found ≡ run → Reads (items rc wide) found mid new → Reads (items rc count) run mid new
+run_after count wide found run mid new same is read =
     subst (λ (n : ℕ). Reads (items rc n) run mid new) same (subst (λ (one : Option (List ℕ)). Reads (items rc wide) one mid new) is read)
 
 -- a length and so many bytes are a text
@@ -37,13 +37,13 @@ pub tv_read : (count wide : ℕ) (bytes : List ℕ) (found : Option (List ℕ)) 
     → Reads (items rc wide) found mid new → Reads tv (Some bytes) old new
 unfolding tv
 tv_read count wide bytes found old mid new same is first second =
-    let both = seq_read bs (λ n. items rc n) count bytes old mid new first (run_behind count wide found (Some bytes) mid new same is second) in
+    let both = seq_read bs (λ n. items rc n) count bytes old mid new first (run_after count wide found (Some bytes) mid new same is second) in
     (both.0, ((count, bytes), refl, both.1), both.2)
 
 -- what is spelled by a text is spelled by its length and its bytes
-text_through : (value : List ℕ) (front : List Bool) → tv.Spells value front → (inner : ℕ × List ℕ) × (seq bs (λ n. items rc n)).Spells inner front
+text_through : (value : List ℕ) (prefix : List Bool) → tv.Spells value prefix → (inner : ℕ × List ℕ) × (seq bs (λ n. items rc n)).Spells inner prefix
 unfolding tv
-text_through value front spelled = (spelled.0, spelled.2)
+text_through value prefix spelled = (spelled.0, spelled.2)
 
 -- where there is no length there is no text
 pub tv_unread : (result : Option (List ℕ)) (old mid : List Bool) → result ≡ None → Reads bs None old mid → Reads tv result old old
@@ -54,4 +54,4 @@ pub tv_cut : (result found : Option (List ℕ)) (count wide : ℕ) (old mid left
     → Reads (items rc wide) found mid left → Reads tv result old old
 tv_cut result found count wide old mid left none same is first second =
     unread_through (seq bs (λ n. items rc n)) tv result old old text_through none
-    (second_unread bs (λ n. items rc n) count old mid bs_is_code first (run_behind count wide found None mid left same is second).0) refl
+    (second_unread bs (λ n. items rc n) count old mid bs_is_code first (run_after count wide found None mid left same is second).0) refl

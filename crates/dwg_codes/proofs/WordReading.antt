@@ -25,18 +25,18 @@ bytes_counted : (count value : ℕ) → length (bytes_high_first count value) �
 bytes_counted zero value = refl
 bytes_counted (suc count) value = ap suc (bytes_counted count value)
 
--- the worth of a byte, by its bits
-bytes_worth : (count : ℕ) → 2 ^ (8 * count) ≡ 256 ^ count
-bytes_worth zero = refl
-bytes_worth (suc count) =
+-- the weight of a byte, by its bits
+bytes_weight : (count : ℕ) → 2 ^ (8 * count) ≡ 256 ^ count
+bytes_weight zero = refl
+bytes_weight (suc count) =
     let more : 8 * suc count ≡ 8 + 8 * count = omega arith in
-    ap (λ n. 2 ^ n) more ∙ pow-add 2 8 (8 * count) ∙ ap (λ n. 256 * n) (bytes_worth count) ∙ omega (arith, pow-suc 256 count)
+    ap (λ n. 2 ^ n) more ∙ pow-add 2 8 (8 * count) ∙ ap (λ n. 256 * n) (bytes_weight count) ∙ omega (arith, pow-suc 256 count)
 
 -- a byte's bits
 byte_bits : (count value : ℕ) → low_bits 8 (value / 2 ^ (8 * count)) ≡ low_bits 8 (byte_at count value)
 byte_bits zero value = ap (low_bits 8) (omega arith) ∙ sym (low_bits_of_remainder 8 value)
 byte_bits (suc count) value =
-    ap (λ worth. low_bits 8 (value / worth)) (bytes_worth (suc count)) ∙ sym (low_bits_of_remainder 8 (value / 256 ^ suc count))
+    ap (λ weight. low_bits 8 (value / weight)) (bytes_weight (suc count)) ∙ sym (low_bits_of_remainder 8 (value / 256 ^ suc count))
 
 -- the low bits of a number are those of its bytes
 bits_of_bytes : (count value : ℕ) → low_bits (8 * count) value ≡ bits (bytes_high_first count value)
@@ -46,7 +46,7 @@ bits_of_bytes (suc count) value =
     let more : 8 * suc count ≡ 8 + 8 * count = omega arith in
     ap (λ n. low_bits n value) more
     ∙ low_bits_joined 8 (8 * count) value
-    ∙ ap₂ (λ front rest. front ++ rest) (byte_bits count value) (bits_of_bytes count value)
+    ∙ ap₂ (λ prefix rest. prefix ++ rest) (byte_bits count value) (bits_of_bytes count value)
 
 -- bytes are spelled by their bits
 pub bytes_spelled : (state : ℕ) (bytes : List ℕ) → AreBytes bytes → SpellsChain (λ (state : ℕ). rc) (λ value. 0) state bytes (bits bytes)
@@ -58,8 +58,8 @@ bytes_spelled state (byte ∷ bytes) fit =
 -- what spells bytes has eight bits for each
 pub spelling_counted : (state : ℕ) (bytes : List ℕ) (letters : List Bool) → SpellsChain (λ (state : ℕ). rc) (λ value. 0) state bytes letters → length letters ≡ 8 * length bytes
 spelling_counted state [] letters spelled = ap length spelled
-spelling_counted state (byte ∷ bytes) letters (front, back, first, others, same) =
-    omega (arith, first.0, spelling_counted 0 bytes back others, ap length same, length-append front back)
+spelling_counted state (byte ∷ bytes) letters (prefix, back, first, others, same) =
+    omega (arith, first.0, spelling_counted 0 bytes back others, ap length same, length-append prefix back)
 
 -- so many bytes, the least significant first
 abbrev pub word_code : Width → ℕ → Grammar Bool ℕ
@@ -71,12 +71,12 @@ pub word_read : (w : Width) (count word value : ℕ) (old new : List Bool)
 unfolding chain
 word_read w count word value old new seen taken =
     let bytes : List ℕ = bytes_high_first count word in
-    (bits bytes, (bytes, seen, (bytes_counted count word, bytes_spelled 0 bytes (bytes_fit count word))), taken ∙ ap (λ front. front ++ new) (bits_of_bytes count word))
+    (bits bytes, (bytes, seen, (bytes_counted count word, bytes_spelled 0 bytes (bytes_fit count word))), taken ∙ ap (λ prefix. prefix ++ new) (bits_of_bytes count word))
 
 -- what spells a word has eight bits for each of its bytes
-word_counted : (w : Width) (count value : ℕ) (front : List Bool) → (word_code w count).Spells value front → length front ≡ 8 * count
+word_counted : (w : Width) (count value : ℕ) (prefix : List Bool) → (word_code w count).Spells value prefix → length prefix ≡ 8 * count
 unfolding chain
-word_counted w count value front (bytes, seen, counted) = spelling_counted 0 bytes front counted.1 ∙ ap (λ n. 8 * n) counted.0
+word_counted w count value prefix (bytes, seen, counted) = spelling_counted 0 bytes prefix counted.1 ∙ ap (λ n. 8 * n) counted.0
 
 -- fewer bits than a word's begin with no spelling of it
 pub word_unread : (w : Width) (count : ℕ) (result : Option ℕ) (old new : List Bool)

@@ -24,8 +24,8 @@ pub trait BitCode {
     // The context lies in the range of its type.
     ghost IsContext: { Self.Context → Type 0 };
 
-    /// Reads the value that a front of the rest spells, and moves behind that front. None, with nothing moved, exactly
-    /// where no front of the rest spells a value.
+    /// Reads the value that a prefix of the rest spells, and moves after that prefix. None, with nothing moved, exactly
+    /// where no prefix of the rest spells a value.
     fn read(context: &Self::Context, cursor: &mut BitCursor<'_>) -> Option<Self::Value>
         ensures reads { Reads (grammar context.now) result (rest cursor.old) (rest cursor.new) }
         ensures value { IfSome result (grammar context.now).IsValue }
@@ -51,7 +51,7 @@ pub trait BitCode {
     ghost laws: { (context : Self.Context) → IsContext context → IsCode AnyLetters (grammar context) };
 }
 
-/// The laws of a code in a context: letters spell at most one value, and no spelling is a proper front of another; the
+/// The laws of a code in a context: letters spell at most one value, and no spelling is a proper prefix of another; the
 /// spelling that is written of a value spells it, and no other is shorter.
 pub fn code_laws<C: BitCode>(context: &C::Context)
     requires { C.IsContext context.now }
@@ -63,7 +63,7 @@ pub fn code_laws<C: BitCode>(context: &C::Context)
 pub(crate) fn take_bits(cursor: &mut BitCursor<'_>, count: u32) -> Option<u64>
     requires { count ≤ 64 }
     ensures reads { Reads (fixed count) result (rest cursor.old) (rest cursor.new) }
-    ensures front { IfSome result (λ value. rest cursor.old ≡ low_bits count value ++ rest cursor.new) }
+    ensures prefix { IfSome result (λ value. rest cursor.old ≡ low_bits count value ++ rest cursor.new) }
     ensures bound { IfSome result (λ value. value < 2 ^ count) }
     ensures short { IfNone result (length (rest cursor.old) < count) }
     ensures same_rest { IfNone result (rest cursor.new ≡ rest cursor.old) }

@@ -13,13 +13,13 @@ use crate::fixed::{CodeRC, CodeRD, CodeRL};
 use crate::tagged::{Tagged, length_tagged, read_tagged, write_tagged};
 use dwg_bits::{BitCursor, BitSink};
 
-/// What the fifth byte of a word is worth; its lowest byte is the first.
+/// The weight of the fifth byte of a word; its lowest byte is the first.
 const FIFTH: u64 = 1 << 32;
 
-/// What the sixth byte of a word is worth.
+/// The weight of the sixth byte of a word.
 const SIXTH: u64 = 1 << 40;
 
-/// What the seventh byte of a word is worth.
+/// The weight of the seventh byte of a word.
 const SEVENTH: u64 = 1 << 48;
 
 /// Reads the four low bytes of a word that has the high bytes of the default.
@@ -83,7 +83,7 @@ impl Tagged for CodeDD {
 
     ghost pick = { dd_tag };
 
-    fn read_behind(context: &u64, tag: u64, cursor: &mut BitCursor<'_>) -> Option<u64> {
+    fn read_payload(context: &u64, tag: u64, cursor: &mut BitCursor<'_>) -> Option<u64> {
         match tag {
             0 => Some(*context),
             1 => read_four_bytes(*context, cursor),
@@ -106,7 +106,7 @@ impl Tagged for CodeDD {
     }
 
     #[tactic(auto, using(dwg_grammar::proofs::NumberLemmas::length_of_rl, dwg_grammar::proofs::NumberLemmas::length_of_rd, crate::proofs::DefaultReading::six_counted))]
-    fn length_behind(_context: &u64, tag: u64, value: &u64) -> u64 {
+    fn length_after(_context: &u64, tag: u64, value: &u64) -> u64 {
         match tag {
             0 => 0,
             1 => 32,
@@ -116,7 +116,7 @@ impl Tagged for CodeDD {
     }
 
     #[tactic(auto, using(crate::proofs::DefaultReading::six_counted))]
-    fn write_behind(_context: &u64, tag: u64, value: &u64, sink: &mut BitSink) {
+    fn write_payload(_context: &u64, tag: u64, value: &u64, sink: &mut BitSink) {
         match tag {
             0 => {}
             1 => CodeRL::write(&(), &((*value % FIFTH) as u32), sink),

@@ -29,7 +29,7 @@ impl Tagged for CodeBE {
 
     ghost pick = { λ context. be_tag };
 
-    fn read_behind(_context: &(), tag: u64, cursor: &mut BitCursor<'_>) -> Option<Point3> {
+    fn read_payload(_context: &(), tag: u64, cursor: &mut BitCursor<'_>) -> Option<Point3> {
         match tag {
             0 => Code3BD::read(&(), cursor),
             _ => Some(Point3 {
@@ -54,7 +54,7 @@ impl Tagged for CodeBE {
     }
 
     #[tactic(auto, using(crate::proofs::PointReading::point_at, dwg_grammar::proofs::Bounds::bd3_at_most))]
-    fn length_behind(_context: &(), tag: u64, value: &Point3) -> u64 {
+    fn length_after(_context: &(), tag: u64, value: &Point3) -> u64 {
         match tag {
             0 => Code3BD::length(&(), value),
             _ => 0,
@@ -62,7 +62,7 @@ impl Tagged for CodeBE {
     }
 
     #[tactic(auto, using(crate::proofs::PointReading::point_at))]
-    fn write_behind(_context: &(), tag: u64, value: &Point3, sink: &mut BitSink) {
+    fn write_payload(_context: &(), tag: u64, value: &Point3, sink: &mut BitSink) {
         match tag {
             0 => Code3BD::write(&(), value, sink),
             _ => {}

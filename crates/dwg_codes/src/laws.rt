@@ -7,7 +7,7 @@ ghost use Rattle.dwg_grammar.specs.Grammar.{IsLawful};
 ghost use Rattle.dwg_grammar.specs.ModularCodes.{mc, ms, signed_mc, sign_and_magnitude};
 ghost use Rattle.dwg_grammar.specs.PlainSpellings.{McSpells, SignedMcSpells, MsSpells, RsSpells, RlSpells, RdSpells, TvSpells};
 
-/// What holds of MC, signed MC, MS and TV: letters spell at most one value, and no spelling is a proper front of another; the
+/// What holds of MC, signed MC, MS and TV: letters spell at most one value, and no spelling is a proper prefix of another; the
 /// spelling that is written of a value spells it, and no other is shorter; and which values have spellings.
 pub fn byte_code_laws()
     ensures mc { IsLawful mc }

@@ -14,8 +14,8 @@ use dwg_base::{Items, NoMemory};
 use dwg_bits::{BitCursor, BitSink};
 use std::alloc::Global;
 
-/// Reads so many values, one behind the other. None, with nothing moved, exactly where one of them isn't spelled; the only
-/// refusal is want of memory, which moves nothing either and is taken only for values that are there.
+/// Reads so many values, one after the other. None, with nothing moved, exactly where one of them isn't spelled; the only
+/// refusal is out of memory, which moves nothing either and is taken only for values that are there.
 #[tactic(auto, using(crate::proofs::ListReading::none_yet, crate::proofs::ListReading::list_read))]
 pub fn read_list<C: BitCode>(
     alloc: Global,
@@ -47,7 +47,7 @@ where
 }
 
 /// Reads values to the end: another follows while at least `least` bits are left, and no value has fewer. None, with
-/// nothing moved, exactly where one of them isn't spelled; the only refusal is want of memory, which moves nothing either
+/// nothing moved, exactly where one of them isn't spelled; the only refusal is out of memory, which moves nothing either
 /// and is taken only for values that are there.
 #[tactic(auto, using(crate::proofs::ListReading::none_yet))]
 pub fn read_to_end<C: BitCode>(
@@ -80,7 +80,7 @@ where
     Ok(Some(found))
 }
 
-/// How many bits are written of values, one behind the other: each has a spelling, and there are fewer than 2^62 bits in all.
+/// How many bits are written of values, one after the other: each has a spelling, and there are fewer than 2^62 bits in all.
 pub fn list_length<C: BitCode>(context: &C::Context, values: &[C::Value]) -> u64
     requires context { C.IsContext context.now }
     requires values { AreValues (C.grammar context.now) values.now }
@@ -94,7 +94,7 @@ pub fn list_length<C: BitCode>(context: &C::Context, values: &[C::Value]) -> u64
     bits
 }
 
-/// Writes values, one behind the other, each by the shortest of its spellings.
+/// Writes values, one after the other, each by the shortest of its spellings.
 pub fn write_list<C: BitCode>(context: &C::Context, values: &[C::Value], sink: &mut BitSink)
     requires context { C.IsContext context.now }
     requires values { AreValues (C.grammar context.now) values.now }

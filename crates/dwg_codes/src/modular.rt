@@ -4,7 +4,7 @@
 ghost use Rattle.std.specs.Prelude.{◌≡◌, ◌+◌, ◌-◌, ◌*◌, ◌^◌, ◌<◌, ◌≤◌, Some, None, drop, length, IfSome, IfNone, if◌then◌else◌};
 ghost use Rattle.dwg_bits.specs.Bits.{bits};
 ghost use Rattle.dwg_bits.specs.Sink.{Extends};
-ghost use Rattle.dwg_grammar.specs.Grammar.{ReadsFront};
+ghost use Rattle.dwg_grammar.specs.Grammar.{ReadsPrefix};
 ghost use Rattle.dwg_grammar.specs.ModularCodes.{mc, mc_within, signed_mc, signed_mc_within, signed_number, sign_and_magnitude, unit, ms, ms_within};
 
 use dwg_bits::BitSink;
@@ -30,10 +30,10 @@ fn mc_within(bytes: &[u8], more: u32) -> Option<(u128, usize)>
     Some((byte - 128 + 128 * high, used + 1))
 }
 
-/// Reads an MC at the front of the bytes: its value, and how many bytes spell it. None exactly where no front spells one.
-#[tactic(auto, using(crate::proofs::FrontReading::mc_read, crate::proofs::FrontReading::mc_large, crate::proofs::FrontReading::mc_missing))]
+/// Reads an MC at the begin of the bytes: its value, and how many bytes spell it. None exactly where no prefix spells one.
+#[tactic(auto, using(crate::proofs::PrefixReading::mc_read, crate::proofs::PrefixReading::mc_large, crate::proofs::PrefixReading::mc_missing))]
 pub fn read_mc(bytes: &[u8]) -> Option<(u64, usize)>
-    ensures reads { ReadsFront mc result bytes.now }
+    ensures reads { ReadsPrefix mc result bytes.now }
     ensures value { IfSome result (λ found. found.0 < 2 ^ 63) }
 {
     let (value, used) = mc_within(bytes, 10)?;
@@ -130,11 +130,11 @@ fn sign_and_magnitude(value: i64) -> (bool, u64)
     (value < 0, value.unsigned_abs())
 }
 
-/// Reads a signed MC at the front of the bytes: its value, and how many bytes spell it. None exactly where no front spells
+/// Reads a signed MC at the begin of the bytes: its value, and how many bytes spell it. None exactly where no prefix spells
 /// one.
 #[tactic(auto, using(crate::proofs::SignedReading::signed_read, crate::proofs::SignedReading::signed_large, crate::proofs::SignedReading::signed_missing))]
 pub fn read_signed_mc(bytes: &[u8]) -> Option<(i64, usize)>
-    ensures reads { ReadsFront signed_mc result bytes.now }
+    ensures reads { ReadsPrefix signed_mc result bytes.now }
     ensures value { IfSome result (λ found. (sign_and_magnitude found.0).1 < 2 ^ 63) }
 {
     let (negative, magnitude, used) = signed_mc_within(bytes, 10)?;
@@ -203,7 +203,7 @@ pub fn write_signed_mc(value: i64, sink: &mut BitSink)
     write_signed_within(negative, magnitude, 10, sink);
 }
 
-/// Reads a unit of two bytes, the low one first: its number, and the bytes behind it.
+/// Reads a unit of two bytes, the low one first: its number, and the bytes after it.
 #[tactic(auto, using(crate::proofs::ShortReading::unit_found, crate::proofs::ShortReading::unit_of_one, crate::proofs::ShortReading::unit_of_none))]
 fn split_unit(bytes: &[u8]) -> Option<(u64, &[u8])>
     ensures found { IfSome result (λ found. unit.parse bytes.now ≡ Some (found.0, found.1.now)) }
@@ -212,8 +212,8 @@ fn split_unit(bytes: &[u8]) -> Option<(u64, &[u8])>
     ensures within { IfSome result (λ found. 2 ≤ length bytes.now) }
     ensures value { IfSome result (λ found. found.0 < 65536) }
 {
-    let (low, behind) = bytes.split_first()?;
-    let (high, rest) = behind.split_first()?;
+    let (low, after) = bytes.split_first()?;
+    let (high, rest) = after.split_first()?;
     Some((u64::from(*low) + 256 * u64::from(*high), rest))
 }
 
@@ -237,10 +237,10 @@ fn ms_within(bytes: &[u8], more: u32) -> Option<(u64, usize)>
     Some((group - 32768 + 32768 * high, used + 2))
 }
 
-/// Reads an MS at the front of the bytes: its value, and how many bytes spell it. None exactly where no front spells one.
+/// Reads an MS at the begin of the bytes: its value, and how many bytes spell it. None exactly where no prefix spells one.
 #[tactic(auto, using(crate::proofs::ShortReading::ms_read, crate::proofs::ShortReading::ms_missing))]
 pub fn read_ms(bytes: &[u8]) -> Option<(u64, usize)>
-    ensures reads { ReadsFront ms result bytes.now }
+    ensures reads { ReadsPrefix ms result bytes.now }
     ensures value { IfSome result (λ found. found.0 < 2 ^ 60) }
 {
     ms_within(bytes, 4)

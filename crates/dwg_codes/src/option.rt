@@ -10,7 +10,7 @@ use crate::code::BitCode;
 use dwg_bits::{BitCursor, BitSink};
 
 /// Reads the value where it is present, and no bit where it isn't. None, with nothing moved, exactly where the value is
-/// present and no front of the rest spells one.
+/// present and no prefix of the rest spells one.
 pub fn read_when<C: BitCode>(
     context: &C::Context,
     present: bool,

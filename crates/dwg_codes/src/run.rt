@@ -14,10 +14,10 @@ use dwg_base::{ByteRun, NoMemory};
 use dwg_bits::{BitCursor, BitSink};
 use std::alloc::Global;
 
-/// Takes so many bytes. The only refusal is want of memory.
+/// Takes so many bytes. Err: out of memory.
 fn take_bytes(alloc: Global, count: u32, cursor: &mut BitCursor<'_>) -> Result<Vec<u8>, NoMemory>
     requires { 8 * count ≤ cursor.old.end - cursor.old.place }
-    ensures front { IfOk result (λ bytes. rest cursor.old ≡ bits bytes.items ++ rest cursor.new) }
+    ensures prefix { IfOk result (λ bytes. rest cursor.old ≡ bits bytes.items ++ rest cursor.new) }
     ensures small { IfOk result (λ bytes. AreBytes bytes.items) }
     ensures counted { IfOk result (λ bytes. length bytes.items ≡ count) }
     ensures same_bytes { cursor.new.bytes.now ≡ cursor.old.bytes.now }
@@ -32,7 +32,7 @@ fn take_bytes(alloc: Global, count: u32, cursor: &mut BitCursor<'_>) -> Result<V
     }
 }
 
-/// Reads so many bytes. None, with nothing moved, exactly where fewer are left; the only refusal is want of memory, which
+/// Reads so many bytes. None, with nothing moved, exactly where fewer are left; the only refusal is out of memory, which
 /// moves nothing either and is taken only for bytes that are there.
 #[tactic(auto, using(crate::proofs::RunReading::run_values))]
 pub fn read_bytes(
@@ -67,7 +67,7 @@ pub fn bytes_length(bytes: &[u8]) -> u64
     8 * bytes.len() as u64
 }
 
-/// Writes bytes, one behind the other.
+/// Writes bytes, one after the other.
 pub fn write_bytes(bytes: &[u8], sink: &mut BitSink)
     requires room { 8 * length bytes.now ≤ sink.old.spare }
     ensures { Extends sink.old sink.new (short_all rc bytes.now) }

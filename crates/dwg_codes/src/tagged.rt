@@ -16,7 +16,7 @@ use dwg_bits::{BitCursor, BitSink};
 /// The word of 1.0: the 64-bit floating-point number by its bits.
 pub const ONE_WORD: u64 = 0x3FF0_0000_0000_0000;
 
-/// A tag of a few bits, and what is spelled behind each tag.
+/// A tag of a few bits, and what is spelled after each tag.
 pub(crate) trait Tagged {
     /// What a spelling depends on beside its value.
     type Context;
@@ -28,17 +28,17 @@ pub(crate) trait Tagged {
 
     ghost WIDTH: { ℕ };
 
-    // What is spelled behind each tag.
+    // What is spelled after each tag.
     ghost by: { Self.Context → ℕ → Grammar Bool Self.Value };
 
-    // The value has a spelling behind some tag.
+    // The value has a spelling after some tag.
     ghost IsTagged: { Self.Context → Self.Value → Type 0 };
 
     // The tag under which a value is written.
     ghost pick: { Self.Context → Self.Value → ℕ };
 
-    /// Reads the value behind a tag. None exactly where no front spells one there.
-    fn read_behind(
+    /// Reads the value after a tag. None exactly where no prefix spells one there.
+    fn read_payload(
         context: &Self::Context,
         tag: u64,
         cursor: &mut BitCursor<'_>,
@@ -56,15 +56,15 @@ pub(crate) trait Tagged {
         ensures fits { result < 2 ^ WIDTH }
         ensures value { (by context.now result).IsValue value.now };
 
-    /// How many bits are written of a value behind a tag.
-    fn length_behind(context: &Self::Context, tag: u64, value: &Self::Value) -> u64
+    /// How many bits are written of a value after a tag.
+    fn length_after(context: &Self::Context, tag: u64, value: &Self::Value) -> u64
         requires tag { tag < 2 ^ WIDTH }
         requires value { (by context.now tag).IsValue value.now }
         ensures length { result ≡ length ((by context.now tag).short value.now) }
         ensures few { result < 2 ^ 16 };
 
-    /// Writes a value behind a tag.
-    fn write_behind(context: &Self::Context, tag: u64, value: &Self::Value, sink: &mut BitSink)
+    /// Writes a value after a tag.
+    fn write_payload(context: &Self::Context, tag: u64, value: &Self::Value, sink: &mut BitSink)
         requires tag { tag < 2 ^ WIDTH }
         requires value { (by context.now tag).IsValue value.now }
         requires room { length ((by context.now tag).short value.now) ≤ sink.old.spare }
@@ -74,7 +74,7 @@ pub(crate) trait Tagged {
     ghost narrow: { WIDTH ≤ 64 };
 }
 
-/// Reads a tag and the value behind it.
+/// Reads a tag and the value after it.
 pub(crate) fn read_tagged<C: Tagged>(
     context: &C::Context,
     cursor: &mut BitCursor<'_>,
@@ -87,7 +87,7 @@ pub(crate) fn read_tagged<C: Tagged>(
 {
     let mut ahead = *cursor;
     let tag = take_bits(&mut ahead, C::WIDTH)?;
-    let value = C::read_behind(context, tag, &mut ahead)?;
+    let value = C::read_payload(context, tag, &mut ahead)?;
     *cursor = ahead;
     Some(value)
 }
@@ -99,7 +99,7 @@ pub(crate) fn length_tagged<C: Tagged>(context: &C::Context, value: &C::Value) -
     ensures few { result < 2 ^ 32 }
 {
     let tag = C::tag(context, value);
-    u64::from(C::WIDTH) + C::length_behind(context, tag, value)
+    u64::from(C::WIDTH) + C::length_after(context, tag, value)
 }
 
 /// Writes a value with its tag.
@@ -110,7 +110,7 @@ pub(crate) fn write_tagged<C: Tagged>(context: &C::Context, value: &C::Value, si
 {
     let tag = C::tag(context, value);
     sink.push(tag, C::WIDTH);
-    C::write_behind(context, tag, value, sink);
+    C::write_payload(context, tag, value, sink);
 }
 
 /// BS: 00 and an RS, 01 and an RC, 10 for 0, 11 for 256.
@@ -131,7 +131,7 @@ impl Tagged for CodeBS {
 
     ghost pick = { λ context. bs_tag };
 
-    fn read_behind(_context: &(), tag: u64, cursor: &mut BitCursor<'_>) -> Option<u16> {
+    fn read_payload(_context: &(), tag: u64, cursor: &mut BitCursor<'_>) -> Option<u16> {
         match tag {
             0 => CodeRS::read(&(), cursor),
             1 => Some(u16::from(CodeRC::read(&(), cursor)?)),
@@ -150,7 +150,7 @@ impl Tagged for CodeBS {
     }
 
     #[tactic(auto, using(dwg_grammar::proofs::NumberLemmas::length_of_rs, dwg_grammar::proofs::NumberLemmas::length_of_rc))]
-    fn length_behind(_context: &(), tag: u64, value: &u16) -> u64 {
+    fn length_after(_context: &(), tag: u64, value: &u16) -> u64 {
         match tag {
             0 => CodeRS::length(&(), value),
             1 => CodeRC::length(&(), &(*value as u8)),
@@ -158,7 +158,7 @@ impl Tagged for CodeBS {
         }
     }
 
-    fn write_behind(_context: &(), tag: u64, value: &u16, sink: &mut BitSink) {
+    fn write_payload(_context: &(), tag: u64, value: &u16, sink: &mut BitSink) {
         match tag {
             0 => CodeRS::write(&(), value, sink),
             1 => CodeRC::write(&(), &(*value as u8), sink),
@@ -211,7 +211,7 @@ impl Tagged for CodeBL {
 
     ghost pick = { λ context. bl_tag };
 
-    fn read_behind(_context: &(), tag: u64, cursor: &mut BitCursor<'_>) -> Option<u32> {
+    fn read_payload(_context: &(), tag: u64, cursor: &mut BitCursor<'_>) -> Option<u32> {
         match tag {
             0 => CodeRL::read(&(), cursor),
             1 => Some(u32::from(CodeRC::read(&(), cursor)?)),
@@ -229,7 +229,7 @@ impl Tagged for CodeBL {
     }
 
     #[tactic(auto, using(dwg_grammar::proofs::NumberLemmas::length_of_rl, dwg_grammar::proofs::NumberLemmas::length_of_rc))]
-    fn length_behind(_context: &(), tag: u64, value: &u32) -> u64 {
+    fn length_after(_context: &(), tag: u64, value: &u32) -> u64 {
         match tag {
             0 => CodeRL::length(&(), value),
             1 => CodeRC::length(&(), &(*value as u8)),
@@ -237,7 +237,7 @@ impl Tagged for CodeBL {
         }
     }
 
-    fn write_behind(_context: &(), tag: u64, value: &u32, sink: &mut BitSink) {
+    fn write_payload(_context: &(), tag: u64, value: &u32, sink: &mut BitSink) {
         match tag {
             0 => CodeRL::write(&(), value, sink),
             1 => CodeRC::write(&(), &(*value as u8), sink),
@@ -290,7 +290,7 @@ impl Tagged for CodeBD {
 
     ghost pick = { λ context. bd_tag };
 
-    fn read_behind(_context: &(), tag: u64, cursor: &mut BitCursor<'_>) -> Option<u64> {
+    fn read_payload(_context: &(), tag: u64, cursor: &mut BitCursor<'_>) -> Option<u64> {
         match tag {
             0 => CodeRD::read(&(), cursor),
             1 => Some(ONE_WORD),
@@ -308,14 +308,14 @@ impl Tagged for CodeBD {
     }
 
     #[tactic(auto, using(dwg_grammar::proofs::NumberLemmas::length_of_rd))]
-    fn length_behind(_context: &(), tag: u64, value: &u64) -> u64 {
+    fn length_after(_context: &(), tag: u64, value: &u64) -> u64 {
         match tag {
             0 => CodeRD::length(&(), value),
             _ => 0,
         }
     }
 
-    fn write_behind(_context: &(), tag: u64, value: &u64, sink: &mut BitSink) {
+    fn write_payload(_context: &(), tag: u64, value: &u64, sink: &mut BitSink) {
         match tag {
             0 => CodeRD::write(&(), value, sink),
             _ => {}
@@ -367,7 +367,7 @@ impl Tagged for CodeBT {
 
     ghost pick = { λ context. bt_tag };
 
-    fn read_behind(_context: &(), tag: u64, cursor: &mut BitCursor<'_>) -> Option<u64> {
+    fn read_payload(_context: &(), tag: u64, cursor: &mut BitCursor<'_>) -> Option<u64> {
         match tag {
             0 => CodeBD::read(&(), cursor),
             _ => Some(0),
@@ -382,14 +382,14 @@ impl Tagged for CodeBT {
     }
 
     #[tactic(auto, using(dwg_grammar::proofs::Bounds::bd_at_most))]
-    fn length_behind(_context: &(), tag: u64, value: &u64) -> u64 {
+    fn length_after(_context: &(), tag: u64, value: &u64) -> u64 {
         match tag {
             0 => CodeBD::length(&(), value),
             _ => 0,
         }
     }
 
-    fn write_behind(_context: &(), tag: u64, value: &u64, sink: &mut BitSink) {
+    fn write_payload(_context: &(), tag: u64, value: &u64, sink: &mut BitSink) {
         match tag {
             0 => CodeBD::write(&(), value, sink),
             _ => {}

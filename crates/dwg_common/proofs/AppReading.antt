@@ -11,6 +11,6 @@ use Rattle.dwg_common.proofs.UntilReading.{TakeBits}
 pub app_takes : (base : ℕ) → base < 2 ^ 63 → TakeBits bs (app_item base)
 app_takes base small = record {
   tag_is_code = bs_is_code;
-  some_bits = λ size front spelled. omega (arith, bs_least size front spelled);
+  some_bits = λ size prefix spelled. omega (arith, bs_least size prefix spelled);
   value_is_code = λ size. app_item_is_code base size small;
 }

@@ -1,4 +1,4 @@
--- What AC1014 spells of a part whose bits tell no size. Ghost members of the impls of bodies cite this.
+-- What AC1014 spells of a part whose bits give no size. Ghost members of the impls of bodies cite this.
 use Rattle.std.proofs.Common.{refl}
 use Rattle.dwg_grammar.specs.Bodies.{BodyGrammar}
 use Rattle.dwg_common.specs.Layouts.{WritesAlike}

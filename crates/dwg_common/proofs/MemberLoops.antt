@@ -1,4 +1,4 @@
--- Parts of members, one of each, tried, counted and written one behind the other: what loops over them keep.
+-- Parts of members, one of each, tried, counted and written one after the other: what loops over them keep.
 use Rattle.std.proofs.Common.{◌≡◌, ℕ, ◌+◌, Bool, List, ◌++◌, length, map}
 use Rattle.dwg_bits.specs.Sink.{Written, Extends}
 use Rattle.dwg_grammar.specs.Grammar.{Grammar}

@@ -1,4 +1,4 @@
--- The bit size in the common parts of AC1014: their main bits begin with what tells it, and so tell one.
+-- The bit size in the common parts of AC1014: their main bits begin with what gives it, and so give one.
 use Rattle.std.proofs.Common.{◌≡◌, refl, sym, ◌∙◌, ap, subst, ℕ, ◌^◌, ◌<◌, Bool, true, false, List, [], ◌++◌, Option, None}
 use Rattle.std.specs.Prelude.{◌==◌}
 use Rattle.std.proofs.lemmas.Bool.Decides.{Decides-eqb}
@@ -32,10 +32,10 @@ pieces one two three four five first second third main all with_one with_two wit
 pub entity_spells_size : (size base : ℕ) (common : EntityCommon) (main references : List Bool) (over : ℕ)
     → (entity_common (older size) base).Spells common main references over → SpellsSize true base size main
 unfolding entity_common
-entity_spells_size size base common main references over (told, named, same, (first, five, (one, second, app, (two, third, picture, (three, four, known, rest, with_three), with_two), with_one), look, all), names) = record {
+entity_spells_size size base common main references over (parsed, named, same, (first, five, (one, second, app, (two, third, picture, (three, four, known, rest, with_three), with_two), with_one), look, all), names) = record {
   prefix = one ++ (two ++ three);
   after = four ++ five;
-  spelled = (told.0.0, told.0.1.0, (one, two ++ three, app, (two, three, picture, of_known size known.0 three known.2.0 known.2.1, refl), refl));
+  spelled = (parsed.0.0, parsed.0.1.0, (one, two ++ three, app, (two, three, picture, of_known size known.0 three known.2.0 known.2.1, refl), refl));
   whole = pieces one two three four five first second third main all with_one with_two with_three;
 }
 
@@ -43,10 +43,10 @@ entity_spells_size size base common main references over (told, named, same, (fi
 pub sized_prefix_is_code : (entity : Bool) (base : ℕ) → base < 2 ^ 63 → IsCode AnyLetters (sized_prefix entity base)
 sized_prefix_is_code entity base small = search (codes, versions, app_list_is_code, graphic_is_code) depth 8
 
--- main bits tell one bit size
+-- main bits give one bit size
 pub one_size : (entity : Bool) (base size other : ℕ) (main : List Bool) → base < 2 ^ 63 → SpellsSize entity base size main → SpellsSize entity base other main → size ≡ other
 one_size entity base size other main small is was =
-    ap (λ (told : List AppData × (Option (List ℕ) × ℕ)). told.1.1)
+    ap (λ (parsed : List AppData × (Option (List ℕ) × ℕ)). parsed.1.1)
     (unique_of_code AnyLetters (sized_prefix entity base) (sized_prefix_is_code entity base small) (is.spelled.0, (is.spelled.1, size)) (was.spelled.0, (was.spelled.1, other))
     is.prefix was.prefix is.after was.after is.spelled.2 was.spelled.2 (sym is.whole ∙ was.whole)).0
 
@@ -54,9 +54,9 @@ one_size entity base size other main small is was =
 pub object_spells_size : (size base : ℕ) (common : ObjectCommon) (main references : List Bool) (over : ℕ)
     → (object_common (older size) base).Spells common main references over → SpellsSize false base size main
 unfolding object_common
-object_spells_size size base common main references over (told, named, same, (one, second, app, (three, four, known, count, with_three), all), names) = record {
+object_spells_size size base common main references over (parsed, named, same, (one, second, app, (three, four, known, count, with_three), all), names) = record {
   prefix = one ++ ([] ++ three);
   after = four;
-  spelled = (told.0, None, (one, [] ++ three, app, ([], three, (refl, refl), of_known size known.0 three known.2.0 known.2.1, refl), refl));
+  spelled = (parsed.0, None, (one, [] ++ three, app, ([], three, (refl, refl), of_known size known.0 three known.2.0 known.2.1, refl), refl));
   whole = all ∙ ap (λ (l : List Bool). one ++ l) with_three ∙ sym (append_assoc one three four);
 }

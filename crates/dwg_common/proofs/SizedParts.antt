@@ -1,4 +1,4 @@
--- Bytes behind their size, by any code of the size.
+-- Bytes after their size, by any code of the size.
 use Rattle.std.proofs.Common.{◌≡◌, refl, ℕ, ◌+◌, ◌*◌, ◌^◌, ◌<◌, Bool, List, length, arith}
 use Rattle.std.specs.Prelude.{◌↔◌}
 use Rattle.std.proofs.lemmas.List.{length-append}
@@ -10,7 +10,7 @@ use Rattle.dwg_grammar.specs.Combinators.{chain, counted}
 use Rattle.dwg_grammar.specs.Grammar.{Grammar}
 use Rattle.dwg_grammar.specs.ToEnd.{short_all}
 
--- a BL tells fewer than 2^32 of them, as many as an RL
+-- a BL gives fewer than 2^32 of them, as many as an RL
 pub bl_value : (bytes : List ℕ) → AreBytes bytes → (counted bl rc).IsValue bytes ↔ (length bytes < 2 ^ 32)
 unfolding chain
 bl_value bytes are = ((λ fits. fits.0), (λ fits. (fits, ((values_of_bytes (length bytes) bytes).1 (refl, are)).1)))

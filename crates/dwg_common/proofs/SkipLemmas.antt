@@ -24,12 +24,12 @@ use Rattle.dwg_common.proofs.UntilReading.{AreBegun, TakeBits, one_begun}
 
 -- so many bits are so many bytes
 pub bytes_skipped : (count : ℕ) (span old new : List Bool) → old ≡ span ++ new → length span ≡ 8 * count → (value : List ℕ) × ((items rc count).parse old ≡ Some (value, new))
-bytes_skipped count span old new front counted =
+bytes_skipped count span old new prefix counted =
     let same : _ ≡ span = bits_of_whole span (omega (arith, counted)) in (
       whole_bytes span,
       bytes_parsed count (Some (whole_bytes span)) old new
           (run_read count (whole_bytes span) (whole_bytes span) old new refl (bytes_counted (whole_bytes span) span count same counted) (whole_are_bytes span)
-          (front ∙ ap (λ (l : List Bool). l ++ new) (sym same))),
+          (prefix ∙ ap (λ (l : List Bool). l ++ new) (sym same))),
     )
 
 -- fewer bits aren't
@@ -77,7 +77,7 @@ never_parsed : {V W : Type 0} (first : Grammar Bool V) (second : V → Grammar B
 never_parsed {V} {W} first second letters was =
     ap (option_and_then (λ (one : V × List Bool). option_map (λ (two : W × List Bool). ((one.0, two.0), two.1)) ((second one.0).parse one.1))) was
 
--- bytes behind their count are skipped
+-- bytes after their count are skipped
 counted_skipped : (size : ℕ) (done : Option ⊤) (old mid new : BitCursor) → rl.parse (rest old) ≡ Some (size, rest mid) → Skips (items rc size) done mid new → Skips (counted rl rc) done old new
 counted_skipped size (Some one) old mid new was (bytes, is) = (
   bytes,

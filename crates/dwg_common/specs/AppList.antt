@@ -25,6 +25,6 @@ app_item base size =
 unfoldable pub app_list : ℕ → Grammar Bool (List AppData)
 app_list base = until bs 0 (λ size. size == 0) (app_item base) (λ item. length item.bytes) (IsAppData base)
 
--- an item behind its size, as both are written
+-- an item after its size, as both are written
 abbrev pub item_short : ℕ → AppData → List Bool
 item_short base item = bs.short (length item.bytes) ++ (app_item base (length item.bytes)).short item

@@ -47,7 +47,7 @@ app_list_is_code base small =
       mark_is_tag = omega arith;
       mark_passes = refl;
       only_mark_passes = λ size fits passed. grind (arith, nat_tests);
-      some_letters = λ size front spelled. omega (arith, bs_least size front spelled);
+      some_letters = λ size prefix spelled. omega (arith, bs_least size prefix spelled);
       value_is_item = λ size item fits some value. value_is_item base size item fits some value;
       item_is_value = λ item is. item_is_value base item is;
     }

@@ -12,7 +12,7 @@ use Rattle.dwg_common.specs.declared.layout.Layout.{Layout}
 -- in AC1014 RL, which is the bit size of the layout; in AC1015 nothing
 abbrev pub bit_size : Layout → Grammar Bool ⊤
 bit_size layout =
-    image (λ seen. ⊤) (λ told. tt) (λ seen. layout.size) (in_version layout.version (restrict (λ told. told == layout.size) rl) (always layout.size))
+    image (λ seen. ⊤) (λ parsed. tt) (λ seen. layout.size) (in_version layout.version (restrict (λ parsed. parsed == layout.size) rl) (always layout.size))
 
 -- what AC1014 has up to the bit size: application data; of an entity its picture; RL
 abbrev pub sized_prefix : Bool → ℕ → Grammar Bool (List AppData × (Option (List ℕ) × ℕ))

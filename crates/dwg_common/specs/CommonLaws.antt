@@ -61,54 +61,54 @@ refs_after_dictionary_is_part version base nolinks linetype_flag plotstyle_flag 
     (newer_is_part base nolinks linetype_flag plotstyle_flag small)
 
 -- and so are all that an entity names
-pub entity_refs_is_part : (version : Version) (base : ℕ) (told : StartParts × LookParts) → base < 2 ^ 63 → IsReferencePart base (entity_refs version base told)
+pub entity_refs_is_part : (version : Version) (base : ℕ) (parsed : StartParts × LookParts) → base < 2 ^ 63 → IsReferencePart base (entity_refs version base parsed)
 entity_refs_is_part version base (start, look) small = search (parts, refs_after_dictionary_is_part) depth 16
 
 -- the size of a layout, by a version
 abbrev sized_by : Version → ℕ → Grammar Bool ℕ
-sized_by version size = in_version version (restrict (λ told. told == size) rl) (always size)
+sized_by version size = in_version version (restrict (λ parsed. parsed == size) rl) (always size)
 
 size_value : (version : Version) (size : ℕ) → size < 2 ^ 32 → (sized_by version size).IsValue size
 size_value Ac1014 size small = ((Decides-eqb size size).1 refl, small)
 size_value Ac1015 size small = refl
 
-size_told : (version : Version) (size told : ℕ) → (sized_by version size).IsValue told → told ≡ size
-size_told Ac1014 size told fits = (Decides-eqb told size).0 fits.0
-size_told Ac1015 size told fits = fits
+size_parsed : (version : Version) (size parsed : ℕ) → (sized_by version size).IsValue parsed → parsed ≡ size
+size_parsed Ac1014 size parsed fits = (Decides-eqb parsed size).0 fits.0
+size_parsed Ac1015 size parsed fits = fits
 
 -- the bit size is a code
 pub bit_size_is_code : (layout : Layout) → layout.size < 2 ^ 32 → IsCode AnyLetters (bit_size layout)
 bit_size_is_code layout small =
-    struct_is_code AnyLetters (λ seen. ⊤) (λ told. tt) (λ seen. layout.size) (sized_by layout.version layout.size)
-    (in_version_is_code AnyLetters layout.version (restrict (λ told. told == layout.size) rl) (always layout.size) (restrict_is_code AnyLetters (λ told. told == layout.size) rl (search codes)) (always_is_code AnyLetters layout.size))
-    (λ told fits. tt) (λ seen any. (size_value layout.version layout.size small, refl)) (λ told fits. sym (size_told layout.version layout.size told fits))
+    struct_is_code AnyLetters (λ seen. ⊤) (λ parsed. tt) (λ seen. layout.size) (sized_by layout.version layout.size)
+    (in_version_is_code AnyLetters layout.version (restrict (λ parsed. parsed == layout.size) rl) (always layout.size) (restrict_is_code AnyLetters (λ parsed. parsed == layout.size) rl (search codes)) (always_is_code AnyLetters layout.size))
+    (λ parsed fits. tt) (λ seen any. (size_value layout.version layout.size small, refl)) (λ parsed fits. sym (size_parsed layout.version layout.size parsed fits))
 
 -- where links are there by a test, they are missing where it fails
 links_missing : (nolinks : Bool) (code : Grammar Bool Links) (value : Option Links) → (when (not nolinks) code).IsValue value → is_none value ≡ nolinks
 links_missing true code value none = ap is_none none
 links_missing false code value (inner, same, fits) = ap is_none same
 
--- the linetype is told alike in both versions
-bylayer_told : (version : Version) (bylayer : Bool) (linetype_flag : ℕ) → (until_1014 version true b).IsValue bylayer → (linetype_flag_by version bylayer).IsValue linetype_flag
+-- the linetype is given alike in both versions
+bylayer_parsed : (version : Version) (bylayer : Bool) (linetype_flag : ℕ) → (until_1014 version true b).IsValue bylayer → (linetype_flag_by version bylayer).IsValue linetype_flag
     → bylayer_of version linetype_flag ≡ bylayer
-bylayer_told Ac1014 true flag bit told = ap (λ (n : ℕ). n == 0) told
-bylayer_told Ac1014 false flag bit told = ap (λ (n : ℕ). n == 0) told
-bylayer_told Ac1015 bylayer flag bit told = sym bit
+bylayer_parsed Ac1014 true flag bit parsed = ap (λ (n : ℕ). n == 0) parsed
+bylayer_parsed Ac1014 false flag bit parsed = ap (λ (n : ℕ). n == 0) parsed
+bylayer_parsed Ac1015 bylayer flag bit parsed = sym bit
 
--- what is put together of an entity is told by it
+-- what is put together of an entity is given by it
 links_of : (version : Version) (base : ℕ) (nolinks : Bool) (linetype_flag plotstyle_flag : ℕ) (parts : AfterDictionaryParts)
     → (refs_after_dictionary version base nolinks linetype_flag plotstyle_flag).grammar.IsValue parts → (when (not nolinks) (links base).grammar).IsValue parts.0
 links_of Ac1014 base nolinks linetype_flag plotstyle_flag parts names = names.1.1.0
 links_of Ac1015 base nolinks linetype_flag plotstyle_flag parts names = names.0
 
-entity_told : (layout : Layout) (base : ℕ) (told : StartParts × LookParts) (named : NamedParts)
-    → (seq (entity_start layout base) (λ start. entity_look layout.version start.1.1.1.1.1.0)).IsValue told → (entity_refs layout.version base told).grammar.IsValue named
-    → (◌≡◌ {A = StartParts × LookParts} (start_of layout.version (entity_of told named), look_of (entity_of told named)) told) × (named_of (entity_of told named) ≡ named)
+entity_parsed : (layout : Layout) (base : ℕ) (parsed : StartParts × LookParts) (named : NamedParts)
+    → (seq (entity_start layout base) (λ start. entity_look layout.version start.1.1.1.1.1.0)).IsValue parsed → (entity_refs layout.version base parsed).grammar.IsValue named
+    → (◌≡◌ {A = StartParts × LookParts} (start_of layout.version (entity_of parsed named), look_of (entity_of parsed named)) parsed) × (named_of (entity_of parsed named) ≡ named)
 unfolding chain
-entity_told layout base ((app, (picture, (size, (mode, (count, (bylayer, nolinks)))))), look) named fits names = (
+entity_parsed layout base ((app, (picture, (size, (mode, (count, (bylayer, nolinks)))))), look) named fits names = (
   ap₂ (λ (reactors : ℕ) (flags : Bool × Bool). let parts : StartParts × LookParts = ((app, (picture, (tt, (mode, (reactors, flags))))), look) in parts)
       names.1.0.0
-      (ap₂ (λ (first second : Bool). (first, second)) (bylayer_told layout.version bylayer look.1.1.0 fits.0.1.1.1.1.1.0 fits.1.1.1.0)
+      (ap₂ (λ (first second : Bool). (first, second)) (bylayer_parsed layout.version bylayer look.1.1.0 fits.0.1.1.1.1.1.0 fits.1.1.1.0)
       (links_missing nolinks (links base).grammar named.1.1.1.0 (links_of layout.version base nolinks look.1.1.0 look.1.1.1.0 named.1.1.1 names.1.1.1))),
   refl,
 )
@@ -116,18 +116,18 @@ entity_told layout base ((app, (picture, (size, (mode, (count, (bylayer, nolinks
 -- the common part of an entity is a body
 pub entity_is_body : (layout : Layout) (base : ℕ) → layout.size < 2 ^ 32 → base < 2 ^ 63 → IsBody base (entity_common layout base)
 unfolding entity_common
-entity_is_body layout base few small = search (bodies, versions, bit_size_is_code, app_list_is_code, graphic_is_code, entity_refs_is_part, entity_told) depth 24
+entity_is_body layout base few small = search (bodies, versions, bit_size_is_code, app_list_is_code, graphic_is_code, entity_refs_is_part, entity_parsed) depth 24
 
--- what is put together of another object is told by it
-object_told : (base : ℕ) (told : List AppData × (⊤ × ℕ)) (named : Reference × (List Reference × Reference)) → (object_refs base told).grammar.IsValue named
-    → (◌≡◌ {A = List AppData × (⊤ × ℕ)} (told.0, (tt, length named.1.0)) told) × (◌≡◌ {A = Reference × (List Reference × Reference)} (named.0, (named.1.0, named.1.1)) named)
+-- what is put together of another object is given by it
+object_parsed : (base : ℕ) (parsed : List AppData × (⊤ × ℕ)) (named : Reference × (List Reference × Reference)) → (object_refs base parsed).grammar.IsValue named
+    → (◌≡◌ {A = List AppData × (⊤ × ℕ)} (parsed.0, (tt, length named.1.0)) parsed) × (◌≡◌ {A = Reference × (List Reference × Reference)} (named.0, (named.1.0, named.1.1)) named)
 unfolding chain
-object_told base told named names = (ap (λ (count : ℕ). let parts : List AppData × (⊤ × ℕ) = (told.0, (tt, count)) in parts) names.1.0.0, refl)
+object_parsed base parsed named names = (ap (λ (count : ℕ). let parts : List AppData × (⊤ × ℕ) = (parsed.0, (tt, count)) in parts) names.1.0.0, refl)
 
 -- and so is that of an object that is no entity
 pub object_is_body : (layout : Layout) (base : ℕ) → layout.size < 2 ^ 32 → base < 2 ^ 63 → IsBody base (object_common layout base)
 unfolding object_common
-object_is_body layout base few small = search (bodies, bit_size_is_code, app_list_is_code, object_told) depth 8
+object_is_body layout base few small = search (bodies, bit_size_is_code, app_list_is_code, object_parsed) depth 8
 
 -- a flag that is 0 or 3 is one of a BB
 flag_fits : (bylayer : Bool) (flag : ℕ) → flag ≡ (if bylayer then 0 else 3) → flag < 2 ^ 2

@@ -22,7 +22,7 @@ use Rattle.dwg_grammar.specs.References.{ReferencePart, one_ref, two_refs, some_
 abbrev pub entity_mode : Grammar Bool ℕ
 entity_mode = restrict (λ mode. nat_lt mode 3) bb
 
--- what the start of an entity tells, in the order of its bits
+-- what the start of an entity gives, in the order of its bits
 abbrev pub StartParts : Type 0
 StartParts = List AppData × (Option (List ℕ) × (⊤ × (ℕ × (ℕ × (Bool × Bool)))))
 
@@ -36,7 +36,7 @@ entity_start layout base =
 abbrev pub LookParts : Type 0
 LookParts = ℕ × (ℕ × (ℕ × (ℕ × (ℕ × ℕ))))
 
--- BB linetype flag; in AC1014 it is told: 0 where it is by layer, else 3
+-- BB linetype flag; in AC1014 it is given: 0 where it is by layer, else 3
 abbrev pub linetype_flag_by : Version → Bool → Grammar Bool ℕ
 linetype_flag_by version bylayer = since_1015 version (if bylayer then 0 else 3) bb
 
@@ -84,12 +84,12 @@ entity_refs version base ((_, (_, (_, (mode, (reactors, (_, nolinks)))))), (_, (
     then_refs (maybe_refs (mode == 0) (one_ref base))
     (then_refs (some_refs base reactors) (then_refs (one_ref base) (refs_after_dictionary version base nolinks linetype_flag plotstyle_flag)))
 
--- whether a linetype is told to be by layer: AC1015 tells nothing of it there
+-- whether a linetype is given to be by layer: AC1015 gives nothing of it there
 abbrev pub bylayer_of : Version → ℕ → Bool
 bylayer_of Ac1014 linetype_flag = linetype_flag == 0
 bylayer_of Ac1015 linetype_flag = true
 
--- what the main bits of an entity tell, and what it names
+-- what the main bits of an entity give, and what it names
 abbrev pub start_of : Version → EntityCommon → StartParts
 start_of version common =
     (common.app, (common.graphic, (tt, (common.mode, (length common.reactors, (bylayer_of version common.linetype_flag, is_none common.links))))))
@@ -103,7 +103,7 @@ after_dictionary common = (common.links, (common.layer, (common.linetype, common
 abbrev pub named_of : EntityCommon → NamedParts
 named_of common = (common.owner, (common.reactors, (common.xdict, after_dictionary common)))
 
--- an entity's common part from these: that links are missing is told by the links
+-- an entity's common part from these: that links are missing is given by the links
 abbrev pub entity_of : StartParts × LookParts → NamedParts → EntityCommon
 entity_of ((app, (picture, (size, (mode, (count, (bylayer, nolinks)))))), (colour, (linetype_scale, (linetype_flag, (plotstyle_flag, (invisible, lineweight))))))
     (owner, (reactors, (xdict, (neighbours, (layer, (linetype, plotstyle)))))) = record {

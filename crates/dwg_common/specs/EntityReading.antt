@@ -1,4 +1,4 @@
--- What a reader of entities has read, as the parts that the grammar tells.
+-- What a reader of entities has read, as the parts that the grammar gives.
 use Rattle.dwg_common.specs.declared.entity.AfterDictionary.{AfterDictionary}
 use Rattle.dwg_common.specs.declared.entity.Look.{Look}
 use Rattle.dwg_common.specs.declared.entity.Named.{Named}

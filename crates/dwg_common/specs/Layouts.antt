@@ -4,7 +4,7 @@ use Rattle.dwg_base.specs.declared.version.Version.TheVariants.{Ac1014, Ac1015}
 use Rattle.dwg_common.specs.declared.layout.Layout.{Layout}
 use Rattle.dwg_grammar.specs.Bodies.{BodyGrammar}
 
--- in AC1015, where no part tells the bit size
+-- in AC1015, where no part gives the bit size
 abbrev pub NEWER : Layout
 NEWER = record { version = Ac1015; size = 0 }
 

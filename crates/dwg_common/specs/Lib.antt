@@ -1,6 +1,6 @@
 -- What a reader of a part did.
 pub mod Parsing
--- Members of a list of which the main bits tell one part each and the references name another.
+-- Members of a list of which the main bits give one part each and the references name another.
 pub mod Members
 -- The application data of an object, which stand in its main bits.
 pub mod AppList
@@ -14,7 +14,7 @@ pub mod Pictures
 pub mod BitSizes
 -- What all entities have.
 pub mod Entities
--- What a reader of entities has read, as the parts that the grammar tells.
+-- What a reader of entities has read, as the parts that the grammar gives.
 pub mod EntityReading
 -- What all objects have that are no entities.
 pub mod NonEntities

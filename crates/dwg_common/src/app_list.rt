@@ -17,7 +17,7 @@ use std::alloc::Global;
 /// The size that no item has, which ends the list.
 const MARK: u16 = 0;
 
-/// Reads an item of so many bytes. The only refusal is want of memory.
+/// Reads an item of so many bytes. Err: out of memory.
 fn read_item(
     alloc: Global,
     size: u16,
@@ -36,8 +36,8 @@ fn read_item(
     Ok(Some(AppData { application, bytes }))
 }
 
-/// Reads items up to their mark. None exactly where no front of the rest spells them; the only refusal is want of memory.
-#[tactic(auto, unfolding(crate::specs::AppList::app_list, dwg_grammar::specs::Combinators::until), using(crate::proofs::UntilReading::behind_none))]
+/// Reads items up to their mark. None exactly where no prefix of the rest spells them; the only refusal is out of memory.
+#[tactic(auto, unfolding(crate::specs::AppList::app_list, dwg_grammar::specs::Combinators::until), using(crate::proofs::UntilReading::after_none))]
 pub(crate) fn read_items(
     alloc: Global,
     cursor: &mut BitCursor<'_>,
@@ -125,7 +125,7 @@ pub(crate) fn app_length(app: &[AppData], base: Handle) -> u64
     bits + CodeBS::length(&(), &MARK)
 }
 
-/// Writes an item behind its size.
+/// Writes an item after its size.
 #[tactic(auto, unfolding(dwg_grammar::specs::Combinators::chain), using(crate::proofs::AppWriting::length_of_item))]
 fn write_item(item: &AppData, base: Handle, sink: &mut BitSink)
     requires item { IsAppData base item.now }
@@ -138,7 +138,7 @@ fn write_item(item: &AppData, base: Handle, sink: &mut BitSink)
     write_bytes(bytes, sink);
 }
 
-/// Writes application data in the object of the handle `base`, each item behind its size, and the mark behind them.
+/// Writes application data in the object of the handle `base`, each item after its size, and the mark after them.
 #[tactic(auto, unfolding(crate::specs::AppList::app_list, dwg_grammar::specs::Combinators::until))]
 pub(crate) fn write_app(app: &[AppData], base: Handle, sink: &mut BitSink)
     requires value { (app_list base).IsValue app.now }

@@ -31,7 +31,7 @@ pub trait BodyCode: Sized {
     ghost grammar: { Layout → ℕ → BodyGrammar Self };
 
     /// Reads the value that is parsed of the main bits and of the reference bits in the object of the handle `base`, and moves
-    /// both cursors as far as it came. None exactly where no fronts spell one. The only refusal is want of memory, which is
+    /// both cursors as far as it came. None exactly where no prefixes spell one. Err: out of memory, which is
     /// taken only for what is there.
     fn parse(
         alloc: Global,
@@ -45,7 +45,7 @@ pub trait BodyCode: Sized {
         ensures refs_kept { Keeps refs.old refs.new };
 
     /// Whether the value has a spelling in the object of the handle `base`: lists and texts are no longer than their counts
-    /// can tell, each part is there exactly where the others say so, and the codes of references reach their targets.
+    /// can give, each part is there exactly where the others say so, and the codes of references reach their targets.
     fn fits_in(&self, layout: Layout, base: Handle) -> bool
         ensures { IsTrue result ↔ (grammar layout base).Fits self.now };
 
@@ -75,8 +75,8 @@ pub trait BodyCode: Sized {
     // bits of the same references spell the same.
     ghost laws: { (layout : Layout) (base : ℕ) → layout.size < 2 ^ 32 → base < 2 ^ 63 → IsBody base (grammar layout base) };
 
-    /// Reads the value that fronts of the main bits and of the reference bits spell in the object of the handle `base`, and
-    /// moves behind those fronts. None, with nothing moved, exactly where no fronts spell one. The only refusal is want of
+    /// Reads the value that prefixes of the main bits and of the reference bits spell in the object of the handle `base`, and
+    /// moves after those prefixes. None, with nothing moved, exactly where no prefixes spell one. The only refusal is want of
     /// memory, which is taken only for what is there.
     final fn read_in(
         alloc: Global,
@@ -104,8 +104,8 @@ pub trait BodyCode: Sized {
         Ok(Some(value))
     }
 
-    /// Reads the value that fronts of the main bits and of the reference bits spell in the object of the handle `base`, and
-    /// moves behind those fronts. None, with nothing moved, exactly where no fronts spell one. The only refusal is want of
+    /// Reads the value that prefixes of the main bits and of the reference bits spell in the object of the handle `base`, and
+    /// moves after those prefixes. None, with nothing moved, exactly where no prefixes spell one. The only refusal is want of
     /// memory, which is taken only for what is there.
     final fn read(
         alloc: Global,
@@ -126,7 +126,7 @@ pub trait BodyCode: Sized {
     }
 
     /// Whether the value has a spelling in the object of the handle `base`: lists and texts are no longer than their counts
-    /// can tell, each part is there exactly where the others say so, and the codes of references reach their targets.
+    /// can give, each part is there exactly where the others say so, and the codes of references reach their targets.
     final fn fits(&self, base: Handle) -> bool
         ensures { IsTrue result ↔ (grammar NEWER base).Fits self.now }
     {
@@ -237,7 +237,7 @@ pub trait BodyCode14: BodyCode {
     }
 }
 
-/// The laws of a body in the object of a handle: main bits and reference bits spell at most one value by their fronts; just
+/// The laws of a body in the object of a handle: main bits and reference bits spell at most one value by their prefixes; just
 /// the values that fit are spelled, each by what is written of it, and none by fewer main bits or fewer reference bits; and
 /// other bits that spell the same references spell the same value.
 pub fn body_laws<B: BodyCode>()

@@ -1,4 +1,4 @@
-//! Counts of members as bits: a count is a BL, and is told by the members (Open Design Specification, "Bit codes").
+//! Counts of members as bits: a count is a BL, and is given by the members (Open Design Specification, "Bit codes").
 
 ghost use Rattle.std.specs.Prelude.{◌≡◌, ◌^◌, ◌<◌, ◌≤◌, ◌↔◌, length, IsTrue};
 ghost use Rattle.dwg_bits.specs.Sink.{Extends};
@@ -7,10 +7,10 @@ ghost use Rattle.dwg_grammar.specs.Codes.{bl};
 use dwg_bits::BitSink;
 use dwg_codes::{BitCode, CodeBL};
 
-/// How many members are too many to be told: a count has 32 bits.
+/// How many members are too many to be given: a count has 32 bits.
 pub const TOO_MANY: usize = 1 << 32;
 
-/// Whether so many members can be told: fewer than 2^32.
+/// Whether so many members can be given: fewer than 2^32.
 pub fn count_fits<T>(members: &[T]) -> bool
     ensures { IsTrue result ↔ bl.IsValue (length members.now) }
 {

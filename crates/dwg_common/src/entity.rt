@@ -14,12 +14,12 @@ use dwg_bits::{BitCursor, BitSink};
 use dwg_handles::Ref;
 use std::alloc::Global;
 
-/// The entities before and behind an entity in its block (Open Design Specification, "Common entity data").
+/// The entities before and after an entity in its block (Open Design Specification, "Common entity data").
 #[derive(Clone, Copy, Debug, PartialEq, Eq)]
 pub struct Links {
     /// The entity before it.
     pub previous: Ref,
-    /// The entity behind it.
+    /// The entity after it.
     pub next: Ref,
 }
 
@@ -38,17 +38,17 @@ pub struct EntityCommon {
     pub reactors: Items<Ref>,
     /// Its dictionary of extensions.
     pub xdict: Ref,
-    /// The entities before and behind it, where it names them.
+    /// The entities before and after it, where it names them.
     pub links: Option<Links>,
     /// Its colour.
     pub colour: u16,
     /// The scale of its linetype, the word of a floating-point number.
     pub linetype_scale: u64,
-    /// How its linetype is told, 0 to 3.
+    /// How its linetype is given, 0 to 3.
     pub linetype_flag: u8,
     /// Its linetype, there exactly where the flag is 3.
     pub linetype: Option<Ref>,
-    /// How its plot style is told, 0 to 3.
+    /// How its plot style is given, 0 to 3.
     pub plotstyle_flag: u8,
     /// Its plot style, there exactly where the flag is 3.
     pub plotstyle: Option<Ref>,
@@ -60,7 +60,7 @@ pub struct EntityCommon {
     pub layer: Ref,
 }
 
-/// What the main bits of an entity tell before its look: how many references of each sort it has, and what applications keep.
+/// What the main bits of an entity give before its look: how many references of each sort it has, and what applications keep.
 #[derive(Drop)]
 pub(crate) struct Start {
     /// What applications keep with it.
@@ -73,7 +73,7 @@ pub(crate) struct Start {
     pub(crate) reactors: u32,
     /// Whether its linetype is that of its layer, where that is spelled here.
     pub(crate) bylayer: bool,
-    /// Whether it names no entities before and behind it.
+    /// Whether it names no entities before and after it.
     pub(crate) nolinks: bool,
 }
 
@@ -84,9 +84,9 @@ pub(crate) struct Look {
     pub(crate) colour: u16,
     /// The scale of its linetype.
     pub(crate) linetype_scale: u64,
-    /// How its linetype is told; it names it where this is 3.
+    /// How its linetype is given; it names it where this is 3.
     pub(crate) linetype_flag: u8,
-    /// How its plot style is told; it names it where this is 3.
+    /// How its plot style is given; it names it where this is 3.
     pub(crate) plotstyle_flag: u8,
     /// Not 0 where it isn't shown.
     pub(crate) invisible: u16,
@@ -110,7 +110,7 @@ pub(crate) struct Named {
 /// What an entity names after its dictionary.
 #[derive(Clone, Copy)]
 pub(crate) struct AfterDictionary {
-    /// The entities before and behind it.
+    /// The entities before and after it.
     pub(crate) links: Option<Links>,
     /// Its layer.
     pub(crate) layer: Ref,

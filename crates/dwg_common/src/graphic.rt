@@ -13,7 +13,7 @@ use dwg_bits::{BitCursor, BitSink};
 use dwg_codes::{BitCode, CodeB, CodeRL};
 use std::alloc::Global;
 
-/// Reads the picture of an entity as it is parsed. The only refusal is want of memory, which is taken only for bytes that
+/// Reads the picture of an entity as it is parsed. Err: out of memory, which is taken only for bytes that
 /// are there.
 pub(crate) fn read_graphic(
     alloc: Global,
@@ -34,7 +34,7 @@ pub(crate) fn read_graphic(
     Ok(Some(Some(bytes)))
 }
 
-/// Whether the picture of an entity can be told: it has fewer than 2^32 bytes.
+/// Whether the picture of an entity can be given: it has fewer than 2^32 bytes.
 pub(crate) fn graphic_fits(picture: &Option<ByteRun>) -> bool
     ensures { IsTrue result ↔ graphic.IsValue picture.now }
 {

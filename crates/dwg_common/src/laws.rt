@@ -7,7 +7,7 @@ ghost use Rattle.dwg_common.specs.Entities.{entity_common};
 ghost use Rattle.dwg_common.specs.NonEntities.{object_common};
 
 /// What holds of the common parts of entities and of other objects, in the object of any handle: main bits and reference bits
-/// spell at most one by their fronts; just those that fit are spelled, each by what is written of it, and none by fewer main
+/// spell at most one by their prefixes; just those that fit are spelled, each by what is written of it, and none by fewer main
 /// bits or fewer reference bits; other bits that spell the same references spell the same; and any bits may follow the
 /// references.
 pub fn common_laws()

@@ -37,7 +37,9 @@ pub use laws::common_laws;
 pub use layout::Layout;
 pub use object::ObjectCommon;
 pub use parts::{parse_bytes, parse_code, parse_ref, parse_refs, parse_when};
-pub use points::{Code2DD, Code2RD, known_extrusion, known_place, known_point, known_thickness};
+pub use points::{
+    Code2DD, Code2RD, known_extrusion, known_place, known_thickness, point_with_range,
+};
 pub use sized::{parse_sized, sized_bits, sized_fits, write_sized};
 pub use skip::read_size;
 pub use tv::{parse_tv, tv_bits, tv_fits, write_tv};

@@ -1,4 +1,4 @@
-//! The entities before and behind an entity, as a code (Open Design Specification, "Common entity data").
+//! The entities before and after an entity, as a code (Open Design Specification, "Common entity data").
 
 ghost use Rattle.std.specs.Prelude.{◌≡◌, ◌^◌, ◌<◌};
 ghost use Rattle.dwg_common.specs.CommonLaws.{links_is_part};
@@ -10,7 +10,7 @@ use dwg_base::Handle;
 use dwg_bits::{BitCursor, BitSink};
 use dwg_codes::BitCode;
 
-/// The entities before and behind an entity of a handle: two references, the one before it first.
+/// The entities before and after an entity of a handle: two references, the one before it first.
 pub(crate) struct CodeLinks;
 
 impl BitCode for CodeLinks {

@@ -23,7 +23,7 @@ const LAST_FLAG: u8 = 3;
 const NAMED: u8 = 3;
 
 /// The flag of a linetype that is the layer's, or is named.
-fn told_flag(bylayer: bool) -> u8
+fn parsed_flag(bylayer: bool) -> u8
     ensures { result ≡ if bylayer then 0 else 3 }
 {
     if bylayer { 0 } else { NAMED }
@@ -37,7 +37,7 @@ pub(crate) fn read_look(version: Version, bylayer: bool, cursor: &mut BitCursor<
     let newer = version.is_newer();
     let colour = parse_code::<CodeBS>(&(), cursor)?;
     let linetype_scale = parse_code::<CodeBD>(&(), cursor)?;
-    let linetype_flag = parse_given::<CodeBB>(&(), newer, told_flag(bylayer), cursor)?;
+    let linetype_flag = parse_given::<CodeBB>(&(), newer, parsed_flag(bylayer), cursor)?;
     let plotstyle_flag = parse_given::<CodeBB>(&(), newer, 0, cursor)?;
     let invisible = parse_code::<CodeBS>(&(), cursor)?;
     let lineweight = parse_given::<CodeRC>(&(), newer, 0, cursor)?;
@@ -51,7 +51,7 @@ pub(crate) fn read_look(version: Version, bylayer: bool, cursor: &mut BitCursor<
     })
 }
 
-/// Whether a flag can be told: it is 0 to 3, or where nothing is spelled of it the fixed one.
+/// Whether a flag can be given: it is 0 to 3, or where nothing is spelled of it the fixed one.
 fn flag_fits(newer: bool, fixed: u8, flag: u8) -> bool
     ensures { IsTrue result ↔ (given newer fixed bb).IsValue flag }
 {
@@ -61,24 +61,24 @@ fn flag_fits(newer: bool, fixed: u8, flag: u8) -> bool
     flag == fixed
 }
 
-/// Whether a byte can be told: it is any, or where nothing is spelled of it the fixed one.
+/// Whether a byte can be given: it is any, or where nothing is spelled of it the fixed one.
 fn byte_fits(newer: bool, fixed: u8, byte: u8) -> bool
     ensures { IsTrue result ↔ (given newer fixed rc).IsValue byte }
 {
     newer || byte == fixed
 }
 
-/// Whether the look of an entity can be told: its flags are 0 to 3, and what the version doesn't spell is fixed.
+/// Whether the look of an entity can be given: its flags are 0 to 3, and what the version doesn't spell is fixed.
 pub(crate) fn look_fits(common: &EntityCommon, version: Version) -> bool
     ensures { IsTrue result ↔ (entity_look version (bylayer_of version common.now.linetype_flag)).IsValue (look_of common.now) }
 {
-    // The codes of the others tell every number of their types.
+    // The codes of the others give every number of their types.
     let _colour = common.colour;
     let _linetype_scale = common.linetype_scale;
     let _invisible = common.invisible;
     let newer = version.is_newer();
     let bylayer = is_by_layer(common, version);
-    if !flag_fits(newer, told_flag(bylayer), common.linetype_flag) {
+    if !flag_fits(newer, parsed_flag(bylayer), common.linetype_flag) {
         return false;
     }
     if !flag_fits(newer, 0, common.plotstyle_flag) {
@@ -94,10 +94,10 @@ pub(crate) fn look_bits(common: &EntityCommon, version: Version) -> u64
     ensures few { result < 2 ^ 36 }
 {
     let newer = version.is_newer();
-    let told = told_flag(is_by_layer(common, version));
+    let parsed = parsed_flag(is_by_layer(common, version));
     CodeBS::length(&(), &common.colour)
         + CodeBD::length(&(), &common.linetype_scale)
-        + length_given::<CodeBB>(&(), newer, told, &common.linetype_flag)
+        + length_given::<CodeBB>(&(), newer, parsed, &common.linetype_flag)
         + length_given::<CodeBB>(&(), newer, 0, &common.plotstyle_flag)
         + CodeBS::length(&(), &common.invisible)
         + length_given::<CodeRC>(&(), newer, 0, &common.lineweight)
@@ -110,10 +110,10 @@ pub(crate) fn write_look(common: &EntityCommon, version: Version, sink: &mut Bit
     ensures { Extends sink.old sink.new ((entity_look version (bylayer_of version common.now.linetype_flag)).short (look_of common.now)) }
 {
     let newer = version.is_newer();
-    let told = told_flag(is_by_layer(common, version));
+    let parsed = parsed_flag(is_by_layer(common, version));
     CodeBS::write(&(), &common.colour, sink);
     CodeBD::write(&(), &common.linetype_scale, sink);
-    write_given::<CodeBB>(&(), newer, told, &common.linetype_flag, sink);
+    write_given::<CodeBB>(&(), newer, parsed, &common.linetype_flag, sink);
     write_given::<CodeBB>(&(), newer, 0, &common.plotstyle_flag, sink);
     CodeBS::write(&(), &common.invisible, sink);
     write_given::<CodeRC>(&(), newer, 0, &common.lineweight, sink);

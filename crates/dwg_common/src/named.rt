@@ -63,8 +63,8 @@ fn read_after_dictionary(
     }
 }
 
-/// Reads what the entity of the handle `base` names, as it is parsed: what there is of it is told by what it begins with and
-/// by its look. The only refusal is want of memory, which is taken only for references that are there.
+/// Reads what the entity of the handle `base` names, as it is parsed: what there is of it is given by what it begins with and
+/// by its look. Err: out of memory, which is taken only for references that are there.
 pub(crate) fn read_named(
     alloc: Global,
     version: Version,
@@ -96,7 +96,7 @@ pub(crate) fn read_named(
     }))
 }
 
-/// Whether a reference is there exactly where it is present, and can be told from the object of the handle `base`.
+/// Whether a reference is there exactly where it is present, and can be given from the object of the handle `base`.
 #[tactic(auto, unfolding(dwg_grammar::specs::ReferenceCodes::reference))]
 fn ref_fits_when(present: bool, value: &Option<Ref>, base: Handle) -> bool
     ensures { IsTrue result ↔ (when present (reference base)).IsValue value.now }
@@ -112,7 +112,7 @@ fn ref_fits_when(present: bool, value: &Option<Ref>, base: Handle) -> bool
     }
 }
 
-/// Whether each of so many references can be told from the object of the handle `base`.
+/// Whether each of so many references can be given from the object of the handle `base`.
 #[tactic(auto, unfolding(dwg_grammar::specs::Combinators::chain))]
 fn reactors_fit(refs: &[Ref], base: Handle) -> bool
     ensures { IsTrue result ↔ (items (reference base) (length refs.now)).IsValue refs.now }
@@ -120,7 +120,7 @@ fn reactors_fit(refs: &[Ref], base: Handle) -> bool
     refs_fit(refs, base)
 }
 
-/// Whether the entities before and behind an entity can be told from it, where it names them.
+/// Whether the entities before and after an entity can be given from it, where it names them.
 fn links_fit_where_there(value: &Option<Links>, base: Handle) -> bool
     ensures { IsTrue result ↔ (when (not (is_none value.now)) (links base).grammar).IsValue value.now }
 {
@@ -130,7 +130,7 @@ fn links_fit_where_there(value: &Option<Links>, base: Handle) -> bool
     }
 }
 
-/// Whether what an entity names after its dictionary can be told from it.
+/// Whether what an entity names after its dictionary can be given from it.
 #[tactic(auto, unfolding(dwg_grammar::specs::ReferenceCodes::reference), using(crate::proofs::AfterDictionaryLemmas::after_dictionary_value))]
 fn after_dictionary_fits(common: &EntityCommon, version: Version, base: Handle) -> bool
     ensures { IsTrue result ↔ (refs_after_dictionary version base (is_none common.now.links) common.now.linetype_flag common.now.plotstyle_flag).grammar.IsValue (after_dictionary common.now) }
@@ -147,7 +147,7 @@ fn after_dictionary_fits(common: &EntityCommon, version: Version, base: Handle) 
     ref_fits_when(common.plotstyle_flag == NAMED, &common.plotstyle, base)
 }
 
-/// Whether what an entity names can be told from it: its owner is there exactly where its mode is 0, its linetype and its
+/// Whether what an entity names can be given from it: its owner is there exactly where its mode is 0, its linetype and its
 /// plot style exactly where their flags are 3, and each reference reaches its target.
 #[tactic(auto, unfolding(dwg_grammar::specs::ReferenceCodes::reference))]
 pub(crate) fn names_fit(common: &EntityCommon, version: Version, base: Handle) -> bool

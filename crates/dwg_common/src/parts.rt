@@ -1,4 +1,4 @@
-//! The parts of bodies, read as they are parsed: so a body that reads one behind the other is parsed as its grammar says.
+//! The parts of bodies, read as they are parsed: so a body that reads one after the other is parsed as its grammar says.
 
 ghost use Rattle.std.specs.Prelude.{◌≡◌, IfOk};
 ghost use Rattle.dwg_grammar.specs.Codes.{rc};
@@ -12,7 +12,7 @@ use dwg_codes::{BitCode, read_bytes, read_when};
 use dwg_handles::{Ref, read_ref, read_refs};
 use std::alloc::Global;
 
-/// Reads a value of a code. None exactly where no front of the rest spells one.
+/// Reads a value of a code. None exactly where no prefix of the rest spells one.
 pub fn parse_code<C: BitCode>(context: &C::Context, cursor: &mut BitCursor<'_>) -> Option<C::Value>
     requires { C.IsContext context.now }
     ensures parsed { Parses (C.grammar context.now) result cursor.old cursor.new }
@@ -21,7 +21,7 @@ pub fn parse_code<C: BitCode>(context: &C::Context, cursor: &mut BitCursor<'_>) 
     C::read(context, cursor)
 }
 
-/// Reads a reference of the object of the handle `base`. None exactly where no front of the rest spells one.
+/// Reads a reference of the object of the handle `base`. None exactly where no prefix of the rest spells one.
 #[tactic(auto, using(dwg_grammar::proofs::BodyReading::ref_parsed))]
 pub fn parse_ref(cursor: &mut BitCursor<'_>, base: Handle) -> Option<Ref>
     ensures parsed { Parses (reference base) result cursor.old cursor.new }
@@ -31,7 +31,7 @@ pub fn parse_ref(cursor: &mut BitCursor<'_>, base: Handle) -> Option<Ref>
 }
 
 /// Reads so many references of the object of the handle `base`. None exactly where one of them isn't spelled; the only refusal
-/// is want of memory, which is taken only for references that are there.
+/// is out of memory, which is taken only for references that are there.
 #[tactic(auto, using(dwg_grammar::proofs::BodyReading::refs_parsed))]
 pub fn parse_refs(
     alloc: Global,
@@ -45,7 +45,7 @@ pub fn parse_refs(
     read_refs(alloc, cursor, base, count)
 }
 
-/// Reads so many bytes. None exactly where fewer are left; the only refusal is want of memory, which is taken only for bytes
+/// Reads so many bytes. None exactly where fewer are left; the only refusal is out of memory, which is taken only for bytes
 /// that are there.
 #[tactic(auto, using(dwg_grammar::proofs::BodyReading::bytes_parsed))]
 pub fn parse_bytes(
@@ -59,7 +59,7 @@ pub fn parse_bytes(
     read_bytes(alloc, count, cursor)
 }
 
-/// Reads a value of a code where it is present, and no bit where it isn't. None exactly where it is present and no front of the
+/// Reads a value of a code where it is present, and no bit where it isn't. None exactly where it is present and no prefix of the
 /// rest spells one.
 pub fn parse_when<C: BitCode>(
     context: &C::Context,

@@ -12,8 +12,8 @@ use dwg_base::Version;
 use dwg_bits::{BitCursor, BitSink};
 use dwg_codes::{BitCode, CodeDD, CodeRD, Point2, Point3};
 
-/// The words of a point lie in the range of their type: it finds nothing out, and tells the proof what holds of every point.
-pub fn known_point(point: &Point3)
+/// The words of a point lie in the range of their type: it finds nothing out, and gives the proof what holds of every point.
+pub fn point_with_range(point: &Point3)
     ensures { IsPoint3 point.now }
 {
     let _x = point.x;
@@ -21,7 +21,7 @@ pub fn known_point(point: &Point3)
     let _z = point.z;
 }
 
-/// A word is a thickness in each version: as [`known_point`].
+/// A word is a thickness in each version: as [`point_with_range`].
 #[tactic(auto, using(dwg_grammar::proofs::VersionLemmas::thickness_value))]
 pub fn known_thickness(version: Version, word: u64)
     ensures { (thickness version).IsValue word }
@@ -30,16 +30,16 @@ pub fn known_thickness(version: Version, word: u64)
     let _word = word;
 }
 
-/// A point is an extrusion in each version: as [`known_point`].
+/// A point is an extrusion in each version: as [`point_with_range`].
 #[tactic(auto, using(dwg_grammar::proofs::VersionLemmas::extrusion_value))]
 pub fn known_extrusion(version: Version, point: &Point3)
     ensures { (extrusion version).IsValue point.now }
 {
     let _newer = version.is_newer();
-    known_point(point);
+    point_with_range(point);
 }
 
-/// The words of a point of the plane lie in the range of their type: as [`known_point`].
+/// The words of a point of the plane lie in the range of their type: as [`point_with_range`].
 pub fn known_place(place: &Point2)
     ensures { IsPoint2 place.now }
 {

@@ -83,7 +83,7 @@ macro_rules! field {
         }
     };
     (fits Code3BD, $of:expr, $field:ident, $version:expr) => {
-        dwg_common::known_point(&$of.$field);
+        dwg_common::point_with_range(&$of.$field);
     };
     (fits CodeThickness, $of:expr, $field:ident, $version:expr) => {
         dwg_common::known_thickness($version, $of.$field);

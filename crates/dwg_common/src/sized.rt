@@ -1,4 +1,4 @@
-//! Bytes behind their size as bits: the size is an RL or a BL (Open Design Specification, "Common entity data", "BLOCK HEADER"
+//! Bytes after their size as bits: the size is an RL or a BL (Open Design Specification, "Common entity data", "BLOCK HEADER"
 //! and "XRECORD").
 
 ghost use Rattle.std.specs.Prelude.{◌≡◌, ◌^◌, ◌<◌, ◌≤◌, ◌↔◌, length, IfOk, IsTrue};
@@ -14,7 +14,7 @@ use dwg_bits::{BitCursor, BitSink};
 use dwg_codes::{BitCode, CodeBL, bytes_length, write_bytes};
 use std::alloc::Global;
 
-/// Reads a size in its code and so many bytes, as they are parsed. The only refusal is want of memory, which is taken only for
+/// Reads a size in its code and so many bytes, as they are parsed. Err: out of memory, which is taken only for
 /// bytes that are there.
 pub(crate) fn parse_sized_by<S: BitCode<Context = (), Value = u32>>(
     alloc: Global,
@@ -33,7 +33,7 @@ pub(crate) fn parse_sized_by<S: BitCode<Context = (), Value = u32>>(
     Ok(Some(bytes))
 }
 
-/// Reads a size and so many bytes, as they are parsed. The only refusal is want of memory, which is taken only for bytes that
+/// Reads a size and so many bytes, as they are parsed. Err: out of memory, which is taken only for bytes that
 /// are there.
 pub fn parse_sized(alloc: Global, cursor: &mut BitCursor<'_>) -> Result<Option<ByteRun>, NoMemory>
     ensures parsed { IfOk result (λ found. Parses (counted bl rc) found cursor.old cursor.new) }
@@ -42,7 +42,7 @@ pub fn parse_sized(alloc: Global, cursor: &mut BitCursor<'_>) -> Result<Option<B
     parse_sized_by::<CodeBL>(alloc, cursor)
 }
 
-/// Whether a size can tell how many bytes there are: fewer than 2^32.
+/// Whether a size can give how many bytes there are: fewer than 2^32.
 #[tactic(auto, using(dwg_base::proofs::ByteLists::are_bytes, crate::proofs::SizedParts::bl_value))]
 pub fn sized_fits(bytes: &[u8]) -> bool
     ensures { IsTrue result ↔ (counted bl rc).IsValue bytes.now }

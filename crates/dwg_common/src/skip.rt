@@ -41,7 +41,7 @@ fn skip_item(size: u16, cursor: &mut BitCursor<'_>, base: Handle) -> Option<()>
 }
 
 /// Skips application data.
-#[tactic(auto, unfolding(crate::specs::AppList::app_list, dwg_grammar::specs::Combinators::until), using(crate::proofs::UntilReading::behind_none))]
+#[tactic(auto, unfolding(crate::specs::AppList::app_list, dwg_grammar::specs::Combinators::until), using(crate::proofs::UntilReading::after_none))]
 fn skip_items(cursor: &mut BitCursor<'_>, base: Handle) -> Option<()>
     ensures skipped { Skips (app_list base) result cursor.old cursor.new }
     ensures kept { Keeps cursor.old cursor.new }

@@ -44,7 +44,7 @@ pub(crate) fn is_by_layer(common: &EntityCommon, version: Version) -> bool
     }
 }
 
-/// Reads what the entity of the handle `base` begins with, as it is parsed. The only refusal is want of memory, which is
+/// Reads what the entity of the handle `base` begins with, as it is parsed. Err: out of memory, which is
 /// taken only for what is there.
 pub(crate) fn read_start(
     alloc: Global,
@@ -86,7 +86,7 @@ pub(crate) fn read_start(
     }))
 }
 
-/// Whether what an entity begins with can be told: its application data and its picture can, its mode is 0, 1 or 2, and it
+/// Whether what an entity begins with can be given: its application data and its picture can, its mode is 0, 1 or 2, and it
 /// has fewer than 2^32 reactors.
 pub(crate) fn start_fits(common: &EntityCommon, layout: Layout, base: Handle) -> bool
     ensures { IsTrue result ↔ (entity_start layout base).IsValue (start_of layout.version common.now) }

@@ -10,10 +10,10 @@ use dwg_bits::{BitCursor, BitSink};
 use dwg_codes::{read_text, text_length, write_text};
 use std::alloc::Global;
 
-/// How many bytes can't be told: their count is a BS.
+/// How many bytes can't be given: their count is a BS.
 const TOO_MANY_BYTES: usize = 1 << 16;
 
-/// Reads a TV, as it is parsed. The only refusal is want of memory, which is taken only for bytes that are there.
+/// Reads a TV, as it is parsed. Err: out of memory, which is taken only for bytes that are there.
 #[tactic(auto, using(dwg_grammar::proofs::BodyReading::parsed, dwg_grammar::proofs::TableLemmas::tv_is_code))]
 pub fn parse_tv(alloc: Global, cursor: &mut BitCursor<'_>) -> Result<Option<ByteRun>, NoMemory>
     ensures parsed { IfOk result (λ found. Parses tv found cursor.old cursor.new) }
@@ -22,7 +22,7 @@ pub fn parse_tv(alloc: Global, cursor: &mut BitCursor<'_>) -> Result<Option<Byte
     read_text(alloc, cursor)
 }
 
-/// Whether bytes can be told by a TV: they are at most 65,535.
+/// Whether bytes can be given by a TV: they are at most 65,535.
 #[tactic(auto, using(dwg_base::proofs::ByteLists::are_bytes, dwg_grammar::proofs::TableLemmas::tv_has, dwg_grammar::proofs::TableLemmas::tv_bytes))]
 pub fn tv_fits(text: &[u8]) -> bool
     ensures { IsTrue result ↔ tv.IsValue text.now }

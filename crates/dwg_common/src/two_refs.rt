@@ -1,4 +1,4 @@
-//! Two references, one behind the other, as a code (Open Design Specification, "Handle references").
+//! Two references, one after the other, as a code (Open Design Specification, "Handle references").
 
 ghost use Rattle.std.specs.Prelude.{◌≡◌, ◌^◌, ◌<◌, ◌↔◌, IsTrue};
 ghost use Rattle.dwg_grammar.specs.References.{two_refs};
@@ -21,7 +21,7 @@ fn read_two(cursor: &mut BitCursor<'_>, base: Handle) -> Option<(Ref, Ref)>
     Some((first, second))
 }
 
-/// Whether both references can be told from the object of the handle `base`.
+/// Whether both references can be given from the object of the handle `base`.
 #[tactic(auto, unfolding(dwg_grammar::specs::ReferenceCodes::reference))]
 pub fn two_refs_fit(both: (Ref, Ref), base: Handle) -> bool
     ensures { IsTrue result ↔ (two_refs base).grammar.IsValue both }
@@ -32,7 +32,7 @@ pub fn two_refs_fit(both: (Ref, Ref), base: Handle) -> bool
     both.1.fits(base)
 }
 
-/// Two references of the object of a handle, one behind the other.
+/// Two references of the object of a handle, one after the other.
 pub struct CodeTwoRefs;
 
 impl BitCode for CodeTwoRefs {
@@ -46,7 +46,7 @@ impl BitCode for CodeTwoRefs {
 
     #[tactic(auto, using(crate::proofs::TwoRefsReading::two_refs_read, crate::proofs::TwoRefsReading::two_refs_unread, crate::proofs::TwoRefsReading::two_refs_value))]
     fn read(context: &Handle, cursor: &mut BitCursor<'_>) -> Option<(Ref, Ref)> {
-        // The laws of references ask that their base is a handle's number, which one behind a reference doesn't tell.
+        // The laws of references ask that their base is a handle's number, which one after a reference doesn't give.
         let _base = context.value();
         let mut ahead = *cursor;
         let both = read_two(&mut ahead, *context)?;

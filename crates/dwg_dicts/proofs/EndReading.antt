@@ -21,6 +21,6 @@ pub all_parsed : (base : ℕ) (found : Option (List Reference)) (old new : List 
     → all_targets base old ≡ option_map (λ (values : List Reference). (values, new)) found
 all_parsed base (Some values) old new small cut =
     ap (λ (letters : List Bool). all_targets base letters) cut.whole
-    ∙ to_end_complete 8 (reference base) values cut.front new (suc (length (cut.front ++ new))) (reference_is_code base small) (reference_least base) (omega arith) cut.spelled cut.short
-    (omega (arith, length-append cut.front new))
+    ∙ to_end_complete 8 (reference base) values cut.prefix new (suc (length (cut.prefix ++ new))) (reference_is_code base small) (reference_least base) (omega arith) cut.spelled cut.short
+    (omega (arith, length-append cut.prefix new))
 all_parsed base None old new small (none, same) = uncut base old (all_targets base old) small none refl

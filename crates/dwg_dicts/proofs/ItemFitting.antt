@@ -1,4 +1,4 @@
--- Items of a dictionary tried one behind the other.
+-- Items of a dictionary tried one after the other.
 use Rattle.std.proofs.Common.{ℕ, List}
 use Rattle.dwg_dicts.specs.declared.dictionary.DictItem.{DictItem}
 use Rattle.dwg_dicts.specs.Dictionaries.{AreItems}

@@ -1,4 +1,4 @@
--- Items of a dictionary read one behind the other, the name of each among the main bits and its target among the references.
+-- Items of a dictionary read one after the other, the name of each among the main bits and its target among the references.
 use Rattle.std.proofs.Common.{◌≡◌, refl, ◌∙◌, ap, ap₂, ℕ, Bool, List, [], ◌∷◌, ◌++◌, map, Option, Some, None}
 use Rattle.std.specs.Prelude.{option_and_then}
 use Rattle.std.specs.Option.{option_map}
@@ -49,13 +49,13 @@ all_found base count found main main_left references references_left names targe
 abbrev pub seen_as : ℕ × (ℕ × ℕ) → List DictItem × (List Bool × List Bool) → Dictionary × (List Bool × List Bool)
 seen_as start found = (record { cloning = start.1.0; hard_owner = start.1.1; items = found.0 }, found.1)
 
--- whether the start is put in front of the names or of the items makes no difference
-start_in_front : (start : ℕ × (ℕ × ℕ)) (names : Option (List (List ℕ) × List Bool)) (targets : ℕ → Option (List Reference × List Bool))
-    → option_and_then (λ (told : ((ℕ × (ℕ × ℕ)) × List (List ℕ)) × List Bool). option_map (λ (named : List Reference × List Bool). seen_as told.0.0 (both_found (told.0.1, told.1) named)) (targets told.0.0.0))
+-- whether the start is put before the names or of the items makes no difference
+start_before : (start : ℕ × (ℕ × ℕ)) (names : Option (List (List ℕ) × List Bool)) (targets : ℕ → Option (List Reference × List Bool))
+    → option_and_then (λ (parsed : ((ℕ × (ℕ × ℕ)) × List (List ℕ)) × List Bool). option_map (λ (named : List Reference × List Bool). seen_as parsed.0.0 (both_found (parsed.0.1, parsed.1) named)) (targets parsed.0.0.0))
     (option_map (λ (one : List (List ℕ) × List Bool). ((start, one.0), one.1)) names)
     ≡ option_map (seen_as start) (option_and_then (λ (one : List (List ℕ) × List Bool). option_map (both_found one) (targets start.0)) names)
-start_in_front start None targets = refl
-start_in_front start (Some names) targets =
+start_before start None targets = refl
+start_before start (Some names) targets =
     elim (targets start.0) as (λ found.
     option_map (λ (named : List Reference × List Bool). seen_as start (both_found names named)) found ≡ option_map (seen_as start) (option_map (both_found names) found))
     [ None ↦ refl | Some others ↦ refl ]
@@ -67,8 +67,8 @@ pub dictionary_parsed : (version : Version) (base : ℕ) (main references : List
 unfolding dictionary_body
 dictionary_parsed version base main references =
     elim ((dictionary_start version).parse main) as (λ begun.
-    option_and_then (λ (told : ((ℕ × (ℕ × ℕ)) × List (List ℕ)) × List Bool).
-    option_map (λ (named : List Reference × List Bool). seen_as told.0.0 (both_found (told.0.1, told.1) named)) ((items (reference base) told.0.0.0).parse references))
+    option_and_then (λ (parsed : ((ℕ × (ℕ × ℕ)) × List (List ℕ)) × List Bool).
+    option_map (λ (named : List Reference × List Bool). seen_as parsed.0.0 (both_found (parsed.0.1, parsed.1) named)) ((items (reference base) parsed.0.0.0).parse references))
     (option_and_then (λ (one : (ℕ × (ℕ × ℕ)) × List Bool). option_map (λ (two : List (List ℕ) × List Bool). ((one.0, two.0), two.1)) ((items tv one.0.0).parse one.1)) begun)
     ≡ option_and_then (λ (one : (ℕ × (ℕ × ℕ)) × List Bool). option_map (seen_as one.0) ((items_alone base one.0.0).parse one.1 references)) begun)
-    [ None ↦ refl | Some one ↦ start_in_front one.0 ((items tv one.0.0).parse one.1) (λ (count : ℕ). (items (reference base) count).parse references) ]
+    [ None ↦ refl | Some one ↦ start_before one.0 ((items tv one.0.0).parse one.1) (λ (count : ℕ). (items (reference base) count).parse references) ]

@@ -1,4 +1,4 @@
--- What becomes of an object of a name that is there already when dictionaries are merged (Open Design Specification, "DICTIONARY" and "XRECORD"). What it is worth in AC1014 is a rule of this project.
+-- What becomes of an object of a name that is there already when dictionaries are merged (Open Design Specification, "DICTIONARY" and "XRECORD"). Its weight in AC1014 is a rule of this project.
 use Rattle.std.specs.Prelude.{ℕ, Bool}
 use Rattle.dwg_base.specs.declared.version.Version.{Version}
 use Rattle.dwg_grammar.specs.Codes.{bs}

@@ -4,7 +4,7 @@ use Rattle.dwg_base.specs.declared.version.Version.{Version}
 use Rattle.dwg_base.specs.declared.version.Version.TheVariants.{Ac1014, Ac1015}
 use Rattle.dwg_base.specs.Versions.{is_newer}
 use Rattle.dwg_common.specs.LawSets.{codes, parts}
-use Rattle.dwg_common.proofs.MemberLemmas.{joined_counted, told_of_joined, names_of_joined, joined_again}
+use Rattle.dwg_common.proofs.MemberLemmas.{joined_counted, parsed_of_joined, names_of_joined, joined_again}
 use Rattle.dwg_grammar.specs.Codes.{bl, bs}
 use Rattle.dwg_grammar.specs.Combinators.{chain}
 use Rattle.dwg_grammar.proofs.TableLemmas.{bl_is_code, bs_is_code}
@@ -75,16 +75,16 @@ ltype_control_is_body base small = two_more_is_body base _ _ small (λ named. re
 pub cloning_is_code : (version : Version) → IsCode AnyLetters (cloning version)
 cloning_is_code version = given_is_code AnyLetters (is_newer version) 0 bs bs_is_code
 
--- what is put together of a dictionary is told by it
-dictionary_told : (version : Version) (base : ℕ) (told : (ℕ × (ℕ × ℕ)) × List (List ℕ)) (named : List Reference) → (dictionary_main version).IsValue told → (some_refs base told.0.0).grammar.IsValue named
-    → (◌≡◌ {A = (ℕ × (ℕ × ℕ)) × List (List ℕ)} ((length (named_items told.1 named), told.0.1), names_of (named_items told.1 named)) told)
-    × (targets_of (named_items told.1 named) ≡ named)
+-- what is put together of a dictionary is given by it
+dictionary_is_parsed : (version : Version) (base : ℕ) (parsed : (ℕ × (ℕ × ℕ)) × List (List ℕ)) (named : List Reference) → (dictionary_main version).IsValue parsed → (some_refs base parsed.0.0).grammar.IsValue named
+    → (◌≡◌ {A = (ℕ × (ℕ × ℕ)) × List (List ℕ)} ((length (named_items parsed.1 named), parsed.0.1), names_of (named_items parsed.1 named)) parsed)
+    × (targets_of (named_items parsed.1 named) ≡ named)
 unfolding chain
-dictionary_told version base told named fits names =
-    let as_many : length named ≡ length told.1 = names.0 ∙ sym fits.1.0 in (
-      ap₂ (λ (count : ℕ) (all : List (List ℕ)). ((count, told.0.1), all)) (joined_counted item_of told.1 named as_many ∙ fits.1.0)
-          (told_of_joined item_of (λ item. item.name) (λ name target. refl) told.1 named as_many),
-      names_of_joined item_of (λ item. item.target) (λ name target. refl) told.1 named as_many,
+dictionary_is_parsed version base parsed named fits names =
+    let as_many : length named ≡ length parsed.1 = names.0 ∙ sym fits.1.0 in (
+      ap₂ (λ (count : ℕ) (all : List (List ℕ)). ((count, parsed.0.1), all)) (joined_counted item_of parsed.1 named as_many ∙ fits.1.0)
+          (parsed_of_joined item_of (λ item. item.name) (λ name target. refl) parsed.1 named as_many),
+      names_of_joined item_of (λ item. item.target) (λ name target. refl) parsed.1 named as_many,
     )
 
 -- and it is put together of these
@@ -96,7 +96,7 @@ dictionary_again dictionary = rw (joined_again item_of (λ item. item.name) (λ 
 pub dictionary_is_body : (version : Version) (base : ℕ) → base < 2 ^ 63 → IsBody base (dictionary_body version base)
 unfolding dictionary_body
 dictionary_is_body version base small =
-    body_is_body base (dictionary_main version) (λ told. some_refs base told.0.0) _ _ _ (search (codes, cloning_is_code) depth 8) (λ told fits. some_is_part base told.0.0 small) (dictionary_told version base) dictionary_again
+    body_is_body base (dictionary_main version) (λ parsed. some_refs base parsed.0.0) _ _ _ (search (codes, cloning_is_code) depth 8) (λ parsed fits. some_is_part base parsed.0.0 small) (dictionary_is_parsed version base) dictionary_again
 
 -- a record is a body
 pub xrecord_is_body : (version : Version) (base : ℕ) → base < 2 ^ 63 → IsBody base (xrecord_body version base)

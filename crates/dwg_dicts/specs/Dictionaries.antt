@@ -53,7 +53,7 @@ AreItems base listed = AreValues tv (names_of listed) × AreValues (reference ba
 -- the main bits; target per item
 unfoldable pub dictionary_body : Version → ℕ → BodyGrammar Dictionary
 dictionary_body version base =
-    body (dictionary_main version) (λ told. some_refs base told.0.0)
+    body (dictionary_main version) (λ parsed. some_refs base parsed.0.0)
     (λ ((count, (cloning, hard_owner)), names) targets. record { cloning = cloning; hard_owner = hard_owner; items = named_items names targets })
     (λ dictionary. ((length dictionary.items, (dictionary.cloning, dictionary.hard_owner)), names_of dictionary.items))
     (λ dictionary. targets_of dictionary.items)

@@ -1,4 +1,4 @@
--- Controls that name two objects behind the entries of their table (Open Design Specification, "BLOCK CONTROL" and "LTYPE CONTROL").
+-- Controls that name two objects after the entries of their table (Open Design Specification, "BLOCK CONTROL" and "LTYPE CONTROL").
 use Rattle.std.specs.Prelude.{ℕ, List, length}
 use Rattle.dwg_grammar.specs.Codes.{bl}
 use Rattle.dwg_grammar.specs.Bodies.{BodyGrammar}

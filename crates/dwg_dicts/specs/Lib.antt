@@ -1,6 +1,6 @@
 -- Controls that name the entries of their table and nothing else.
 pub mod Entries
--- Controls that name two objects behind the entries of their table.
+-- Controls that name two objects after the entries of their table.
 pub mod EntriesAndTwo
 -- What becomes of an object of a name that is there already when dictionaries are merged.
 pub mod Cloning

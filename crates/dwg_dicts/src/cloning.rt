@@ -45,7 +45,7 @@ impl BitCode for CodeCloning {
     ghost laws = { λ version is. cloning_is_code version };
 }
 
-/// Whether a version tells this number: AC1015 each, AC1014 just 0.
+/// Whether a version gives this number: AC1015 each, AC1014 just 0.
 pub(crate) fn cloning_fits(version: Version, number: u16) -> bool
     ensures { IsTrue result ↔ (cloning version).IsValue number }
 {

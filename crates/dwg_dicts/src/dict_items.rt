@@ -16,7 +16,7 @@ use dwg_common::{parse_ref, parse_tv, tv_bits, tv_fits, write_tv};
 use dwg_handles::{ref_bits, write_ref};
 use std::alloc::Global;
 
-/// Reads so many items, as they are parsed. The only refusal is want of memory, which is taken only for items that are there.
+/// Reads so many items, as they are parsed. Err: out of memory, which is taken only for items that are there.
 #[tactic(auto, using(dwg_common::proofs::ChainReading::none_begun))]
 pub(crate) fn read_items(
     alloc: Global,
@@ -45,7 +45,7 @@ pub(crate) fn read_items(
     Ok(Some(found))
 }
 
-/// Whether an item can be told from the dictionary of the handle `base`.
+/// Whether an item can be given from the dictionary of the handle `base`.
 #[tactic(auto, unfolding(dwg_grammar::specs::ReferenceCodes::reference))]
 fn item_fits(item: &DictItem, base: Handle) -> bool
     ensures { IsTrue result ↔ IsItem base item.now }
@@ -56,7 +56,7 @@ fn item_fits(item: &DictItem, base: Handle) -> bool
     item.target.fits(base)
 }
 
-/// Whether items can be told from the dictionary of the handle `base`: each name has at most 65,535 bytes, and each reference
+/// Whether items can be given from the dictionary of the handle `base`: each name has at most 65,535 bytes, and each reference
 /// reaches its target.
 pub(crate) fn items_fit(items: &[DictItem], base: Handle) -> bool
     ensures { IsTrue result ↔ AreItems base items.now }
@@ -96,7 +96,7 @@ pub(crate) fn targets_bits(items: &[DictItem], base: Handle) -> u64
     bits
 }
 
-/// Writes the names of items, one behind the other.
+/// Writes the names of items, one after the other.
 pub(crate) fn write_names(items: &[DictItem], sink: &mut BitSink)
     requires names { AreValues tv (names_of items.now) }
     requires room { length (short_all tv (names_of items.now)) ≤ sink.old.spare }
@@ -107,7 +107,7 @@ pub(crate) fn write_names(items: &[DictItem], sink: &mut BitSink)
     }
 }
 
-/// Writes the targets of items, one behind the other.
+/// Writes the targets of items, one after the other.
 #[tactic(auto, unfolding(dwg_grammar::specs::ReferenceCodes::reference))]
 pub(crate) fn write_targets(items: &[DictItem], base: Handle, sink: &mut BitSink)
     requires targets { AreValues (reference base) (targets_of items.now) }

@@ -75,7 +75,7 @@ impl BodyCode for Dictionary {
     }
 
     fn fits_in(&self, layout: Layout, base: Handle) -> bool {
-        // Each number of its type can be told.
+        // Each number of its type can be given.
         let _hard_owner = self.hard_owner;
         if !cloning_fits(layout.version, self.cloning) {
             return false;

@@ -29,9 +29,9 @@ can_be_drilled counted reads drawing file is small same =
     let read = reads drawing is small in
     subst (CanBeDrilled drawing) (sym same) (record { few = omega (arith, long); some = omega (arith, long); passes = read.0; read = read.1 })
 
--- what a drill tells of a file and the drawing that is read of it
-abbrev pub told_of : ℕ → Contents → List ℕ → DrillReport
-told_of entities drawing file = record {
+-- what a drill reports of a file and the drawing that is read of it
+abbrev pub reported_of : ℕ → Contents → List ℕ → DrillReport
+reported_of entities drawing file = record {
   entities = entities;
   objects = length drawing.objects;
   size = length file;
@@ -42,7 +42,7 @@ told_of entities drawing file = record {
 }
 
 -- of the canonical file of a made drawing it is what a drill finds out
-pub told_is_drilled : (entities : ℕ) (file : List ℕ) (report : DrillReport) → report ≡ told_of entities (drawing_at file) file → drawing_at file ≡ made entities DRILL_SEED
+pub reported_is_drilled : (entities : ℕ) (file : List ℕ) (report : DrillReport) → report ≡ reported_of entities (drawing_at file) file → drawing_at file ≡ made entities DRILL_SEED
     → file ≡ canonical (made entities DRILL_SEED) → report ≡ drilled entities
 unfolding drilled
-told_is_drilled entities file report told read same = told ∙ ap₂ (told_of entities) read same
+reported_is_drilled entities file report reported read same = reported ∙ ap₂ (reported_of entities) read same

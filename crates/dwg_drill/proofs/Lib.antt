@@ -1,3 +1,2 @@
-pub mod CheckWords
 pub mod Reading
 pub mod Drills

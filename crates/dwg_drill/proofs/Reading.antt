@@ -13,6 +13,6 @@ pub objects_counted : (objects : List Object) (drawing read : Contents) → map 
 objects_counted objects drawing read are same = sym (length-map objects value_of) ∙ ap length are ∙ ap (λ (one : Contents). length one.objects) same
 
 -- and so are findings
-pub findings_counted : (found told : List Finding) (drawing read : Contents) → found ≡ told → told ≡ findings drawing.objects → drawing ≡ read
+pub findings_counted : (found reported : List Finding) (drawing read : Contents) → found ≡ reported → reported ≡ findings drawing.objects → drawing ≡ read
     → length found ≡ length (findings read.objects)
-findings_counted found told drawing read are is same = ap length (are ∙ is) ∙ ap (λ (one : Contents). length (findings one.objects)) same
+findings_counted found reported drawing read are is same = ap length (are ∙ is) ∙ ap (λ (one : Contents). length (findings one.objects)) same

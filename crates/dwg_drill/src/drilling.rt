@@ -33,7 +33,7 @@ struct Counts {
     findings: u64,
 }
 
-/// Reads a file and audits its drawing. The only refusal is want of memory.
+/// Reads a file and audits its drawing. Err: out of memory.
 fn count(alloc: Global, file: &[u8]) -> Result<Counts, NoMemory>
     requires length { length file.now ≤ MOST_BYTES }
     requires passes { first_fault ALL_LINES file.now ≡ None }
@@ -62,7 +62,7 @@ fn change(file: &mut Vec<u8>)
     file[middle] = 255 - file[middle];
 }
 
-/// The first fault of a file, if it has one. The only refusal is want of memory.
+/// The first fault of a file, if it has one. Err: out of memory.
 fn fault_of(alloc: Global, file: &[u8]) -> Result<Option<Refusal>, NoMemory>
     requires { length file.now ≤ MOST_BYTES }
     ensures fault { IfOk result (λ fault. fault ≡ first_fault ALL_LINES file.now) }
@@ -75,7 +75,7 @@ fn fault_of(alloc: Global, file: &[u8]) -> Result<Option<Refusal>, NoMemory>
     }
 }
 
-/// The bytes of a run as a `Vec`, which takes the place of the run. The only refusal is want of memory.
+/// The bytes of a run as a `Vec`, which takes the place of the run. Err: out of memory.
 fn owned(alloc: Global, run: ByteRun) -> Result<Vec<u8>, NoMemory>
     ensures { IfOk result (λ file. file.items ≡ run) }
 {
@@ -85,8 +85,7 @@ fn owned(alloc: Global, run: ByteRun) -> Result<Vec<u8>, NoMemory>
     }
 }
 
-/// Drills over the file of a drawing of so many entities. The file is read again and audited, and then changed in its place. The
-/// only refusal is want of memory.
+/// Drills over the file of a drawing of so many entities. The file is read again and audited, and then changed in its place. Err: out of memory.
 fn drill_file(alloc: Global, entities: u32, file: ByteRun) -> Result<DrillReport, NoMemory>
     requires length { length file ≤ MOST_BYTES }
     requires some { 0 < length file }
@@ -128,7 +127,7 @@ pub fn drill(alloc: Global, n: u32) -> Result<DrillReport, DrillFault>
     ensures of_table { IfOk result (λ report. IfSome report.fault IsOfTable) }
     ensures within { OnOk result ((0 < n) × (n ≤ MOST_ENTITIES) × (size_of (made n DRILL_SEED) ≤ MOST_BYTES)) }
     ensures size { IsErrOf result DrillFault.Size → (n ≡ 0) ⊎ (MOST_ENTITIES < n) }
-    ensures size_told { (n ≡ 0) ⊎ (MOST_ENTITIES < n) → IsErrOf result DrillFault.Size }
+    ensures size_reported { (n ≡ 0) ⊎ (MOST_ENTITIES < n) → IsErrOf result DrillFault.Size }
     ensures too_large { (size : ℕ) → result ≡ Err (DrillFault.TooLarge size) → (0 < n) × (n ≤ MOST_ENTITIES) × (MOST_BYTES < size_of (made n DRILL_SEED)) × (size ≡ size_of (made n DRILL_SEED)) }
 {
     make_laws();

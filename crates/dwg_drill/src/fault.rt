@@ -3,7 +3,7 @@
 /// Why there is no drill.
 #[derive(Clone, Copy, Debug, PartialEq, Eq)]
 pub enum DrillFault {
-    /// Want of memory.
+    /// Out of memory.
     NoMemory,
     /// No drawing is made of so many entities.
     Size,

@@ -1,4 +1,4 @@
-//! The drill: a made drawing written, read again and audited, and read with a changed byte; and its text.
+//! The drill: a made drawing written, read again and audited, and read with a changed byte.
 #![tactic(auto)]
 
 mod drilling;
@@ -8,4 +8,4 @@ mod report;
 
 pub use drilling::drill;
 pub use fault::DrillFault;
-pub use report::{DrillReport, drill_text};
+pub use report::DrillReport;

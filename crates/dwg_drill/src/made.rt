@@ -16,12 +16,12 @@ use std::alloc::Global;
 /// The seed of a drill's drawing.
 const SEED: u32 = 1;
 
-/// Makes the drawing of a drill. Size exactly where the count is out of range; the only other refusal is want of memory.
+/// Makes the drawing of a drill. Size exactly where the count is out of range; the only other refusal is out of memory.
 fn make_drawing(alloc: Global, n: u32) -> Result<Drawing<'static>, DrillFault>
     ensures made { IfOk result (λ drawing. contents_of drawing ≡ made n DRILL_SEED) }
     ensures within { OnOk result ((0 < n) × (n ≤ MOST_ENTITIES)) }
     ensures size { IsErrOf result DrillFault.Size → (n ≡ 0) ⊎ (MOST_ENTITIES < n) }
-    ensures size_told { (n ≡ 0) ⊎ (MOST_ENTITIES < n) → IsErrOf result DrillFault.Size }
+    ensures size_reported { (n ≡ 0) ⊎ (MOST_ENTITIES < n) → IsErrOf result DrillFault.Size }
     ensures never_too_large { (size : ℕ) → result ≡ Err (DrillFault.TooLarge size) → ⊥ }
 {
     match make(alloc, n, SEED) {
@@ -31,7 +31,7 @@ fn make_drawing(alloc: Global, n: u32) -> Result<Drawing<'static>, DrillFault>
     }
 }
 
-/// Sends the file of a plan into memory. The only refusal is want of memory: the sink has the room and fails in no call, so no run
+/// Sends the file of a plan into memory. Err: out of memory: the sink has the room and fails in no call, so no run
 /// comes to a fault of it.
 fn send(alloc: Global, plan: &mut Plan<'_, '_>) -> Result<ByteRun, NoMemory>
     ensures { IfOk result (λ file. file ≡ canonical_with plan.old.carried plan.old.drawing) }
@@ -45,7 +45,7 @@ fn send(alloc: Global, plan: &mut Plan<'_, '_>) -> Result<ByteRun, NoMemory>
 }
 
 /// The canonical file of a drawing. TooLarge exactly where it has more bytes than a file may have, with their count; the only other
-/// refusal is want of memory.
+/// refusal is out of memory.
 fn write_drawing(alloc: Global, drawing: &Drawing<'_>) -> Result<ByteRun, DrillFault>
     ensures file { IfOk result (λ file. file ≡ canonical (contents_of drawing.now)) }
     ensures within { OnOk result (size_of (contents_of drawing.now) ≤ MOST_BYTES) }
@@ -64,12 +64,12 @@ fn write_drawing(alloc: Global, drawing: &Drawing<'_>) -> Result<ByteRun, DrillF
 }
 
 /// The canonical file of the drawing of a drill. Size exactly where the count is out of range, TooLarge exactly where the file has
-/// more bytes than a file may have; the only other refusal is want of memory.
+/// more bytes than a file may have; the only other refusal is out of memory.
 pub(crate) fn make_file(alloc: Global, n: u32) -> Result<ByteRun, DrillFault>
     ensures file { IfOk result (λ file. file ≡ canonical (made n DRILL_SEED)) }
     ensures within { OnOk result ((0 < n) × (n ≤ MOST_ENTITIES) × (size_of (made n DRILL_SEED) ≤ MOST_BYTES)) }
     ensures size { IsErrOf result DrillFault.Size → (n ≡ 0) ⊎ (MOST_ENTITIES < n) }
-    ensures size_told { (n ≡ 0) ⊎ (MOST_ENTITIES < n) → IsErrOf result DrillFault.Size }
+    ensures size_reported { (n ≡ 0) ⊎ (MOST_ENTITIES < n) → IsErrOf result DrillFault.Size }
     ensures too_large { (size : ℕ) → result ≡ Err (DrillFault.TooLarge size) → (0 < n) × (n ≤ MOST_ENTITIES) × (MOST_BYTES < size_of (made n DRILL_SEED)) × (size ≡ size_of (made n DRILL_SEED)) }
 {
     let drawing = match make_drawing(alloc, n) {

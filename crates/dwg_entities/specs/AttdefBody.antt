@@ -12,5 +12,5 @@ use Rattle.dwg_entities.specs.AttribBody.{attrib_main, label_of, attrib_of}
 -- the main bits of its attribute; TV prompt; and among the references the style of its attribute's text
 unfoldable pub attdef_body : Version → ℕ → BodyGrammar Attdef
 attdef_body version base =
-    body (attrib_main version ⋄ tv) (λ told. one_ref base) (λ told style. record { attrib = attrib_of told.0 style; prompt = told.1 })
+    body (attrib_main version ⋄ tv) (λ parsed. one_ref base) (λ parsed style. record { attrib = attrib_of parsed.0 style; prompt = parsed.1 })
     (λ attdef. (label_of attdef.attrib, attdef.prompt)) (λ attdef. attdef.attrib.text.style)

@@ -11,7 +11,7 @@ use Rattle.dwg_grammar.specs.Reference.{Reference}
 use Rattle.dwg_entities.specs.declared.attrib.Attrib.{Attrib}
 use Rattle.dwg_entities.specs.TextBody.{Inscription, text_main, inscription_of, text_of}
 
--- behind those of its text: TV tag; BS length; RC flags
+-- after those of its text: TV tag; BS length; RC flags
 abbrev pub attrib_more : Grammar Bool (List ℕ × (ℕ × ℕ))
 attrib_more = tv ⋄ bs ⋄ rc
 
@@ -19,7 +19,7 @@ attrib_more = tv ⋄ bs ⋄ rc
 unfoldable pub attrib_main : Version → Grammar Bool (Inscription × (List ℕ × (ℕ × ℕ)))
 attrib_main version = text_main version ⋄ attrib_more
 
--- what the main bits of an attribute tell
+-- what the main bits of an attribute give
 abbrev pub label_of : Attrib → Inscription × (List ℕ × (ℕ × ℕ))
 label_of attrib = (inscription_of attrib.text, (attrib.tag, (attrib.length, attrib.flags)))
 
@@ -29,4 +29,4 @@ attrib_of (inscription, (tag, (length, flags))) style = record { text = text_of 
 
 -- the main bits, and among the references the style of its text
 unfoldable pub attrib_body : Version → ℕ → BodyGrammar Attrib
-attrib_body version base = body (attrib_main version) (λ told. one_ref base) attrib_of label_of (λ attrib. attrib.text.style)
+attrib_body version base = body (attrib_main version) (λ parsed. one_ref base) attrib_of label_of (λ attrib. attrib.text.style)

@@ -4,8 +4,8 @@ use Rattle.dwg_grammar.specs.Combinators.{always}
 use Rattle.dwg_grammar.specs.Grammar.{Grammar}
 use Rattle.dwg_grammar.specs.Bodies.{BodyGrammar}
 use Rattle.dwg_grammar.specs.MakingBodies.{main_body}
-use Rattle.dwg_entities.specs.declared.closing.EndBlk.{EndBlk}
-use Rattle.dwg_entities.specs.declared.closing.SeqEnd.{SeqEnd}
+use Rattle.dwg_entities.specs.declared.block_ends.EndBlk.{EndBlk}
+use Rattle.dwg_entities.specs.declared.block_ends.SeqEnd.{SeqEnd}
 
 -- no bits
 abbrev pub endblk_main : Grammar Bool EndBlk

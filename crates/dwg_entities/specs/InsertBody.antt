@@ -13,7 +13,7 @@ use Rattle.dwg_entities.specs.declared.insert.Attributes.{Attributes}
 use Rattle.dwg_entities.specs.declared.insert.Insert.{Insert}
 use Rattle.dwg_entities.specs.Scale.{scale}
 
--- what its main bits tell: place, scale, rotation, extrusion, whether it has attributes
+-- what its main bits give: place, scale, rotation, extrusion, whether it has attributes
 abbrev pub Setting : Type 0
 Setting = Point3 × (Point3 × (ℕ × (Point3 × Bool)))
 
@@ -31,7 +31,7 @@ attributes base =
 abbrev pub insert_refs : ℕ → Bool → ReferencePart (Reference × Option Attributes)
 insert_refs base there = then_refs (one_ref base) (maybe_refs there (attributes base))
 
--- what the main bits of an insert tell of it
+-- what the main bits of an insert give of it
 abbrev pub setting_of : Insert → Setting
 setting_of insert = (insert.place, (insert.scale, (insert.rotation, (insert.extrusion, is_some insert.attributes))))
 
@@ -40,6 +40,6 @@ abbrev pub insert_of : Setting → Reference × Option Attributes → Insert
 insert_of (place, (scale, (rotation, (extrusion, there)))) (block, attributes) =
     record { place = place; scale = scale; rotation = rotation; extrusion = extrusion; block = block; attributes = attributes }
 
--- the main bits, and the references that they tell of
+-- the main bits, and the references that they give of
 unfoldable pub insert_body : Version → ℕ → BodyGrammar Insert
-insert_body version base = body (insert_main version) (λ told. insert_refs base told.1.1.1.1) insert_of setting_of (λ insert. (insert.block, insert.attributes))
+insert_body version base = body (insert_main version) (λ parsed. insert_refs base parsed.1.1.1.1) insert_of setting_of (λ insert. (insert.block, insert.attributes))

@@ -11,7 +11,7 @@ use Rattle.dwg_entities.specs.declared.insert.Attributes.{Attributes}
 use Rattle.dwg_entities.specs.declared.minsert.MInsert.{MInsert}
 use Rattle.dwg_entities.specs.InsertBody.{Setting, insert_main, insert_refs, setting_of, insert_of}
 
--- behind those of its insert: BS columns; BS rows; BD column spacing; BD row spacing
+-- after those of its insert: BS columns; BS rows; BD column spacing; BD row spacing
 abbrev pub minsert_more : Grammar Bool (ℕ × (ℕ × (ℕ × ℕ)))
 minsert_more = bs ⋄ bs ⋄ bd ⋄ bd
 
@@ -19,7 +19,7 @@ minsert_more = bs ⋄ bs ⋄ bd ⋄ bd
 unfoldable pub minsert_main : Grammar Bool (Setting × (ℕ × (ℕ × (ℕ × ℕ))))
 minsert_main = insert_main Ac1015 ⋄ minsert_more
 
--- what the main bits of such an insert tell of it
+-- what the main bits of such an insert give of it
 abbrev pub repeats_of : MInsert → Setting × (ℕ × (ℕ × (ℕ × ℕ)))
 repeats_of minsert = (setting_of minsert.insert, (minsert.columns, (minsert.rows, (minsert.column_spacing, minsert.row_spacing))))
 
@@ -31,4 +31,4 @@ minsert_of (setting, (columns, (rows, (column_spacing, row_spacing)))) named =
 -- the main bits, and the references of its insert
 unfoldable pub minsert_body : ℕ → BodyGrammar MInsert
 minsert_body base =
-    body minsert_main (λ told. insert_refs base told.0.1.1.1.1) minsert_of repeats_of (λ minsert. (minsert.insert.block, minsert.insert.attributes))
+    body minsert_main (λ parsed. insert_refs base parsed.0.1.1.1.1) minsert_of repeats_of (λ minsert. (minsert.insert.block, minsert.insert.attributes))

@@ -60,7 +60,7 @@ scale_by_value (suc (suc zero)) point fits =
 scale_by_value (suc (suc (suc zero))) point fits = subst IsPoint3 (sym fits) whole_is_point
 scale_by_value (suc (suc (suc (suc tag)))) point fits = absurd fits
 
--- numbers that are told apart differ
+-- numbers that are distinguished differ
 apart : {P : Type 0} (one other : ℕ) → (one == other) ≡ false → one ≡ other → P
 apart one other differ same = absurd (cc (differ, (Decides-eqb one other).1 same))
 
@@ -81,7 +81,7 @@ scale_picked point false y_one z_one true true x y z same_y same_z fits =
 scale_picked point false y_one z_one true false x y z same_y same_z fits = (omega arith, fits)
 scale_picked point false y_one z_one false z_same x y z same_y same_z fits = (omega arith, fits)
 
--- beside 1.0 a scale has no more bits than behind a word
+-- beside 1.0 a scale has no more bits than after a word
 beside_one_least : (point : Point3) → point.x ≡ ONE → length (scale_beside_one.short point) ≤ length (scale_free.short point)
 beside_one_least point x_one =
     subst (λ (x : ℕ). length (scale_beside_one.short point) ≤ length (rd.short point.x ++ ((dd x).short point.y ++ (dd x).short point.z))) (sym x_one)
@@ -91,7 +91,7 @@ beside_one_least point x_one =
 even_least : (point : Point3) → length (scale_even.short point) ≤ length (scale_free.short point)
 even_least point = omega (arith, length-append (rd.short point.x) ((dd point.x).short point.y ++ (dd point.x).short point.z))
 
--- behind the tag that is written there are no more bits than behind another
+-- after the tag that is written there are no more bits than after another
 scale_least : (point : Point3) (tag : ℕ) (x_one y_one z_one y_same z_same : Bool) → (point.x == ONE) ≡ x_one → (point.y == ONE) ≡ y_one → (point.z == ONE) ≡ z_one
     → (point.y == point.x) ≡ y_same → (point.z == point.x) ≡ z_same → (scale_by tag).IsValue point
     → length ((scale_by (tag_by x_one y_one z_one y_same z_same)).short point) ≤ length ((scale_by tag).short point)

@@ -11,7 +11,7 @@ use Rattle.dwg_grammar.specs.MakingBodies.{body}
 use Rattle.dwg_grammar.specs.References.{one_ref}
 use Rattle.dwg_grammar.specs.Reference.{Reference}
 use Rattle.dwg_entities.specs.declared.text.Text.{Text}
-use Rattle.dwg_entities.specs.Flags.{unless, worth_unless}
+use Rattle.dwg_entities.specs.Flags.{unless, weight_unless}
 use Rattle.dwg_grammar.specs.Points.{rd2, dd2}
 use Rattle.dwg_grammar.specs.Versions.{in_version, since_1015, thickness, extrusion}
 
@@ -35,7 +35,7 @@ text_lettering version flags = unless flags 0x04 (word version) ⋄ unless flags
 abbrev pub text_wording : ℕ → Grammar Bool (List ℕ × (Option ℕ × (Option ℕ × Option ℕ)))
 text_wording flags = tv ⋄ unless flags 0x20 bs ⋄ unless flags 0x40 bs ⋄ unless flags 0x80 bs
 
--- what its main bits tell: its flags, where it stands, the form of its letters, its words
+-- what its main bits give: its flags, where it stands, the form of its letters, its words
 abbrev pub Inscription : Type 0
 Inscription = ℕ × ((Option ℕ × (Point2 × (Option Point2 × (Point3 × ℕ)))) × ((Option ℕ × (Option ℕ × (ℕ × Option ℕ))) × (List ℕ × (Option ℕ × (Option ℕ × Option ℕ)))))
 
@@ -46,8 +46,8 @@ text_main version = seq (since_1015 version 0 rc) (λ flags. text_placing versio
 -- a flag is set exactly where its part is missing
 unfoldable pub flags_of : Text → ℕ
 flags_of text =
-    worth_unless text.elevation 0x01 + worth_unless text.alignment 0x02 + worth_unless text.oblique 0x04 + worth_unless text.rotation 0x08 + worth_unless text.width 0x10
-    + worth_unless text.generation 0x20 + worth_unless text.horizontal 0x40 + worth_unless text.vertical 0x80
+    weight_unless text.elevation 0x01 + weight_unless text.alignment 0x02 + weight_unless text.oblique 0x04 + weight_unless text.rotation 0x08 + weight_unless text.width 0x10
+    + weight_unless text.generation 0x20 + weight_unless text.horizontal 0x40 + weight_unless text.vertical 0x80
 
 -- where a text stands
 abbrev pub placing_of : Text → Option ℕ × (Point2 × (Option Point2 × (Point3 × ℕ)))
@@ -61,7 +61,7 @@ lettering_of text = (text.oblique, (text.rotation, (text.height, text.width)))
 abbrev pub wording_of : Text → List ℕ × (Option ℕ × (Option ℕ × Option ℕ))
 wording_of text = (text.text, (text.generation, (text.horizontal, text.vertical)))
 
--- what the main bits of a text tell of it
+-- what the main bits of a text give of it
 abbrev pub inscription_of : Text → Inscription
 inscription_of text = (flags_of text, (placing_of text, (lettering_of text, wording_of text)))
 
@@ -86,4 +86,4 @@ text_of (flags, ((elevation, (insertion, (alignment, (extrusion, thickness)))), 
 
 -- the main bits, and among the references the style
 unfoldable pub text_body : Version → ℕ → BodyGrammar Text
-text_body version base = body (text_main version) (λ told. one_ref base) text_of inscription_of (λ text. text.style)
+text_body version base = body (text_main version) (λ parsed. one_ref base) text_of inscription_of (λ text. text.style)

@@ -56,12 +56,12 @@ when_narrower true older newer wider part (inner, same, fits) = (inner, same, wi
 when_narrower false older newer wider part none = none
 
 -- so does one unless a flag is set
-unless_narrower : {V : Type 0} (flags worth : ℕ) (older newer : Grammar Bool V) → ((value : V) → older.IsValue value → newer.IsValue value) → (part : Option V)
-    → (unless flags worth older).IsValue part → (unless flags worth newer).IsValue part
-unless_narrower flags worth older newer wider part fits = when_narrower (not (has flags worth)) older newer wider part fits
+unless_narrower : {V : Type 0} (flags weight : ℕ) (older newer : Grammar Bool V) → ((value : V) → older.IsValue value → newer.IsValue value) → (part : Option V)
+    → (unless flags weight older).IsValue part → (unless flags weight newer).IsValue part
+unless_narrower flags weight older newer wider part fits = when_narrower (not (has flags weight)) older newer wider part fits
 
 -- what AC1014 can spell of a text, AC1015 can spell
-pub inscription_narrower : (told : Inscription) → (text_main Ac1014).IsValue told → (text_main Ac1015).IsValue told
+pub inscription_narrower : (parsed : Inscription) → (text_main Ac1014).IsValue parsed → (text_main Ac1015).IsValue parsed
 unfolding text_main
 inscription_narrower (flags, ((elevation, (insertion, (alignment, shown))), ((oblique, (rotation, (height, width))), worded))) (none, (placed, (lettered, words))) = (
   flags_small Ac1014 flags none,
@@ -71,5 +71,5 @@ inscription_narrower (flags, ((elevation, (insertion, (alignment, shown))), ((ob
   ),
 )
   where
-    number : (worth : ℕ) (part : Option ℕ) → (unless flags worth bd).IsValue part → (unless flags worth rd).IsValue part
-    number worth part fits = unless_narrower flags worth bd rd (λ value fits. fits) part fits
+    number : (weight : ℕ) (part : Option ℕ) → (unless flags weight bd).IsValue part → (unless flags weight rd).IsValue part
+    number weight part fits = unless_narrower flags weight bd rd (λ value fits. fits) part fits

@@ -1,4 +1,4 @@
--- What the reader of texts has read, as the parts that the grammar tells.
+-- What the reader of texts has read, as the parts that the grammar gives.
 use Rattle.std.specs.Prelude.{ℕ, List, Option}
 use Rattle.dwg_grammar.specs.declared.points.Point2.{Point2}
 use Rattle.dwg_grammar.specs.declared.points.Point3.{Point3}

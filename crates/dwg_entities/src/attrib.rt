@@ -24,7 +24,7 @@ pub struct Attrib {
     pub tag: ByteRun,
     /// The length of its field.
     pub length: u16,
-    /// What is told of it by single bits.
+    /// What is given of it by single bits.
     pub flags: u8,
 }
 
@@ -61,7 +61,7 @@ impl BodyCode for Attrib {
 
     #[tactic(auto, unfolding(crate::specs::AttribBody::attrib_body, crate::specs::AttribBody::attrib_main, crate::specs::TextBody::text_body))]
     fn fits_in(&self, layout: Layout, base: Handle) -> bool {
-        // Their codes tell every number of their types.
+        // Their codes give every number of their types.
         let _length = self.length;
         let _flags = self.flags;
         if !tv_fits(self.tag.as_slice()) {

@@ -28,7 +28,7 @@ fn read_attributes(cursor: &mut BitCursor<'_>, base: Handle) -> Option<Attribute
     })
 }
 
-/// Whether attributes can be told from the insert of the handle `base`: each reference reaches its target.
+/// Whether attributes can be given from the insert of the handle `base`: each reference reaches its target.
 #[tactic(auto, unfolding(dwg_grammar::specs::ReferenceCodes::reference))]
 fn attributes_fit(value: &Attributes, base: Handle) -> bool
     ensures { IsTrue result ↔ (attributes base).grammar.IsValue value.now }
@@ -42,7 +42,7 @@ fn attributes_fit(value: &Attributes, base: Handle) -> bool
     value.seqend.fits(base)
 }
 
-/// Whether the attributes of an insert can be told from it, where it has some.
+/// Whether the attributes of an insert can be given from it, where it has some.
 pub(crate) fn attributes_fit_where_there(value: &Option<Attributes>, base: Handle) -> bool
     ensures { IsTrue result ↔ (when (is_some value.now) (attributes base).grammar).IsValue value.now }
 {
@@ -52,7 +52,7 @@ pub(crate) fn attributes_fit_where_there(value: &Option<Attributes>, base: Handl
     }
 }
 
-/// The attributes of an insert of a handle: three references, the first, the last and the end behind them.
+/// The attributes of an insert of a handle: three references, the first, the last and the end after them.
 pub(crate) struct CodeAttributes;
 
 impl BitCode for CodeAttributes {
@@ -66,7 +66,7 @@ impl BitCode for CodeAttributes {
 
     #[tactic(auto, using(crate::proofs::InsertReading::attributes_read, crate::proofs::InsertReading::attributes_unread, crate::proofs::InsertReading::attributes_value))]
     fn read(context: &Handle, cursor: &mut BitCursor<'_>) -> Option<Attributes> {
-        // The laws of references ask that their base is a handle's number, which one behind a reference doesn't tell.
+        // The laws of references ask that their base is a handle's number, which one after a reference doesn't give.
         let _base = context.value();
         let mut ahead = *cursor;
         let attributes = read_attributes(&mut ahead, *context)?;

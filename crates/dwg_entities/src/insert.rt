@@ -12,19 +12,19 @@ use dwg_base::{Handle, NoMemory};
 use dwg_bits::{BitCursor, BitSink};
 use dwg_codes::{BitCode, Code3BD, CodeB, CodeBD, Point3, length_when, write_when};
 use dwg_common::{
-    BodyCode, BodyCode14, Layout, Lengths, known_point, parse_code, parse_ref, parse_when,
+    BodyCode, BodyCode14, Layout, Lengths, parse_code, parse_ref, parse_when, point_with_range,
 };
 use dwg_handles::{CodeH, Ref};
 use std::alloc::Global;
 
-/// The attributes of an insert, which stand one behind the other (Open Design Specification, "INSERT").
+/// The attributes of an insert, which stand one after the other (Open Design Specification, "INSERT").
 #[derive(Clone, Copy, Debug, PartialEq, Eq)]
 pub struct Attributes {
     /// The first of them.
     pub first: Ref,
     /// The last of them.
     pub last: Ref,
-    /// The end behind them.
+    /// The end after them.
     pub seqend: Ref,
 }
 
@@ -89,11 +89,11 @@ impl BodyCode for Insert {
 
     #[tactic(auto, unfolding(crate::specs::InsertBody::insert_body, dwg_grammar::specs::ReferenceCodes::reference))]
     fn fits_in(&self, layout: Layout, base: Handle) -> bool {
-        // The codes of the main bits tell every number of their types.
-        known_point(&self.place);
+        // The codes of the main bits give every number of their types.
+        point_with_range(&self.place);
         known_scale(layout.version, &self.scale);
         let _rotation = self.rotation;
-        known_point(&self.extrusion);
+        point_with_range(&self.extrusion);
         if !self.block.fits(base) {
             return false;
         }

@@ -82,7 +82,7 @@ impl BodyCode for MInsert {
 
     #[tactic(auto, unfolding(crate::specs::MInsertBody::minsert_body, crate::specs::MInsertBody::minsert_main, crate::specs::InsertBody::insert_body))]
     fn fits_in(&self, _layout: Layout, base: Handle) -> bool {
-        // Their codes tell every number of their types.
+        // Their codes give every number of their types.
         let _columns = self.columns;
         let _rows = self.rows;
         let _column_spacing = self.column_spacing;

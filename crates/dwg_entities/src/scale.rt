@@ -10,7 +10,7 @@ ghost use Rattle.dwg_entities.specs.ScaleLaws.{newer_scale_is_code, scale_is_cod
 use dwg_base::Version;
 use dwg_bits::{BitCursor, BitSink};
 use dwg_codes::{BitCode, Code3BD, CodeBB, CodeDD, CodeRD, ONE_WORD, Point3};
-use dwg_common::{known_point, parse_code};
+use dwg_common::{parse_code, point_with_range};
 
 /// The tag of a scale of any words.
 const FREE: u8 = 0;
@@ -54,9 +54,9 @@ fn read_even(cursor: &mut BitCursor<'_>) -> Option<Point3>
     Some(Point3 { x, y: x, z: x })
 }
 
-/// Reads what is behind a tag, as it is parsed.
-#[tactic(auto, using(crate::proofs::ScaleReading::none_behind))]
-fn read_behind(tag: u8, cursor: &mut BitCursor<'_>) -> Option<Point3>
+/// Reads what is after a tag, as it is parsed.
+#[tactic(auto, using(crate::proofs::ScaleReading::none_after))]
+fn read_payload(tag: u8, cursor: &mut BitCursor<'_>) -> Option<Point3>
     ensures parsed { Parses (scale_by tag) result cursor.old cursor.new }
     ensures kept { Keeps cursor.old cursor.new }
 {
@@ -80,7 +80,7 @@ fn read_scale(cursor: &mut BitCursor<'_>) -> Option<Point3>
     ensures kept { Keeps cursor.old cursor.new }
 {
     let tag = parse_code::<CodeBB>(&(), cursor)?;
-    read_behind(tag, cursor)
+    read_payload(tag, cursor)
 }
 
 /// The tag under which a scale is written: the first of 11, 01, 10 and 00 that applies.
@@ -106,9 +106,9 @@ fn scale_tag(point: &Point3) -> u8
     EVEN
 }
 
-/// How many bits are written of a scale behind a tag.
+/// How many bits are written of a scale after a tag.
 #[tactic(auto, using(dwg_grammar::proofs::Bounds::dd_at_most, dwg_grammar::proofs::NumberLemmas::length_of_rd))]
-fn bits_behind(tag: u8, point: &Point3) -> u64
+fn bits_after(tag: u8, point: &Point3) -> u64
     requires tag { tag < 4 }
     requires point { IsPoint3 point.now }
     ensures length { result ≡ length ((scale_by tag).short point.now) }
@@ -126,8 +126,8 @@ fn bits_behind(tag: u8, point: &Point3) -> u64
     }
 }
 
-/// Writes a scale behind a tag.
-fn write_behind(tag: u8, point: &Point3, sink: &mut BitSink)
+/// Writes a scale after a tag.
+fn write_payload(tag: u8, point: &Point3, sink: &mut BitSink)
     requires tag { tag < 4 }
     requires point { IsPoint3 point.now }
     requires room { length ((scale_by tag).short point.now) ≤ sink.old.spare }
@@ -172,14 +172,14 @@ impl BitCode for CodeNewerScale {
     #[tactic(auto, unfolding(crate::specs::Scale::newer_scale), using(dwg_bits::proofs::BitLaws::length_of_low_bits))]
     fn length(_context: &(), value: &Point3) -> u64 {
         let tag = scale_tag(value);
-        CodeBB::length(&(), &tag) + bits_behind(tag, value)
+        CodeBB::length(&(), &tag) + bits_after(tag, value)
     }
 
     #[tactic(auto, unfolding(crate::specs::Scale::newer_scale))]
     fn write(_context: &(), value: &Point3, sink: &mut BitSink) {
         let tag = scale_tag(value);
         CodeBB::write(&(), &tag, sink);
-        write_behind(tag, value, sink);
+        write_payload(tag, value, sink);
     }
 
     ghost laws = { λ context is. newer_scale_is_code };
@@ -223,11 +223,11 @@ impl BitCode for CodeScale {
     ghost laws = { λ version is. scale_is_code version };
 }
 
-/// A point is a scale in each version: it finds nothing out, as `known_point`.
+/// A point is a scale in each version: it finds nothing out, as `point_with_range`.
 #[tactic(auto, using(crate::specs::ScaleLaws::scale_value))]
 pub(crate) fn known_scale(version: Version, point: &Point3)
     ensures { (scale version).IsValue point.now }
 {
     let _newer = version.is_newer();
-    known_point(point);
+    point_with_range(point);
 }

@@ -11,7 +11,7 @@ ghost use Rattle.dwg_entities.specs.BodiesLaws.{text_is_body, text_narrower};
 ghost use Rattle.dwg_entities.specs.TextBody.{flags_of, lettering_of, placing_of, text_body, text_lettering, text_placing, text_wording, wording_of};
 ghost use Rattle.dwg_entities.specs.TextReading.{lettering_read, placing_read, wording_read};
 
-use crate::flags::{alignment_fits, has, number_fits, word_fits, worth_unless};
+use crate::flags::{alignment_fits, has, number_fits, weight_unless, word_fits};
 use crate::words::{CodeAlignment, CodeWord, known_word};
 use dwg_base::{ByteRun, Handle, NoMemory, Version};
 use dwg_bits::{BitCursor, BitSink};
@@ -99,7 +99,7 @@ struct Wording {
     vertical: Option<u16>,
 }
 
-/// What the flag of a text without an elevation is worth.
+/// The weight of the flag of a text without an elevation.
 const NO_ELEVATION: u8 = 0x01;
 
 /// Of one without an alignment.
@@ -123,7 +123,7 @@ const NO_HORIZONTAL: u8 = 0x40;
 /// Of one without a vertical alignment.
 const NO_VERTICAL: u8 = 0x80;
 
-/// What is done with a part of a text: its fields in the order of their bits, each with its code, with the field that it is told
+/// What is done with a part of a text: its fields in the order of their bits, each with its code, with the field that it is given
 /// against, and with the flag that is set where it is missing.
 ///
 /// - `parse alloc, version, flags, cursor`: the part as it is parsed, `Ok(None)` where there is none;
@@ -147,7 +147,7 @@ macro_rules! text_row {
     };
 }
 
-/// What is done with one field, by its code, the field that it is told against, and the flags with its own.
+/// What is done with one field, by its code, the field that it is given against, and the flags with its own.
 macro_rules! text_field {
     (context CodeWord [] $version:expr) => {
         &$version
@@ -248,14 +248,14 @@ macro_rules! wording_row {
 fn flags_of(text: &Text) -> u8
     ensures { result ≡ flags_of text.now }
 {
-    worth_unless(&text.elevation, NO_ELEVATION)
-        + worth_unless(&text.alignment, NO_ALIGNMENT)
-        + worth_unless(&text.oblique, NO_OBLIQUE)
-        + worth_unless(&text.rotation, NO_ROTATION)
-        + worth_unless(&text.width, NO_WIDTH)
-        + worth_unless(&text.generation, NO_GENERATION)
-        + worth_unless(&text.horizontal, NO_HORIZONTAL)
-        + worth_unless(&text.vertical, NO_VERTICAL)
+    weight_unless(&text.elevation, NO_ELEVATION)
+        + weight_unless(&text.alignment, NO_ALIGNMENT)
+        + weight_unless(&text.oblique, NO_OBLIQUE)
+        + weight_unless(&text.rotation, NO_ROTATION)
+        + weight_unless(&text.width, NO_WIDTH)
+        + weight_unless(&text.generation, NO_GENERATION)
+        + weight_unless(&text.horizontal, NO_HORIZONTAL)
+        + weight_unless(&text.vertical, NO_VERTICAL)
 }
 
 /// Reads where a text stands, as it is parsed after its flags. Err: out of memory.
@@ -297,7 +297,7 @@ fn read_wording(
     wording_row!(parse alloc, version, flags, cursor)
 }
 
-/// Whether flags can be told: AC1014 has none.
+/// Whether flags can be given: AC1014 has none.
 fn flags_fit(version: Version, flags: u8) -> bool
     ensures { IsTrue result ↔ (since_1015 version 0 rc).IsValue flags }
 {

@@ -82,7 +82,7 @@ impl BitCode for CodeAlignment {
     ghost laws = { λ context is. aligned_is_code context.0 context.1 is };
 }
 
-/// A word is a number of a text in each version: it finds nothing out, as `known_point`.
+/// A word is a number of a text in each version: it finds nothing out, as `point_with_range`.
 #[tactic(auto, using(crate::specs::TextLaws::word_value))]
 pub(crate) fn known_word(version: Version, number: u64)
     ensures { (word version).IsValue number }

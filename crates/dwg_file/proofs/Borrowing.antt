@@ -1,4 +1,4 @@
--- Objects and unknown sections that are lent, one behind the other and in another order.
+-- Objects and unknown sections that are lent, one after the other and in another order.
 use Rattle.std.proofs.Common.{◌≡◌, sym, subst, List, [], ◌∷◌, ◌++◌}
 use Rattle.std.specs.List.{All}
 use Rattle.std.specs.List.Sorted.{IsPermutation}

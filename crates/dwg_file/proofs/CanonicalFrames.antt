@@ -48,15 +48,15 @@ frames_stand version classes bytes (object ∷ objects) place same are stands = 
   frames_stand version classes bytes objects (place + length (frame_bytes version object)) same are.1 (stands_next bytes place (frame_bytes version object) (frames_bytes version objects) stands),
 )
 
--- each begins at the first place or behind it
-pub frames_behind : (version : Version) (objects : List ObjectValue) (end place : ℕ) → end ≤ place → AllByRecursion (λ (frame : PairFrame). end ≤ frame.pair.place) (frames_from version place objects)
-frames_behind version [] end place before = tt
-frames_behind version (object ∷ objects) end place before = (before, frames_behind version objects end (place + length (frame_bytes version object)) (omega arith))
+-- each begins at the first place or after it
+pub frames_after : (version : Version) (objects : List ObjectValue) (end place : ℕ) → end ≤ place → AllByRecursion (λ (frame : PairFrame). end ≤ frame.pair.place) (frames_from version place objects)
+frames_after version [] end place before = tt
+frames_after version (object ∷ objects) end place before = (before, frames_after version objects end (place + length (frame_bytes version object)) (omega arith))
 
--- a frame is apart from those that begin behind its end
-apart_behind : (one : PairFrame) (frames : List PairFrame) → AllByRecursion (λ (frame : PairFrame). one.end ≤ frame.pair.place) frames → AllByRecursion (AreApart one) frames
-apart_behind one [] behind = tt
-apart_behind one (frame ∷ frames) behind = (inl behind.0, apart_behind one frames behind.1)
+-- a frame is apart from those that begin after its end
+apart_after : (one : PairFrame) (frames : List PairFrame) → AllByRecursion (λ (frame : PairFrame). one.end ≤ frame.pair.place) frames → AllByRecursion (AreApart one) frames
+apart_after one [] after = tt
+apart_after one (frame ∷ frames) after = (inl after.0, apart_after one frames after.1)
 
 -- so no two share a byte
 pub frames_apart : (version : Version) (objects : List ObjectValue) (place : ℕ) → AllPairs AreApart (frames_from version place objects)
@@ -65,7 +65,7 @@ frames_apart version (object ∷ objects) place =
     let end : ℕ = place + length (frame_bytes version object) in
     let one : PairFrame = record { pair = record { handle = handle_of object; place = place }; body = body_bytes version object; end = end; object = object } in
     AllPairs-cons AreApart one (frames_from version end objects)
-    (All-from_recursion (AreApart one) (frames_from version end objects) (apart_behind one (frames_from version end objects) (frames_behind version objects end end (omega arith))))
+    (All-from_recursion (AreApart one) (frames_from version end objects) (apart_after one (frames_from version end objects) (frames_after version objects end end (omega arith))))
     (frames_apart version objects end)
 
 -- pairs of ascending objects ascend, where the frames end in range

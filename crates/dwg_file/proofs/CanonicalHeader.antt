@@ -21,7 +21,7 @@ pairs_head R x (y ∷ xs) all =
     skipped zero (suc j) d before inside = all 0 (suc (suc j)) d (omega arith) (omega arith)
     skipped (suc i) (suc j) d before inside = all (suc (suc i)) (suc (suc j)) d (omega arith) (omega arith)
 
--- and of the members behind it
+-- and of the members after it
 pub pairs_tail : {X : Type 0} (R : X → X → Type 0) (x : X) (xs : List X) → AllPairs R (x ∷ xs) → AllPairs R xs
 pairs_tail R x xs all i j d before inside = all (suc i) (suc j) d (omega arith) (omega arith)
 

@@ -13,7 +13,7 @@ use Rattle.dwg_objmap.specs.Writing.{Ascend, map_bytes}
 use Rattle.dwg_sections.specs.declared.framed.Framed.TheVariants.{Variables, Classes}
 use Rattle.dwg_sections.specs.declared.header.FileHeader.{FileHeader}
 use Rattle.dwg_sections.specs.FileHeader.{BeginsWithHeader, header_bytes, IsFileHeader}
-use Rattle.dwg_sections.proofs.HeaderComplete.{header_tells_version}
+use Rattle.dwg_sections.proofs.HeaderComplete.{header_gives_version}
 use Rattle.dwg_sections.specs.Framed.{framed_bytes}
 use Rattle.dwg_file.specs.Contents.{Contents}
 use Rattle.dwg_file.specs.Canonical.{Carried, IsCarried, NO_PICTURE, canonical, canonical_with, class_content, classes_place, frames_bytes, header_with, map_place_with, map_with, objects_place_with, others_bytes, others_located, others_place_with, placed, preview_at, preview_place, preview_size, size_with, variables_place}
@@ -29,7 +29,7 @@ use Rattle.dwg_file.proofs.MapBytes.{map_is_bytes}
 use Rattle.dwg_file.proofs.SevenPieces.{length_of_seven, seven_are_bytes, seven_stand}
 use Rattle.dwg_file.specs.Spelled.{PairFrame, AreSectionsOf, Spelled}
 use Rattle.dwg_file.specs.Valid.{IsValid}
-use Rattle.dwg_file.specs.CanonicalLaws.{CarryingIsCounted, CarryingIsDoneOnce, CarryingSpells, CarryingSpellsNoOther, PreviewIsCarried, CanonicalIsCounted, CanonicalIsRead, CanonicalSpells, CanonicalSpellsNoOther, CanonicalTellsDrawing, RewritingIsDoneOnce}
+use Rattle.dwg_file.specs.CanonicalLaws.{CarryingIsCounted, CarryingIsDoneOnce, CarryingSpells, CarryingSpellsNoOther, PreviewIsCarried, CanonicalIsCounted, CanonicalIsRead, CanonicalSpells, CanonicalSpellsNoOther, CanonicalReportsDrawing, RewritingIsDoneOnce}
 
 -- the header reaches to the first section
 pub header_reaches : (carried : Carried) (drawing : Contents) → IsFileHeader (header_with carried drawing) → length (header_bytes (header_with carried drawing)) ≡ variables_place drawing
@@ -125,7 +125,7 @@ canonical_begins carried drawing one small fits = record { in_range = fits; stan
 pub canonical_version : (carried : Carried) (drawing : Contents) → IsCarried carried → size_with carried drawing ≤ MOST_BYTES → IsFileHeader (header_with carried drawing)
     → drawing.version ≡ version_at (canonical_with carried drawing)
 canonical_version carried drawing one small fits =
-    header_tells_version (canonical_with carried drawing) (header_with carried drawing) (canonical_begins carried drawing one small fits)
+    header_gives_version (canonical_with carried drawing) (header_with carried drawing) (canonical_begins carried drawing one small fits)
 
 -- so it spells its drawing
 pub carrying_spells : CarryingSpells
@@ -236,9 +236,9 @@ carrying_spells_no_other once carried drawing other one is small spelled =
 pub canonical_spells_no_other : SpelledOnce → CanonicalSpellsNoOther
 canonical_spells_no_other once drawing other is small spelled = carrying_spells_no_other once NO_PICTURE drawing other no_picture is small spelled
 
--- and tells its drawing
-pub canonical_tells_drawing : SpelledOnce → CanonicalTellsDrawing
-canonical_tells_drawing once drawing other is also small few same =
+-- and reports its drawing
+pub canonical_reports_drawing : SpelledOnce → CanonicalReportsDrawing
+canonical_reports_drawing once drawing other is also small few same =
     once (canonical other) drawing other (canonical_is_counted other also few).1 (subst (Spelled drawing) same (canonical_spells drawing is small)) (canonical_spells other also few)
 
 -- where an input spells a drawing no line fails

@@ -25,10 +25,10 @@ use Rattle.dwg_sections.specs.declared.framed.Framed.{Framed}
 use Rattle.dwg_sections.specs.declared.framed.Framed.TheVariants.{Variables, Classes}
 use Rattle.dwg_sections.specs.declared.header.Locator.{Locator}
 use Rattle.dwg_sections.specs.declared.header.FileHeader.{FileHeader}
-use Rattle.dwg_sections.specs.FileHeader.{HEADER_SENTINEL, locator_bytes, header_front, header_bytes, IsLocator, IsFileHeader}
+use Rattle.dwg_sections.specs.FileHeader.{HEADER_SENTINEL, locator_bytes, header_prefix, header_bytes, IsLocator, IsFileHeader}
 use Rattle.dwg_sections.specs.Framed.{VARIABLES_SENTINEL, CLASSES_SENTINEL, begin_sentinel, end_sentinel, complemented, sized_content, framed_bytes}
 use Rattle.dwg_file.specs.Canonical.{Carried, IsCarried, NO_PICTURE, class_content, preview_at, preview_size}
-use Rattle.dwg_preview.specs.Previews.{PREVIEW_SENTINEL, entries_moved, entry_at, entry_bytes, front_bytes, moved, moved_entry, preview_bytes}
+use Rattle.dwg_preview.specs.Previews.{PREVIEW_SENTINEL, entries_moved, entry_at, entry_bytes, prefix_bytes, moved, moved_entry, preview_bytes}
 use Rattle.dwg_preview.proofs.Moving.{moved_is_content}
 use Rattle.dwg_preview.proofs.PreviewParts.{preview_is_counted}
 use Rattle.dwg_sections.proofs.BytePieces.{are_bytes_at, byte_at_below}
@@ -61,12 +61,12 @@ locators_are_bytes (locator ∷ locators) are =
 -- so is a header
 pub header_is_bytes : (header : FileHeader) → IsFileHeader header → AreBytes (header_bytes header)
 header_is_bytes header is =
-    let check : List ℕ = to_le_bytes w16 (header_check_word (length header.locators) (header_front header)) in
-    bytes_joined (header_front header ++ check) HEADER_SENTINEL
-    (bytes_joined (header_front header) check
+    let check : List ℕ = to_le_bytes w16 (header_check_word (length header.locators) (header_prefix header)) in
+    bytes_joined (header_prefix header ++ check) HEADER_SENTINEL
+    (bytes_joined (header_prefix header) check
     (seven_are_bytes (version_bytes header.version) header.lead (to_le_bytes w32 header.preview) header.mark (to_le_bytes w16 header.code_page) (to_le_bytes w32 (length header.locators)) (flat_map locator_bytes header.locators)
     (version header.version) is.lead.1 (bytes_of_number 0 4 header.preview) is.mark.1 (bytes_of_number 0 2 header.code_page) (bytes_of_number 0 4 (length header.locators)) (locators_are_bytes header.locators is.locators))
-    (bytes_of_number 0 2 (header_check_word (length header.locators) (header_front header))))
+    (bytes_of_number 0 2 (header_check_word (length header.locators) (header_prefix header))))
     sentinel
   where
     version : (version : Version) → AreBytes (version_bytes version)
@@ -127,8 +127,8 @@ entries_are_bytes from to (suc count) content place are =
     (entries_are_bytes from to count content (place + 9) are)
 
 -- so is what stands before the further bytes
-pub front_is_bytes : (carried : Carried) (place : ℕ) → AreBytes carried.content → AreBytes (front_bytes carried.place place carried.content)
-front_is_bytes carried place are =
+pub prefix_is_bytes : (carried : Carried) (place : ℕ) → AreBytes carried.content → AreBytes (prefix_bytes carried.place place carried.content)
+prefix_is_bytes carried place are =
     let content = carried.content in
     let entries = entries_moved carried.place place (slice_index content 0) content 1 in
     bytes_joined (PREVIEW_SENTINEL ++ to_le_bytes w32 (length content)) (take 1 content ++ entries)

@@ -1,4 +1,4 @@
--- The frame that is damaged: a length stands at its place as before, and the check word behind it isn't that of the bytes before it.
+-- The frame that is damaged: a length stands at its place as before, and the check word after it isn't that of the bytes before it.
 use Rattle.std.proofs.Common.{◌≡◌, ◌≢◌, refl, sym, ◌∙◌, ap, subst, inl, inr, ℕ, ◌+◌, ◌≤◌, List, [], ◌∷◌, ◌++◌, length, take, drop, length-append, length-drop, append_assoc, arith}
 use Rattle.std.specs.Prelude.{map}
 use Rattle.std.specs.Int.{w16, to_le_bytes}
@@ -28,7 +28,7 @@ use Rattle.dwg_file.specs.ShortDamage.{IsDamagedShortly}
 use Rattle.dwg_file.specs.Spelled.{PairFrame}
 use Rattle.dwg_file.proofs.Splices.{IsSpliced, PieceIsSpliced, piece_spliced}
 use Rattle.dwg_file.specs.Valid.{IsValid}
-use Rattle.dwg_file.proofs.WrittenFrames.{IsWritten, all_of_front, canonical_written}
+use Rattle.dwg_file.proofs.WrittenFrames.{IsWritten, all_of_prefix, canonical_written}
 
 -- the word that is written of a check word
 abbrev word_of : List ℕ → List ℕ
@@ -44,22 +44,22 @@ pub record FrameDamage (bytes : List ℕ) (place : ℕ) : Type 0 where
   pub stands : StandsAt bytes place (size ++ body ++ word)
   pub wrong : word ≡ word_of (size ++ body) → ⊥
 
--- a frame behind a front is its length behind that front, and the rest of it
-rearranged : (front size body word rest : List ℕ) → front ++ ((size ++ body ++ word) ++ rest) ≡ (front ++ size) ++ ((body ++ word) ++ rest)
-rearranged front size body word rest =
-    ap (λ piece. front ++ (piece ++ rest)) (append_assoc size body word) ∙ ap (λ more. front ++ more) (append_assoc size (body ++ word) rest)
-    ∙ sym (append_assoc front size ((body ++ word) ++ rest))
+-- a frame after a prefix is its length after that prefix, and the rest of it
+rearranged : (prefix size body word rest : List ℕ) → prefix ++ ((size ++ body ++ word) ++ rest) ≡ (prefix ++ size) ++ ((body ++ word) ++ rest)
+rearranged prefix size body word rest =
+    ap (λ piece. prefix ++ (piece ++ rest)) (append_assoc size body word) ∙ ap (λ more. prefix ++ more) (append_assoc size (body ++ word) rest)
+    ∙ sym (append_assoc prefix size ((body ++ word) ++ rest))
 
--- so what stands behind a front and a length is a frame's body and word
-front_of : (bytes : List ℕ) (place : ℕ) (size body word : List ℕ) (stands : StandsAt bytes place (size ++ body ++ word)) → bytes ≡ (stands.before ++ size) ++ ((body ++ word) ++ stands.behind)
-front_of bytes place size body word stands = stands.whole ∙ rearranged stands.before size body word stands.behind
+-- so what stands after a prefix and a length is a frame's body and word
+prefix_of : (bytes : List ℕ) (place : ℕ) (size body word : List ℕ) (stands : StandsAt bytes place (size ++ body ++ word)) → bytes ≡ (stands.before ++ size) ++ ((body ++ word) ++ stands.after)
+prefix_of bytes place size body word stands = stands.whole ∙ rearranged stands.before size body word stands.after
 
--- and so many of the bytes there, and those behind them, make one
+-- and so many of the bytes there, and those after them, make one
 frame_of_bytes : (bytes : List ℕ) (place long : ℕ) (before size changed rest : List ℕ) → bytes ≡ (before ++ size) ++ (changed ++ rest) → length before ≡ place
     → StandsAt bytes place (size ++ take long changed ++ drop long changed)
 frame_of_bytes bytes place long before size changed rest same far = record {
   before = before;
-  behind = rest;
+  after = rest;
   whole =
       same ∙ ap (λ (part : List ℕ). (before ++ size) ++ (part ++ rest)) (sym (take-append-drop long changed))
       ∙ sym (rearranged before size (take long changed) (drop long changed) rest);
@@ -82,8 +82,8 @@ damage_by shows one other place size body changed before rest are others spelled
     let here : StandsAt other place (size ++ next ++ word) = frame_of_bytes other place (length body) before size changed rest same far in
     let so_long : length next ≡ length body = length-take-le (length body) changed (omega (arith, count)) in
     let two : length word ≡ 2 = omega (arith, count, length-drop (length body) changed) in
-    let front = stands_first one place (size ++ body) seal stands in
-    let other_front = stands_first other place (size ++ next) word here in
+    let prefix = stands_first one place (size ++ body) seal stands in
+    let other_prefix = stands_first other place (size ++ next) word here in
     record {
       size = size;
       body = next;
@@ -92,10 +92,10 @@ damage_by shows one other place size body changed before rest are others spelled
       two = two;
       stands = here;
       wrong = λ right. shows FRAME_START size body seal next word (omega arith)
-          (stands_bytes one place size are (stands_first one place size body front))
-          (stands_bytes one (place + length size) body are (stands_next one place size body front))
+          (stands_bytes one place size are (stands_first one place size body prefix))
+          (stands_bytes one (place + length size) body are (stands_next one place size body prefix))
           (stands_bytes one (place + length (size ++ body)) seal are (stands_next one place (size ++ body) seal stands))
-          (stands_bytes other (place + length size) next others (stands_next other place size next other_front))
+          (stands_bytes other (place + length size) next others (stands_next other place size next other_prefix))
           (stands_bytes other (place + length (size ++ next)) word others (stands_next other place (size ++ next) word here))
           refl two (subst (DifferShortly (body ++ seal)) (sym (take-append-drop (length body) changed)) apart) refl right;
     }
@@ -116,20 +116,20 @@ damage_of shows one other from to place size body splice are others few differ s
     far : length (stands.before ++ size) ≡ place + length size
     far = omega (arith, length-append stands.before size, stands.far)
 
-    split : PieceIsSpliced one other from to splice (stands.before ++ size) piece stands.behind
+    split : PieceIsSpliced one other from to splice (stands.before ++ size) piece stands.after
     split =
-        piece_spliced one other from to splice (stands.before ++ size) piece stands.behind (front_of one place size body (word_of (size ++ body)) stands) (omega (arith, far, begins))
+        piece_spliced one other from to splice (stands.before ++ size) piece stands.after (prefix_of one place size body (word_of (size ++ body)) stands) (omega (arith, far, begins))
         (omega (arith, far, long, ends))
 
-    of_split : (ahead after : List ℕ) → piece ≡ ahead ++ splice.here ++ after → other ≡ (stands.before ++ size) ++ ((ahead ++ splice.there ++ after) ++ stands.behind) → FrameDamage other place
+    of_split : (ahead after : List ℕ) → piece ≡ ahead ++ splice.here ++ after → other ≡ (stands.before ++ size) ++ ((ahead ++ splice.there ++ after) ++ stands.after) → FrameDamage other place
     of_split ahead after first whole =
-        damage_by shows one other place size body (ahead ++ splice.there ++ after) stands.before stands.behind are others spelled stands whole stands.far
+        damage_by shows one other place size body (ahead ++ splice.there ++ after) stands.before stands.after are others spelled stands whole stands.far
         (omega (arith, long, ap length first, as_long ahead splice.here splice.there after splice.long))
         (record {
           before = ahead;
           here = splice.here;
           there = splice.there;
-          behind = after;
+          after = after;
           first = first;
           second = refl;
           long = splice.long;
@@ -142,17 +142,17 @@ pub no_frame : (bytes : List ℕ) (place : ℕ) → FrameDamage bytes place → 
 no_frame bytes place damage body end frame =
     let own : List ℕ = damage.size ++ damage.body in
     let its : List ℕ = frame.size ++ body in
-    let own_front : StandsAt bytes place own = stands_first bytes place own damage.word damage.stands in
-    let its_front : StandsAt bytes place its = stands_first bytes place its (word_of its) frame.stands in
+    let own_prefix : StandsAt bytes place own = stands_first bytes place own damage.word damage.stands in
+    let its_prefix : StandsAt bytes place its = stands_first bytes place its (word_of its) frame.stands in
     let sizes = lengths_same bytes place (length damage.body) (length body) damage.size frame.size damage.spelled frame.spelled
-    (stands_first bytes place damage.size damage.body own_front) (stands_first bytes place frame.size body its_front) in
+    (stands_first bytes place damage.size damage.body own_prefix) (stands_first bytes place frame.size body its_prefix) in
     let long : length own ≡ length its = omega (arith, length-append damage.size damage.body, length-append frame.size body, sizes.0, ap length sizes.1) in
-    let fronts : own ≡ its = stands_same bytes place own its own_front its_front long in
+    let prefixes : own ≡ its = stands_same bytes place own its own_prefix its_prefix long in
     let words : damage.word ≡ word_of its =
     append_cancel_left own damage.word (word_of its)
-    (stands_same bytes place (own ++ damage.word) (own ++ word_of its) damage.stands (subst (λ (front : List ℕ). StandsAt bytes place (front ++ word_of its)) (sym fronts) frame.stands)
+    (stands_same bytes place (own ++ damage.word) (own ++ word_of its) damage.stands (subst (λ (prefix : List ℕ). StandsAt bytes place (prefix ++ word_of its)) (sym prefixes) frame.stands)
     (length-append own damage.word ∙ ap (λ n. length own + n) damage.two ∙ sym (length-append own (word_of its)))) in
-    damage.wrong (words ∙ ap word_of (sym fronts))
+    damage.wrong (words ∙ ap word_of (sym prefixes))
 
 -- the frame of a drawing in which its input is damaged
 pub frame_damaged : DamageUnderSealShows → (drawing : Contents) (bytes : List ℕ) (earlier : List PairFrame) (frame : PairFrame) (later : List PairFrame) → IsValid drawing
@@ -161,7 +161,7 @@ pub frame_damaged : DamageUnderSealShows → (drawing : Contents) (bytes : List 
 unfolding frame_bytes
 frame_damaged shows drawing bytes earlier frame later is small are whole damaged =
     let written =
-    (all_of_front (IsWritten drawing.version drawing.classes (canonical drawing)) earlier (frame ∷ later)
+    (all_of_prefix (IsWritten drawing.version drawing.classes (canonical drawing)) earlier (frame ∷ later)
     (subst (AllByRecursion (IsWritten drawing.version drawing.classes (canonical drawing))) whole (canonical_written drawing is small))).1.0 in
     let body : List ℕ = body_bytes drawing.version frame.object in
     let size : List ℕ = ms.short (length body) in
@@ -206,7 +206,7 @@ damaged_is_first shows drawing bytes earlier frame later is small are whole dama
       stand = before.stand;
       apart = before.apart;
       pair = frame.pair;
-      behind = map (λ (one : PairFrame). one.pair) later;
+      after = map (λ (one : PairFrame). one.pair) later;
       whole = before.whole;
       fails = inr (inr (
         (λ overlaps. shares_none earlier frame.pair.place overlaps.span before.before overlaps.from overlaps.shares),

@@ -19,7 +19,7 @@ use Rattle.dwg_objmap.specs.Pages.{MapOf}
 use Rattle.dwg_sections.specs.declared.framed.Framed.TheVariants.{Variables, Classes}
 use Rattle.dwg_sections.specs.FileHeader.{BeginsWithHeader, header_bytes}
 use Rattle.dwg_sections.specs.Framed.{FramedAt, framed_bytes}
-use Rattle.dwg_sections.proofs.HeaderComplete.{header_tells_version}
+use Rattle.dwg_sections.proofs.HeaderComplete.{header_gives_version}
 use Rattle.dwg_file.specs.Canonical.{NO_PICTURE, canonical, class_content, classes_place, frames_bytes, header_of, map_of, map_place, objects_place, others_place, placed, preview_place, size_of, variables_place}
 use Rattle.dwg_file.specs.CanonicalFrames.{canonical_frames, frames_from}
 use Rattle.dwg_file.proofs.CanonicalFrames.{frames_apart, frames_stand, pairs_of_frames}
@@ -32,20 +32,20 @@ use Rattle.dwg_file.specs.ShortDamage.{AllElseIsSame, IsDamagedShortly}
 use Rattle.dwg_file.specs.Spelled.{PairFrame, IsFrameOfPair, AreApart}
 use Rattle.dwg_file.proofs.Splices.{IsSpliced, same_part, spliced_long, stands_still}
 use Rattle.dwg_file.specs.Valid.{IsValid}
-use Rattle.dwg_file.proofs.WrittenFrames.{all_of_front, lies_among, pairs_of_front}
+use Rattle.dwg_file.proofs.WrittenFrames.{all_of_prefix, lies_among, pairs_of_prefix}
 
 -- the damaged input has in the middle other bytes than the canonical file
 abbrev pub damaged_spliced : (drawing : Contents) (frame : PairFrame) (bytes : List ℕ) (is : IsDamagedShortly drawing frame bytes)
     → IsSpliced (canonical drawing) bytes (length is.differ.before) (length is.differ.before + length is.differ.here)
 damaged_spliced drawing frame bytes is =
-    let differ = is.differ in record { before = differ.before; here = differ.here; there = differ.there; behind = differ.behind; first = differ.first; second = differ.second; long = differ.long; begins = refl; ends = refl }
+    let differ = is.differ in record { before = differ.before; here = differ.here; there = differ.there; after = differ.after; first = differ.first; second = differ.second; long = differ.long; begins = refl; ends = refl }
 
 -- places that are in order, the last of them in the file
 pub record AreInOrder (most : ℕ) (frame : PairFrame) : Type 0 where
   pub order : frame.pair.place ≤ frame.end
   pub within : frame.end ≤ most
 
--- each frame of objects one behind the other is
+-- each frame of objects one after the other is
 frames_in_order : (version : Version) (objects : List ObjectValue) (place most : ℕ) → place + length (frames_bytes version objects) ≤ most → AllByRecursion (AreInOrder most) (frames_from version place objects)
 frames_in_order version [] place most fits = tt
 frames_in_order version (object ∷ objects) place most fits =
@@ -62,14 +62,14 @@ before_same drawing bytes from to is limit ahead (one ∷ frames) are end = (
   before_same drawing bytes from to is limit ahead frames are.1 end.1,
 )
 
--- so are those that begin behind it
-behind_same : (drawing : Contents) (bytes : List ℕ) (from to : ℕ) → IsSpliced (canonical drawing) bytes from to → (limit : ℕ) → to ≤ limit → (frames : List PairFrame)
+-- so are those that begin after it
+after_same : (drawing : Contents) (bytes : List ℕ) (from to : ℕ) → IsSpliced (canonical drawing) bytes from to → (limit : ℕ) → to ≤ limit → (frames : List PairFrame)
     → AllByRecursion (AreInOrder (length (canonical drawing))) frames → AllByRecursion (λ (one : PairFrame). limit ≤ one.pair.place) frames
     → AllByRecursion (λ (one : PairFrame). HasPart drawing bytes one.pair.place one.end) frames
-behind_same drawing bytes from to is limit past [] are begin = tt
-behind_same drawing bytes from to is limit past (one ∷ frames) are begin = (
+after_same drawing bytes from to is limit past [] are begin = tt
+after_same drawing bytes from to is limit past (one ∷ frames) are begin = (
   same_part (canonical drawing) bytes from to is one.pair.place one.end are.0.order are.0.within (inr (omega (arith, past, begin.0))),
-  behind_same drawing bytes from to is limit past frames are.1 begin.1,
+  after_same drawing bytes from to is limit past frames are.1 begin.1,
 )
 
 -- so it has
@@ -83,7 +83,7 @@ else_is_same drawing bytes earlier frame later is small whole damaged =
     let ahead : frame.pair.place ≤ from = omega (arith, damaged.from) in
     let past : to ≤ frame.end = damaged.to in
     let stays = same_part (canonical drawing) bytes from to splice in
-    let orders = all_of_front (AreInOrder (length (canonical drawing))) earlier (frame ∷ later)
+    let orders = all_of_prefix (AreInOrder (length (canonical drawing))) earlier (frame ∷ later)
     (subst (AllByRecursion (AreInOrder (length (canonical drawing)))) whole
     (frames_in_order drawing.version drawing.objects (objects_place drawing) (length (canonical drawing)) (omega (arith, size)))) in
     record {
@@ -94,7 +94,7 @@ else_is_same drawing bytes earlier frame later is small whole damaged =
       mapped = stays (map_place drawing) (others_place drawing) (omega arith) (omega (arith, size)) (inr (omega (arith, past, among.to)));
       others = stays (others_place drawing) (size_of drawing) (omega arith) (omega (arith, size)) (inr (omega (arith, past, among.to)));
       before = before_same drawing bytes from to splice frame.pair.place ahead earlier orders.0 among.before;
-      behind = behind_same drawing bytes from to splice frame.end past later orders.1.1 among.behind;
+      after = after_same drawing bytes from to splice frame.end past later orders.1.1 among.after;
     }
 
 -- so header, framed sections and map stand in the damaged input
@@ -118,10 +118,10 @@ damaged_stands drawing bytes earlier frame later is small whole damaged =
     let header : List ℕ = header_bytes (header_of drawing) in
     let variables : List ℕ = framed_bytes Variables drawing.variables in
     let classes : List ℕ = framed_bytes Classes (class_content drawing.classes) in
-    let first : StandsAt (canonical drawing) 0 header = record { before = []; behind = stand.begins.0; whole = stand.begins.1; far = refl } in
-    let front : StandsAt bytes 0 header = still 0 header first (inl (omega (arith, ahead, header_reaches NO_PICTURE drawing fits))) in
+    let first : StandsAt (canonical drawing) 0 header = record { before = []; after = stand.begins.0; whole = stand.begins.1; far = refl } in
+    let prefix : StandsAt bytes 0 header = still 0 header first (inl (omega (arith, ahead, header_reaches NO_PICTURE drawing fits))) in
     record {
-      begins = record { in_range = fits; stands = (front.behind, drop_stands bytes 0 header front) };
+      begins = record { in_range = fits; stands = (prefix.after, drop_stands bytes 0 header prefix) };
       variables = record {
         size = omega arith;
         stands = still (variables_place drawing) variables stand.variables (inl (omega (arith, ahead, length_of_framed Variables drawing.variables)));
@@ -140,9 +140,9 @@ frame_still : (classes : List Class) (one other : List ℕ) (from to : ℕ) → 
     → IsFrameOfPair classes other frame
 frame_still classes one other from to same splice frame ahead is =
     let piece : List ℕ = framed_body is.stands.size frame.body in
-    let front : List ℕ = is.stands.size ++ frame.body in
+    let prefix : List ℕ = is.stands.size ++ frame.body in
     let long : length piece ≡ length is.stands.size + length frame.body + 2 =
-    length-append front (to_le_bytes w16 (check_word FRAME_START front)) ∙ ap (λ n. n + 2) (length-append is.stands.size frame.body) in
+    length-append prefix (to_le_bytes w16 (check_word FRAME_START prefix)) ∙ ap (λ n. n + 2) (length-append is.stands.size frame.body) in
     record {
       stands = record {
         size = is.stands.size;
@@ -178,16 +178,16 @@ earlier_stand drawing bytes earlier frame later is small whole damaged =
     let among = lies_among drawing.version drawing.objects (objects_place drawing) earlier frame later whole in
     let own = canonical_version NO_PICTURE drawing no_picture small fits in
     let same : version_at (canonical drawing) ≡ version_at bytes =
-    sym own ∙ header_tells_version bytes (header_of drawing) (damaged_stands drawing bytes earlier frame later is small whole damaged).begins in
+    sym own ∙ header_gives_version bytes (header_of drawing) (damaged_stands drawing bytes earlier frame later is small whole damaged).begins in
     let all = frames_stand drawing.version drawing.classes (canonical drawing) drawing.objects (objects_place drawing) own is.objects stand.frames in
     let to : ℕ = length damaged.differ.before + length damaged.differ.here in
     record {
       stand =
           frames_still drawing.classes (canonical drawing) bytes (length damaged.differ.before) to same (damaged_spliced drawing frame bytes damaged) frame.pair.place (omega (arith, damaged.from)) earlier
           among.before
-          (all_of_front (IsFrameOfPair drawing.classes (canonical drawing)) earlier (frame ∷ later)
+          (all_of_prefix (IsFrameOfPair drawing.classes (canonical drawing)) earlier (frame ∷ later)
           (subst (AllByRecursion (IsFrameOfPair drawing.classes (canonical drawing))) whole all)).0;
-      apart = pairs_of_front AreApart earlier (frame ∷ later) (subst (AllPairs AreApart) whole (frames_apart drawing.version drawing.objects (objects_place drawing)));
+      apart = pairs_of_prefix AreApart earlier (frame ∷ later) (subst (AllPairs AreApart) whole (frames_apart drawing.version drawing.objects (objects_place drawing)));
       before = among.before;
       whole =
           pairs_of_frames drawing.version drawing.objects (objects_place drawing) ∙ ap (map (λ (one : PairFrame). one.pair)) whole

@@ -18,12 +18,12 @@ use Rattle.dwg_objmap.specs.declared.pair.Pair.{Pair}
 use Rattle.dwg_objmap.specs.Pages.{handles_of}
 use Rattle.dwg_file.specs.declared.frames.Frames.{Frames}
 use Rattle.dwg_file.specs.declared.frames.ObjectFrame.{ObjectFrame}
-use Rattle.dwg_file.specs.FileLines.{FoundFrame, with_found, tried_pair, frames_behind}
-use Rattle.dwg_file.specs.FrameReading.{AreTaken, IsFrameFound, values_of, HasRead, GoesOn, AnswersFrames}
+use Rattle.dwg_file.specs.FileLines.{FoundFrame, with_found, tried_pair, frames_after}
+use Rattle.dwg_file.specs.FrameReading.{AreRanges, IsFrameFound, values_of, HasRead, GoesOn, AnswersFrames}
 use Rattle.dwg_file.proofs.FrameReading.{IsAlong}
 use Rattle.dwg_file.specs.ObjectFrames.{frame_of}
 use Rattle.dwg_file.specs.ReadAs.{AreFormsOf}
-use Rattle.dwg_file.specs.Taken.{Run, meets, shares}
+use Rattle.dwg_file.specs.ByteRanges.{Run, meets, shares}
 
 -- one body more is read as one object more
 forms_with : (classes : List Class) (bytes : List ℕ) (frames : List FoundFrame) (values : List ObjectValue) (frame : FoundFrame) (value : ObjectValue) → AreFormsOf classes bytes frames values
@@ -33,8 +33,8 @@ forms_with classes bytes (first ∷ frames) values frame value forms form =
     (forms.0, forms.1 ++ value ∷ [], ap (λ v. v ++ value ∷ []) forms.2, forms.3, forms_with classes bytes frames forms.1 frame value forms.4 form)
 
 -- one frame more is touched where its bytes are
-touches_with : (earlier : List FoundFrame) (taken more : List Run) (frame : FoundFrame) (place end : ℕ) → AreTaken earlier taken → frame.0.from ≡ place → frame.0.end ≡ end → place < end
-    → ((other to : ℕ) → shares more other to ≡ (shares taken other to || meets other to (end - 1, place))) → AreTaken (earlier ++ frame ∷ []) more
+touches_with : (earlier : List FoundFrame) (taken more : List Run) (frame : FoundFrame) (place end : ℕ) → AreRanges earlier taken → frame.0.from ≡ place → frame.0.end ≡ end → place < end
+    → ((other to : ℕ) → shares more other to ≡ (shares taken other to || meets other to (end - 1, place))) → AreRanges (earlier ++ frame ∷ []) more
 touches_with earlier taken more frame place end touched from ends some added = λ other to.
     let one : (nat_lt other frame.0.end && nat_lt frame.0.from to) ≡ meets other to (end - 1, place) = grind (arith, nat_tests) in
     list_any-append (λ (found : FoundFrame). nat_lt other found.0.end && nat_lt found.0.from to) earlier (frame ∷ [])
@@ -53,13 +53,13 @@ frame_same frame pair end own from ends =
     ∙ ap (λ (place : ℕ). record { handle = frame.1.own; from = place; end = end }) (sym from)
     ∙ ap (λ (to : ℕ). record { handle = frame.1.own; from = frame.0.from; end = to }) (sym ends)
 
--- one frame more is listed behind the others
+-- one frame more is listed after the others
 listed_with : (earlier : List FoundFrame) (frame : FoundFrame) (listed more : List ObjectFrame) (last : ObjectFrame) → listed ≡ map frame_of earlier → more ≡ listed ++ last ∷ [] → last ≡ frame_of frame
     → more ≡ map frame_of (earlier ++ frame ∷ [])
 listed_with earlier frame listed more last are added is =
     added ∙ ap₂ (λ (all : List ObjectFrame) (one : ObjectFrame). all ++ one ∷ []) are is ∙ sym (map-append frame_of earlier (frame ∷ []))
 
--- the frame of the next pair is read behind the others
+-- the frame of the next pair is read after the others
 pub frame_read : (classes : List Class) (bytes : List ℕ) (earlier : List FoundFrame) (handles : List ℕ) (read more : Frames) (pair : Pair) (tried : Tried FoundFrame) (found : Found)
     → HasRead classes bytes earlier handles read → IsFrameFound classes bytes pair tried found → pair.place < found.end
     → ((other to : ℕ) → shares more.taken other to ≡ (shares read.taken other to || meets other to (found.end - 1, pair.place)))
@@ -80,24 +80,24 @@ frame_read classes bytes earlier handles read more pair tried found has is some 
       },
     )
 
--- what is left behind so many pairs is tried with the next of them
-behind_next : (bytes : List ℕ) (index : ℕ) (earlier : List FoundFrame) (pairs : List Pair) (pair : Pair) → index < length pairs → pair ≡ get_or pairs index pair
-    → frames_behind bytes index earlier (drop index pairs)
-    ≡ with_found (λ found. frames_behind bytes (index + 1) (earlier ++ found ∷ []) (drop (index + 1) pairs)) (tried_pair bytes earlier index pair)
-unfolding frames_behind
-behind_next bytes index earlier pairs pair within is =
+-- what is left after so many pairs is tried with the next of them
+after_next : (bytes : List ℕ) (index : ℕ) (earlier : List FoundFrame) (pairs : List Pair) (pair : Pair) → index < length pairs → pair ≡ get_or pairs index pair
+    → frames_after bytes index earlier (drop index pairs)
+    ≡ with_found (λ found. frames_after bytes (index + 1) (earlier ++ found ∷ []) (drop (index + 1) pairs)) (tried_pair bytes earlier index pair)
+unfolding frames_after
+after_next bytes index earlier pairs pair within is =
     let left : drop index pairs ≡ pair ∷ drop (index + 1) pairs = drop-cons pairs index pair within ∙ ap₂ (λ (p : Pair) (n : ℕ). p ∷ drop n pairs) (sym is) (sym (add-one index)) in
-    ap (frames_behind bytes index earlier) left
+    ap (frames_after bytes index earlier) left
 
 -- a pair that is refused refuses all
 pub frames_refused : (classes : List Class) (bytes : List ℕ) (pairs : List Pair) (index : ℕ) (read : Frames) (pair : Pair) (fault : Fault)
     → (along : IsAlong classes bytes pairs index read) → index < length pairs → pair ≡ get_or pairs index pair
     → GoesOn classes bytes along.earlier (handles_of (take index pairs)) pair (tried_pair bytes along.earlier index pair) (Err fault)
-    → AnswersFrames classes bytes (frames_behind bytes 0 [] pairs) (Err fault)
+    → AnswersFrames classes bytes (frames_after bytes 0 [] pairs) (Err fault)
 frames_refused classes bytes pairs index read pair NoMemory along within is goes = tt
 frames_refused classes bytes pairs index read pair (Refused refusal) along within is goes =
-    sym along.left ∙ behind_next bytes index along.earlier pairs pair within is
-    ∙ ap (with_found (λ found. frames_behind bytes (index + 1) (along.earlier ++ found ∷ []) (drop (index + 1) pairs))) goes
+    sym along.left ∙ after_next bytes index along.earlier pairs pair within is
+    ∙ ap (with_found (λ found. frames_after bytes (index + 1) (along.earlier ++ found ∷ []) (drop (index + 1) pairs))) goes
 
 -- the handles of one pair more
 handles_more : (pairs : List Pair) (index : ℕ) (pair : Pair) → index < length pairs → pair ≡ get_or pairs index pair
@@ -114,13 +114,13 @@ pub frames_on : (classes : List Class) (bytes : List ℕ) (pairs : List Pair) (i
 frames_on classes bytes pairs index read pair more along within is goes = record {
   earlier = along.earlier ++ goes.0 ∷ [];
   has_read = subst (λ (handles : List ℕ). HasRead classes bytes (along.earlier ++ goes.0 ∷ []) handles more) (sym (handles_more pairs index pair within is)) goes.2;
-  left = sym (ap (with_found (λ found. frames_behind bytes (index + 1) (along.earlier ++ found ∷ []) (drop (index + 1) pairs))) goes.1)
-      ∙ sym (behind_next bytes index along.earlier pairs pair within is) ∙ along.left;
+  left = sym (ap (with_found (λ found. frames_after bytes (index + 1) (along.earlier ++ found ∷ []) (drop (index + 1) pairs))) goes.1)
+      ∙ sym (after_next bytes index along.earlier pairs pair within is) ∙ along.left;
 }
 
--- behind the last pair, the frames so far are all
+-- after the last pair, the frames so far are all
 pub frames_over : (classes : List Class) (bytes : List ℕ) (pairs : List Pair) (index : ℕ) (read : Frames) → IsAlong classes bytes pairs index read → length pairs ≤ index
-    → (found : List FoundFrame) × (frames_behind bytes 0 [] pairs ≡ Ok found) × AreFormsOf classes bytes found (values_of read.objects.items) × (read.frames ≡ map frame_of found)
-unfolding frames_behind
+    → (found : List FoundFrame) × (frames_after bytes 0 [] pairs ≡ Ok found) × AreFormsOf classes bytes found (values_of read.objects.items) × (read.frames ≡ map frame_of found)
+unfolding frames_after
 frames_over classes bytes pairs index read along past =
-    (along.earlier, sym along.left ∙ ap (frames_behind bytes index along.earlier) (drop_all index pairs past), along.has_read.forms, along.has_read.listed)
+    (along.earlier, sym along.left ∙ ap (frames_after bytes index along.earlier) (drop_all index pairs past), along.has_read.forms, along.has_read.listed)

@@ -14,26 +14,26 @@ use Rattle.dwg_object.specs.FrameLines.{frame_refusal, span_body, tried_span, tr
 use Rattle.dwg_object.proofs.FrameLaws.{tried_frame_means}
 use Rattle.dwg_object.proofs.SpanLaws.{tried_span_means}
 use Rattle.dwg_objmap.specs.declared.pair.Pair.{Pair}
-use Rattle.dwg_file.specs.FileLines.{FoundFrame, touches, with_handle, with_span, tried_pair, with_found, frames_behind}
+use Rattle.dwg_file.specs.FileLines.{FoundFrame, touches, with_handle, with_span, tried_pair, with_found, frames_after}
 
--- what was found of the frame of a pair, behind those of earlier pairs, stands there
+-- what was found of the frame of a pair, after those of earlier pairs, stands there
 pub record IsFound (bytes : List ℕ) (earlier : List FoundFrame) (pair : Pair) (found : FoundFrame) : Type 0 where
   pub framed : IsFramed bytes pair.place found.0
   pub head : HasHead (version_at bytes) (bits (span_body bytes found.0)) found.1
   pub own : found.1.own ≡ pair.handle
   pub free : touches earlier found.0.from found.0.end ≡ false
 
--- so does what was found of each pair, one behind the other
+-- so does what was found of each pair, one after the other
 abbrev pub AreFound : List ℕ → List FoundFrame → List Pair → List FoundFrame → Type 0
 AreFound bytes earlier [] founds = founds ≡ []
 AreFound bytes earlier (pair ∷ pairs) founds =
-    (found : FoundFrame) × (behind : List FoundFrame) × (founds ≡ found ∷ behind)
-    × IsFound bytes earlier pair found × AreFound bytes (earlier ++ found ∷ []) pairs behind
+    (found : FoundFrame) × (after : List FoundFrame) × (founds ≡ found ∷ after)
+    × IsFound bytes earlier pair found × AreFound bytes (earlier ++ found ∷ []) pairs after
 
 -- what has the handle of its pair was tried of the frame
-handle_told : (pair : Pair) (index : ℕ) (tried : Tried FoundFrame) (found : FoundFrame) → with_handle pair index tried ≡ Ok found → (tried ≡ Ok found) × (found.1.own ≡ pair.handle)
-handle_told pair index (Err refusal) found same = absurd cc
-handle_told pair index (Ok other) found same = of_test (other.1.own == pair.handle) refl
+handle_reported : (pair : Pair) (index : ℕ) (tried : Tried FoundFrame) (found : FoundFrame) → with_handle pair index tried ≡ Ok found → (tried ≡ Ok found) × (found.1.own ≡ pair.handle)
+handle_reported pair index (Err refusal) found same = absurd cc
+handle_reported pair index (Ok other) found same = of_test (other.1.own == pair.handle) refl
   where
     not_refused : ◌≡◌ {A = Tried FoundFrame} (Err (frame_refusal 32 index pair.place)) (Ok found) → ⊥
     not_refused is = cc
@@ -47,10 +47,10 @@ handle_told pair index (Ok other) found same = of_test (other.1.own == pair.hand
     of_test false is = absurd (not_refused (sym (ap (λ test. if test then Ok other else Err (frame_refusal 32 index pair.place)) is) ∙ same))
 
 -- what was found of a pair is tried of its span and of its frame, and shares no byte with an earlier frame
-span_told : (bytes : List ℕ) (earlier : List FoundFrame) (pair : Pair) (index : ℕ) (tried : Tried Span) (found : FoundFrame) → with_span bytes earlier pair index tried ≡ Ok found
+span_reported : (bytes : List ℕ) (earlier : List FoundFrame) (pair : Pair) (index : ℕ) (tried : Tried Span) (found : FoundFrame) → with_span bytes earlier pair index tried ≡ Ok found
     → (span : Span) × (tried ≡ Ok span) × (touches earlier span.from span.end ≡ false) × (with_handle pair index (tried_frame (version_at bytes) pair.place index bytes) ≡ Ok found)
-span_told bytes earlier pair index (Err refusal) found same = absurd cc
-span_told bytes earlier pair index (Ok span) found same = of_test (touches earlier span.from span.end) refl
+span_reported bytes earlier pair index (Err refusal) found same = absurd cc
+span_reported bytes earlier pair index (Ok span) found same = of_test (touches earlier span.from span.end) refl
   where
     not_refused : ◌≡◌ {A = Tried FoundFrame} (Err (frame_refusal 29 index pair.place)) (Ok found) → ⊥
     not_refused is = cc
@@ -64,16 +64,16 @@ span_told bytes earlier pair index (Ok span) found same = of_test (touches earli
 pub pair_found : (bytes : List ℕ) (earlier : List FoundFrame) (index : ℕ) (pair : Pair) (found : FoundFrame) → AreBytes bytes → tried_pair bytes earlier index pair ≡ Ok found → IsFound bytes earlier pair found
 unfolding tried_pair
 pair_found bytes earlier index pair found are same =
-    let told = span_told bytes earlier pair index (tried_span pair.place index bytes) found same in
-    let handle = handle_told pair index (tried_frame (version_at bytes) pair.place index bytes) found told.3 in
+    let reported = span_reported bytes earlier pair index (tried_span pair.place index bytes) found same in
+    let handle = handle_reported pair index (tried_frame (version_at bytes) pair.place index bytes) found reported.3 in
     let is = (tried_frame_means (version_at bytes) bytes pair.place index (Ok found) are).0 handle.0 in
-    let here : ◌≡◌ {A = Tried Span} (Ok told.0) (Ok found.0) = sym told.1 ∙ (tried_span_means bytes pair.place index (Ok found.0) are).1 (is.0.stands, is.0.from) in
-    let span : told.0 ≡ found.0 = cc in
+    let here : ◌≡◌ {A = Tried Span} (Ok reported.0) (Ok found.0) = sym reported.1 ∙ (tried_span_means bytes pair.place index (Ok found.0) are).1 (is.0.stands, is.0.from) in
+    let span : reported.0 ≡ found.0 = cc in
     record {
       framed = is.0;
       head = is.1;
       own = handle.1;
-      free = subst (λ (s : Span). touches earlier s.from s.end ≡ false) span told.2;
+      free = subst (λ (s : Span). touches earlier s.from s.end ≡ false) span reported.2;
     }
 
 -- and what stands there is found
@@ -90,9 +90,9 @@ found_pair bytes earlier index pair found are is =
     same_test a b same = grind (arith, nat_tests)
 
 -- the frames that are found stand at the places of their pairs
-pub frames_found : (bytes : List ℕ) (index : ℕ) (earlier : List FoundFrame) (pairs : List Pair) (all : List FoundFrame) → AreBytes bytes → frames_behind bytes index earlier pairs ≡ Ok all
+pub frames_found : (bytes : List ℕ) (index : ℕ) (earlier : List FoundFrame) (pairs : List Pair) (all : List FoundFrame) → AreBytes bytes → frames_after bytes index earlier pairs ≡ Ok all
     → (founds : List FoundFrame) × (all ≡ earlier ++ founds) × AreFound bytes earlier pairs founds
-unfolding frames_behind
+unfolding frames_after
 frames_found bytes index earlier [] all are same = ([], sym (ok_same earlier all same) ∙ sym (append-nil earlier), refl)
   where
     ok_same : (one other : List FoundFrame) → ◌≡◌ {A = Tried (List FoundFrame)} (Ok one) (Ok other) → one ≡ other
@@ -101,21 +101,21 @@ frames_found bytes index earlier (pair ∷ pairs) all are same =
     of_tried (tried_pair bytes earlier index pair) refl same (λ found more. frames_found bytes (index + 1) (earlier ++ found ∷ []) pairs all are more)
   where
     of_tried : (tried : Tried FoundFrame) → tried_pair bytes earlier index pair ≡ tried
-        → with_found (λ found. frames_behind bytes (index + 1) (earlier ++ found ∷ []) pairs) tried ≡ Ok all
-        → ((found : FoundFrame) → frames_behind bytes (index + 1) (earlier ++ found ∷ []) pairs ≡ Ok all
+        → with_found (λ found. frames_after bytes (index + 1) (earlier ++ found ∷ []) pairs) tried ≡ Ok all
+        → ((found : FoundFrame) → frames_after bytes (index + 1) (earlier ++ found ∷ []) pairs ≡ Ok all
         → (founds : List FoundFrame) × (all ≡ (earlier ++ found ∷ []) ++ founds) × AreFound bytes (earlier ++ found ∷ []) pairs founds)
         → (founds : List FoundFrame) × (all ≡ earlier ++ founds) × AreFound bytes earlier (pair ∷ pairs) founds
-    of_tried (Err refusal) is fails behind = absurd cc
-    of_tried (Ok found) is goes behind =
-        let more = behind found goes in
+    of_tried (Err refusal) is fails after = absurd cc
+    of_tried (Ok found) is goes after =
+        let more = after found goes in
         (found ∷ more.0, more.1 ∙ append_assoc earlier (found ∷ []) more.0, (found, more.0, refl, pair_found bytes earlier index pair found are is, more.2))
 
 -- and frames that stand there are found
 pub found_frames : (bytes : List ℕ) (index : ℕ) (earlier : List FoundFrame) (pairs : List Pair) (founds : List FoundFrame) → AreBytes bytes → AreFound bytes earlier pairs founds
-    → frames_behind bytes index earlier pairs ≡ Ok (earlier ++ founds)
-unfolding frames_behind
+    → frames_after bytes index earlier pairs ≡ Ok (earlier ++ founds)
+unfolding frames_after
 found_frames bytes index earlier [] founds are none = ap Ok (sym (append-nil earlier) ∙ ap (λ more. earlier ++ more) (sym none))
-found_frames bytes index earlier (pair ∷ pairs) founds are (found, behind, is, first, others) =
-    ap (with_found (λ found. frames_behind bytes (index + 1) (earlier ++ found ∷ []) pairs)) (found_pair bytes earlier index pair found are first)
-    ∙ found_frames bytes (index + 1) (earlier ++ found ∷ []) pairs behind are others
-    ∙ ap Ok (append_assoc earlier (found ∷ []) behind ∙ ap (λ more. earlier ++ more) (sym is))
+found_frames bytes index earlier (pair ∷ pairs) founds are (found, after, is, first, others) =
+    ap (with_found (λ found. frames_after bytes (index + 1) (earlier ++ found ∷ []) pairs)) (found_pair bytes earlier index pair found are first)
+    ∙ found_frames bytes (index + 1) (earlier ++ found ∷ []) pairs after are others
+    ∙ ap Ok (append_assoc earlier (found ∷ []) after ∙ ap (λ more. earlier ++ more) (sym is))

@@ -57,22 +57,22 @@ apart_of_free : (found : FoundFrame) (one other : PairFrame) → found.0.from �
 apart_of_free found one other from end free = of_tests (nat_lt other.pair.place found.0.end) refl (nat_lt found.0.from other.end) refl
   where
     both : nat_lt other.pair.place found.0.end ≡ true → nat_lt found.0.from other.end ≡ true → ⊥
-    both before behind = let met : true ≡ false = sym (ap₂ (λ a b. a && b) before behind) ∙ free in cc
+    both before after = let met : true ≡ false = sym (ap₂ (λ a b. a && b) before after) ∙ free in cc
 
-    of_tests : (before : Bool) → nat_lt other.pair.place found.0.end ≡ before → (behind : Bool) → nat_lt found.0.from other.end ≡ behind → AreApart one other
-    of_tests false before test behind = inl (grind (arith, nat_tests))
-    of_tests true before false behind = inr (grind (arith, nat_tests))
-    of_tests true before true behind = absurd (both before behind)
+    of_tests : (before : Bool) → nat_lt other.pair.place found.0.end ≡ before → (after : Bool) → nat_lt found.0.from other.end ≡ after → AreApart one other
+    of_tests false before test after = inl (grind (arith, nat_tests))
+    of_tests true before false after = inr (grind (arith, nat_tests))
+    of_tests true before true after = absurd (both before after)
 
 -- and frames that are apart share none
 free_of_apart : (found : FoundFrame) (one other : PairFrame) → found.0.from ≡ one.pair.place → found.0.end ≡ one.end → AreApart one other → meets found other.pair.place other.end ≡ false
 free_of_apart found one other from end apart = of_tests (nat_lt other.pair.place found.0.end) refl (nat_lt found.0.from other.end) refl apart
   where
-    of_tests : (before : Bool) → nat_lt other.pair.place found.0.end ≡ before → (behind : Bool) → nat_lt found.0.from other.end ≡ behind → AreApart one other → (before && behind) ≡ false
-    of_tests false before test behind either = refl
-    of_tests true before false behind either = refl
-    of_tests true before true behind (inl past) = absurd (grind (arith, nat_tests))
-    of_tests true before true behind (inr past) = absurd (grind (arith, nat_tests))
+    of_tests : (before : Bool) → nat_lt other.pair.place found.0.end ≡ before → (after : Bool) → nat_lt found.0.from other.end ≡ after → AreApart one other → (before && after) ≡ false
+    of_tests false before test after either = refl
+    of_tests true before false after either = refl
+    of_tests true before true after (inl past) = absurd (grind (arith, nat_tests))
+    of_tests true before true after (inr past) = absurd (grind (arith, nat_tests))
 
 -- frames that share no byte with earlier ones and with one that was found are free of the earlier ones
 free_of_more : (earlier : List FoundFrame) (found : FoundFrame) (frames : List PairFrame) → AllByRecursion (IsFree (earlier ++ found ∷ [])) frames → AllByRecursion (IsFree earlier) frames
@@ -102,7 +102,7 @@ free_of_none (frame ∷ frames) = (refl, free_of_none frames)
 none_apart : AllPairs AreApart []
 none_apart i j d before within = absurd (omega arith)
 
--- the frames of pairs, behind earlier ones, whose bodies are read as these objects
+-- the frames of pairs, after earlier ones, whose bodies are read as these objects
 pub record FramesOf (classes : List Class) (bytes : List ℕ) (earlier : List FoundFrame) (pairs : List Pair) (values : List ObjectValue) : Type 0 where
   pub frames : List PairFrame
   pub framed : pairs ≡ map (λ (frame : PairFrame). frame.pair) frames
@@ -114,19 +114,19 @@ pub record FramesOf (classes : List Class) (bytes : List ℕ) (earlier : List Fo
 -- an object that a body is read as has the handle of the body's head
 pub own_of_head : (version : Version) (classes : List Class) (body : List ℕ) (object : ObjectValue) (parts : HeadParts) → FormOf version classes body object → HasHead version (bits body) parts → handle_of object ≡ parts.own
 own_of_head version classes body object parts form head =
-    let told = head_of_form version classes body object form in
-    told.3 ∙ ap (λ (p : HeadParts). p.own) (heads_same (bits body) told.0 parts told.1 head)
+    let reported = head_of_form version classes body object form in
+    reported.3 ∙ ap (λ (p : HeadParts). p.own) (heads_same (bits body) reported.0 parts reported.1 head)
 
 -- what is found of pairs, and read, are frames of the pairs
 pub frames_of : (classes : List Class) (bytes : List ℕ) (earlier : List FoundFrame) (pairs : List Pair) (founds : List FoundFrame) (values : List ObjectValue)
     → AreFound bytes earlier pairs founds → AreFormsOf classes bytes founds values → FramesOf classes bytes earlier pairs values
 frames_of classes bytes earlier [] founds values none forms =
     record { frames = []; framed = refl; stand = tt; apart = none_apart; free = tt; objects = subst (λ (f : List FoundFrame). AreFormsOf classes bytes f values) none forms }
-frames_of classes bytes earlier (pair ∷ pairs) founds values (found, behind, is, first, more) forms =
+frames_of classes bytes earlier (pair ∷ pairs) founds values (found, after, is, first, more) forms =
     let read = subst (λ (f : List FoundFrame). AreFormsOf classes bytes f values) is forms in
-    with_more read (frames_of classes bytes (earlier ++ found ∷ []) pairs behind read.1 more read.4)
+    with_more read (frames_of classes bytes (earlier ++ found ∷ []) pairs after read.1 more read.4)
   where
-    with_more : (read : (object : ObjectValue) × (rest : List ObjectValue) × (values ≡ object ∷ rest) × FormOf (version_at bytes) classes (span_body bytes found.0) object × AreFormsOf classes bytes behind rest)
+    with_more : (read : (object : ObjectValue) × (rest : List ObjectValue) × (values ≡ object ∷ rest) × FormOf (version_at bytes) classes (span_body bytes found.0) object × AreFormsOf classes bytes after rest)
         → FramesOf classes bytes (earlier ++ found ∷ []) pairs read.1 → FramesOf classes bytes earlier (pair ∷ pairs) values
     with_more (object, rest, same, form, others) all =
         let frame : PairFrame = record { pair = pair; body = span_body bytes found.0; end = found.0.end; object = object } in
@@ -155,15 +155,15 @@ pub found_of : (classes : List Class) (bytes : List ℕ) (earlier : List FoundFr
 found_of classes bytes earlier [] stand apart free = record { founds = []; found = refl; forms = refl }
 found_of classes bytes earlier (frame ∷ frames) stand apart free =
     let span = span_of_frame bytes frame.pair.place frame.body frame.end stand.0.stands in
-    let told = head_of_form (version_at bytes) classes frame.body frame.object stand.0.form in
-    let found : FoundFrame = (span.span, told.0) in
+    let reported = head_of_form (version_at bytes) classes frame.body frame.object stand.0.form in
+    let found : FoundFrame = (span.span, reported.0) in
     let others : AllByRecursion (AreApart frame) frames = recursion_from_All (AreApart frame) frames (λ k d within. apart 0 (suc k) d (omega arith) (omega arith)) in
     let more = found_of classes bytes (earlier ++ found ∷ []) frames stand.1 (λ i j d before within. apart (suc i) (suc j) d (omega arith) (omega arith))
     (more_of_apart earlier found frame frames span.framed.from span.same_end free.1 others) in
     let first : IsFound bytes earlier frame.pair found = record {
       framed = span.framed;
-      head = subst (λ (b : List ℕ). HasHead (version_at bytes) (bits b) told.0) (sym span.same_body) told.1;
-      own = sym told.3 ∙ stand.0.own;
+      head = subst (λ (b : List ℕ). HasHead (version_at bytes) (bits b) reported.0) (sym span.same_body) reported.1;
+      own = sym reported.3 ∙ stand.0.own;
       free = subst (λ n. touches earlier n span.span.end ≡ false) (sym span.framed.from) (subst (λ n. touches earlier frame.pair.place n ≡ false) (sym span.same_end) free.0);
     } in
     record {
@@ -181,7 +181,7 @@ found_of classes bytes earlier (frame ∷ frames) stand apart free =
 -- what is found is read as one list of objects
 pub forms_once : (classes : List Class) (bytes : List ℕ) (founds : List FoundFrame) (values others : List ObjectValue) → AreFormsOf classes bytes founds values → AreFormsOf classes bytes founds others → values ≡ others
 forms_once classes bytes [] values others none also = none ∙ sym also
-forms_once classes bytes (found ∷ founds) values others (one, behind, same, form, more) (two, rest, also, other, less) =
+forms_once classes bytes (found ∷ founds) values others (one, after, same, form, more) (two, rest, also, other, less) =
     same
-    ∙ ap₂ (λ first back. first ∷ back) (forms_same (version_at bytes) classes (span_body bytes found.0) one two form other) (forms_once classes bytes founds behind rest more less)
+    ∙ ap₂ (λ first back. first ∷ back) (forms_same (version_at bytes) classes (span_body bytes found.0) one two form other) (forms_once classes bytes founds after rest more less)
     ∙ sym also

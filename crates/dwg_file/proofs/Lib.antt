@@ -23,7 +23,7 @@ pub mod ShortDamage
 pub mod SortedObjects
 pub mod Splices
 pub mod ValidLaws
-pub mod TakenRuns
+pub mod ByteRunLemmas
 pub mod PairReading
 pub mod FramesAlong
 pub mod HandleOrder

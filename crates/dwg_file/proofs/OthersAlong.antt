@@ -9,12 +9,12 @@ use Rattle.dwg_file.specs.Contents.{OtherValue}
 use Rattle.dwg_file.specs.FileLines.{is_cut, first_cut}
 use Rattle.dwg_file.specs.ReadAs.{sections_at, whole_locators}
 
--- the locators left behind so many, by the next of them
+-- the locators left after so many, by the next of them
 left_of : (locators : List Locator) (index : ℕ) (locator none : Locator) → index < length locators → locator ≡ get_or locators index none → drop index locators ≡ locator ∷ drop (index + 1) locators
 left_of locators index locator none within is =
     drop-cons locators index none within ∙ ap₂ (λ (l : Locator) (n : ℕ). l ∷ drop n locators) (sym is) (sym (add-one index))
 
--- the next locator decides, or those behind it
+-- the next locator decides, or those after it
 cut_next : (bytes : List ℕ) (index : ℕ) (locators : List Locator) (locator none : Locator) (cut : Bool) → index < length locators → locator ≡ get_or locators index none → is_cut bytes locator ≡ cut
     → first_cut bytes index (drop index locators)
     ≡ (if cut then Some (record { line = 33; index = index; place = locator.place }) else first_cut bytes (index + 1) (drop (index + 1) locators))
@@ -28,12 +28,12 @@ pub cut_here : (bytes : List ℕ) (index : ℕ) (locators : List Locator) (locat
     → is_cut bytes locator ≡ true → first_cut bytes index (drop index locators) ≡ whole → Some (record { line = 33; index = index; place = locator.place }) ≡ whole
 cut_here bytes index locators locator none whole within is test left = sym (cut_next bytes index locators locator none true within is test) ∙ left
 
--- behind one that isn't, what is left gives the whole
-pub cut_behind : (bytes : List ℕ) (index : ℕ) (locators : List Locator) (locator none : Locator) (whole : Option Refusal) → index < length locators → locator ≡ get_or locators index none
+-- after one that isn't, what is left gives the whole
+pub cut_after : (bytes : List ℕ) (index : ℕ) (locators : List Locator) (locator none : Locator) (whole : Option Refusal) → index < length locators → locator ≡ get_or locators index none
     → is_cut bytes locator ≡ false → first_cut bytes index (drop index locators) ≡ whole → first_cut bytes (index + 1) (drop (index + 1) locators) ≡ whole
-cut_behind bytes index locators locator none whole within is test left = sym (cut_next bytes index locators locator none false within is test) ∙ left
+cut_after bytes index locators locator none whole within is test left = sym (cut_next bytes index locators locator none false within is test) ∙ left
 
--- behind the last, none is refused
+-- after the last, none is refused
 pub none_cut : (bytes : List ℕ) (index : ℕ) (locators : List Locator) (whole : Option Refusal) → length locators ≤ index → first_cut bytes index (drop index locators) ≡ whole → None ≡ whole
 unfolding first_cut
 none_cut bytes index locators whole past left = sym (ap (first_cut bytes index) (drop_all index locators past)) ∙ left
@@ -55,7 +55,7 @@ pub uncut_sections : (bytes : List ℕ) (locators : List Locator) (others : List
     → others ≡ sections_at bytes (whole_locators bytes locators) → others ≡ sections_at bytes locators
 uncut_sections bytes locators others none whole = whole ∙ ap (sections_at bytes) (all_whole bytes 0 locators none)
 
--- the section of one locator, and those of the locators behind it
+-- the section of one locator, and those of the locators after it
 section_first : (bytes : List ℕ) (locator : Locator) (locators : List Locator) → sections_at bytes (locator ∷ locators) ≡ sections_at bytes (locator ∷ []) ++ sections_at bytes locators
 section_first bytes locator locators = by_test (nat_lt locator.number 3)
   where

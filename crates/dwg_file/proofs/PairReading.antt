@@ -22,7 +22,7 @@ use Rattle.dwg_object.proofs.SpanLaws.{spans_same}
 use Rattle.dwg_objmap.specs.declared.pair.Pair.{Pair}
 use Rattle.dwg_file.specs.FileLines.{FoundFrame, touches, with_handle, with_span, tried_pair}
 use Rattle.dwg_file.specs.FrameReading.{IsFrameFound, AnswersPair}
-use Rattle.dwg_file.specs.Taken.{Run, shares}
+use Rattle.dwg_file.specs.ByteRanges.{Run, shares}
 
 -- a span that is refused refuses the pair
 pub span_refused : (bytes : List ℕ) (earlier : List FoundFrame) (index : ℕ) (pair : Pair) (refusal : Refusal) → tried_span pair.place index bytes ≡ Err refusal
@@ -39,7 +39,7 @@ overlap_refused classes bytes earlier index pair span fault tried shared line =
     (ap (with_span bytes earlier pair index) tried
     ∙ ap (λ (test : Bool). if test then Err (frame_refusal 29 index pair.place) else with_handle pair index (tried_frame (version_at bytes) pair.place index bytes)) shared)
 
--- behind a span that shares none, the frame decides, and then its own handle
+-- after a span that shares none, the frame decides, and then its own handle
 frame_decides : (bytes : List ℕ) (earlier : List FoundFrame) (index : ℕ) (pair : Pair) (span : Span) → tried_span pair.place index bytes ≡ Ok span
     → touches earlier span.from span.end ≡ false → tried_pair bytes earlier index pair ≡ with_handle pair index (tried_frame (version_at bytes) pair.place index bytes)
 unfolding tried_pair
@@ -50,15 +50,15 @@ frame_decides bytes earlier index pair span tried apart =
 -- what is answered of the frame at a span's place is so at the pair's
 pub answered_at_pair : (version : Version) (bytes : List ℕ) (place from index : ℕ) (result : Result Found Fault) → version ≡ version_at bytes → from ≡ place → AnswersFrame result (tried_frame version from index bytes)
     → AnswersFrame result (tried_frame (version_at bytes) place index bytes)
-answered_at_pair version bytes place from index result told same answers =
-    subst (λ (n : ℕ). AnswersFrame result (tried_frame (version_at bytes) n index bytes)) same (subst (λ (v : Version). AnswersFrame result (tried_frame v from index bytes)) told answers)
+answered_at_pair version bytes place from index result reported same answers =
+    subst (λ (n : ℕ). AnswersFrame result (tried_frame (version_at bytes) n index bytes)) same (subst (λ (v : Version). AnswersFrame result (tried_frame v from index bytes)) reported answers)
 
 -- and so is what was found
 pub found_at_pair : (version : Version) (bytes : List ℕ) (place from : ℕ) (classes : List Class) (found : Found) → version ≡ version_at bytes → from ≡ place
     → (body : List ℕ) × FrameAt bytes from body found.end × FormOf version classes body (value_of found.object)
     → (body : List ℕ) × FrameAt bytes place body found.end × FormOf (version_at bytes) classes body (value_of found.object)
-found_at_pair version bytes place from classes found told same (body, frame, form) =
-    (body, subst (λ (n : ℕ). FrameAt bytes n body found.end) same frame, subst (λ (v : Version). FormOf v classes body (value_of found.object)) told form)
+found_at_pair version bytes place from classes found reported same (body, frame, form) =
+    (body, subst (λ (n : ℕ). FrameAt bytes n body found.end) same frame, subst (λ (v : Version). FormOf v classes body (value_of found.object)) reported form)
 
 -- a frame that is refused refuses the pair
 pub frame_refused : (classes : List Class) (bytes : List ℕ) (earlier : List FoundFrame) (index : ℕ) (pair : Pair) (span : Span) (fault : Fault) → tried_span pair.place index bytes ≡ Ok span

@@ -17,7 +17,7 @@ use Rattle.dwg_file.specs.PartRefusals.{VariablesAreRefused, ClassSectionIsRefus
 use Rattle.dwg_file.proofs.FrameRefusalLemmas.{err_of_fault}
 use Rattle.dwg_file.proofs.ReadingLemmas.{located_same}
 
--- what was tried tells a refusal exactly where it is that
+-- what was tried reports a refusal exactly where it is that
 fault_is_err : {V : Type 0} (tried : Tried V) (refusal : Refusal) → (fault_of tried ≡ Some refusal) ↔ (tried ≡ Err refusal)
 fault_is_err {V} tried refusal = (err_of_fault tried refusal, λ same. ap fault_of same)
 
@@ -44,9 +44,9 @@ pub classes_are_refused : HeaderIsRead → SectionIsRead → ClassesAreRefused
 unfolding classes_tried classes_row
 classes_are_refused read section bytes content header place refusal begins located framed =
     let here : place ≡ section_place 1 bytes = located_same bytes header 1 place (read bytes header begins).1 located in
-    let told : content ≡ content_at bytes place = (section Classes place bytes content framed).1 in
+    let reported : content ≡ content_at bytes place = (section Classes place bytes content framed).1 in
     let same : classes_tried bytes ≡ tried_classes (place + BEFORE_CONTENT) content =
-    ap (λ n. tried_classes (n + BEFORE_CONTENT) (content_at bytes n)) (sym here) ∙ ap (tried_classes (place + BEFORE_CONTENT)) (sym told) in
+    ap (λ n. tried_classes (n + BEFORE_CONTENT) (content_at bytes n)) (sym here) ∙ ap (tried_classes (place + BEFORE_CONTENT)) (sym reported) in
     subst (λ tried. (fault_of tried ≡ Some refusal) ↔ RefusesClass (place + BEFORE_CONTENT) content refusal) (sym same)
     (both_ways (fault_is_err (tried_classes (place + BEFORE_CONTENT) content) refusal) (tried_err (place + BEFORE_CONTENT) content refusal))
 

@@ -16,7 +16,7 @@ use Rattle.dwg_object.specs.FrameLines.{span_body}
 use Rattle.dwg_objmap.specs.declared.pair.Pair.{Pair}
 use Rattle.dwg_objmap.specs.Pages.{AreHandles, handles_of}
 use Rattle.dwg_objmap.proofs.MapLemmas.{map_is_tried}
-use Rattle.dwg_file.specs.FileLines.{ALL_LINES, FoundFrame, section_place, classes_tried, map_tried, frames_behind, frames_tried}
+use Rattle.dwg_file.specs.FileLines.{ALL_LINES, FoundFrame, section_place, classes_tried, map_tried, frames_after, frames_tried}
 use Rattle.dwg_file.specs.ReadAs.{AreFormsOf, ReadsAs}
 use Rattle.dwg_file.specs.Spelled.{Spelled, AreAscending}
 use Rattle.dwg_file.proofs.PassingLines.{each_holds, ok_of_fault}
@@ -31,13 +31,13 @@ use Rattle.dwg_file.proofs.SortedObjects.{sorted_same, sorted_ascends, distinct_
 pub forms_at : (classes : List Class) (bytes : List ℕ) (earlier : List FoundFrame) (pairs : List Pair) (founds : List FoundFrame) → AreFound bytes earlier pairs founds
     → AreFormsOf classes bytes founds (objects_at classes bytes founds)
 forms_at classes bytes earlier [] founds none = subst (λ (f : List FoundFrame). AreFormsOf classes bytes f (objects_at classes bytes f)) (sym none) refl
-forms_at classes bytes earlier (pair ∷ pairs) founds (found, behind, is, first, more) =
+forms_at classes bytes earlier (pair ∷ pairs) founds (found, after, is, first, more) =
     subst (λ (f : List FoundFrame). AreFormsOf classes bytes f (objects_at classes bytes f)) (sym is) (
       form_at (version_at bytes) classes (span_body bytes found.0),
-      objects_at classes bytes behind,
+      objects_at classes bytes after,
       refl,
       form_is_at (version_at bytes) classes (span_body bytes found.0) found.1 first.head,
-      forms_at classes bytes (earlier ++ found ∷ []) pairs behind more,
+      forms_at classes bytes (earlier ++ found ∷ []) pairs after more,
     )
 
 -- a body with a head is read as an object of its handle
@@ -48,9 +48,9 @@ own_at version classes body parts has = own_of_head version classes body (form_a
 handles_at : (classes : List Class) (bytes : List ℕ) (earlier : List FoundFrame) (pairs : List Pair) (founds : List FoundFrame) → AreFound bytes earlier pairs founds
     → map handle_of (objects_at classes bytes founds) ≡ handles_of pairs
 handles_at classes bytes earlier [] founds none = ap (λ (f : List FoundFrame). map handle_of (objects_at classes bytes f)) none
-handles_at classes bytes earlier (pair ∷ pairs) founds (found, behind, is, first, more) =
+handles_at classes bytes earlier (pair ∷ pairs) founds (found, after, is, first, more) =
     ap (λ (f : List FoundFrame). map handle_of (objects_at classes bytes f)) is
-    ∙ ap₂ (λ one back. one ∷ back) (own_at (version_at bytes) classes (span_body bytes found.0) found.1 first.head ∙ first.own) (handles_at classes bytes (earlier ++ found ∷ []) pairs behind more)
+    ∙ ap₂ (λ one back. one ∷ back) (own_at (version_at bytes) classes (span_body bytes found.0) found.1 first.head ∙ first.own) (handles_at classes bytes (earlier ++ found ∷ []) pairs after more)
 
 -- where no line fails the drawing by its places is read
 pub drawing_is_read : (bytes : List ℕ) → AreBytes bytes → first_fault ALL_LINES bytes ≡ None → ReadsAs (drawing_at bytes) bytes
@@ -60,7 +60,7 @@ drawing_is_read bytes are none =
     let classes = ok_of_fault (classes_tried bytes) each.classes in
     let mapped = ok_of_fault (map_tried bytes) each.map in
     let frames = ok_of_fault (frames_tried bytes) each.frames in
-    let found = frames_found bytes 0 [] mapped.0 frames.0 are (ap (λ (tried : Tried (List Pair)). frames_behind bytes 0 [] (result_unwrap_or tried [])) (sym mapped.1) ∙ frames.1) in
+    let found = frames_found bytes 0 [] mapped.0 frames.0 are (ap (λ (tried : Tried (List Pair)). frames_after bytes 0 [] (result_unwrap_or tried [])) (sym mapped.1) ∙ frames.1) in
     let known : result_unwrap_or (frames_tried bytes) [] ≡ found.0 = ap (λ (tried : Tried (List FoundFrame)). result_unwrap_or tried []) frames.1 ∙ found.1 in
     let values = objects_at (classes_at bytes) bytes found.0 in
     let same : values ≡ objects_at (classes_at bytes) bytes (result_unwrap_or (frames_tried bytes) []) = ap (objects_at (classes_at bytes) bytes) (sym known) in

@@ -14,7 +14,7 @@ or_none : (one other : Option Refusal) → option_or one other ≡ None → (one
 or_none None other none = (refl, none)
 or_none (Some refusal) other none = absurd cc
 
--- rows that all hold, and more behind them, hold alike
+-- rows that all hold, and more after them, hold alike
 pub rows_both : (rows others : List RefusalRow) (bytes : List ℕ) → first_fault (rows ++ others) bytes ≡ None → (first_fault rows bytes ≡ None) × (first_fault others bytes ≡ None)
 rows_both [] others bytes none = (refl, none)
 rows_both (row ∷ rows) others bytes none =
@@ -89,7 +89,7 @@ pub record EachBefore (bytes : List ℕ) : Type 0 where
   pub classes : fault_of (classes_tried bytes) ≡ None
   pub map : fault_of (map_tried bytes) ≡ None
 
--- a row that holds leaves to those behind it what is told
+-- a row that holds leaves to those after it what is reported
 row_passes : (row : RefusalRow) (rows : List RefusalRow) (bytes : List ℕ) → row bytes ≡ None → first_fault (row ∷ rows) bytes ≡ first_fault rows bytes
 row_passes row rows bytes none = ap (λ refused. option_or refused (first_fault rows bytes)) none
 

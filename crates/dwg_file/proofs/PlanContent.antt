@@ -37,4 +37,4 @@ bits_of_padded classes = length_of_whole (padded classes) (padded_whole classes)
 
 -- bytes with these bits are the whole bytes of them
 pub bytes_of_bits : (bytes same : List ℕ) (s : List Bool) → same ≡ bytes → AreBytes bytes → bits bytes ≡ s → same ≡ whole_bytes s
-bytes_of_bits bytes same s is all told = is ∙ sym (whole_of_bits bytes all) ∙ ap whole_bytes told
+bytes_of_bits bytes same s is all reported = is ∙ sym (whole_of_bits bytes all) ∙ ap whole_bytes reported

@@ -66,7 +66,7 @@ objects_sent version classes (object ∷ objects) part room within are fit =
 pub sent_with_more : (version : Version) (room more : ℕ) (value : ObjectValue) → room ≤ more → CanBeSent version room value → CanBeSent version more value
 sent_with_more version room more value fits can = record { framed = can.framed; are = can.are; fits = omega (arith, fits, can.fits) }
 
--- what fits in some room, with those behind it, is all that is left
+-- what fits in some room, with those after it, is all that is left
 pub one_fits : (version : Version) (objects : List Object) (i : ℕ) (object : Object) (most room : ℕ) → i < length objects → object ≡ get_or objects i object → room ≡ room_of_frame version (value_of object) → room ≤ most
     → AllByRecursion (FitsIn version most) (map value_of (drop (i + 1) objects)) → AllByRecursion (FitsIn version most) (map value_of (drop i objects))
 one_fits version objects i object most room inside here is within left =
@@ -76,7 +76,7 @@ one_fits version objects i object most room inside here is within left =
 pub none_left_fits : (version : Version) (objects : List Object) (i most : ℕ) → length objects ≤ i → AllByRecursion (FitsIn version most) (map value_of (drop i objects))
 none_left_fits version objects i most past = subst (λ (all : List Object). AllByRecursion (FitsIn version most) (map value_of all)) (sym (drop_all i objects past)) tt
 
--- with one more object placed, those behind it are left
+-- with one more object placed, those after it are left
 pub placed_one : (version : Version) (objects : List Object) (i : ℕ) (object : Object) (from place frame handle : ℕ) (pairs more : List Pair) → i < length objects → object ≡ get_or objects i object
     → frame ≡ length (frame_bytes version (value_of object)) → handle ≡ handle_of (value_of object) → more ≡ pairs ++ record { handle = handle; place = place } ∷ []
     → placed version from (map value_of objects) ≡ pairs ++ placed version place (map value_of (drop i objects)) → placed version from (map value_of objects) ≡ more ++ placed version (place + frame) (map value_of (drop (i + 1) objects))
@@ -87,7 +87,7 @@ placed_one version objects i object from place frame handle pairs more inside he
     let same : pairs ++ pair_of (handle_of (value_of object)) ∷ [] ≡ more = ap (λ own. pairs ++ pair_of own ∷ []) (sym named) ∙ sym put in
     whole ∙ ap (λ (all : List Object). pairs ++ placed version place (map value_of all)) (left_at objects i object inside here)
     ∙ sym (append_assoc pairs (pair_of (handle_of (value_of object)) ∷ []) others)
-    ∙ ap₂ (λ (front : List Pair) (n : ℕ). front ++ placed version (place + n) left) same (sym long)
+    ∙ ap₂ (λ (prefix : List Pair) (n : ℕ). prefix ++ placed version (place + n) left) same (sym long)
 
 -- so can all
 pub all_with_more : (version : Version) (room more : ℕ) (objects : List ObjectValue) → room ≤ more → AllByRecursion (CanBeSent version room) objects → AllByRecursion (CanBeSent version more) objects

@@ -4,10 +4,10 @@ use Rattle.std.specs.Prelude.{map, flat_map}
 use Rattle.std.specs.List.{AllByRecursion}
 use Rattle.std.proofs.lemmas.List.{append-nil, drop_more, drop_all}
 use Rattle.std.specs.Prelude.{Option}
-use Rattle.dwg_file.specs.Gathering.{IsGiven, GivesFront}
-use Rattle.dwg_file.proofs.GivenBytes.{waits, given_both, cut_before, cut_behind}
+use Rattle.dwg_file.specs.WriteBuffer.{IsGiven, GivesPrefix}
+use Rattle.dwg_file.proofs.GivenBytes.{waits, given_both, cut_before, cut_after}
 
--- what is left from a place on is the item there and what is left behind it
+-- what is left from a place on is the item there and what is left after it
 pub left_at : {X : Type 0} (items : List X) (i : ℕ) (item : X) → i < length items → item ≡ get_or items i item → drop i items ≡ item ∷ drop (i + 1) items
 left_at items i item inside here = drop_more items i item inside ∙ ap (λ first. first ∷ drop (i + 1) items) (sym here)
 
@@ -20,7 +20,7 @@ module _ {X V : Type 0} (value : X → V) (piece : V → List ℕ) where
   abbrev pub AreCounted : List X → List X → ℕ → ℕ → Type 0
   AreCounted all left from place = from + length (pieces all) ≡ place + length (pieces left)
 
-  -- with one more counted, those behind it are left
+  -- with one more counted, those after it are left
   pub one_counted : (all : List X) (i : ℕ) (item : X) (from place more : ℕ) → i < length all → item ≡ get_or all i item → more ≡ length (piece (value item))
       → AreCounted all (drop i all) from place → AreCounted all (drop (i + 1) all) from (place + more)
   one_counted all i item from place more inside here long counted =
@@ -41,7 +41,7 @@ module _ {X V : Type 0} (value : X → V) (piece : V → List ℕ) where
   pub none_given : (all : List X) (now : Option (List ℕ)) (waited : List ℕ) → AreGiven all all now now waited waited
   none_given all now waited = record { done = []; given = waits now waited [] waited (sym (append-nil waited)); whole = refl }
 
-  -- with one more given, those behind it are left
+  -- with one more given, those after it are left
   pub one_given : (all : List X) (i : ℕ) (item : X) (old mid new : Option (List ℕ)) (waited between waiting : List ℕ) → i < length all → item ≡ get_or all i item
       → IsGiven mid new between waiting (piece (value item)) → AreGiven all (drop i all) old mid waited between → AreGiven all (drop (i + 1) all) old new waited waiting
   one_given all i item old mid new waited between waiting inside here more so_far = record {
@@ -54,9 +54,9 @@ module _ {X V : Type 0} (value : X → V) (piece : V → List ℕ) where
 
   -- where one is cut off, all are
   pub one_cut : (all : List X) (i : ℕ) (item : X) (old mid new : Option (List ℕ)) (waited between : List ℕ) → i < length all → item ≡ get_or all i item
-      → GivesFront mid new between (piece (value item)) → AreGiven all (drop i all) old mid waited between → GivesFront old new waited (pieces all)
+      → GivesPrefix mid new between (piece (value item)) → AreGiven all (drop i all) old mid waited between → GivesPrefix old new waited (pieces all)
   one_cut all i item old mid new waited between inside here cut so_far =
-      cut_behind old mid new waited between so_far.done (pieces (drop i all)) (pieces all) so_far.whole so_far.given
+      cut_after old mid new waited between so_far.done (pieces (drop i all)) (pieces all) so_far.whole so_far.given
       (cut_before mid new between (piece (value item)) (pieces (drop (i + 1) all)) (pieces (drop i all)) (ap pieces (sym (left_at all i item inside here))) cut)
 
   -- where none is left, all are given
@@ -65,7 +65,7 @@ module _ {X V : Type 0} (value : X → V) (piece : V → List ℕ) where
   all_given all i old new waited waiting past so_far =
       subst (IsGiven old new waited waiting) (sym (append-nil so_far.done) ∙ ap (λ rest. so_far.done ++ pieces rest) (sym (drop_all i all past)) ∙ so_far.whole) so_far.given
 
-  -- what holds of all that are left holds of the first of them, and of those behind it
+  -- what holds of all that are left holds of the first of them, and of those after it
   pub holds_here : (P : V → Type 0) (all : List X) (i : ℕ) (item : X) → i < length all → item ≡ get_or all i item → AllByRecursion P (map value (drop i all))
       → P (value item) × AllByRecursion P (map value (drop (i + 1) all))
   holds_here P all i item inside here holds = subst (λ rest. AllByRecursion P (map value rest)) (left_at all i item inside here) holds

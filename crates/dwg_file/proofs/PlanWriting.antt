@@ -3,8 +3,8 @@ use Rattle.std.proofs.Common.{◌≡◌, refl, sym, ◌∙◌, ap, ap₂, subst,
 use Rattle.std.proofs.KnownBytes.{Appends-trans}
 use Rattle.std.specs.Prelude.{Option, Result, Err}
 use Rattle.std.specs.Io.KnownBytes.{Appends}
-use Rattle.dwg_base.specs.Devices.{AppendsFront, Sends}
-use Rattle.dwg_base.proofs.SendingLemmas.{sends_both, front_of_both}
+use Rattle.dwg_base.specs.Devices.{AppendsPrefix, Sends}
+use Rattle.dwg_base.proofs.SendingLemmas.{sends_both, prefix_of_both}
 use Rattle.dwg_classes.specs.declared.class.Class.{Class}
 use Rattle.dwg_sections.specs.declared.framed.Framed.TheVariants.{Variables, Classes}
 use Rattle.dwg_sections.specs.declared.header.FileHeader.{FileHeader}
@@ -14,8 +14,8 @@ use Rattle.dwg_object.specs.Objects.{ObjectValue}
 use Rattle.dwg_file.specs.Contents.{Contents}
 use Rattle.dwg_file.specs.Canonical.{Carried, canonical_with, class_content, frames_bytes, header_with, map_with, others_bytes, others_place_with, preview_at, preview_place, variables_place}
 use Rattle.dwg_file.proofs.CanonicalHeader.{length_of_located}
-use Rattle.dwg_file.specs.Gathering.{IsGiven, GivesFront, Gives}
-use Rattle.dwg_file.proofs.GivenBytes.{given_both, gives_both, cut_before, cut_behind}
+use Rattle.dwg_file.specs.WriteBuffer.{IsGiven, GivesPrefix, Gives}
+use Rattle.dwg_file.proofs.GivenBytes.{given_both, gives_both, cut_before, cut_after}
 use Rattle.dwg_file.specs.Plans.{before_map, sections_bytes}
 
 -- there is room for the header
@@ -29,30 +29,30 @@ pub sections_pieces : (carried : Carried) (drawing : Contents) (variables : List
 sections_pieces carried drawing variables classes held declared =
     ap₂ (λ all (some : List Class). framed_bytes Variables all ++ framed_bytes Classes (class_content some) ++ preview_at carried (preview_place drawing)) held declared
 
--- and the front
-pub front_pieces : (carried : Carried) (drawing : Contents) (header : FileHeader) (objects : List ObjectValue) → header ≡ header_with carried drawing → objects ≡ drawing.objects
+-- and the prefix
+pub prefix_pieces : (carried : Carried) (drawing : Contents) (header : FileHeader) (objects : List ObjectValue) → header ≡ header_with carried drawing → objects ≡ drawing.objects
     → header_bytes header ++ sections_bytes carried drawing ++ frames_bytes drawing.version objects ≡ before_map carried drawing
 unfolding before_map
-front_pieces carried drawing header objects heads all =
+prefix_pieces carried drawing header objects heads all =
     ap₂ (λ (one : FileHeader) (some : List ObjectValue). header_bytes one ++ sections_bytes carried drawing ++ frames_bytes drawing.version some) heads all
 
--- three pieces that are given one behind the other: where one is cut off, so are all
-pub first_cut : (a b : Option (List ℕ)) (waited x y z whole : List ℕ) → x ++ y ++ z ≡ whole → GivesFront a b waited x → GivesFront a b waited whole
+-- three pieces that are given one after the other: where one is cut off, so are all
+pub first_cut : (a b : Option (List ℕ)) (waited x y z whole : List ℕ) → x ++ y ++ z ≡ whole → GivesPrefix a b waited x → GivesPrefix a b waited whole
 first_cut a b waited x y z whole same cut = cut_before a b waited x (y ++ z) whole (sym (append_assoc x y z) ∙ same) cut
 
-pub second_cut : (a b c : Option (List ℕ)) (waited one x y z whole : List ℕ) → x ++ y ++ z ≡ whole → IsGiven a b waited one x → GivesFront b c one y → GivesFront a c waited whole
-second_cut a b c waited one x y z whole same given cut = cut_before a c waited (x ++ y) z whole same (cut_behind a b c waited one x y (x ++ y) refl given cut)
+pub second_cut : (a b c : Option (List ℕ)) (waited one x y z whole : List ℕ) → x ++ y ++ z ≡ whole → IsGiven a b waited one x → GivesPrefix b c one y → GivesPrefix a c waited whole
+second_cut a b c waited one x y z whole same given cut = cut_before a c waited (x ++ y) z whole same (cut_after a b c waited one x y (x ++ y) refl given cut)
 
-pub third_cut : (a b c d : Option (List ℕ)) (waited one two x y z whole : List ℕ) → x ++ y ++ z ≡ whole → IsGiven a b waited one x → IsGiven b c one two y → GivesFront c d two z → GivesFront a d waited whole
+pub third_cut : (a b c d : Option (List ℕ)) (waited one two x y z whole : List ℕ) → x ++ y ++ z ≡ whole → IsGiven a b waited one x → IsGiven b c one two y → GivesPrefix c d two z → GivesPrefix a d waited whole
 third_cut a b c d waited one two x y z whole same first second cut =
-    cut_behind a c d waited two (x ++ y) z whole same (given_both a b c waited one two x y (x ++ y) refl first second) cut
+    cut_after a c d waited two (x ++ y) z whole same (given_both a b c waited one two x y (x ++ y) refl first second) cut
 
 pub three_given : {T E : Type 0} (a b c d : Option (List ℕ)) (waited one two waiting x y z whole : List ℕ) (result : Result T E) → x ++ y ++ z ≡ whole → IsGiven a b waited one x
     → IsGiven b c one two y → Gives c d two waiting z result → Gives a d waited waiting whole result
 three_given a b c d waited one two waiting x y z whole result same first second last =
     gives_both a c d waited two waiting (x ++ y) z whole result same (given_both a b c waited one two x y (x ++ y) refl first second) last
 
--- what stands before the map, the map, and what stands behind it are the canonical file
+-- what stands before the map, the map, and what stands after it are the canonical file
 pub canonical_thirds : (carried : Carried) (drawing : Contents) → before_map carried drawing ++ map_with carried drawing ++ others_bytes drawing.others ≡ canonical_with carried drawing
 unfolding canonical_with before_map
 canonical_thirds carried drawing =
@@ -60,15 +60,15 @@ canonical_thirds carried drawing =
     let preview = preview_at carried (preview_place drawing) in
     let variables = framed_bytes Variables drawing.variables in
     let classes = framed_bytes Classes (class_content drawing.classes) in
-    ap (λ front. front ++ frames_bytes drawing.version drawing.objects ++ map_with carried drawing ++ others_bytes drawing.others)
-    (sym (append_assoc head (variables ++ classes) preview) ∙ ap (λ front. front ++ preview) (sym (append_assoc head variables classes)))
+    ap (λ prefix. prefix ++ frames_bytes drawing.version drawing.objects ++ map_with carried drawing ++ others_bytes drawing.others)
+    (sym (append_assoc head (variables ++ classes) preview) ∙ ap (λ prefix. prefix ++ preview) (sym (append_assoc head variables classes)))
 
--- three pieces that are sent one behind the other: where one is cut off, so are all
-pub first_short : (a b : Option (List ℕ)) (x y z whole : List ℕ) → x ++ y ++ z ≡ whole → AppendsFront a b x → AppendsFront a b whole
-first_short a b x y z whole same cut = subst (AppendsFront a b) same (front_of_both a b (x ++ y) z (front_of_both a b x y cut))
+-- three pieces that are sent one after the other: where one is cut off, so are all
+pub first_short : (a b : Option (List ℕ)) (x y z whole : List ℕ) → x ++ y ++ z ≡ whole → AppendsPrefix a b x → AppendsPrefix a b whole
+first_short a b x y z whole same cut = subst (AppendsPrefix a b) same (prefix_of_both a b (x ++ y) z (prefix_of_both a b x y cut))
 
-pub second_short : (a b c : Option (List ℕ)) (x y z whole : List ℕ) → x ++ y ++ z ≡ whole → Appends a b x → AppendsFront b c y → AppendsFront a c whole
-second_short a b c x y z whole same sent cut = subst (AppendsFront a c) same (front_of_both a c (x ++ y) z (sends_both {T = ℕ} {E = ℕ} a b c x y (Err 0) sent cut))
+pub second_short : (a b c : Option (List ℕ)) (x y z whole : List ℕ) → x ++ y ++ z ≡ whole → Appends a b x → AppendsPrefix b c y → AppendsPrefix a c whole
+second_short a b c x y z whole same sent cut = subst (AppendsPrefix a c) same (prefix_of_both a c (x ++ y) z (sends_both {T = ℕ} {E = ℕ} a b c x y (Err 0) sent cut))
 
 pub three_sent : {T E : Type 0} (a b c d : Option (List ℕ)) (x y z whole : List ℕ) (result : Result T E) → x ++ y ++ z ≡ whole → Appends a b x → Appends b c y → Sends c d z result → Sends a d whole result
 three_sent a b c d x y z whole result same first second last = subst (λ all. Sends a d all result) same (sends_both a c d (x ++ y) z result (Appends-trans a b c x y first second) last)

@@ -22,7 +22,7 @@ use Rattle.dwg_sections.specs.Framed.{FramedAt}
 use Rattle.dwg_sections.specs.FramedLaws.{PassingBytesHaveSection, SectionIsRead}
 use Rattle.dwg_sections.specs.FramedLines.{content_at}
 use Rattle.dwg_file.specs.Contents.{OtherValue, Contents}
-use Rattle.dwg_file.specs.FileLines.{ALL_LINES, FoundFrame, section_place, classes_tried, map_tried, frames_behind, frames_tried}
+use Rattle.dwg_file.specs.FileLines.{ALL_LINES, FoundFrame, section_place, classes_tried, map_tried, frames_after, frames_tried}
 use Rattle.dwg_file.specs.ReadAs.{AreFormsOf, ReadsAs}
 use Rattle.dwg_file.specs.Spelled.{PairFrame, AreSectionsOf, Spelled}
 use Rattle.dwg_file.proofs.PassingLines.{each_holds, all_hold, ok_of_fault}
@@ -47,7 +47,7 @@ reads_spelled laws drawing bytes are reads =
     let locators : List Locator = (header_at bytes).locators in
     let sections = begins.in_range.sections in
     let mapped = ok_of_fault (map_tried bytes) each.map in
-    let found = frames_found bytes 0 [] mapped.0 reads.found are (ap (λ (tried : Tried (List Pair)). frames_behind bytes 0 [] (result_unwrap_or tried [])) (sym mapped.1) ∙ reads.frames) in
+    let found = frames_found bytes 0 [] mapped.0 reads.found are (ap (λ (tried : Tried (List Pair)). frames_after bytes 0 [] (result_unwrap_or tried [])) (sym mapped.1) ∙ reads.frames) in
     let frames : FramesOf drawing.classes bytes [] mapped.0 reads.values =
     frames_of drawing.classes bytes [] mapped.0 found.0 reads.values found.2 (subst (λ (f : List FoundFrame). AreFormsOf drawing.classes bytes f reads.values) found.1 reads.forms) in
     record {
@@ -102,7 +102,7 @@ spelled_reads laws drawing bytes are spelled =
     (map_is_tried (section_place 2 bytes) bytes pairs are).1 (subst (λ n. MapOf bytes n pairs) map_place (subst (MapOf bytes spelled.map_place) spelled.framed spelled.mapped)) in
     let found = found_of drawing.classes bytes [] spelled.frames spelled.stand spelled.apart (free_of_none spelled.frames) in
     let frames : frames_tried bytes ≡ Ok found.founds =
-    ap (λ (tried : Tried (List Pair)). frames_behind bytes 0 [] (result_unwrap_or tried [])) mapped ∙ found_frames bytes 0 [] pairs found.founds are found.found in
+    ap (λ (tried : Tried (List Pair)). frames_after bytes 0 [] (result_unwrap_or tried [])) mapped ∙ found_frames bytes 0 [] pairs found.founds are found.found in
     let sections = sections_are bytes 0 (header_at bytes).locators drawing.others (subst (λ (h : FileHeader). AreSectionsOf bytes h.locators drawing.others) same spelled.others) in
     record {
       holds = all_hold bytes (record {

@@ -11,7 +11,7 @@ use Rattle.dwg_sections.specs.declared.header.Locator.{Locator}
 use Rattle.dwg_sections.specs.FileHeader.{IsLocator, LocateSections, locator_numbers}
 use Rattle.dwg_file.specs.Contents.{OtherValue}
 use Rattle.dwg_file.specs.ReadAs.{sections_at}
-use Rattle.dwg_file.proofs.SectionPlaces.{section_here, contains_behind}
+use Rattle.dwg_file.proofs.SectionPlaces.{section_here, contains_after}
 use Rattle.dwg_file.specs.SectionNumbers.{Differ, IsSection}
 
 -- bytes of the input are bytes
@@ -54,7 +54,7 @@ times wanted (number ∷ numbers) = (if number == wanted then 1 else 0) + times 
 -- a number that stands in a list is there some times
 times_some : (wanted : ℕ) (numbers : List ℕ) → Contains numbers wanted → 0 < times wanted numbers
 times_some wanted [] (k, within, is) = absurd (omega arith)
-times_some wanted (number ∷ numbers) has = of_test (number == wanted) refl (λ other. times_some wanted numbers (contains_behind wanted number numbers other has))
+times_some wanted (number ∷ numbers) has = of_test (number == wanted) refl (λ other. times_some wanted numbers (contains_after wanted number numbers other has))
   where
     of_test : (test : Bool) → (number == wanted) ≡ test → ((number == wanted) ≡ false → 0 < times wanted numbers) → 0 < (if test then 1 else 0) + times wanted numbers
     of_test true is others = omega arith
@@ -168,9 +168,9 @@ sections_filtered_few bytes stay (locator ∷ locators) = of_tests (stay locator
         ≤ length (section_here bytes locator ∷ sections_at bytes locators)) (sym is)
         (omega (arith, few))
 
--- the first of pairwise different sections differs from those behind it, and these differ
-differ_behind : (first : OtherValue) (others : List OtherValue) → AllPairs Differ (first ∷ others) → AllByRecursion (Differ first) others × AllPairs Differ others
-differ_behind first others differ = (
+-- the first of pairwise different sections differs from those after it, and these differ
+differ_after : (first : OtherValue) (others : List OtherValue) → AllPairs Differ (first ∷ others) → AllByRecursion (Differ first) others × AllPairs Differ others
+differ_after first others differ = (
   recursion_from_All (Differ first) others (λ k d within. differ 0 (suc k) d (omega arith) (omega arith)),
   (λ i j d before within. differ (suc i) (suc j) d (omega arith) (omega arith)),
 )
@@ -188,11 +188,11 @@ sections_filtered_differ bytes stay (locator ∷ locators) differ = of_tests (st
         → (AllPairs Differ (sections_at bytes locators) → AllPairs Differ (sections_at bytes (filter stay locators)))
         → AllPairs Differ (sections_at bytes (cond stays (locator ∷ filter stay locators) (filter stay locators)))
     of_tests false true is differ others = others differ
-    of_tests false false is differ others = others (differ_behind here (sections_at bytes locators) differ).1
+    of_tests false false is differ others = others (differ_after here (sections_at bytes locators) differ).1
     of_tests true true is differ others =
         subst (λ (known : Bool). AllPairs Differ (if known then sections_at bytes (filter stay locators) else here ∷ sections_at bytes (filter stay locators))) (sym is) (others differ)
     of_tests true false is differ others =
-        let both = differ_behind here (sections_at bytes locators) differ in
+        let both = differ_after here (sections_at bytes locators) differ in
         subst (λ (known : Bool). AllPairs Differ (if known then sections_at bytes (filter stay locators) else here ∷ sections_at bytes (filter stay locators))) (sym is)
         (AllPairs-cons Differ here (sections_at bytes (filter stay locators))
         (All-from_recursion (Differ here) (sections_at bytes (filter stay locators)) (sections_filtered bytes stay (Differ here) locators both.0)) (others both.1))

@@ -14,10 +14,10 @@ use Rattle.dwg_file.specs.FileLines.{is_cut, first_cut}
 use Rattle.dwg_file.specs.ReadAs.{sections_at}
 use Rattle.dwg_file.specs.Spelled.{IsSectionOf, AreSectionsOf}
 
--- a number that stands in a list, and not first, stands behind
-pub contains_behind : (number first : ℕ) (numbers : List ℕ) → (first == number) ≡ false → Contains (first ∷ numbers) number → Contains numbers number
-contains_behind number first numbers other (zero, inside, is) = let same : first ≡ number = is in absurd (grind (arith, nat_tests))
-contains_behind number first numbers other (suc k, inside, is) = (k, omega arith, is)
+-- a number that stands in a list, and not first, stands after
+pub contains_after : (number first : ℕ) (numbers : List ℕ) → (first == number) ≡ false → Contains (first ∷ numbers) number → Contains numbers number
+contains_after number first numbers other (zero, inside, is) = let same : first ≡ number = is in absurd (grind (arith, nat_tests))
+contains_after number first numbers other (suc k, inside, is) = (k, omega arith, is)
 
 -- a number that a locator has is that of a section with a place
 pub is_located : (number : ℕ) (locators : List Locator) → Contains (locator_numbers locators) number → place_of number locators ≡ Some (unwrap_or (place_of number locators) 0)
@@ -32,8 +32,8 @@ is_located number (locator ∷ locators) has = of_test (locator.number == number
 
     of_test : (test : Bool) → (locator.number == number) ≡ test → (Contains (locator_numbers locators) number → place_of number locators ≡ Some (unwrap_or (place_of number locators) 0))
         → place_of number (locator ∷ locators) ≡ Some (unwrap_or (place_of number (locator ∷ locators)) 0)
-    of_test true is behind = subst (λ test. IsPlaced (if test then Some locator else others)) (sym is) refl
-    of_test false is behind = subst (λ test. IsPlaced (if test then Some locator else others)) (sym is) (behind (contains_behind number locator.number (locator_numbers locators) is has))
+    of_test true is after = subst (λ test. IsPlaced (if test then Some locator else others)) (sym is) refl
+    of_test false is after = subst (λ test. IsPlaced (if test then Some locator else others)) (sym is) (after (contains_after number locator.number (locator_numbers locators) is has))
 
 -- a list without letters is the empty one
 no_letters : {A : Type 0} (letters : List A) → length letters ≡ 0 → letters ≡ []
@@ -77,7 +77,7 @@ cut_not bytes locator whole = of_low (nat_lt locator.number 3) refl
         ap (λ low. not low && nat_lt 0 locator.size && nat_lt (length bytes) (locator.place + locator.size)) is
         ∙ none_passes (nat_lt 0 locator.size) (nat_lt (length bytes) (locator.place + locator.size)) refl refl whole
 
--- a locator that isn't cut, and those behind it
+-- a locator that isn't cut, and those after it
 first_whole : (bytes : List ℕ) (index : ℕ) (locator : Locator) (locators : List Locator) → is_cut bytes locator ≡ false → first_cut bytes index (locator ∷ locators) ≡ first_cut bytes (index + 1) locators
 unfolding first_cut
 first_whole bytes index locator locators whole =
@@ -177,12 +177,12 @@ pub sections_are : (bytes : List ℕ) (index : ℕ) (locators : List Locator) (o
 unfolding first_cut
 sections_are bytes index [] others none = (refl, none)
 sections_are bytes index (locator ∷ locators) others (inl (low, more)) =
-    let behind = sections_are bytes (index + 1) locators others more in
+    let after = sections_are bytes (index + 1) locators others more in
     let is : nat_lt locator.number 3 ≡ true = grind (arith, nat_tests) in
     let here : is_cut bytes locator ≡ false = ap (λ test. not test && nat_lt 0 locator.size && nat_lt (length bytes) (locator.place + locator.size)) is in
-    (first_whole bytes index locator locators here ∙ behind.0, behind.1 ∙ sym (skipped bytes locator locators is))
+    (first_whole bytes index locator locators here ∙ after.0, after.1 ∙ sym (skipped bytes locator locators is))
 sections_are bytes index (locator ∷ locators) others (inr (high, other, rest, is, section, more)) =
-    let behind = sections_are bytes (index + 1) locators rest more in
+    let after = sections_are bytes (index + 1) locators rest more in
     let test : nat_lt locator.number 3 ≡ false = grind (arith, nat_tests) in
     let here : is_cut bytes locator ≡ false = cut_not bytes locator (stands_whole bytes locator other section) in
-    (first_whole bytes index locator locators here ∙ behind.0, is ∙ ap₂ (λ one all. one ∷ all) (stands_same bytes locator other section) behind.1 ∙ sym (taken bytes locator locators test))
+    (first_whole bytes index locator locators here ∙ after.0, is ∙ ap₂ (λ one all. one ∷ all) (stands_same bytes locator other section) after.1 ∙ sym (taken bytes locator locators test))

@@ -33,18 +33,18 @@ cut_of_passes bytes locator (high, some, past) =
     ap₂ (λ a b. not a && b && nat_lt (length bytes) (locator.place + locator.size)) low has ∙ over
 
 -- the refusal of a locator's section
-abbrev told : ℕ → Locator → Refusal
-told index locator = record { line = 33; index = index; place = locator.place }
+abbrev reported : ℕ → Locator → Refusal
+reported index locator = record { line = 33; index = index; place = locator.place }
 
--- the first of locators whose section passes the end, so many locators behind the first of all
+-- the first of locators whose section passes the end, so many locators after the first of all
 record FirstPasses (bytes : List ℕ) (index : ℕ) (locators : List Locator) (refusal : Refusal) : Type 0 where
   before : List Locator
   locator : Locator
-  behind : List Locator
-  whole : locators ≡ before ++ locator ∷ behind
+  after : List Locator
+  whole : locators ≡ before ++ locator ∷ after
   within : AllByRecursion (λ (earlier : Locator). PassesFile bytes earlier → ⊥) before
   passes : PassesFile bytes locator
-  line : refusal ≡ told (index + length before) locator
+  line : refusal ≡ reported (index + length before) locator
 
 -- where a section is cut there is a first that passes the end
 first_passes : (bytes : List ℕ) (index : ℕ) (locators : List Locator) (refusal : Refusal) → first_cut bytes index locators ≡ Some refusal → FirstPasses bytes index locators refusal
@@ -56,27 +56,27 @@ first_passes bytes index (locator ∷ locators) refusal cut =
     some_same : (one : Refusal) → Some one ≡ Some refusal → refusal ≡ one
     some_same one same = cc
 
-    of_test : (test : Bool) → is_cut bytes locator ≡ test → (if test then Some (told index locator) else first_cut bytes (index + 1) locators) ≡ Some refusal
+    of_test : (test : Bool) → is_cut bytes locator ≡ test → (if test then Some (reported index locator) else first_cut bytes (index + 1) locators) ≡ Some refusal
         → (first_cut bytes (index + 1) locators ≡ Some refusal → FirstPasses bytes (index + 1) locators refusal) → FirstPasses bytes index (locator ∷ locators) refusal
     of_test true is cut others = record {
       before = [];
       locator = locator;
-      behind = locators;
+      after = locators;
       whole = refl;
       within = tt;
       passes = passes_of_cut bytes locator is;
-      line = some_same (told index locator) cut ∙ ap (λ n. told n locator) (omega arith);
+      line = some_same (reported index locator) cut ∙ ap (λ n. reported n locator) (omega arith);
     }
     of_test false is cut others =
         let more = others cut in
         record {
           before = locator ∷ more.before;
           locator = more.locator;
-          behind = more.behind;
+          after = more.after;
           whole = ap (λ all. locator ∷ all) more.whole;
           within = (λ passes. let both : true ≡ false = sym (cut_of_passes bytes locator passes) ∙ is in absurd cc, more.within);
           passes = more.passes;
-          line = more.line ∙ ap (λ n. told n more.locator) (omega arith);
+          line = more.line ∙ ap (λ n. reported n more.locator) (omega arith);
         }
 
 -- a section that doesn't pass the end isn't cut
@@ -87,17 +87,17 @@ uncut bytes locator within = of_test (is_cut bytes locator) refl
     of_test false is = is
     of_test true is = absurd (within (passes_of_cut bytes locator is))
 
--- and the first that passes the end is the one that is told
-cut_first : (bytes : List ℕ) (index : ℕ) (before : List Locator) (locator : Locator) (behind : List Locator) → AllByRecursion (λ (earlier : Locator). PassesFile bytes earlier → ⊥) before
-    → PassesFile bytes locator → first_cut bytes index (before ++ locator ∷ behind) ≡ Some (told (index + length before) locator)
+-- and the first that passes the end is the one that is reported
+cut_first : (bytes : List ℕ) (index : ℕ) (before : List Locator) (locator : Locator) (after : List Locator) → AllByRecursion (λ (earlier : Locator). PassesFile bytes earlier → ⊥) before
+    → PassesFile bytes locator → first_cut bytes index (before ++ locator ∷ after) ≡ Some (reported (index + length before) locator)
 unfolding first_cut
-cut_first bytes index [] locator behind within passes =
-    ap (λ test. if test then Some (told index locator) else first_cut bytes (index + 1) behind) (cut_of_passes bytes locator passes)
-    ∙ ap (λ n. Some (told n locator)) (omega arith)
-cut_first bytes index (first ∷ before) locator behind within passes =
-    ap (λ test. if test then Some (told index first) else first_cut bytes (index + 1) (before ++ locator ∷ behind)) (uncut bytes first within.0)
-    ∙ cut_first bytes (index + 1) before locator behind within.1 passes
-    ∙ ap (λ n. Some (told n locator)) (omega arith)
+cut_first bytes index [] locator after within passes =
+    ap (λ test. if test then Some (reported index locator) else first_cut bytes (index + 1) after) (cut_of_passes bytes locator passes)
+    ∙ ap (λ n. Some (reported n locator)) (omega arith)
+cut_first bytes index (first ∷ before) locator after within passes =
+    ap (λ test. if test then Some (reported index first) else first_cut bytes (index + 1) (before ++ locator ∷ after)) (uncut bytes first within.0)
+    ∙ cut_first bytes (index + 1) before locator after within.1 passes
+    ∙ ap (λ n. Some (reported n locator)) (omega arith)
 
 -- so the line refuses exactly there
 pub sections_are_refused : HeaderIsRead → SectionsAreRefused
@@ -109,8 +109,8 @@ sections_are_refused read bytes header refusal begins =
       (λ refused.
           here
           ∙ ap (first_cut bytes 0) refused.whole
-          ∙ cut_first bytes 0 refused.before refused.locator refused.behind refused.within refused.passes
-          ∙ ap (λ n. Some (told n refused.locator)) (omega arith)
+          ∙ cut_first bytes 0 refused.before refused.locator refused.after refused.within refused.passes
+          ∙ ap (λ n. Some (reported n refused.locator)) (omega arith)
           ∙ ap Some (sym refused.line)),
     )
   where
@@ -118,9 +118,9 @@ sections_are_refused read bytes header refusal begins =
     of_first first = record {
       before = first.before;
       locator = first.locator;
-      behind = first.behind;
+      after = first.after;
       whole = first.whole;
       within = first.within;
       passes = first.passes;
-      line = first.line ∙ ap (λ n. told n first.locator) (omega arith);
+      line = first.line ∙ ap (λ n. reported n first.locator) (omega arith);
     }

@@ -1,4 +1,4 @@
--- Seven pieces, one behind the other: how long they are together, and where each stands.
+-- Seven pieces, one after the other: how long they are together, and where each stands.
 use Rattle.std.proofs.Common.{◌≡◌, refl, sym, ◌∙◌, ap, ℕ, ◌+◌, List, [], ◌++◌, length, length-append, append_assoc, arith}
 use Rattle.std.proofs.lemmas.List.{append-nil}
 use Rattle.dwg_base.specs.Bytes.{AreBytes, StandsAt}
@@ -26,7 +26,7 @@ seven_are_bytes a b c d e f g in_a in_b in_c in_d in_e in_f in_g =
     bytes_joined (a ++ b ++ c ++ d ++ e ++ f) g (bytes_joined (a ++ b ++ c ++ d ++ e) f (bytes_joined (a ++ b ++ c ++ d) e
     (bytes_joined (a ++ b ++ c) d (bytes_joined (a ++ b) c (bytes_joined a b in_a in_b) in_c) in_d) in_e) in_f) in_g
 
--- each of seven pieces stands behind those before it
+-- each of seven pieces stands after those before it
 pub record SevenStand (whole a b c d e f g : List ℕ) : Type 0 where
   pub begins : (rest : List ℕ) × (whole ≡ a ++ rest)
   pub second : StandsAt whole (length a) b
@@ -47,7 +47,7 @@ pub seven_stand : (whole a b c d e f g : List ℕ) → whole ≡ a ++ b ++ c ++ 
 seven_stand whole a b c d e f g same =
     let joined : whole ≡ a ++ (b ++ (c ++ (d ++ (e ++ (f ++ g))))) = same ∙ seven_joined a b c d e f g in
     let one : StandsAt whole (length a) (b ++ (c ++ (d ++ (e ++ (f ++ g))))) =
-    record { before = a; behind = []; whole = joined ∙ ap (λ more. a ++ more) (sym (append-nil (b ++ (c ++ (d ++ (e ++ (f ++ g))))))); far = refl } in
+    record { before = a; after = []; whole = joined ∙ ap (λ more. a ++ more) (sym (append-nil (b ++ (c ++ (d ++ (e ++ (f ++ g))))))); far = refl } in
     let two = stands_next whole (length a) b (c ++ (d ++ (e ++ (f ++ g)))) one in
     let three = stands_next whole (length a + length b) c (d ++ (e ++ (f ++ g))) two in
     let four = stands_next whole (length a + length b + length c) d (e ++ (f ++ g)) three in

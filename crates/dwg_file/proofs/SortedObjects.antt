@@ -58,14 +58,14 @@ inserted_ascends object (first ∷ rest) up differ =
     of_test true is others =
         let low : handle_of object < handle_of first = grind (arith, nat_tests) in
         AllPairs-cons Below object (first ∷ rest)
-        (All-cons (Below object) first rest low (All-weaker (Below first) (Below object) (λ other behind. omega (arith, low, behind)) rest above)) up
+        (All-cons (Below object) first rest low (All-weaker (Below first) (Below object) (λ other after. omega (arith, low, after)) rest above)) up
     of_test false is others =
         let other : handle_of object ≢ handle_of first = All-head (Differ object) first rest differ in
         let high : handle_of first < handle_of object = grind (arith, nat_tests, other) in
         AllPairs-cons Below first (inserted object rest)
         (All-permutation (Below first) (object ∷ rest) (inserted object rest) (inserted_same object rest) (All-cons (Below first) object rest high above)) others
 
--- each object has another handle than all behind it
+-- each object has another handle than all after it
 abbrev pub AreDistinct : List ObjectValue → Type 0
 AreDistinct [] = ⊤
 AreDistinct (object ∷ objects) = All (Differ object) objects × AreDistinct objects

@@ -21,9 +21,9 @@ pub record IsSpliced {A : Type 0} (one other : List A) (from to : ℕ) : Type 0 
   pub before : List A
   pub here : List A
   pub there : List A
-  pub behind : List A
-  pub first : one ≡ before ++ here ++ behind
-  pub second : other ≡ before ++ there ++ behind
+  pub after : List A
+  pub first : one ≡ before ++ here ++ after
+  pub second : other ≡ before ++ there ++ after
   pub long : length here ≡ length there
   pub begins : from ≡ length before
   pub ends : to ≡ length before + length here
@@ -36,9 +36,9 @@ spliced_long {A} one other from to is =
       ap length is.first,
       ap length is.second,
       is.long,
-      length-append (is.before ++ is.here) is.behind,
+      length-append (is.before ++ is.here) is.after,
       length-append is.before is.here,
-      length-append (is.before ++ is.there) is.behind,
+      length-append (is.before ++ is.there) is.after,
       length-append is.before is.there,
     )
 
@@ -47,29 +47,29 @@ stands_before : {A : Type 0} (one other : List A) (from to : ℕ) → IsSpliced 
     → StandsAt other place piece
 stands_before {A} one other from to is place piece stands within =
     let cut =
-    further_cut (stands.before ++ piece) stands.behind is.before (is.here ++ is.behind)
-    (append_assoc stands.before piece stands.behind ∙ sym stands.whole ∙ is.first ∙ append_assoc is.before is.here is.behind)
+    further_cut (stands.before ++ piece) stands.after is.before (is.here ++ is.after)
+    (append_assoc stands.before piece stands.after ∙ sym stands.whole ∙ is.first ∙ append_assoc is.before is.here is.after)
     (omega (arith, length-append stands.before piece, stands.far, is.begins, within)) in
-    let rest : List A = is.there ++ is.behind in
+    let rest : List A = is.there ++ is.after in
     record {
       before = stands.before;
-      behind = cut.0 ++ rest;
+      after = cut.0 ++ rest;
       whole =
-          is.second ∙ append_assoc is.before is.there is.behind ∙ ap (λ front. front ++ rest) cut.1 ∙ append_assoc (stands.before ++ piece) cut.0 rest
+          is.second ∙ append_assoc is.before is.there is.after ∙ ap (λ prefix. prefix ++ rest) cut.1 ∙ append_assoc (stands.before ++ piece) cut.0 rest
           ∙ append_assoc stands.before piece (cut.0 ++ rest);
       far = stands.far;
     }
 
--- so does what stands behind it
-stands_behind : {A : Type 0} (one other : List A) (from to : ℕ) → IsSpliced one other from to → (place : ℕ) (piece : List A) → StandsAt one place piece → to ≤ place → StandsAt other place piece
-stands_behind {A} one other from to is place piece stands beyond =
+-- so does what stands after it
+stands_after : {A : Type 0} (one other : List A) (from to : ℕ) → IsSpliced one other from to → (place : ℕ) (piece : List A) → StandsAt one place piece → to ≤ place → StandsAt other place piece
+stands_after {A} one other from to is place piece stands beyond =
     let cut =
-    further_cut (is.before ++ is.here) is.behind stands.before (piece ++ stands.behind) (sym is.first ∙ stands.whole)
+    further_cut (is.before ++ is.here) is.after stands.before (piece ++ stands.after) (sym is.first ∙ stands.whole)
     (omega (arith, length-append is.before is.here, stands.far, is.ends, beyond)) in
     record {
       before = is.before ++ is.there ++ cut.0;
-      behind = stands.behind;
-      whole = is.second ∙ ap (λ more. is.before ++ is.there ++ more) cut.2 ∙ sym (append_assoc (is.before ++ is.there) cut.0 (piece ++ stands.behind));
+      after = stands.after;
+      whole = is.second ∙ ap (λ more. is.before ++ is.there ++ more) cut.2 ∙ sym (append_assoc (is.before ++ is.there) cut.0 (piece ++ stands.after));
       far =
           omega (
             arith,
@@ -83,11 +83,11 @@ stands_behind {A} one other from to is place piece stands beyond =
           );
     }
 
--- what lies before the exchanged part or behind it stays
+-- what lies before the exchanged part or after it stays
 pub stands_still : {A : Type 0} (one other : List A) (from to : ℕ) → IsSpliced one other from to → (place : ℕ) (piece : List A) → StandsAt one place piece
     → (place + length piece ≤ from) ⊎ (to ≤ place) → StandsAt other place piece
 stands_still {A} one other from to is place piece stands (inl within) = stands_before one other from to is place piece stands within
-stands_still {A} one other from to is place piece stands (inr beyond) = stands_behind one other from to is place piece stands beyond
+stands_still {A} one other from to is place piece stands (inr beyond) = stands_after one other from to is place piece stands beyond
 
 -- so the bytes from one place to another are the same
 pub same_part : (one other : List ℕ) (from to : ℕ) → IsSpliced one other from to → (first last : ℕ) → first ≤ last → last ≤ length one → (last ≤ from) ⊎ (to ≤ first)
@@ -109,30 +109,30 @@ same_part one other from to is first last order within apart =
     of_side (inr begins) = inr begins
 
 -- what stands in the other list for a piece of the one that holds the exchanged part
-pub record PieceIsSpliced {A : Type 0} (one other : List A) (from to : ℕ) (is : IsSpliced one other from to) (front piece rest : List A) : Type 0 where
+pub record PieceIsSpliced {A : Type 0} (one other : List A) (from to : ℕ) (is : IsSpliced one other from to) (prefix piece rest : List A) : Type 0 where
   pub ahead : List A
   pub after : List A
   pub first : piece ≡ ahead ++ is.here ++ after
-  pub whole : other ≡ front ++ ((ahead ++ is.there ++ after) ++ rest)
+  pub whole : other ≡ prefix ++ ((ahead ++ is.there ++ after) ++ rest)
 
 -- a list in three parts, the outer ones cut once more
-cut_again : {A : Type 0} (whole before middle behind front ahead after rest : List A) → whole ≡ before ++ middle ++ behind → before ≡ front ++ ahead → behind ≡ after ++ rest
-    → whole ≡ front ++ ((ahead ++ middle ++ after) ++ rest)
-cut_again whole before middle behind front ahead after rest same first last =
-    same ∙ ap₂ (λ one other. one ++ middle ++ other) first last ∙ append_assoc (front ++ ahead) middle (after ++ rest) ∙ append_assoc front ahead (middle ++ (after ++ rest))
-    ∙ ap (λ more. front ++ more) (sym (append_assoc (ahead ++ middle) after rest ∙ append_assoc ahead middle (after ++ rest)))
+cut_again : {A : Type 0} (whole before middle after prefix ahead inner rest : List A) → whole ≡ before ++ middle ++ after → before ≡ prefix ++ ahead → after ≡ inner ++ rest
+    → whole ≡ prefix ++ ((ahead ++ middle ++ inner) ++ rest)
+cut_again whole before middle after prefix ahead inner rest same first last =
+    same ∙ ap₂ (λ one other. one ++ middle ++ other) first last ∙ append_assoc (prefix ++ ahead) middle (inner ++ rest) ∙ append_assoc prefix ahead (middle ++ (inner ++ rest))
+    ∙ ap (λ more. prefix ++ more) (sym (append_assoc (ahead ++ middle) inner rest ∙ append_assoc ahead middle (inner ++ rest)))
 
 -- it is the piece with that part exchanged
-pub piece_spliced : {A : Type 0} (one other : List A) (from to : ℕ) (is : IsSpliced one other from to) (front piece rest : List A) → one ≡ front ++ (piece ++ rest)
-    → length front ≤ from → to ≤ length front + length piece → PieceIsSpliced one other from to is front piece rest
-piece_spliced {A} one other from to is front piece rest whole begins ends =
+pub piece_spliced : {A : Type 0} (one other : List A) (from to : ℕ) (is : IsSpliced one other from to) (prefix piece rest : List A) → one ≡ prefix ++ (piece ++ rest)
+    → length prefix ≤ from → to ≤ length prefix + length piece → PieceIsSpliced one other from to is prefix piece rest
+piece_spliced {A} one other from to is prefix piece rest whole begins ends =
     let near =
-    further_cut front (piece ++ rest) is.before (is.here ++ is.behind) (sym whole ∙ is.first ∙ append_assoc is.before is.here is.behind) (omega (arith, begins, is.begins)) in
+    further_cut prefix (piece ++ rest) is.before (is.here ++ is.after) (sym whole ∙ is.first ∙ append_assoc is.before is.here is.after) (omega (arith, begins, is.begins)) in
     of_near near.0 near.1 near.2
   where
-    of_near : (ahead : List A) → is.before ≡ front ++ ahead → piece ++ rest ≡ ahead ++ (is.here ++ is.behind) → PieceIsSpliced one other from to is front piece rest
+    of_near : (ahead : List A) → is.before ≡ prefix ++ ahead → piece ++ rest ≡ ahead ++ (is.here ++ is.after) → PieceIsSpliced one other from to is prefix piece rest
     of_near ahead first last =
         let far =
-        further_cut (ahead ++ is.here) is.behind piece rest (append_assoc ahead is.here is.behind ∙ sym last)
-        (omega (arith, ends, is.ends, ap length first, length-append front ahead, length-append ahead is.here)) in
-        record { ahead = ahead; after = far.0; first = far.1; whole = cut_again other is.before is.there is.behind front ahead far.0 rest is.second first far.2 }
+        further_cut (ahead ++ is.here) is.after piece rest (append_assoc ahead is.here is.after ∙ sym last)
+        (omega (arith, ends, is.ends, ap length first, length-append prefix ahead, length-append ahead is.here)) in
+        record { ahead = ahead; after = far.0; first = far.1; whole = cut_again other is.before is.there is.after prefix ahead far.0 rest is.second first far.2 }

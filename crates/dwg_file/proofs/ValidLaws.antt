@@ -12,7 +12,7 @@ use Rattle.dwg_sections.specs.declared.framed.Framed.TheVariants.{Variables, Cla
 use Rattle.dwg_sections.specs.declared.header.Locator.{Locator}
 use Rattle.dwg_sections.specs.declared.header.FileHeader.{FileHeader}
 use Rattle.dwg_sections.specs.FramedLines.{size_at}
-use Rattle.dwg_sections.proofs.HeaderComplete.{header_tells_version}
+use Rattle.dwg_sections.proofs.HeaderComplete.{header_gives_version}
 use Rattle.dwg_file.specs.Canonical.{class_content, frames_bytes, others_bytes, map_of, objects_place, placed}
 use Rattle.dwg_file.specs.Contents.{OtherValue, Contents}
 use Rattle.dwg_file.specs.FileLines.{is_cut}
@@ -110,7 +110,7 @@ spelled_is_valid laws drawing bytes are few spelled =
           (subst (AllByRecursion (IsSection (length bytes))) (sym others) (sections_are_sections bytes locators are header.locators));
       distinct = subst (AllPairs Differ) (sym others) (sections_distinct bytes locators header.sections);
       objects =
-          subst (λ (v : Version). AllByRecursion (IsReadOf v drawing.classes) drawing.objects) (sym (spelled.version ∙ header_tells_version bytes spelled.header spelled.begins))
+          subst (λ (v : Version). AllByRecursion (IsReadOf v drawing.classes) drawing.objects) (sym (spelled.version ∙ header_gives_version bytes spelled.header spelled.begins))
           (ordered_are_read drawing.classes bytes spelled.frames drawing.objects are few spelled.stand spelled.objects);
       count = omega (
         arith,

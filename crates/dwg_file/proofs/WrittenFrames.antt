@@ -14,7 +14,7 @@ use Rattle.dwg_object.proofs.StandingLemmas.{stands_first, stands_next}
 use Rattle.dwg_object.specs.Written.{IsValidObject, body_bytes}
 use Rattle.dwg_file.specs.Canonical.{NO_PICTURE, canonical, frames_bytes, objects_place, size_of}
 use Rattle.dwg_file.specs.CanonicalFrames.{canonical_frames, frames_from}
-use Rattle.dwg_file.proofs.CanonicalFrames.{frames_behind}
+use Rattle.dwg_file.proofs.CanonicalFrames.{frames_after}
 use Rattle.dwg_file.proofs.CanonicalHeader.{header_fits, pairs_head, pairs_tail}
 use Rattle.dwg_file.proofs.CanonicalLaws.{parts_stand}
 use Rattle.dwg_file.proofs.CanonicalParts.{no_picture}
@@ -30,7 +30,7 @@ pub record IsWritten (version : Version) (classes : List Class) (bytes : List �
   pub own : frame.pair.handle ≡ handle_of frame.object
   pub valid : IsValidObject version classes frame.object
 
--- frames one behind the other are
+-- frames one after the other are
 frames_written : (version : Version) (classes : List Class) (bytes : List ℕ) (objects : List ObjectValue) (place : ℕ) → AllByRecursion (IsValidObject version classes) objects → StandsAt bytes place (frames_bytes version objects)
     → AllByRecursion (IsWritten version classes bytes) (frames_from version place objects)
 frames_written version classes bytes [] place are stands = tt
@@ -45,13 +45,13 @@ pub canonical_written : (drawing : Contents) → IsValid drawing → size_of dra
 canonical_written drawing is small =
     frames_written drawing.version drawing.classes (canonical drawing) drawing.objects (objects_place drawing) is.objects (parts_stand NO_PICTURE drawing no_picture small (header_fits NO_PICTURE drawing is small)).frames
 
--- the frames before one of those that stand one behind the other end before it, and those behind it begin behind its end
+-- the frames before one of those that stand one after the other end before it, and those after it begin after its end
 pub record LiesAmong (version : Version) (place : ℕ) (objects : List ObjectValue) (earlier : List PairFrame) (frame : PairFrame) (later : List PairFrame) : Type 0 where
   pub from : place ≤ frame.pair.place
   pub order : frame.pair.place ≤ frame.end
   pub to : frame.end ≤ place + length (frames_bytes version objects)
   pub before : AllByRecursion (λ (one : PairFrame). one.end ≤ frame.pair.place) earlier
-  pub behind : AllByRecursion (λ (one : PairFrame). frame.end ≤ one.pair.place) later
+  pub after : AllByRecursion (λ (one : PairFrame). frame.end ≤ one.pair.place) later
 
 pub lies_among : (version : Version) (objects : List ObjectValue) (place : ℕ) (earlier : List PairFrame) (frame : PairFrame) (later : List PairFrame) → frames_from version place objects ≡ earlier ++ frame ∷ later
     → LiesAmong version place objects earlier frame later
@@ -70,9 +70,9 @@ lies_among version (object ∷ objects) place [] frame later same =
       order = omega (arith, begins, ends);
       to = omega (arith, ends, long);
       before = tt;
-      behind =
+      after =
           subst (AllByRecursion (λ (one : PairFrame). frame.end ≤ one.pair.place)) rest
-          (subst (λ n. AllByRecursion (λ (one : PairFrame). n ≤ one.pair.place) (frames_from version end objects)) ends (frames_behind version objects end end (omega arith)));
+          (subst (λ n. AllByRecursion (λ (one : PairFrame). n ≤ one.pair.place) (frames_from version end objects)) ends (frames_after version objects end end (omega arith)));
     }
 lies_among version (object ∷ objects) place (one ∷ earlier) frame later same =
     let end : ℕ = place + length (frame_bytes version object) in
@@ -87,17 +87,17 @@ lies_among version (object ∷ objects) place (one ∷ earlier) frame later same
       order = more.order;
       to = omega (arith, more.to, long);
       before = (omega (arith, more.from, ends), more.before);
-      behind = more.behind;
+      after = more.after;
     }
 
--- what holds of all members holds of those of a front and of those behind it
-pub all_of_front : {X : Type 0} (P : X → Type 0) (front behind : List X) → AllByRecursion P (front ++ behind) → AllByRecursion P front × AllByRecursion P behind
-all_of_front P [] behind all = (tt, all)
-all_of_front P (x ∷ front) behind all = let more = all_of_front P front behind all.1 in ((all.0, more.0), more.1)
+-- what holds of all members holds of those of a prefix and of those after it
+pub all_of_prefix : {X : Type 0} (P : X → Type 0) (prefix after : List X) → AllByRecursion P (prefix ++ after) → AllByRecursion P prefix × AllByRecursion P after
+all_of_prefix P [] after all = (tt, all)
+all_of_prefix P (x ∷ prefix) after all = let more = all_of_prefix P prefix after all.1 in ((all.0, more.0), more.1)
 
 -- so does what holds of all pairs
-pub pairs_of_front : {X : Type 0} (R : X → X → Type 0) (front behind : List X) → AllPairs R (front ++ behind) → AllPairs R front
-pairs_of_front R [] behind all = λ i j d before inside. absurd (omega arith)
-pairs_of_front R (x ∷ front) behind all =
-    AllPairs-cons R x front (All-from_recursion (R x) front (all_of_front (R x) front behind (pairs_head R x (front ++ behind) all)).0)
-    (pairs_of_front R front behind (pairs_tail R x (front ++ behind) all))
+pub pairs_of_prefix : {X : Type 0} (R : X → X → Type 0) (prefix after : List X) → AllPairs R (prefix ++ after) → AllPairs R prefix
+pairs_of_prefix R [] after all = λ i j d before inside. absurd (omega arith)
+pairs_of_prefix R (x ∷ prefix) after all =
+    AllPairs-cons R x prefix (All-from_recursion (R x) prefix (all_of_prefix (R x) prefix after (pairs_head R x (prefix ++ after) all)).0)
+    (pairs_of_prefix R prefix after (pairs_tail R x (prefix ++ after) all))

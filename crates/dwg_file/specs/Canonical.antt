@@ -1,4 +1,4 @@
--- The canonical file of a drawing: its parts one behind the other without gaps. A rule of this project, over the layout of the Open Design Specification, "R13 to R2000 file layout".
+-- The canonical file of a drawing: its parts one after the other without gaps. A rule of this project, over the layout of the Open Design Specification, "R13 to R2000 file layout".
 use Rattle.std.specs.Prelude.{ℕ, ◌+◌, ◌*◌, List, [], ◌∷◌, ◌++◌, length, flat_map, Option, Some, None}
 use Rattle.dwg_base.specs.declared.version.Version.{Version}
 use Rattle.dwg_base.specs.Bytes.{AreBytes}
@@ -55,16 +55,16 @@ preview_size carried = 36 + length carried.content
 abbrev pub class_content : List Class → List ℕ
 class_content classes = whole_bytes (short_all numbered_class classes ++ padding (short_all numbered_class classes))
 
--- the frames of objects, one behind the other
+-- the frames of objects, one after the other
 abbrev pub frames_bytes : Version → List ObjectValue → List ℕ
 frames_bytes version objects = flat_map (frame_bytes version) objects
 
--- the pairs of objects whose frames stand one behind the other from a place
+-- the pairs of objects whose frames stand one after the other from a place
 abbrev pub placed : Version → ℕ → List ObjectValue → List Pair
 placed version place [] = []
 placed version place (object ∷ objects) = record { handle = handle_of object; place = place } ∷ placed version (place + length (frame_bytes version object)) objects
 
--- the bytes of the unknown sections, one behind the other
+-- the bytes of the unknown sections, one after the other
 abbrev pub others_bytes : List OtherValue → List ℕ
 others_bytes others = flat_map (λ (other : OtherValue). other.bytes) others
 
@@ -95,7 +95,7 @@ others_place_with carried drawing = map_place_with carried drawing + length (map
 abbrev pub size_with : Carried → Contents → ℕ
 size_with carried drawing = others_place_with carried drawing + length (others_bytes drawing.others)
 
--- the locators of unknown sections that stand one behind the other from a place
+-- the locators of unknown sections that stand one after the other from a place
 abbrev pub others_located : ℕ → List OtherValue → List Locator
 others_located place [] = []
 others_located place (other ∷ others) =

@@ -1,4 +1,4 @@
--- The frames of the canonical file of a drawing: those of its objects, one behind the other. A rule of this project.
+-- The frames of the canonical file of a drawing: those of its objects, one after the other. A rule of this project.
 use Rattle.std.proofs.Common.{ℕ, ◌+◌, List, [], ◌∷◌, length}
 use Rattle.dwg_base.specs.declared.version.Version.{Version}
 use Rattle.dwg_object.specs.Written.{body_bytes}
@@ -8,7 +8,7 @@ use Rattle.dwg_file.specs.Canonical.{Carried, NO_PICTURE, objects_place_with}
 use Rattle.dwg_file.specs.Contents.{Contents}
 use Rattle.dwg_file.specs.Spelled.{PairFrame}
 
--- the frames of objects that stand one behind the other from a place
+-- the frames of objects that stand one after the other from a place
 abbrev pub frames_from : Version → ℕ → List ObjectValue → List PairFrame
 frames_from version place [] = []
 frames_from version place (object ∷ objects) = record {

@@ -65,24 +65,24 @@ with_span bytes earlier pair index (Ok span) =
     if touches earlier span.from span.end then Err (frame_refusal 29 index pair.place)
     else with_handle pair index (tried_frame (version_at bytes) pair.place index bytes)
 
--- the frame of a pair behind those of earlier pairs, or the first of its lines that fails: place, length, overlap, check word, head, handle
+-- the frame of a pair after those of earlier pairs, or the first of its lines that fails: place, length, overlap, check word, head, handle
 unfoldable pub tried_pair : List ℕ → List FoundFrame → ℕ → Pair → Tried FoundFrame
 tried_pair bytes earlier index pair = with_span bytes earlier pair index (tried_span pair.place index bytes)
 
--- what the pairs behind one give, if its frame was found
+-- what the pairs after one give, if its frame was found
 abbrev pub with_found : (FoundFrame → Tried (List FoundFrame)) → Tried FoundFrame → Tried (List FoundFrame)
 with_found others (Err refusal) = Err refusal
 with_found others (Ok found) = others found
 
--- the frames of earlier pairs and those of the pairs behind them, or the first refusal
-unfoldable pub frames_behind : List ℕ → ℕ → List FoundFrame → List Pair → Tried (List FoundFrame)
-frames_behind bytes index earlier [] = Ok earlier
-frames_behind bytes index earlier (pair ∷ pairs) =
-    with_found (λ found. frames_behind bytes (index + 1) (earlier ++ found ∷ []) pairs) (tried_pair bytes earlier index pair)
+-- the frames of earlier pairs and those of the pairs after them, or the first refusal
+unfoldable pub frames_after : List ℕ → ℕ → List FoundFrame → List Pair → Tried (List FoundFrame)
+frames_after bytes index earlier [] = Ok earlier
+frames_after bytes index earlier (pair ∷ pairs) =
+    with_found (λ found. frames_after bytes (index + 1) (earlier ++ found ∷ []) pairs) (tried_pair bytes earlier index pair)
 
 -- the frames of the pairs of the map, or the first pair that fails a line
 unfoldable pub frames_tried : List ℕ → Tried (List FoundFrame)
-frames_tried bytes = frames_behind bytes 0 [] (result_unwrap_or (map_tried bytes) [])
+frames_tried bytes = frames_after bytes 0 [] (result_unwrap_or (map_tried bytes) [])
 
 -- the lines on frames, pair by pair in map order
 unfoldable pub frames_row : RefusalRow

@@ -18,11 +18,11 @@ use Rattle.dwg_file.specs.FileLines.{FoundFrame, touches, frames_tried}
 use Rattle.dwg_file.specs.ObjectFrames.{frame_of}
 use Rattle.dwg_file.specs.ReadAs.{AreFormsOf}
 use Rattle.dwg_file.specs.Spelled.{AreAscending}
-use Rattle.dwg_file.specs.Taken.{Run, shares}
+use Rattle.dwg_file.specs.ByteRanges.{Run, shares}
 
 -- the runs are the bytes of the frames
-abbrev pub AreTaken : List FoundFrame → List Run → Type 0
-AreTaken earlier taken = (from end : ℕ) → touches earlier from end ≡ shares taken from end
+abbrev pub AreRanges : List FoundFrame → List Run → Type 0
+AreRanges earlier taken = (from end : ℕ) → touches earlier from end ≡ shares taken from end
 
 -- what was found is the frame of a pair: its span, its head with the pair's own handle, and the object that its body is read as, which has this handle too
 pub record IsFrameFound (classes : List Class) (bytes : List ℕ) (pair : Pair) (tried : Tried FoundFrame) (found : Found) : Type 0 where
@@ -34,7 +34,7 @@ pub record IsFrameFound (classes : List Class) (bytes : List ℕ) (pair : Pair) 
   pub form : FormOf (version_at bytes) classes (span_body bytes frame.0) (value_of found.object)
   pub own : handle_of (value_of found.object) ≡ pair.handle
 
--- a call answers the frame of a pair, or its refusal; want of memory tells nothing
+-- a call answers the frame of a pair, or its refusal; out of memory reports nothing
 abbrev pub AnswersPair : List Class → List ℕ → Pair → Tried FoundFrame → Result Found Fault → Type 0
 AnswersPair classes bytes pair tried (Ok found) = IsFrameFound classes bytes pair tried found
 AnswersPair classes bytes pair tried (Err NoMemory) = ⊤
@@ -46,19 +46,19 @@ values_of objects = map value_of objects
 
 -- frames were read: their bytes are taken, they are listed, and their bodies are read as the objects, which have these handles
 pub record HasRead (classes : List Class) (bytes : List ℕ) (earlier : List FoundFrame) (handles : List ℕ) (read : Frames) : Type 0 where
-  pub touched : AreTaken earlier read.taken
+  pub touched : AreRanges earlier read.taken
   pub listed : read.frames ≡ map frame_of earlier
   pub forms : AreFormsOf classes bytes earlier (values_of read.objects.items)
   pub own : map handle_of (values_of read.objects.items) ≡ handles
 
--- a step goes on to the next pair: the frame of this pair was read too, or its refusal is told; want of memory tells nothing
+-- a step goes on to the next pair: the frame of this pair was read too, or its refusal is reported; out of memory reports nothing
 abbrev pub GoesOn : List Class → List ℕ → List FoundFrame → List ℕ → Pair → Tried FoundFrame → Result Frames Fault → Type 0
 GoesOn classes bytes earlier handles pair tried (Ok more) =
     (found : FoundFrame) × (tried ≡ Ok found) × HasRead classes bytes (earlier ++ found ∷ []) (handles ++ pair.handle ∷ []) more
 GoesOn classes bytes earlier handles pair tried (Err NoMemory) = ⊤
 GoesOn classes bytes earlier handles pair tried (Err (Refused refusal)) = tried ≡ Err refusal
 
--- a call answers the frames of pairs: they are listed, and their bodies are read as the objects; or the first refusal; want of memory tells nothing
+-- a call answers the frames of pairs: they are listed, and their bodies are read as the objects; or the first refusal; out of memory reports nothing
 abbrev pub AnswersFrames : List Class → List ℕ → Tried (List FoundFrame) → Result Frames Fault → Type 0
 AnswersFrames classes bytes tried (Ok read) =
     (found : List FoundFrame) × (tried ≡ Ok found) × AreFormsOf classes bytes found (values_of read.objects.items) × (read.frames ≡ map frame_of found)
@@ -72,7 +72,7 @@ pub record AreObjectsOf (classes : List Class) (bytes : List ℕ) (found : List 
   pub same : IsPermutation values objects
   pub ascending : AreAscending objects
 
--- a call answers the objects of frames, which are listed, or the first refusal; want of memory tells nothing
+-- a call answers the objects of frames, which are listed, or the first refusal; out of memory reports nothing
 abbrev pub AnswersObjects : List Class → List ℕ → Tried (List FoundFrame) → Result FramedObjects Fault → Type 0
 AnswersObjects classes bytes tried (Ok read) =
     (found : List FoundFrame) × (tried ≡ Ok found) × AreObjectsOf classes bytes found (values_of read.objects) × (read.frames ≡ map frame_of found)

@@ -41,7 +41,7 @@ pub record HandleRefused (bytes : List ℕ) (pair : Pair) (index : ℕ) (refusal
   pub other : parts.own ≡ pair.handle → ⊥
   pub line : refusal ≡ frame_refusal 32 index pair.place
 
--- behind the frames of earlier pairs the pair's fails, and this is the first of its lines that does: no span stands there, or one that overlaps; or it doesn't and its check word, its head or its handle fails
+-- after the frames of earlier pairs the pair's fails, and this is the first of its lines that does: no span stands there, or one that overlaps; or it doesn't and its check word, its head or its handle fails
 abbrev pub PairRefused : List ℕ → List PairFrame → ℕ → Pair → Refusal → Type 0
 PairRefused bytes frames index pair refusal =
     SpanRefused bytes pair.place index refusal
@@ -55,8 +55,8 @@ pub record FramesRefused (classes : List Class) (bytes : List ℕ) (pairs : List
   pub stand : AllByRecursion (IsFrameOfPair classes bytes) frames
   pub apart : AllPairs AreApart frames
   pub pair : Pair
-  pub behind : List Pair
-  pub whole : pairs ≡ map (λ (frame : PairFrame). frame.pair) frames ++ pair ∷ behind
+  pub after : List Pair
+  pub whole : pairs ≡ map (λ (frame : PairFrame). frame.pair) frames ++ pair ∷ after
   pub fails : PairRefused bytes frames (length frames) pair refusal
 
 -- the lines on frames refuse an input with a header and a map exactly where a pair is the first whose frame fails, and as it does

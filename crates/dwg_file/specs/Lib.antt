@@ -6,15 +6,15 @@ pub mod Borrowed
 pub mod Spelled
 -- The lines of the table of refusals over a whole file, in their order.
 pub mod FileLines
--- The canonical file of a drawing: its parts one behind the other without gaps.
+-- The canonical file of a drawing: its parts one after the other without gaps.
 pub mod Canonical
 -- Which drawings are valid: those that can be written and read again.
 pub mod Valid
 -- What is read of an input in which no line fails: its parts, by their places.
 pub mod ReadAs
 -- The bytes that frames took so far, as runs.
-pub mod Taken
--- The frames of objects as they are told with the drawing that is read.
+pub mod ByteRanges
+-- The frames of objects as they are reported with the drawing that is read.
 pub mod ObjectFrames
 -- What the steps of reading frames do to what is left to try.
 pub mod FrameReading
@@ -34,7 +34,7 @@ pub mod ValidLaws
 pub mod SortedObjects
 -- The drawing that is read of an input, as a function of its bytes.
 pub mod DrawingAt
--- Frames of objects that stand one behind the other from a place on.
+-- Frames of objects that stand one after the other from a place on.
 pub mod CanonicalFrames
 -- The canonical file of a valid drawing that isn't too large spells it, has the size that is counted, and is bytes.
 pub mod CanonicalLaws
@@ -45,4 +45,4 @@ pub mod ShortDamage
 -- What a drawing needs to be written: where its parts stand, and room for one of them.
 pub mod Plans
 -- Bytes on their way to a sink, of which some wait to go out together.
-pub mod Gathering
+pub mod WriteBuffer

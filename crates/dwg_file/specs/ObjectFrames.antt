@@ -1,4 +1,4 @@
--- The frames of objects as they are told with the drawing that is read. A rule of this project.
+-- The frames of objects as they are reported with the drawing that is read. A rule of this project.
 use Rattle.dwg_file.specs.declared.frames.ObjectFrame.{ObjectFrame}
 use Rattle.dwg_file.specs.FileLines.{FoundFrame}
 

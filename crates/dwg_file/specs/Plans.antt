@@ -9,7 +9,7 @@ use Rattle.dwg_base.specs.Bytes.{AreBytes}
 use Rattle.dwg_grammar.specs.ModularCodes.{ms}
 use Rattle.dwg_object.specs.Frames.{frame_bytes}
 use Rattle.dwg_objmap.specs.declared.pair.Pair.{Pair}
-use Rattle.dwg_objmap.specs.Writing.{OpenPage, map_behind}
+use Rattle.dwg_objmap.specs.Writing.{OpenPage, map_after}
 use Rattle.std.specs.Io.KnownBytes.{Appends}
 use Rattle.dwg_object.specs.Objects.{ObjectValue}
 use Rattle.dwg_object.specs.Objects.ObjectValue.{TypedValue, PlainValue, RawValue}
@@ -18,7 +18,7 @@ use Rattle.dwg_sections.specs.FileHeader.{header_bytes}
 use Rattle.dwg_sections.specs.Framed.{framed_bytes}
 use Rattle.dwg_file.specs.declared.layout.Layout.{Layout}
 use Rattle.dwg_file.specs.Canonical.{Carried, IsCarried, class_content, frames_bytes, placed, preview_at, variables_place, classes_place, preview_place, objects_place_with, map_place_with, others_place_with, header_with, size_with}
-use Rattle.dwg_preview.specs.Previews.{front_bytes}
+use Rattle.dwg_preview.specs.Previews.{prefix_bytes}
 use Rattle.dwg_file.specs.Contents.{Contents}
 use Rattle.dwg_file.specs.Valid.{IsValid}
 
@@ -42,7 +42,7 @@ pub record CanBeSent (version : Version) (room : ℕ) (value : ObjectValue) : Ty
 pub record IsPut (old now : Option (List ℕ)) (page : OpenPage) (left : List Pair) (map : List ℕ) : Type 0 where
   pub sent : List ℕ
   pub taken : Appends old now sent
-  pub whole : sent ++ map_behind page left ≡ map
+  pub whole : sent ++ map_after page left ≡ map
 
 -- the room for so many bytes holds what of an object's frame isn't held elsewhere
 abbrev pub FitsIn : Version → ℕ → ObjectValue → Type 0
@@ -51,7 +51,7 @@ FitsIn version part value = room_of_frame version value ≤ part
 -- with room for so many bits each part of a drawing's canonical file can be made that isn't held elsewhere: the file header, which ends where the header variables stand, the preview up to its further bytes, the content of the classes, and each frame
 pub record HasRoom (carried : Carried) (room : ℕ) (drawing : Contents) : Type 0 where
   pub header : 8 * variables_place drawing ≤ room
-  pub preview : 8 * length (front_bytes carried.place (preview_place drawing) carried.content) ≤ room
+  pub preview : 8 * length (prefix_bytes carried.place (preview_place drawing) carried.content) ≤ room
   pub classes : 8 * length (class_content drawing.classes) ≤ room
   pub objects : AllByRecursion (CanBeSent drawing.version room) drawing.objects
 

@@ -30,8 +30,8 @@ whole_locators bytes locators = filter (λ (locator : Locator). not (is_cut byte
 abbrev pub AreFormsOf : List Class → List ℕ → List FoundFrame → List ObjectValue → Type 0
 AreFormsOf classes bytes [] objects = objects ≡ []
 AreFormsOf classes bytes (found ∷ frames) objects =
-    (object : ObjectValue) × (behind : List ObjectValue) × (objects ≡ object ∷ behind)
-    × FormOf (version_at bytes) classes (span_body bytes found.0) object × AreFormsOf classes bytes frames behind
+    (object : ObjectValue) × (after : List ObjectValue) × (objects ≡ object ∷ after)
+    × FormOf (version_at bytes) classes (span_body bytes found.0) object × AreFormsOf classes bytes frames after
 
 -- a drawing is what is read of an input in which no line fails
 pub record ReadsAs (drawing : Contents) (bytes : List ℕ) : Type 0 where

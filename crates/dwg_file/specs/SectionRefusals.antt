@@ -15,13 +15,13 @@ PassesFile bytes locator = (3 ≤ locator.number) × (0 < locator.size) × (leng
 pub record SectionsRefused (bytes : List ℕ) (locators : List Locator) (refusal : Refusal) : Type 0 where
   pub before : List Locator
   pub locator : Locator
-  pub behind : List Locator
-  pub whole : locators ≡ before ++ locator ∷ behind
+  pub after : List Locator
+  pub whole : locators ≡ before ++ locator ∷ after
   pub within : AllByRecursion (λ (earlier : Locator). PassesFile bytes earlier → ⊥) before
   pub passes : PassesFile bytes locator
   pub line : refusal ≡ record { line = 33; index = length before; place = locator.place }
 
--- the line on unknown sections refuses an input with a header exactly where one of its locators is the first whose section passes the end, and tells it
+-- the line on unknown sections refuses an input with a header exactly where one of its locators is the first whose section passes the end, and reports it
 abbrev pub SectionsAreRefused : Type 0
 SectionsAreRefused =
     (bytes : List ℕ) (header : FileHeader) (refusal : Refusal) → BeginsWithHeader bytes header

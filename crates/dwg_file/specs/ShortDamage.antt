@@ -36,7 +36,7 @@ DamagedFrameFails =
     → canonical_frames drawing ≡ earlier ++ frame ∷ later → IsDamagedShortly drawing frame bytes
     → (end : ℕ) → FrameHolds bytes frame.pair.place frame.pair.handle end → ⊥
 
--- an input is as long as the canonical file, and has as it is there all but one frame: header, framed sections, map pages, unknown sections, and the frames before that one and behind it
+-- an input is as long as the canonical file, and has as it is there all but one frame: header, framed sections, map pages, unknown sections, and the frames before that one and after it
 pub record ElseIsSame (drawing : Contents) (bytes : List ℕ) (earlier later : List PairFrame) : Type 0 where
   pub long : length bytes ≡ length (canonical drawing)
   pub header : HasPart drawing bytes 0 (variables_place drawing)
@@ -45,7 +45,7 @@ pub record ElseIsSame (drawing : Contents) (bytes : List ℕ) (earlier later : L
   pub mapped : HasPart drawing bytes (map_place drawing) (others_place drawing)
   pub others : HasPart drawing bytes (others_place drawing) (size_of drawing)
   pub before : AllByRecursion (λ (one : PairFrame). HasPart drawing bytes one.pair.place one.end) earlier
-  pub behind : AllByRecursion (λ (one : PairFrame). HasPart drawing bytes one.pair.place one.end) later
+  pub after : AllByRecursion (λ (one : PairFrame). HasPart drawing bytes one.pair.place one.end) later
 
 -- so is one that is damaged shortly
 abbrev pub AllElseIsSame : Type 0

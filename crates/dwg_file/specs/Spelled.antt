@@ -51,8 +51,8 @@ abbrev pub AreSectionsOf : List ℕ → List Locator → List OtherValue → Typ
 AreSectionsOf bytes [] others = others ≡ []
 AreSectionsOf bytes (locator ∷ locators) others =
     ((locator.number < 3) × AreSectionsOf bytes locators others)
-    ⊎ ((3 ≤ locator.number) × (other : OtherValue) × (behind : List OtherValue) × (others ≡ other ∷ behind)
-    × IsSectionOf bytes locator other × AreSectionsOf bytes locators behind)
+    ⊎ ((3 ≤ locator.number) × (other : OtherValue) × (after : List OtherValue) × (others ≡ other ∷ after)
+    × IsSectionOf bytes locator other × AreSectionsOf bytes locators after)
 
 -- an input spells a drawing
 pub record Spelled (drawing : Contents) (bytes : List ℕ) : Type 0 where

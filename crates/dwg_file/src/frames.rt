@@ -6,12 +6,12 @@ ghost use Rattle.dwg_object.specs.FrameLines.{frame_refusal};
 ghost use Rattle.std.specs.List.{All};
 ghost use Rattle.dwg_object.specs.Objects.{IsBorrowedObject, handle_of, value_of};
 ghost use Rattle.dwg_objmap.specs.Pages.{handles_of};
-ghost use Rattle.dwg_file.specs.FileLines.{FoundFrame, tried_pair, frames_behind};
-ghost use Rattle.dwg_file.specs.FrameReading.{AreTaken, AnswersPair, HasRead, GoesOn, AnswersFrames, values_of};
-ghost use Rattle.dwg_file.specs.Taken.{meets, shares};
+ghost use Rattle.dwg_file.specs.FileLines.{FoundFrame, tried_pair, frames_after};
+ghost use Rattle.dwg_file.specs.FrameReading.{AreRanges, AnswersPair, HasRead, GoesOn, AnswersFrames, values_of};
+ghost use Rattle.dwg_file.specs.ByteRanges.{meets, shares};
 
-use crate::taken::Taken;
-use dwg_base::{Fault, Handle, Items, NoMemory, Refusal, Version, with_item, with_room};
+use crate::byte_ranges::ByteRanges;
+use dwg_base::{Fault, Handle, Items, NoMemory, Refusal, Version, vec_with_capacity, with_item};
 use dwg_classes::Hints;
 use dwg_object::{Found, Object, read_span, span_at};
 use dwg_objmap::Pair;
@@ -40,13 +40,13 @@ fn has_handle(found: &Found<'_>, handle: Handle) -> bool
 /// its own handle is the pair's.
 fn frame_of_pair<'a>(
     alloc: Global,
-    taken: &Taken,
+    taken: &ByteRanges,
     bytes: &'a [u8],
     pair: &Pair,
     index: u64,
     hints: &Hints<'_>,
 ) -> Result<Found<'a>, Fault>
-    ensures tried { (earlier : List FoundFrame) → AreTaken earlier taken.now → AnswersPair hints.now bytes.now pair.now (tried_pair bytes.now earlier index pair.now) result }
+    ensures tried { (earlier : List FoundFrame) → AreRanges earlier taken.now → AnswersPair hints.now bytes.now pair.now (tried_pair bytes.now earlier index pair.now) result }
     ensures lent { IfOk result (λ found. IsBorrowedObject found.object) }
     ensures some { IfOk result (λ found. pair.now.place < found.end) }
     ensures apart { IfOk result (λ found. shares taken.now pair.now.place found.end ≡ false) }
@@ -78,7 +78,7 @@ pub struct ObjectFrame {
     pub handle: Handle,
     /// The frame's place, in bytes.
     pub from: u64,
-    /// The place behind the frame's check word.
+    /// The place after the frame's check word.
     pub end: u64,
 }
 
@@ -87,7 +87,7 @@ pub struct ObjectFrame {
 const LEAST_FRAME: usize = 7;
 
 /// A list with room for the objects of so many pairs, and for no more than an input of so many bytes can hold. The only refusal is
-/// want of memory.
+/// out of memory.
 fn room_for_objects<'a>(
     alloc: Global,
     pairs: usize,
@@ -95,18 +95,18 @@ fn room_for_objects<'a>(
 ) -> Result<Vec<Object<'a>>, NoMemory>
     ensures { IfOk result (λ objects. objects.items ≡ []) }
 {
-    with_room(alloc, pairs.min(bytes / LEAST_FRAME))
+    vec_with_capacity(alloc, pairs.min(bytes / LEAST_FRAME))
 }
 
 /// The frames that were read so far, their objects, and the bytes that they took.
 #[derive(Drop)]
 pub(crate) struct Frames<'a> {
-    taken: Taken,
+    taken: ByteRanges,
     pub(crate) frames: Items<ObjectFrame>,
     pub(crate) objects: Vec<Object<'a>>,
 }
 
-/// The frames and that of a pair, which was found and shares no byte with them. The only refusal is want of memory.
+/// The frames and that of a pair, which was found and shares no byte with them. Err: out of memory.
 fn with_frame<'a>(read: Frames<'a>, pair: &Pair, found: Found<'a>) -> Result<Frames<'a>, NoMemory>
     requires some { pair.now.place < found.end }
     requires apart { shares read.taken pair.now.place found.end ≡ false }
@@ -167,7 +167,7 @@ pub(crate) fn read_frames<'a>(
     pairs: &[Pair],
     hints: &Hints<'_>,
 ) -> Result<Frames<'a>, Fault>
-    ensures tried { AnswersFrames hints.now bytes.now (frames_behind bytes.now 0 [] pairs.now) result }
+    ensures tried { AnswersFrames hints.now bytes.now (frames_after bytes.now 0 [] pairs.now) result }
     ensures own { IfOk result (λ read. map handle_of (values_of read.objects.items) ≡ handles_of pairs.now) }
     ensures lent { IfOk result (λ read. All IsBorrowedObject read.objects.items) }
     ensures of_table { IfErr result IsFaultOfTable }
@@ -177,7 +177,7 @@ pub(crate) fn read_frames<'a>(
         Err(NoMemory) => return Err(Fault::NoMemory),
     };
     let mut read = Frames {
-        taken: Taken::new(alloc),
+        taken: ByteRanges::new(alloc),
         frames: Items::new(alloc),
         objects,
     };

@@ -21,7 +21,7 @@ use dwg_sections::{file_header_laws, framed_laws};
 /// what is read of it by its places, where none fails, is what it spells, and the other way round; and what an input of at
 /// most 32 MiB spells is valid. The object that a body is read as is the one that is found from its head (`form_at`). The lines on the header variables, the section of the classes and the map refuse an input with a header
 /// exactly as the first thing in them that fails is refused, and so do the lines on the classes where their section stands. The lines on
-/// frames refuse an input with a map exactly where behind frames that stand, with
+/// frames refuse an input with a map exactly where after frames that stand, with
 /// their pairs' handles and without a common byte, a pair is the first whose frame fails, and as it does; and the line on
 /// unknown sections exactly where one is the first that passes the end. Parts that are read of no more bytes than an input may
 /// have make a valid drawing, and the unknown sections that don't pass the end are such parts.

@@ -7,11 +7,11 @@ ghost use Rattle.dwg_file.specs.Contents.{other_value, contents_of};
 ghost use Rattle.dwg_file.specs.Plans.{HasRoom, IsLayout};
 ghost use Rattle.dwg_file.specs.Valid.{IsValid};
 
+use crate::frame_layout::{content_length, others_length, place_objects};
 use crate::parts::{Other, Parts};
-use crate::plan_parts::{content_length, others_length, place_objects};
 use dwg_base::{Items, NoMemory};
 use dwg_objmap::{Pair, map_length};
-use dwg_preview::{Preview, front_length, preview_length};
+use dwg_preview::{Preview, prefix_length, preview_length};
 use dwg_sections::{
     CLASSES_NUMBER, FRAMED_SIZE, FileHeader, HEADER_SIZE, LOCATOR_SIZE, Locator, OBJECT_MAP_NUMBER,
     VARIABLES_NUMBER,
@@ -41,7 +41,7 @@ pub(crate) struct Layout<'a> {
     pub part: u64,
 }
 
-/// Lays out the canonical file of valid parts with a preview. The only refusal is want of memory.
+/// Lays out the canonical file of valid parts with a preview. Err: out of memory.
 pub(crate) fn layout_of<'a>(
     alloc: Global,
     parts: &Parts<'_>,
@@ -77,13 +77,13 @@ pub(crate) fn layout_of<'a>(
         others,
         size,
         part: variables
-            .max(front_length(&carried))
+            .max(prefix_length(&carried))
             .max(content)
             .max(frames.part),
     })
 }
 
-/// Puts a locator at the end. The only refusal is want of memory.
+/// Puts a locator at the end. Err: out of memory.
 fn add_locator(
     locators: &mut Items<Locator>,
     number: u8,
@@ -101,7 +101,7 @@ fn add_locator(
     })
 }
 
-/// Puts the locators of unknown sections that stand one behind the other at the end. The only refusal is want of memory.
+/// Puts the locators of unknown sections that stand one after the other at the end. Err: out of memory.
 fn locate_others(
     others: &[Other<'_>],
     from: u64,
@@ -122,7 +122,7 @@ fn locate_others(
     Ok(())
 }
 
-/// The locators of the canonical file. The only refusal is want of memory.
+/// The locators of the canonical file. Err: out of memory.
 fn locators_of(
     alloc: Global,
     parts: &Parts<'_>,
@@ -155,7 +155,7 @@ fn locators_of(
     Ok(locators)
 }
 
-/// The header of the canonical file. The only refusal is want of memory.
+/// The header of the canonical file. Err: out of memory.
 pub(crate) fn header_of(
     alloc: Global,
     parts: &Parts<'_>,

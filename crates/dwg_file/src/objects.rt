@@ -6,7 +6,7 @@ ghost use Rattle.dwg_base.specs.Refusals.{IsFaultOfTable};
 ghost use Rattle.std.specs.List.{All};
 ghost use Rattle.dwg_object.specs.Objects.{IsBorrowedObject, handle_of, value_of};
 ghost use Rattle.dwg_objmap.specs.Pages.{AreHandles, handles_of};
-ghost use Rattle.dwg_file.specs.FileLines.{frames_behind};
+ghost use Rattle.dwg_file.specs.FileLines.{frames_after};
 ghost use Rattle.dwg_file.specs.FrameReading.{AnswersObjects, values_of};
 ghost use Rattle.dwg_file.specs.SortedObjects.{sorted};
 ghost use Rattle.dwg_file.specs.Spelled.{AreAscending};
@@ -35,7 +35,7 @@ fn are_sorted(objects: &[Object<'_>]) -> bool
 }
 
 /// The objects in ascending order of their handles, in n log n steps. Those that stand so stay where they are; else places are
-/// sorted, and each object is moved to its own. The only refusal is want of memory.
+/// sorted, and each object is moved to its own. Err: out of memory.
 fn sorted_by_places<'a>(objects: Vec<Object<'a>>) -> Result<Vec<Object<'a>>, NoMemory>
     ensures same { IfOk result (λ sorted. IsPermutation objects.entry.items sorted.items) }
     ensures ascend { IfOk result (λ sorted. IsNonDecreasingBy (λ object. handle_of (value_of object)) sorted.items) }
@@ -75,7 +75,7 @@ pub fn in_handle_order<'a>(objects: Vec<Object<'a>>) -> Items<Object<'a>>
     Items::from_vec(sorted_in_place(objects))
 }
 
-/// The same by places. The only refusal is want of memory, which is taken only where they don't stand so.
+/// The same by places. Err: out of memory, which is taken only where they don't stand so.
 fn ordered_by_places<'a>(objects: Vec<Object<'a>>) -> Result<Items<Object<'a>>, NoMemory>
     requires { AreHandles (map handle_of (values_of objects.items)) }
     ensures same { IfOk result (λ ordered. IsPermutation (values_of objects.entry.items) (values_of ordered)) }
@@ -101,7 +101,7 @@ pub(crate) fn read_objects<'a>(
     classes: &[Class],
 ) -> Result<FramedObjects<'a>, Fault>
     requires { AreHandles (handles_of pairs.now) }
-    ensures tried { AnswersObjects classes.now bytes.now (frames_behind bytes.now 0 [] pairs.now) result }
+    ensures tried { AnswersObjects classes.now bytes.now (frames_after bytes.now 0 [] pairs.now) result }
     ensures lent { IfOk result (λ read. All IsBorrowedObject read.objects) }
     ensures of_table { IfErr result IsFaultOfTable }
 {

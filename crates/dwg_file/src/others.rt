@@ -66,7 +66,7 @@ fn bytes_of<'a>(bytes: &'a [u8], locator: &Locator) -> &'a [u8]
 }
 
 /// The unknown sections and that of one locator more, where its number is none that is known and its bytes don't pass the end
-/// of the input. The only refusal is want of memory.
+/// of the input. Err: out of memory.
 #[tactic(auto, using(crate::proofs::Borrowing::section_lent))]
 fn with_section<'a>(
     others: Items<Other<'a>>,

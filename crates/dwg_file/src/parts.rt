@@ -18,7 +18,7 @@ pub struct Other<'a> {
 pub struct Parts<'a> {
     /// The version, by whose rules its objects are read and written.
     pub version: Version,
-    /// Seven bytes behind the version, kept without meaning.
+    /// Seven bytes after the version, kept without meaning.
     pub lead: [u8; 7],
     /// Two bytes before the code page, kept without meaning.
     pub mark: [u8; 2],

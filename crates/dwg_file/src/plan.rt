@@ -5,18 +5,18 @@ ghost use Rattle.dwg_base.specs.Devices.{MOST_BYTES, Counts, Sends};
 ghost use Rattle.dwg_preview.specs.Previews.{IsContent};
 ghost use Rattle.dwg_file.specs.Canonical.{IsCarried, NO_PICTURE, canonical_with, carried_by, carried_of, others_bytes, preview_place, size_of, size_with};
 ghost use Rattle.dwg_file.specs.Contents.{contents_of};
-ghost use Rattle.dwg_file.specs.Gathering.{Gives};
+ghost use Rattle.dwg_file.specs.WriteBuffer.{Gives};
 ghost use Rattle.dwg_file.specs.Plans.{HasRoom, IsLayout, IsReady, before_map, sections_bytes};
 ghost use Rattle.dwg_file.specs.Valid.{IsValid};
 
 use crate::drawing::Drawing;
-use crate::gathering::Gathering;
 use crate::layout::{Layout, header_of, layout_of};
 use crate::parts::Parts;
 use crate::sending::{
     give_classes, give_framed, give_frames, give_header, give_others, give_preview, send_map,
 };
-use dwg_base::{Items, LIMIT, NoMemory, Sink, WriteFault, bounded_bytes};
+use crate::write_buffer::WriteBuffer;
+use dwg_base::{Items, LIMIT, NoMemory, Sink, WriteFault, bytes_with_range};
 use dwg_bits::BitSink;
 use dwg_objmap::{PageWriter, Pair};
 use dwg_preview::Preview;
@@ -28,7 +28,7 @@ use thiserror::Error;
 /// Why a drawing can't be written.
 #[derive(Clone, Copy, Debug, PartialEq, Eq, Error)]
 pub enum PlanFault {
-    /// Want of memory.
+    /// Out of memory.
     #[error("out of memory")]
     NoMemory,
     /// The canonical file has more bytes than a file may have.
@@ -48,7 +48,7 @@ fn carried_or_none<'a>(preview: Option<Preview<'a>>) -> Preview<'a>
     match preview {
         Some(preview) => Preview {
             place: preview.place,
-            content: bounded_bytes(preview.content),
+            content: bytes_with_range(preview.content),
         },
         None => Preview {
             place: 0,
@@ -63,7 +63,7 @@ fn give_sections<W: Sink>(
     carried: &Preview<'_>,
     place: u32,
     part: &mut BitSink,
-    gathering: &mut Gathering,
+    gathering: &mut WriteBuffer,
     sink: &mut W,
 ) -> Result<(), WriteFault>
     requires valid { IsValid (contents_of parts.now) }
@@ -92,12 +92,12 @@ fn give_sections<W: Sink>(
 }
 
 /// Sends the parts of the canonical file before the map.
-fn send_front<W: Sink>(
+fn send_prefix<W: Sink>(
     parts: &Parts<'_>,
     carried: &Preview<'_>,
     header: &FileHeader,
     part: &mut BitSink,
-    gathering: &mut Gathering,
+    gathering: &mut WriteBuffer,
     sink: &mut W,
 ) -> Result<(), WriteFault>
     requires ready { IsReady (carried_by carried.now) (contents_of parts.now) header.now (part.old.spare + length part.old.written) }
@@ -128,10 +128,10 @@ fn send_front<W: Sink>(
     gathering.flush(sink)
 }
 
-/// Sends the parts of the canonical file behind the map.
+/// Sends the parts of the canonical file after the map.
 fn send_back<W: Sink>(
     parts: &Parts<'_>,
-    gathering: &mut Gathering,
+    gathering: &mut WriteBuffer,
     sink: &mut W,
 ) -> Result<(), WriteFault>
     requires { gathering.old ≡ [] }
@@ -145,7 +145,7 @@ fn send_back<W: Sink>(
     gathering.flush(sink)
 }
 
-/// Room for a part of so many bytes. The only refusal is want of memory.
+/// Room for a part of so many bytes. Err: out of memory.
 fn room_for_part(alloc: Global, bytes: u64) -> Result<BitSink, NoMemory>
     requires { bytes < 2 ^ 58 }
     ensures { IfOk result (λ part. 8 * bytes ≤ part.spare + length part.written) }
@@ -169,7 +169,7 @@ pub struct Plan<'d, 'a> {
     header: FileHeader,
     // Where a part is made that isn't held elsewhere, what waits to go out, and the pages of the map.
     part: BitSink,
-    gathering: Gathering,
+    gathering: WriteBuffer,
     pages: PageWriter,
 }
 
@@ -186,7 +186,7 @@ impl<'d, 'a> Model for Plan<'d, 'a> {
     ghost invariant = { λ plan. IsPlan (carried_by plan.carried) (contents_of plan.drawing.now) plan.pairs plan.size plan.header (plan.part.spare + length plan.part.written) };
 }
 
-/// What the writing of a laid out drawing needs. The only refusal is want of memory.
+/// What the writing of a laid out drawing needs. Err: out of memory.
 fn plan_of<'d, 'a>(
     alloc: Global,
     drawing: &'d Drawing<'a>,
@@ -201,7 +201,7 @@ fn plan_of<'d, 'a>(
 {
     let header = header_of(alloc, drawing.parts(), &layout)?;
     let part = room_for_part(alloc, layout.part)?;
-    let gathering = Gathering::new(alloc)?;
+    let gathering = WriteBuffer::new(alloc)?;
     let pages = PageWriter::new(alloc)?;
     Ok(Plan {
         drawing,
@@ -217,7 +217,7 @@ fn plan_of<'d, 'a>(
 
 impl<'d, 'a> Plan<'d, 'a> {
     /// Measures the canonical file of a drawing. TooLarge exactly where that has more than `LIMIT` bytes, with their count; the
-    /// only other refusal is want of memory. All memory that writing needs is taken here: a pair for each object, a locator for
+    /// only other refusal is out of memory. All memory that writing needs is taken here: a pair for each object, a locator for
     /// each section, the largest part that isn't held elsewhere, a page of the map and a pair in it, and the least that goes out in
     /// one piece.
     pub fn prepare(alloc: Global, drawing: &'d Drawing<'a>) -> Result<Plan<'d, 'a>, PlanFault>
@@ -265,10 +265,10 @@ impl<'d, 'a> Plan<'d, 'a> {
     }
 
     /// Sends the canonical file, part after part. It takes no memory, and may be called again, after Ok and after a fault: it sends
-    /// the whole file again. A fault comes only where the sink's count of faults rose; then it took a front of the file.
+    /// the whole file again. A fault comes only where the sink's count of faults rose; then it took a prefix of the file.
     ///
-    /// Before the map and behind it small pieces go out together, 4,096 bytes at a time but for the last; each page of the map goes
-    /// out in one piece, from where it is filled. What is held elsewhere takes no room of its own, and what of it is left behind a
+    /// Before the map and after it small pieces go out together, 4,096 bytes at a time but for the last; each page of the map goes
+    /// out in one piece, from where it is filled. What is held elsewhere takes no room of its own, and what of it is left after a
     /// piece goes out as it is held, if it has as many bytes.
     pub fn write_to<W: Sink>(&mut self, sink: &mut W) -> Result<(), WriteFault>
         ensures bytes { Sends (W.taken sink.old) (W.taken sink.new) (canonical_with self.old.carried self.old.drawing) result }
@@ -277,7 +277,7 @@ impl<'d, 'a> Plan<'d, 'a> {
     {
         let parts = self.drawing.parts();
         self.gathering.clear();
-        match send_front(
+        match send_prefix(
             parts,
             &self.carried,
             &self.header,

@@ -3,7 +3,7 @@
 ghost use Rattle.std.specs.Prelude.{◌≡◌, ◌≤◌, [], ◌∷◌, length, map, IfOk, IfErr, OnOk, None};
 ghost use Rattle.std.specs.Result.{result_unwrap_or};
 ghost use Rattle.dwg_base.specs.Devices.{MOST_BYTES};
-ghost use Rattle.dwg_base.specs.Refusals.{first_fault, Tells, IsFaultOfTable};
+ghost use Rattle.dwg_base.specs.Refusals.{first_fault, Reports, IsFaultOfTable};
 ghost use Rattle.dwg_sections.specs.HeaderLines.{HEADER_LINES, header_at};
 ghost use Rattle.std.specs.List.{All};
 ghost use Rattle.dwg_object.specs.Objects.{IsBorrowedObject};
@@ -40,7 +40,7 @@ fn objects_of_file<'a>(
     ensures lent { IfOk result (λ read. All IsBorrowedObject read.objects) }
     ensures frames { IfOk result (λ read. read.frames ≡ map frame_of (result_unwrap_or (frames_tried bytes.now) [])) }
     ensures holds { OnOk result (first_fault (map_row ∷ frames_row ∷ []) bytes.now ≡ None) }
-    ensures refused { IfErr result (λ fault. Tells fault (first_fault (map_row ∷ frames_row ∷ []) bytes.now)) }
+    ensures refused { IfErr result (λ fault. Reports fault (first_fault (map_row ∷ frames_row ∷ []) bytes.now)) }
     ensures of_table { IfErr result IsFaultOfTable }
 {
     let pairs = match pairs_of_file(alloc, bytes, header) {
@@ -60,8 +60,8 @@ struct FramedParts<'a> {
     frames: Items<ObjectFrame>,
 }
 
-/// The parts of the drawing and the frames of its objects, behind the header that the file begins with.
-fn parts_behind<'a>(
+/// The parts of the drawing and the frames of its objects, after the header that the file begins with.
+fn parts_after<'a>(
     alloc: Global,
     bytes: &'a [u8],
     header: &FileHeader,
@@ -72,7 +72,7 @@ fn parts_behind<'a>(
     ensures read { IfOk result (λ read. ReadsAs (contents_of read.parts) bytes.now) }
     ensures lent { IfOk result (λ read. IsBorrowed read.parts) }
     ensures frames { IfOk result (λ read. read.frames ≡ map frame_of (result_unwrap_or (frames_tried bytes.now) [])) }
-    ensures refused { IfErr result (λ fault. Tells fault (first_fault ALL_LINES bytes.now)) }
+    ensures refused { IfErr result (λ fault. Reports fault (first_fault ALL_LINES bytes.now)) }
     ensures of_table { IfErr result IsFaultOfTable }
 {
     let content = match variables_of_file(bytes, header) {
@@ -111,14 +111,14 @@ fn read_parts<'a>(alloc: Global, bytes: &'a [u8]) -> Result<FramedParts<'a>, Fau
     ensures read { IfOk result (λ read. ReadsAs (contents_of read.parts) bytes.now) }
     ensures lent { IfOk result (λ read. IsBorrowed read.parts) }
     ensures frames { IfOk result (λ read. read.frames ≡ map frame_of (result_unwrap_or (frames_tried bytes.now) [])) }
-    ensures refused { IfErr result (λ fault. Tells fault (first_fault ALL_LINES bytes.now)) }
+    ensures refused { IfErr result (λ fault. Reports fault (first_fault ALL_LINES bytes.now)) }
     ensures of_table { IfErr result IsFaultOfTable }
 {
     let header = match read_file_header(alloc, bytes) {
         Ok(header) => header,
         Err(fault) => return Err(fault),
     };
-    match parts_behind(alloc, bytes, &header) {
+    match parts_after(alloc, bytes, &header) {
         Ok(read) => Ok(read),
         Err(fault) => Err(fault),
     }
@@ -133,7 +133,7 @@ pub struct FramedDrawing<'a> {
     pub frames: Items<ObjectFrame>,
 }
 
-/// Reads the drawing that an input spells and tells where the frames of its objects lie. It answers as [`read_drawing`] does, and
+/// Reads the drawing that an input spells and reports where the frames of its objects lie. It answers as [`read_drawing`] does, and
 /// reads nothing more.
 pub fn read_with_frames<'a>(alloc: Global, bytes: &'a [u8]) -> Result<FramedDrawing<'a>, Fault>
     requires { length bytes.now ≤ MOST_BYTES }
@@ -147,8 +147,8 @@ pub fn read_with_frames<'a>(alloc: Global, bytes: &'a [u8]) -> Result<FramedDraw
     // The frames of the map's pairs, in map order.
     ensures frames { IfOk result (λ read. read.frames ≡ map frame_of (result_unwrap_or (frames_tried bytes.now) [])) }
 
-    // The first line that fails, or want of memory.
-    ensures refused { IfErr result (λ fault. Tells fault (first_fault ALL_LINES bytes.now)) }
+    // The first line that fails, or out of memory.
+    ensures refused { IfErr result (λ fault. Reports fault (first_fault ALL_LINES bytes.now)) }
     ensures of_table { IfErr result IsFaultOfTable }
 {
     drawing_laws();
@@ -165,7 +165,7 @@ pub fn read_with_frames<'a>(alloc: Global, bytes: &'a [u8]) -> Result<FramedDraw
 /// header variables, the section of the classes, the classes one by one, the whole map page by page, the frames pair by
 /// pair in map order, and the unknown sections (Open Design Specification, "R13 to R2000 file layout").
 ///
-/// The objects come in ascending order of handle. What memory is taken is for what the input holds, and want of it tells
+/// The objects come in ascending order of handle. What memory is taken is for what the input holds, and want of it reports
 /// nothing of the input.
 pub fn read_drawing<'a>(alloc: Global, bytes: &'a [u8]) -> Result<Drawing<'a>, Fault>
     requires { length bytes.now ≤ MOST_BYTES }
@@ -176,8 +176,8 @@ pub fn read_drawing<'a>(alloc: Global, bytes: &'a [u8]) -> Result<Drawing<'a>, F
     // The header variables, the unknown sections, the free bits of Plain objects and the bytes of Raw ones are lent.
     ensures lent { IfOk result IsBorrowed }
 
-    // The first line that fails, or want of memory.
-    ensures refused { IfErr result (λ fault. Tells fault (first_fault ALL_LINES bytes.now)) }
+    // The first line that fails, or out of memory.
+    ensures refused { IfErr result (λ fault. Reports fault (first_fault ALL_LINES bytes.now)) }
     ensures of_table { IfErr result IsFaultOfTable }
 {
     match read_with_frames(alloc, bytes) {

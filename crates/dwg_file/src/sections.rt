@@ -2,7 +2,7 @@
 
 ghost use Rattle.std.specs.Prelude.{◌≡◌, ◌≤◌, [], ◌∷◌, length, map, IfOk, IfErr, OnOk, Ok, None, Some};
 ghost use Rattle.dwg_base.specs.Devices.{MOST_BYTES};
-ghost use Rattle.dwg_base.specs.Refusals.{first_fault, Answers, Tells, IsOfTable, IsFaultOfTable};
+ghost use Rattle.dwg_base.specs.Refusals.{first_fault, Answers, Reports, IsOfTable, IsFaultOfTable};
 ghost use Rattle.dwg_objmap.specs.Pages.{AreHandles, handles_of};
 ghost use Rattle.dwg_sections.specs.FramedLines.{content_at};
 ghost use Rattle.dwg_sections.specs.HeaderLines.{header_at};
@@ -51,7 +51,7 @@ pub fn classes_of_file(
     requires header { header.now ≡ header_at bytes.now }
     ensures classes { IfOk result (λ classes. classes_tried bytes.now ≡ Ok classes) }
     ensures holds { OnOk result (first_fault (classes_section_row ∷ classes_row ∷ []) bytes.now ≡ None) }
-    ensures refused { IfErr result (λ fault. Tells fault (first_fault (classes_section_row ∷ classes_row ∷ []) bytes.now)) }
+    ensures refused { IfErr result (λ fault. Reports fault (first_fault (classes_section_row ∷ classes_row ∷ []) bytes.now)) }
     ensures of_table { IfErr result IsFaultOfTable }
 {
     let place = header.place_of(CLASSES_NUMBER).unwrap_or(0);
@@ -88,7 +88,7 @@ pub(crate) fn others_of_file<'a>(
     ensures value { IfOk result (λ others. map other_value others ≡ sections_at bytes.now (header_at bytes.now).locators) }
     ensures lent { IfOk result (All IsBorrowedSection) }
     ensures holds { OnOk result (sections_row bytes.now ≡ None) }
-    ensures refused { IfErr result (λ fault. Tells fault (sections_row bytes.now)) }
+    ensures refused { IfErr result (λ fault. Reports fault (sections_row bytes.now)) }
     ensures of_table { IfErr result IsFaultOfTable }
 {
     let locators = header.locators.as_slice();

@@ -1,33 +1,33 @@
-//! Sending the parts of the canonical file, one behind the other: a run of bytes that is held elsewhere takes no room of its own, any
+//! Sending the parts of the canonical file, one after the other: a run of bytes that is held elsewhere takes no room of its own, any
 //! other part is made in the room of one.
 
 ghost use Rattle.std.specs.Prelude.{◌≡◌, ◌+◌, ◌*◌, ◌%◌, ◌^◌, ◌<◌, ◌≤◌, [], length, map, flat_map, false, OnOk, OnErr};
 ghost use Rattle.std.specs.List.{AllByRecursion};
-ghost use Rattle.dwg_base.specs.Devices.{AppendsFront, Counts, Sends};
+ghost use Rattle.dwg_base.specs.Devices.{AppendsPrefix, Counts, Sends};
 ghost use Rattle.dwg_bits.specs.WholeBytes.{whole_bytes};
 ghost use Rattle.dwg_classes.specs.WrittenClasses.{AreWritable};
 ghost use Rattle.dwg_grammar.specs.ModularCodes.{ms};
 ghost use Rattle.dwg_object.specs.Frames.{frame_bytes, framed_body};
 ghost use Rattle.dwg_object.specs.Objects.{value_of};
-ghost use Rattle.dwg_objmap.specs.Writing.{Ascend, map_bytes, map_behind};
-ghost use Rattle.dwg_preview.specs.Previews.{IsContent, WITHOUT_CONTENT, front_bytes};
+ghost use Rattle.dwg_objmap.specs.Writing.{Ascend, map_bytes, map_after};
+ghost use Rattle.dwg_preview.specs.Previews.{IsContent, WITHOUT_CONTENT, prefix_bytes};
 ghost use Rattle.dwg_sections.specs.FileHeader.{IsFileHeader, header_bytes};
 ghost use Rattle.dwg_sections.specs.Framed.{framed_bytes};
 ghost use Rattle.dwg_file.specs.Canonical.{IsCarried, carried_by, class_content, frames_bytes, others_bytes, preview_at};
 ghost use Rattle.dwg_file.specs.Contents.{other_value};
-ghost use Rattle.dwg_file.specs.Gathering.{Gives};
+ghost use Rattle.dwg_file.specs.WriteBuffer.{Gives};
 ghost use Rattle.dwg_file.specs.Plans.{CanBeSent, IsPut};
 
-use crate::gathering::Gathering;
 use crate::parts::Other;
-use dwg_base::{Sink, Version, WriteFault, bounded_bytes};
+use crate::write_buffer::WriteBuffer;
+use dwg_base::{Sink, Version, WriteFault, bytes_with_range};
 use dwg_bits::BitSink;
 use dwg_check::{FRAME_START, check};
 use dwg_classes::{Class, write_classes};
 use dwg_codes::write_ms;
 use dwg_object::{Object, write_frame};
 use dwg_objmap::{PageWriter, Pair};
-use dwg_preview::{Preview, end_sentinel, further, write_front};
+use dwg_preview::{Preview, end_sentinel, further, write_prefix};
 use dwg_sections::{FileHeader, Framed, framed_pieces, write_file_header};
 
 /// The bytes of a sink that holds whole bytes.
@@ -35,13 +35,13 @@ fn bytes_of(sink: &BitSink) -> &[u8]
     requires { length sink.now.written % 8 ≡ 0 }
     ensures { result.now ≡ whole_bytes sink.now.written }
 {
-    bounded_bytes(sink.as_bytes())
+    bytes_with_range(sink.as_bytes())
 }
 
-/// Gives pieces, one behind the other.
+/// Gives pieces, one after the other.
 fn give_all<W: Sink>(
     pieces: &[&[u8]],
-    gathering: &mut Gathering,
+    gathering: &mut WriteBuffer,
     sink: &mut W,
 ) -> Result<(), WriteFault>
     ensures gives { Gives (W.taken sink.old) (W.taken sink.new) gathering.old gathering.new (flat_map (λ bytes. bytes) (map (λ piece. piece.now) pieces.now)) result }
@@ -60,7 +60,7 @@ fn give_all<W: Sink>(
 pub(crate) fn give_framed<W: Sink>(
     which: Framed,
     content: &[u8],
-    gathering: &mut Gathering,
+    gathering: &mut WriteBuffer,
     sink: &mut W,
 ) -> Result<(), WriteFault>
     requires { length content.now < 2 ^ 32 }
@@ -82,7 +82,7 @@ pub(crate) fn give_framed<W: Sink>(
 pub(crate) fn give_header<W: Sink>(
     header: &FileHeader,
     part: &mut BitSink,
-    gathering: &mut Gathering,
+    gathering: &mut WriteBuffer,
     sink: &mut W,
 ) -> Result<(), WriteFault>
     requires header { IsFileHeader header.now }
@@ -100,7 +100,7 @@ pub(crate) fn give_header<W: Sink>(
 pub(crate) fn give_classes<W: Sink>(
     classes: &[Class],
     part: &mut BitSink,
-    gathering: &mut Gathering,
+    gathering: &mut WriteBuffer,
     sink: &mut W,
 ) -> Result<(), WriteFault>
     requires writable { AreWritable classes.now }
@@ -120,18 +120,18 @@ pub(crate) fn give_preview<W: Sink>(
     carried: &Preview<'_>,
     place: u32,
     part: &mut BitSink,
-    gathering: &mut Gathering,
+    gathering: &mut WriteBuffer,
     sink: &mut W,
 ) -> Result<(), WriteFault>
     requires carried { IsCarried (carried_by carried.now) }
     requires within { place + WITHOUT_CONTENT + length carried.now.content.now < 2 ^ 32 }
-    requires room { 8 * length (front_bytes carried.now.place place carried.now.content.now) ≤ part.old.spare + length part.old.written }
+    requires room { 8 * length (prefix_bytes carried.now.place place carried.now.content.now) ≤ part.old.spare + length part.old.written }
     ensures gives { Gives (W.taken sink.old) (W.taken sink.new) gathering.old gathering.new (preview_at (carried_by carried.now) place) result }
     ensures counts { Counts (W.faults sink.old) (W.faults sink.new) result }
     ensures room { part.old.spare + length part.old.written ≤ part.new.spare + length part.new.written }
 {
     part.clear();
-    write_front(carried, place, part);
+    write_prefix(carried, place, part);
     let end = end_sentinel();
     let pieces = [bytes_of(part), further(carried), end.as_slice()];
     give_all(&pieces, gathering, sink)
@@ -141,7 +141,7 @@ pub(crate) fn give_preview<W: Sink>(
 fn give_raw_frame<W: Sink>(
     body: &[u8],
     part: &mut BitSink,
-    gathering: &mut Gathering,
+    gathering: &mut WriteBuffer,
     sink: &mut W,
 ) -> Result<(), WriteFault>
     requires few { length body.now < 2 ^ 29 }
@@ -163,7 +163,7 @@ fn give_frame<W: Sink>(
     object: &Object<'_>,
     version: Version,
     part: &mut BitSink,
-    gathering: &mut Gathering,
+    gathering: &mut WriteBuffer,
     sink: &mut W,
 ) -> Result<(), WriteFault>
     requires { CanBeSent version (part.old.spare + length part.old.written) (value_of object.now) }
@@ -179,12 +179,12 @@ fn give_frame<W: Sink>(
     gathering.give(bytes_of(part), sink)
 }
 
-/// Gives the frames of objects of a version, one behind the other.
+/// Gives the frames of objects of a version, one after the other.
 pub(crate) fn give_frames<W: Sink>(
     version: Version,
     objects: &[Object<'_>],
     part: &mut BitSink,
-    gathering: &mut Gathering,
+    gathering: &mut WriteBuffer,
     sink: &mut W,
 ) -> Result<(), WriteFault>
     requires { AllByRecursion (CanBeSent version (part.old.spare + length part.old.written)) (map value_of objects.now) }
@@ -201,10 +201,10 @@ pub(crate) fn give_frames<W: Sink>(
     Ok(())
 }
 
-/// Gives unknown sections, one behind the other.
+/// Gives unknown sections, one after the other.
 pub(crate) fn give_others<W: Sink>(
     others: &[Other<'_>],
-    gathering: &mut Gathering,
+    gathering: &mut WriteBuffer,
     sink: &mut W,
 ) -> Result<(), WriteFault>
     ensures gives { Gives (W.taken sink.old) (W.taken sink.new) gathering.old gathering.new (others_bytes (map other_value others.now)) result }
@@ -227,8 +227,8 @@ fn put_pairs<W: Sink>(
 ) -> Result<(), WriteFault>
     requires ascending { Ascend writer.old.last.handle pairs.now }
     requires open { writer.old.ended ≡ false }
-    ensures put { OnOk result (IsPut (W.taken sink.old) (W.taken sink.new) writer.new [] (map_behind writer.old pairs.now)) }
-    ensures cut { OnErr result (AppendsFront (W.taken sink.old) (W.taken sink.new) (map_behind writer.old pairs.now)) }
+    ensures put { OnOk result (IsPut (W.taken sink.old) (W.taken sink.new) writer.new [] (map_after writer.old pairs.now)) }
+    ensures cut { OnErr result (AppendsPrefix (W.taken sink.old) (W.taken sink.new) (map_after writer.old pairs.now)) }
     ensures counts { Counts (W.faults sink.old) (W.faults sink.new) result }
     ensures still_open { OnOk result (writer.new.ended ≡ false) }
 {

@@ -1,4 +1,4 @@
-//! The tests, by what they are of; and how their cases are read and told.
+//! The tests, by what they are of; and how their cases are read and reported.
 
 mod apps;
 mod common;
@@ -8,7 +8,7 @@ mod inputs;
 mod kinds;
 mod objects;
 mod objmap;
+mod reported;
 mod sizes;
 mod slots;
 mod table;
-mod told;

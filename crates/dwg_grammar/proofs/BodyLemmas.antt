@@ -1,4 +1,4 @@
--- What holds of every body: its spellings are told apart, and what is parsed is what is spelled.
+-- What holds of every body: its spellings are distinguished, and what is parsed is what is spelled.
 use Rattle.std.proofs.Common.{◌≡◌, sym, ◌∙◌, ap, ap₂, ℕ, Bool, List, Option, Some}
 use Rattle.std.proofs.lemmas.Option.{some_pair_parts}
 use Rattle.dwg_grammar.specs.Bodies.{BodyGrammar, BeginsWithBody, IsBody, IsUniqueBody, IsFreeBody, IsLawfulBody}
@@ -7,9 +7,9 @@ use Rattle.dwg_grammar.specs.Bodies.{BodyGrammar, BeginsWithBody, IsBody, IsUniq
 pub begins_parsed : {V : Type 0} (base : ℕ) (body : BodyGrammar V) (value : V) (main main_left references references_left : List Bool) → IsBody base body
     → BeginsWithBody body value main main_left references references_left → body.parse main references ≡ Some (value, (main_left, references_left))
 begins_parsed base body value main main_left references references_left is begins =
-    ap₂ body.parse begins.main_whole begins.references_whole ∙ is.complete begins.main_front main_left begins.reference_front references_left value begins.spelled
+    ap₂ body.parse begins.main_whole begins.references_whole ∙ is.complete begins.main_prefix main_left begins.reference_prefix references_left value begins.spelled
 
--- main bits and reference bits spell at most one value by their fronts
+-- main bits and reference bits spell at most one value by their prefixes
 pub unique_body : {V : Type 0} (base : ℕ) (body : BodyGrammar V) → IsBody base body → IsUniqueBody body
 unique_body {V} base body is value other main main_left other_main_left references references_left other_references_left begins begins_other =
     let both : ◌≡◌ {A = Option (V × (List Bool × List Bool))} (Some (value, (main_left, references_left))) (Some (other, (other_main_left, other_references_left))) =
@@ -17,9 +17,9 @@ unique_body {V} base body is value other main main_left other_main_left referenc
     ∙ begins_parsed base body other main other_main_left references other_references_left is begins_other in
     let parts : (value ≡ other) × (◌≡◌ {A = List Bool × List Bool} (main_left, references_left) (other_main_left, other_references_left)) =
     some_pair_parts value other (main_left, references_left) (other_main_left, other_references_left) both in
-    let behind : (main_left ≡ other_main_left) × (references_left ≡ other_references_left) =
+    let after : (main_left ≡ other_main_left) × (references_left ≡ other_references_left) =
     some_pair_parts main_left other_main_left references_left other_references_left (ap (λ (pair : List Bool × List Bool). Some pair) parts.1) in
-    (parts.0, behind.0, behind.1)
+    (parts.0, after.0, after.1)
 
 -- every body is lawful
 pub lawful_of_body : {V : Type 0} (base : ℕ) (body : BodyGrammar V) → IsBody base body → IsLawfulBody base body

@@ -18,10 +18,10 @@ unparsed : {A V : Type 0} (code : Grammar A V) (letters : List A) (found : Optio
 unparsed code letters None is none same = refl
 unparsed code letters (Some one) is none same = let parts = is.sound letters one.1 one.0 tt same in absurd (none (one.0, parts.0, one.1, parts.1, parts.2))
 
--- what was read is what is parsed, and what is left are the letters behind
+-- what was read is what is parsed, and what is left are the letters after
 pub parsed : {A V : Type 0} (code : Grammar A V) (found : Option V) (old new : List A) → IsCode AnyLetters code → Reads code found old new
     → code.parse old ≡ option_map (λ (value : V). (value, new)) found
-parsed code (Some value) old new is (front, spelled, whole) = ap code.parse whole ∙ is.complete front new value spelled
+parsed code (Some value) old new is (prefix, spelled, whole) = ap code.parse whole ∙ is.complete prefix new value spelled
 parsed code None old new is (none, same) = unparsed code old (code.parse old) is none refl
 
 -- what was read where a test holds is what is parsed there
@@ -67,7 +67,7 @@ pub body_value : {V : Type 0} (base : ℕ) (body : BodyGrammar V) (found : Optio
     → body.parse main references ≡ option_map (λ (one : V). (one, (main_left, references_left))) found → body.Fits value
 body_value base body found value main main_left references references_left is same was =
     let begins = body_read base body found value main main_left references references_left is same was in
-    is.value value begins.main_front begins.reference_front (length references_left) begins.spelled
+    is.value value begins.main_prefix begins.reference_prefix (length references_left) begins.spelled
 
 -- what is parsed by a code has a spelling
 pub parsed_value : {V : Type 0} (code : Grammar Bool V) (value : V) (old new : List Bool) → IsCode AnyLetters code → code.parse old ≡ Some (value, new) → code.IsValue value

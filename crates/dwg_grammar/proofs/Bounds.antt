@@ -1,4 +1,4 @@
--- How many bits the codes behind a tag are written by at the most, whatever the value.
+-- How many bits the codes after a tag are written by at the most, whatever the value.
 use Rattle.std.proofs.Common.{ℕ, zero, suc, ◌+◌, ◌/◌, ◌%◌, ◌^◌, ◌≤◌, Bool, List, ◌++◌, length, arith}
 use Rattle.std.proofs.lemmas.List.{length-append}
 use Rattle.dwg_bits.specs.Bits.{low_bits}
@@ -7,11 +7,11 @@ use Rattle.dwg_grammar.specs.Codes.{rc, rl, bs_by, bs_tag, bs, bl_by, bl_tag, bl
 use Rattle.dwg_grammar.specs.declared.points.Point3.{Point3}
 use Rattle.dwg_grammar.proofs.NumberLemmas.{length_of_rc, length_of_rs, length_of_rl, length_of_rd}
 
--- a tag of two bits and what is behind it
-behind_two : (most tag : ℕ) (back : List Bool) → length back ≤ most → length (low_bits 2 tag ++ back) ≤ 2 + most
-behind_two most tag back few = omega (arith, few, length-append (low_bits 2 tag) back, length_of_low_bits 2 tag)
+-- a tag of two bits and what is after it
+after_two : (most tag : ℕ) (back : List Bool) → length back ≤ most → length (low_bits 2 tag ++ back) ≤ 2 + most
+after_two most tag back few = omega (arith, few, length-append (low_bits 2 tag) back, length_of_low_bits 2 tag)
 
--- behind the tag of a BS stand at most 16 bits
+-- after the tag of a BS stand at most 16 bits
 bs_line : (tag value : ℕ) → length ((bs_by tag).short value) ≤ 16
 bs_line zero value = omega (arith, length_of_rs value)
 bs_line (suc zero) value = omega (arith, length_of_rc value)
@@ -21,9 +21,9 @@ bs_line (suc (suc (suc (suc tag)))) value = omega arith
 
 -- a BS has at most 18 bits
 pub bs_at_most : (value : ℕ) → length (bs.short value) ≤ 18
-bs_at_most value = behind_two 16 (bs_tag value) _ (bs_line (bs_tag value) value)
+bs_at_most value = after_two 16 (bs_tag value) _ (bs_line (bs_tag value) value)
 
--- behind the tag of a BL stand at most 32 bits
+-- after the tag of a BL stand at most 32 bits
 bl_line : (tag value : ℕ) → length ((bl_by tag).short value) ≤ 32
 bl_line zero value = omega (arith, length_of_rl value)
 bl_line (suc zero) value = omega (arith, length_of_rc value)
@@ -32,9 +32,9 @@ bl_line (suc (suc (suc tag))) value = omega arith
 
 -- a BL has at most 34 bits
 pub bl_at_most : (value : ℕ) → length (bl.short value) ≤ 34
-bl_at_most value = behind_two 32 (bl_tag value) _ (bl_line (bl_tag value) value)
+bl_at_most value = after_two 32 (bl_tag value) _ (bl_line (bl_tag value) value)
 
--- behind the tag of a BD stand at most 64 bits
+-- after the tag of a BD stand at most 64 bits
 bd_line : (tag value : ℕ) → length ((bd_by tag).short value) ≤ 64
 bd_line zero value = omega (arith, length_of_rd value)
 bd_line (suc zero) value = omega arith
@@ -43,7 +43,7 @@ bd_line (suc (suc (suc tag))) value = omega arith
 
 -- a BD has at most 66 bits
 pub bd_at_most : (value : ℕ) → length (bd.short value) ≤ 66
-bd_at_most value = behind_two 64 (bd_tag value) _ (bd_line (bd_tag value) value)
+bd_at_most value = after_two 64 (bd_tag value) _ (bd_line (bd_tag value) value)
 
 -- three BDs have at most 198 bits
 pub bd3_at_most : (point : Point3) → length (bd3.short point) ≤ 198
@@ -57,7 +57,7 @@ bd3_at_most point =
       bd_at_most point.z,
     )
 
--- behind the tag of a DD stand at most 64 bits, whatever its default
+-- after the tag of a DD stand at most 64 bits, whatever its default
 dd_line : (default tag value : ℕ) → length ((dd_by default tag).short value) ≤ 64
 dd_line default zero value = omega arith
 dd_line default (suc zero) value = omega (arith, length_of_rl (value % 2 ^ 32))
@@ -71,4 +71,4 @@ dd_line default (suc (suc (suc (suc tag)))) value = omega arith
 
 -- a DD has at most 66 bits
 pub dd_at_most : (default value : ℕ) → length ((dd default).short value) ≤ 66
-dd_at_most default value = behind_two 64 (dd_tag default value) _ (dd_line default (dd_tag default value) value)
+dd_at_most default value = after_two 64 (dd_tag default value) _ (dd_line default (dd_tag default value) value)

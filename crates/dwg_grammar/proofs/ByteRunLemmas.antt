@@ -1,4 +1,4 @@
--- What holds of bytes that are spelled one behind the other, each an RC.
+-- What holds of bytes that are spelled one after the other, each an RC.
 use Rattle.std.proofs.Common.{◌≡◌, refl, ap, ℕ, List, [], ◌∷◌, ◌++◌, length}
 use Rattle.std.specs.Prelude.{◌↔◌}
 use Rattle.dwg_base.specs.Bytes.{AreBytes}

@@ -1,4 +1,4 @@
--- Numbers behind the count of their bytes: what spells them, and that they are a code.
+-- Numbers after the count of their bytes: what spells them, and that they are a code.
 use Rattle.std.proofs.Common.{◌≡◌, refl, sym, ◌∙◌, ap, ap₂, subst, ℕ, zero, suc, ◌+◌, ◌*◌, ◌^◌, ◌<◌, ◌≤◌, Bool, true, false, List, ◌++◌, length, arith, lit<}
 use Rattle.std.specs.Prelude.{◌≢◌, nat_lt, nat_le, find, unwrap_or, Option, Some, cond}
 use Rattle.std.specs.List.{range_with_len}
@@ -23,12 +23,12 @@ first_passes p from (suc left) last passed = by_test (find p (range_with_len (fr
 
 -- it is no greater than another that passes
 first_least : (p : ℕ → Bool) (from left last at : ℕ) → from + left ≡ last → from ≤ at → at ≤ last → p at ≡ true → unwrap_or (find p (range_with_len from left)) last ≤ at
-first_least p from zero last at same behind within passed = omega arith
-first_least p from (suc left) last at same behind within passed =
-    by_test (find p (range_with_len (from + 1) left)) (p from) refl (λ after. first_least p (from + 1) left last at (omega arith) after within passed)
+first_least p from zero last at same after within passed = omega arith
+first_least p from (suc left) last at same after within passed =
+    by_test (find p (range_with_len (from + 1) left)) (p from) refl (λ more. first_least p (from + 1) left last at (omega arith) more within passed)
   where
     by_test : (found : Option ℕ) (test : Bool) → p from ≡ test → (from + 1 ≤ at → unwrap_or found last ≤ at) → unwrap_or (cond test (Some from) found) last ≤ at
-    by_test found true here later = behind
+    by_test found true here later = after
     by_test found false here later =
         let other : at ≢ from = λ same_place. let both : true ≡ false = sym passed ∙ ap p same_place ∙ here in cc in
         later (omega arith)
@@ -57,7 +57,7 @@ fixed_spelled count value letters (long, same) = (
 pub fixed_spells : (count value : ℕ) → value < 2 ^ count → (fixed count).Spells value (low_bits count value)
 fixed_spells count value fits = (length_of_low_bits count value, sym (num_of_low_bits count value fits))
 
--- a number behind the count of its bytes, said of all counts at once
+-- a number after the count of its bytes, said of all counts at once
 pub record IsCounted (number : ℕ) (letters : List Bool) : Type 0 where
   pub count : ℕ
   pub few : count ≤ 8
@@ -66,14 +66,14 @@ pub record IsCounted (number : ℕ) (letters : List Bool) : Type 0 where
 
 -- what spells a counted number is a count of bytes and so many bytes
 pub counted_spelled : (number : ℕ) (letters : List Bool) → counted_number.Spells number letters → IsCounted number letters
-counted_spelled number letters (count, front, back, first, second, same) =
-    let tag = fixed_spelled 4 count front first.1 in
-    let behind = fixed_spelled (8 * count) number back second in
+counted_spelled number letters (count, prefix, back, first, second, same) =
+    let tag = fixed_spelled 4 count prefix first.1 in
+    let after = fixed_spelled (8 * count) number back second in
     record {
       count = count;
       few = grind (arith, nat_tests);
-      fits = behind.0;
-      spelled = same ∙ ap₂ (λ some more. some ++ more) tag.1 behind.1;
+      fits = after.0;
+      spelled = same ∙ ap₂ (λ some more. some ++ more) tag.1 after.1;
     }
 
 -- and these spell it

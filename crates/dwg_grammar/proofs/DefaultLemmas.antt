@@ -81,7 +81,7 @@ dd_by_length default (suc (suc zero)) value in_range =
 dd_by_length default (suc (suc (suc zero))) value in_range = length_of_rd value
 dd_by_length default (suc (suc (suc (suc tag)))) value in_range = absurd (omega arith)
 
--- behind the tag that is written there are no more bits than behind another
+-- after the tag that is written there are no more bits than after another
 dd_least : (default value tag : ℕ) (same high top : Bool) → (value == default) ≡ same → (value / 2 ^ 32 == default / 2 ^ 32) ≡ high → (value / 2 ^ 48 == default / 2 ^ 48) ≡ top
     → (dd_by default tag).IsValue value → length ((dd_by default (dd_tag_by same high top)).short value) ≤ length ((dd_by default tag).short value)
 dd_least default value tag true high top is_same is_high is_top fits = omega arith

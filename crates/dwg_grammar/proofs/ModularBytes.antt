@@ -3,17 +3,17 @@ use Rattle.std.proofs.Common.{◌≡◌, sym, ◌∙◌, ap, subst, ℕ, zero, s
 use Rattle.std.specs.Prelude.{ℤ, nat_lt}
 use Rattle.dwg_base.specs.Bytes.{AreBytes}
 use Rattle.dwg_grammar.specs.Combinators.{always, choose}
-use Rattle.dwg_grammar.specs.ModularCodes.{Signed, last_of, behind_group, mc_within, mc, signed_mc_within, signed_mc}
-use Rattle.dwg_grammar.proofs.SignedLemmas.{behind_signed}
+use Rattle.dwg_grammar.specs.ModularCodes.{Signed, last_of, after_group, mc_within, mc, signed_mc_within, signed_mc}
+use Rattle.dwg_grammar.proofs.SignedLemmas.{after_signed}
 
 -- bytes, so many at the most
 pub record AreFewBytes (most : ℕ) (bytes : List ℕ) : Type 0 where
   pub few : length bytes ≤ most
   pub are_bytes : AreBytes bytes
 
--- a byte and few bytes behind it
-few_more : (most byte : ℕ) (front back bytes : List ℕ) → byte < 2 ^ 8 → front ≡ byte ∷ [] → bytes ≡ front ++ back → AreFewBytes most back → AreFewBytes (suc most) bytes
-few_more most byte front back bytes small one same few = subst (AreFewBytes (suc most)) (sym (same ∙ ap (λ first. first ++ back) one)) (record {
+-- a byte and few bytes after it
+few_more : (most byte : ℕ) (prefix back bytes : List ℕ) → byte < 2 ^ 8 → prefix ≡ byte ∷ [] → bytes ≡ prefix ++ back → AreFewBytes most back → AreFewBytes (suc most) bytes
+few_more most byte prefix back bytes small one same few = subst (AreFewBytes (suc most)) (sym (same ∙ ap (λ first. first ++ back) one)) (record {
   few = omega (arith, few.few);
   are_bytes = (small, few.are_bytes);
 })
@@ -26,12 +26,12 @@ none_few most bytes none = subst (AreFewBytes most) (sym none) (record { few = o
 pub mc_within_few : (most value : ℕ) (bytes : List ℕ) → (mc_within most).Spells value bytes → AreFewBytes most bytes
 unfolding mc_within
 mc_within_few zero value bytes spelled = absurd spelled
-mc_within_few (suc more) value bytes (byte, front, back, (small, one), behind, same) =
-    few_more more byte front back bytes small one same (by_test (nat_lt byte 128) behind (λ high spelled. mc_within_few more high back spelled))
+mc_within_few (suc more) value bytes (byte, prefix, back, (small, one), after, same) =
+    few_more more byte prefix back bytes small one same (by_test (nat_lt byte 128) after (λ high spelled. mc_within_few more high back spelled))
   where
-    by_test : (test : Bool) → (choose test (always byte) (behind_group 128 (byte - 128) (mc_within more))).Spells value back
+    by_test : (test : Bool) → (choose test (always byte) (after_group 128 (byte - 128) (mc_within more))).Spells value back
         → ((high : ℕ) → (mc_within more).Spells high back → AreFewBytes more back) → AreFewBytes more back
-    by_test true behind others = none_few more back behind.1
+    by_test true after others = none_few more back after.1
     by_test false (high, same, spelled) others = others high spelled
 
 -- what spells an MC are at most ten bytes
@@ -42,12 +42,12 @@ mc_few value bytes spelled = mc_within_few 10 value bytes spelled.1
 pub signed_within_few : (most : ℕ) (value : Signed) (bytes : List ℕ) → (signed_mc_within most).Spells value bytes → AreFewBytes most bytes
 unfolding signed_mc_within
 signed_within_few zero value bytes spelled = absurd spelled
-signed_within_few (suc more) value bytes (byte, front, back, (small, one), behind, same) =
-    few_more more byte front back bytes small one same (by_test (nat_lt byte 128) behind (λ high spelled. signed_within_few more high back spelled))
+signed_within_few (suc more) value bytes (byte, prefix, back, (small, one), after, same) =
+    few_more more byte prefix back bytes small one same (by_test (nat_lt byte 128) after (λ high spelled. signed_within_few more high back spelled))
   where
-    by_test : (test : Bool) → (choose test (always (last_of byte)) (behind_signed (byte - 128) (signed_mc_within more))).Spells value back
+    by_test : (test : Bool) → (choose test (always (last_of byte)) (after_signed (byte - 128) (signed_mc_within more))).Spells value back
         → ((high : Signed) → (signed_mc_within more).Spells high back → AreFewBytes more back) → AreFewBytes more back
-    by_test true behind others = none_few more back behind.1
+    by_test true after others = none_few more back after.1
     by_test false (high, same, spelled) others = others high spelled
 
 -- what spells a signed MC are at most ten bytes

@@ -34,8 +34,8 @@ number_of_bytes f are zero = omega (arith, are 0)
 number_of_bytes f are (suc last) =
     omega (arith, are (suc last), number_of_bytes f are last, pow-suc 256 (suc last), at_most (f (suc last)) (256 ^ suc last) (are (suc last)))
   where
-    at_most : (byte worth : ℕ) → byte < 256 → byte * worth ≤ 255 * worth
-    at_most byte worth h = grind arith
+    at_most : (byte weight : ℕ) → byte < 256 → byte * weight ≤ 255 * weight
+    at_most byte weight h = grind arith
 
 -- items of a code of bytes are bytes
 pub bytes_of_items : {A : Type 0} (byte : Grammar A ℕ) → ((value : ℕ) → byte.IsValue value → value < 2 ^ 8)

@@ -14,7 +14,7 @@ use Rattle.dwg_grammar.proofs.CountedLemmas.{fixed_spelled, fixed_spells, counte
 abbrev code_none : Grammar Bool ℕ
 code_none = restrict (λ code. code == 0) (fixed 4)
 
--- and a positive number behind it
+-- and a positive number after it
 abbrev positive : Grammar Bool ℕ
 positive = restrict (λ number. nat_lt 0 number && nat_lt number (2 ^ 63)) counted_number
 
@@ -38,14 +38,14 @@ unfolding own_handle
 own_spelled own letters = (spelled, spells)
   where
     spelled : own_handle.Spells own letters → OwnSpells own letters
-    spelled ((code, number), same, (front, behind, (none, first), (passed, second), whole)) =
-        let is = counted_spelled number behind second in
+    spelled ((code, number), same, (prefix, after, (none, first), (passed, second), whole)) =
+        let is = counted_spelled number after second in
         let tag : code ≡ 0 = grind (arith, nat_tests) in
         record {
           count = is.count;
           few = is.few;
           fits = subst (λ (one : ℕ). one < 2 ^ (8 * is.count)) (sym same) is.fits;
-          spelled = whole ∙ ap₂ (λ some more. some ++ more) ((fixed_spelled 4 code front first).1 ∙ ap (low_bits 4) tag)
+          spelled = whole ∙ ap₂ (λ some more. some ++ more) ((fixed_spelled 4 code prefix first).1 ∙ ap (low_bits 4) tag)
               (is.spelled ∙ ap (λ (one : ℕ). low_bits 4 is.count ++ low_bits (8 * is.count) one) (sym same));
           positive = grind (arith, nat_tests);
           within = grind (arith, nat_tests);

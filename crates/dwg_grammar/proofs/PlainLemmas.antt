@@ -12,155 +12,155 @@ use Rattle.dwg_bits.proofs.BitLaws.{length_of_low_bits, num_of_low_bits, low_bit
 use Rattle.dwg_grammar.specs.Grammar.{Grammar}
 use Rattle.dwg_grammar.specs.Codes.{rc, bs, tv, word_bytes}
 use Rattle.dwg_grammar.specs.Combinators.{one_byte, always, tagged, choose, image, items, SpellsChain, chain}
-use Rattle.dwg_grammar.specs.ModularCodes.{behind_group, mc_within, mc, unit, ms_within, Signed, last_of, signed_mc_within, signed_mc, signed_number}
+use Rattle.dwg_grammar.specs.ModularCodes.{after_group, mc_within, mc, unit, ms_within, Signed, last_of, signed_mc_within, signed_mc, signed_number}
 use Rattle.dwg_grammar.proofs.ModularLemmas.{group_by}
 use Rattle.dwg_grammar.proofs.NumberLemmas.{bytes_of_16, number_of_16, bytes_of_32, number_of_32, bytes_of_64, number_of_64}
-use Rattle.dwg_grammar.proofs.SignedLemmas.{behind_signed}
+use Rattle.dwg_grammar.proofs.SignedLemmas.{after_signed}
 use Rattle.dwg_grammar.specs.PlainSpellings.{number_of, flagged, IsGroups, McSpells, MsSpells, IsSignedGroups, signed_flagged, SignedMcSpells, RsSpells, RlSpells, RdSpells, TvSpells}
 
 -- a sum of which each summand is so many times that of another, one place on
-sum_shifted : (f g : ℕ → ℕ) (worth : ℕ) → ((i : ℕ) → f (i + 1) ≡ worth * g i) → (from count : ℕ)
-    → sum (map f (range_with_len (from + 1) count)) ≡ worth * sum (map g (range_with_len from count))
-sum_shifted f g worth each from zero = omega arith
-sum_shifted f g worth each from (suc count) =
-    let rest : sum (map f (range_with_len (from + 1 + 1) count)) ≡ worth * sum (map g (range_with_len (from + 1) count)) = sum_shifted f g worth each (from + 1) count in
+sum_shifted : (f g : ℕ → ℕ) (weight : ℕ) → ((i : ℕ) → f (i + 1) ≡ weight * g i) → (from count : ℕ)
+    → sum (map f (range_with_len (from + 1) count)) ≡ weight * sum (map g (range_with_len from count))
+sum_shifted f g weight each from zero = omega arith
+sum_shifted f g weight each from (suc count) =
+    let rest : sum (map f (range_with_len (from + 1 + 1) count)) ≡ weight * sum (map g (range_with_len (from + 1) count)) = sum_shifted f g weight each (from + 1) count in
     sum_by-cons (λ n. n) (f (from + 1)) (map f (range_with_len (from + 1 + 1) count))
     ∙ ap₂ (λ a b. a + b) (each from) rest
     ∙ joined (g from) (sum (map g (range_with_len (from + 1) count)))
-    ∙ ap (λ n. worth * n) (sym (sum_by-cons (λ n. n) (g from) (map g (range_with_len (from + 1) count))))
+    ∙ ap (λ n. weight * n) (sym (sum_by-cons (λ n. n) (g from) (map g (range_with_len (from + 1) count))))
   where
-    joined : (a b : ℕ) → worth * a + worth * b ≡ worth * (a + b)
+    joined : (a b : ℕ) → weight * a + weight * b ≡ weight * (a + b)
     joined a b = grind arith
 
 -- the number of a group and groups above it
-number_more : (worth group : ℕ) (groups : List ℕ) → number_of worth (group ∷ groups) ≡ group + worth * number_of worth groups
+number_more : (weight group : ℕ) (groups : List ℕ) → number_of weight (group ∷ groups) ≡ group + weight * number_of weight groups
 unfolding number_of
-number_more worth group groups =
-    sum_by-cons (λ n. n) (group * worth ^ 0) (map f (range_with_len (0 + 1) (length groups)))
-    ∙ ap₂ (λ a b. a + b) (ap (λ n. group * n) (pow-zero worth) ∙ omega arith)
-    (sum_shifted f g worth each 0 (length groups))
+number_more weight group groups =
+    sum_by-cons (λ n. n) (group * weight ^ 0) (map f (range_with_len (0 + 1) (length groups)))
+    ∙ ap₂ (λ a b. a + b) (ap (λ n. group * n) (pow-zero weight) ∙ omega arith)
+    (sum_shifted f g weight each 0 (length groups))
   where
     f : ℕ → ℕ
-    f i = slice_index (group ∷ groups) i * worth ^ i
+    f i = slice_index (group ∷ groups) i * weight ^ i
 
     g : ℕ → ℕ
-    g i = slice_index groups i * worth ^ i
+    g i = slice_index groups i * weight ^ i
 
-    turned : (a b : ℕ) → a * (b * worth) ≡ worth * (a * b)
+    turned : (a b : ℕ) → a * (b * weight) ≡ weight * (a * b)
     turned a b = grind arith
 
-    each : (i : ℕ) → f (i + 1) ≡ worth * g i
+    each : (i : ℕ) → f (i + 1) ≡ weight * g i
     each i = let next : i + 1 ≡ suc i = omega arith in
-        ap f next ∙ ap (λ n. slice_index groups i * n) (pow-suc worth i) ∙ turned (slice_index groups i) (worth ^ i)
+        ap f next ∙ ap (λ n. slice_index groups i * n) (pow-suc weight i) ∙ turned (slice_index groups i) (weight ^ i)
 
 -- no groups are the number 0
-number_none : (worth : ℕ) → number_of worth [] ≡ 0
+number_none : (weight : ℕ) → number_of weight [] ≡ 0
 unfolding number_of
-number_none worth = refl
+number_none weight = refl
 
 -- the number of a single group
-number_one : (worth group : ℕ) → number_of worth (group ∷ []) ≡ group
-number_one worth group = number_more worth group [] ∙ ap (λ n. group + worth * n) (number_none worth) ∙ omega arith
+number_one : (weight group : ℕ) → number_of weight (group ∷ []) ≡ group
+number_one weight group = number_more weight group [] ∙ ap (λ n. group + weight * n) (number_none weight) ∙ omega arith
 
 -- a single group says that none follows
-flagged_one : (worth group : ℕ) → flagged worth (group ∷ []) ≡ group ∷ []
+flagged_one : (weight group : ℕ) → flagged weight (group ∷ []) ≡ group ∷ []
 unfolding flagged
-flagged_one worth group = refl
+flagged_one weight group = refl
 
 -- a group before others says that another follows
-flagged_more : (worth group : ℕ) (groups : List ℕ) → 0 < length groups → flagged worth (group ∷ groups) ≡ (worth + group) ∷ flagged worth groups
+flagged_more : (weight group : ℕ) (groups : List ℕ) → 0 < length groups → flagged weight (group ∷ groups) ≡ (weight + group) ∷ flagged weight groups
 unfolding flagged
-flagged_more worth group [] some = absurd (omega arith)
-flagged_more worth group (next ∷ groups) some =
+flagged_more weight group [] some = absurd (omega arith)
+flagged_more weight group (next ∷ groups) some =
     let less : length (group ∷ next ∷ groups) - 1 ≡ suc (length (next ∷ groups) - 1) = omega arith in
-    ap (λ n. map (λ g. worth + g) (take n (group ∷ next ∷ groups)) ++ drop n (group ∷ next ∷ groups)) less
+    ap (λ n. map (λ g. weight + g) (take n (group ∷ next ∷ groups)) ++ drop n (group ∷ next ∷ groups)) less
 
 -- tags that are groups or groups with their flag up, each spelled by a list of letters
-record AreTags (tags : Grammar ℕ ℕ) (worth : ℕ) (spell : ℕ → List ℕ) : Type 0 where
-  spelled : (tag : ℕ) (front : List ℕ) → tags.Spells tag front → (tag < worth + worth) × (front ≡ spell tag)
-  spells : (tag : ℕ) → tag < worth + worth → tags.Spells tag (spell tag)
+record AreTags (tags : Grammar ℕ ℕ) (weight : ℕ) (spell : ℕ → List ℕ) : Type 0 where
+  spelled : (tag : ℕ) (prefix : List ℕ) → tags.Spells tag prefix → (tag < weight + weight) × (prefix ≡ spell tag)
+  spells : (tag : ℕ) → tag < weight + weight → tags.Spells tag (spell tag)
 
 -- a number and its spelling by groups, each spelled by a list of letters
 abbrev IsSpelledBy : ℕ → ℕ → (ℕ → List ℕ) → ℕ → List ℕ → Type 0
-IsSpelledBy worth most spell value letters =
-    (groups : List ℕ) × IsGroups worth most groups × (letters ≡ flat_map spell (flagged worth groups)) × (value ≡ number_of worth groups)
+IsSpelledBy weight most spell value letters =
+    (groups : List ℕ) × IsGroups weight most groups × (letters ≡ flat_map spell (flagged weight groups)) × (value ≡ number_of weight groups)
 
 -- a group before a list of groups
-before : (worth most : ℕ) (spell : ℕ → List ℕ) (group value : ℕ) (letters : List ℕ) → group < worth → IsSpelledBy worth most spell value letters
-    → IsSpelledBy worth (suc most) spell (group + worth * value) (spell (worth + group) ++ letters)
-before worth most spell group value letters small (groups, are, same, is) = (
+before : (weight most : ℕ) (spell : ℕ → List ℕ) (group value : ℕ) (letters : List ℕ) → group < weight → IsSpelledBy weight most spell value letters
+    → IsSpelledBy weight (suc most) spell (group + weight * value) (spell (weight + group) ++ letters)
+before weight most spell group value letters small (groups, are, same, is) = (
   group ∷ groups,
   record { some = omega arith; within = omega (arith, are.within); below = (small, are.below) },
-  ap (λ back. spell (worth + group) ++ back) same ∙ ap (flat_map spell) (sym (flagged_more worth group groups are.some)),
-  ap (λ n. group + worth * n) is ∙ sym (number_more worth group groups),
+  ap (λ back. spell (weight + group) ++ back) same ∙ ap (flat_map spell) (sym (flagged_more weight group groups are.some)),
+  ap (λ n. group + weight * n) is ∙ sym (number_more weight group groups),
 )
 
 -- what a tag spells, and what follows it
-tag_spelled : (tags more : Grammar ℕ ℕ) (worth most : ℕ) (spell : ℕ → List ℕ)
-    → ((value : ℕ) (letters : List ℕ) → more.Spells value letters → IsSpelledBy worth most spell value letters)
-    → (value tag : ℕ) (back : List ℕ) (low : Bool) → nat_lt tag worth ≡ low → tag < worth + worth
-    → (choose low (always tag) (behind_group worth (tag - worth) more)).Spells value back → IsSpelledBy worth (suc most) spell value (spell tag ++ back)
-tag_spelled tags more worth most spell rest value tag back true is_low small spelled =
-    let below : tag < worth = grind (arith, nat_tests) in (
+tag_spelled : (tags more : Grammar ℕ ℕ) (weight most : ℕ) (spell : ℕ → List ℕ)
+    → ((value : ℕ) (letters : List ℕ) → more.Spells value letters → IsSpelledBy weight most spell value letters)
+    → (value tag : ℕ) (back : List ℕ) (low : Bool) → nat_lt tag weight ≡ low → tag < weight + weight
+    → (choose low (always tag) (after_group weight (tag - weight) more)).Spells value back → IsSpelledBy weight (suc most) spell value (spell tag ++ back)
+tag_spelled tags more weight most spell rest value tag back true is_low small spelled =
+    let below : tag < weight = grind (arith, nat_tests) in (
       tag ∷ [],
       record { some = omega arith; within = omega arith; below = (below, tt) },
-      ap (λ behind. spell tag ++ behind) spelled.1 ∙ ap (flat_map spell) (sym (flagged_one worth tag)),
-      spelled.0 ∙ sym (number_one worth tag),
+      ap (λ after. spell tag ++ after) spelled.1 ∙ ap (flat_map spell) (sym (flagged_one weight tag)),
+      spelled.0 ∙ sym (number_one weight tag),
     )
-tag_spelled tags more worth most spell rest value tag back false is_high small (inner, is, spelled) =
-    let above : worth ≤ tag = grind (arith, nat_tests) in
-    let same : worth + (tag - worth) ≡ tag = omega arith in
-    let joined : IsSpelledBy worth (suc most) spell (tag - worth + worth * inner) (spell (worth + (tag - worth)) ++ back) =
-    before worth most spell (tag - worth) inner back (omega arith) (rest inner back spelled) in
-    subst (λ n. IsSpelledBy worth (suc most) spell n (spell tag ++ back)) (sym is)
-    (subst (λ t. IsSpelledBy worth (suc most) spell (tag - worth + worth * inner) (spell t ++ back)) same joined)
+tag_spelled tags more weight most spell rest value tag back false is_high small (inner, is, spelled) =
+    let above : weight ≤ tag = grind (arith, nat_tests) in
+    let same : weight + (tag - weight) ≡ tag = omega arith in
+    let joined : IsSpelledBy weight (suc most) spell (tag - weight + weight * inner) (spell (weight + (tag - weight)) ++ back) =
+    before weight most spell (tag - weight) inner back (omega arith) (rest inner back spelled) in
+    subst (λ n. IsSpelledBy weight (suc most) spell n (spell tag ++ back)) (sym is)
+    (subst (λ t. IsSpelledBy weight (suc most) spell (tag - weight + weight * inner) (spell t ++ back)) same joined)
 
 -- what groups spell
-groups_spelled : (tags more : Grammar ℕ ℕ) (worth most above : ℕ) (pick : ℕ → ℕ) (spell : ℕ → List ℕ) → AreTags tags worth spell
-    → ((value : ℕ) (letters : List ℕ) → more.Spells value letters → IsSpelledBy worth most spell value letters)
-    → (value : ℕ) (letters : List ℕ) → (tagged tags (group_by worth more) (λ n. n < above) pick).Spells value letters
-    → IsSpelledBy worth (suc most) spell value letters
-groups_spelled tags more worth most above pick spell are rest value letters (tag, front, back, first, behind, whole) =
-    let parts : (tag < worth + worth) × (front ≡ spell tag) = are.spelled tag front first in
-    subst (λ all. IsSpelledBy worth (suc most) spell value all) (ap (λ first. first ++ back) (sym parts.1) ∙ sym whole)
-    (tag_spelled tags more worth most spell rest value tag back (nat_lt tag worth) refl parts.0 behind)
+groups_spelled : (tags more : Grammar ℕ ℕ) (weight most above : ℕ) (pick : ℕ → ℕ) (spell : ℕ → List ℕ) → AreTags tags weight spell
+    → ((value : ℕ) (letters : List ℕ) → more.Spells value letters → IsSpelledBy weight most spell value letters)
+    → (value : ℕ) (letters : List ℕ) → (tagged tags (group_by weight more) (λ n. n < above) pick).Spells value letters
+    → IsSpelledBy weight (suc most) spell value letters
+groups_spelled tags more weight most above pick spell are rest value letters (tag, prefix, back, first, after, whole) =
+    let parts : (tag < weight + weight) × (prefix ≡ spell tag) = are.spelled tag prefix first in
+    subst (λ all. IsSpelledBy weight (suc most) spell value all) (ap (λ first. first ++ back) (sym parts.1) ∙ sym whole)
+    (tag_spelled tags more weight most spell rest value tag back (nat_lt tag weight) refl parts.0 after)
 
 -- groups spell what they say
-groups_spell : (tags more : Grammar ℕ ℕ) (worth most above : ℕ) (pick : ℕ → ℕ) (spell : ℕ → List ℕ) → AreTags tags worth spell
-    → ((value : ℕ) (letters : List ℕ) → IsSpelledBy worth most spell value letters → more.Spells value letters)
-    → (value : ℕ) (letters : List ℕ) → IsSpelledBy worth (suc most) spell value letters
-    → (tagged tags (group_by worth more) (λ n. n < above) pick).Spells value letters
-groups_spell tags more worth most above pick spell tag rest value letters ([], are, same, is) = absurd (omega (arith, are.some))
-groups_spell tags more worth most above pick spell tag rest value letters (group ∷ [], are, same, is) =
-    let small : group < worth = are.below.0 in
-    let is_low : nat_lt group worth ≡ true = grind (arith, nat_tests) in (
+groups_spell : (tags more : Grammar ℕ ℕ) (weight most above : ℕ) (pick : ℕ → ℕ) (spell : ℕ → List ℕ) → AreTags tags weight spell
+    → ((value : ℕ) (letters : List ℕ) → IsSpelledBy weight most spell value letters → more.Spells value letters)
+    → (value : ℕ) (letters : List ℕ) → IsSpelledBy weight (suc most) spell value letters
+    → (tagged tags (group_by weight more) (λ n. n < above) pick).Spells value letters
+groups_spell tags more weight most above pick spell tag rest value letters ([], are, same, is) = absurd (omega (arith, are.some))
+groups_spell tags more weight most above pick spell tag rest value letters (group ∷ [], are, same, is) =
+    let small : group < weight = are.below.0 in
+    let is_low : nat_lt group weight ≡ true = grind (arith, nat_tests) in (
       group,
       spell group,
       [],
       tag.spells group (omega arith),
-      subst (λ test. (choose test (always {A = ℕ} group) (behind_group worth (group - worth) more)).Spells value []) (sym is_low) (is ∙ number_one worth group, refl),
-      same ∙ ap (flat_map spell) (flagged_one worth group),
+      subst (λ test. (choose test (always {A = ℕ} group) (after_group weight (group - weight) more)).Spells value []) (sym is_low) (is ∙ number_one weight group, refl),
+      same ∙ ap (flat_map spell) (flagged_one weight group),
     )
-groups_spell tags more worth most above pick spell tag rest value letters (group ∷ next ∷ groups, are, same, is) =
-    let small : group < worth = are.below.0 in
-    let up : nat_lt (worth + group) worth ≡ false = grind (arith, nat_tests) in
-    let low : worth + group - worth ≡ group = omega arith in
+groups_spell tags more weight most above pick spell tag rest value letters (group ∷ next ∷ groups, are, same, is) =
+    let small : group < weight = are.below.0 in
+    let up : nat_lt (weight + group) weight ≡ false = grind (arith, nat_tests) in
+    let low : weight + group - weight ≡ group = omega arith in
     let others : List ℕ = next ∷ groups in
-    let back : List ℕ = flat_map spell (flagged worth others) in
-    let behind : more.Spells (number_of worth others) back =
-    rest (number_of worth others) back (others, record { some = omega arith; within = omega (arith, are.within); below = are.below.1 }, refl, refl) in (
-      worth + group,
-      spell (worth + group),
+    let back : List ℕ = flat_map spell (flagged weight others) in
+    let after : more.Spells (number_of weight others) back =
+    rest (number_of weight others) back (others, record { some = omega arith; within = omega (arith, are.within); below = are.below.1 }, refl, refl) in (
+      weight + group,
+      spell (weight + group),
       back,
-      tag.spells (worth + group) (omega arith),
-      subst (λ test. (choose test (always {A = ℕ} (worth + group)) (behind_group worth (worth + group - worth) more)).Spells value back) (sym up)
-          (number_of worth others, is ∙ number_more worth group others ∙ ap (λ n. n + worth * number_of worth others) (sym low), behind),
-      same ∙ ap (flat_map spell) (flagged_more worth group others (omega arith)),
+      tag.spells (weight + group) (omega arith),
+      subst (λ test. (choose test (always {A = ℕ} (weight + group)) (after_group weight (weight + group - weight) more)).Spells value back) (sym up)
+          (number_of weight others, is ∙ number_more weight group others ∙ ap (λ n. n + weight * number_of weight others) (sym low), after),
+      same ∙ ap (flat_map spell) (flagged_more weight group others (omega arith)),
     )
 
 -- a byte is spelled by itself
 bytes_are_tags : AreTags one_byte 128 (λ byte. byte ∷ [])
-bytes_are_tags = record { spelled = λ tag front spelled. spelled; spells = λ tag small. (small, refl) }
+bytes_are_tags = record { spelled = λ tag prefix spelled. spelled; spells = λ tag small. (small, refl) }
 
 -- what an MC of at most so many bytes spells
 mc_within_spelled : (count value : ℕ) (letters : List ℕ) → (mc_within count).Spells value letters → IsSpelledBy 128 count (λ byte. byte ∷ []) value letters
@@ -206,22 +206,22 @@ bytes_spell state (byte ∷ bytes) are = (byte ∷ [], bytes, (are.0, refl), byt
 -- and by nothing else
 bytes_spelled : (state : ℕ) (bytes letters : List ℕ) → SpellsChain (λ (state : ℕ). one_byte) (λ value. 0) state bytes letters → AreBytes bytes × (letters ≡ bytes)
 bytes_spelled state [] letters spelled = (tt, spelled)
-bytes_spelled state (byte ∷ bytes) letters (front, back, first, others, same) =
-    let behind : AreBytes bytes × (back ≡ bytes) = bytes_spelled 0 bytes back others in
-    ((first.0, behind.0), same ∙ ap₂ (λ a b. a ++ b) first.1 behind.1)
+bytes_spelled state (byte ∷ bytes) letters (prefix, back, first, others, same) =
+    let after : AreBytes bytes × (back ≡ bytes) = bytes_spelled 0 bytes back others in
+    ((first.0, after.0), same ∙ ap₂ (λ a b. a ++ b) first.1 after.1)
 
 -- a unit is spelled by its two bytes, the low one first
 units_are_tags : AreTags unit 32768 (to_le_bytes w16)
 unfolding chain
 units_are_tags = record {
-  spelled = λ tag front spelled. of_bytes tag front spelled.0 spelled.1 spelled.2.0 spelled.2.1;
+  spelled = λ tag prefix spelled. of_bytes tag prefix spelled.0 spelled.1 spelled.2.0 spelled.2.1;
   spells = λ tag small. to_bytes tag (number_of_16 tag small);
 }
   where
-    of_bytes : (tag : ℕ) (front bytes : List ℕ) → tag ≡ from_le_bytes w16 bytes → length bytes ≡ 2 → SpellsChain (λ (state : ℕ). one_byte) (λ value. 0) 0 bytes front
-        → (tag < 32768 + 32768) × (front ≡ to_le_bytes w16 tag)
-    of_bytes tag front bytes seen long spelled =
-        let parts : AreBytes bytes × (front ≡ bytes) = bytes_spelled 0 bytes front spelled in
+    of_bytes : (tag : ℕ) (prefix bytes : List ℕ) → tag ≡ from_le_bytes w16 bytes → length bytes ≡ 2 → SpellsChain (λ (state : ℕ). one_byte) (λ value. 0) 0 bytes prefix
+        → (tag < 32768 + 32768) × (prefix ≡ to_le_bytes w16 tag)
+    of_bytes tag prefix bytes seen long spelled =
+        let parts : AreBytes bytes × (prefix ≡ bytes) = bytes_spelled 0 bytes prefix spelled in
         let both : (from_le_bytes w16 bytes < 2 ^ 16) × (to_le_bytes w16 (from_le_bytes w16 bytes) ≡ bytes) = bytes_of_16 bytes long parts.0 in
         (subst (λ n. n < 2 ^ 16) (sym seen) both.0, parts.1 ∙ sym both.1 ∙ ap (to_le_bytes w16) (sym seen))
 
@@ -252,7 +252,7 @@ ms_spells value letters = (ms_within_spelled 4 value letters, ms_within_spells 4
 -- a sign and a magnitude, and their spelling by groups
 abbrev IsSignedSpelledBy : ℕ → Signed → List ℕ → Type 0
 IsSignedSpelledBy most value letters =
-    (front : List ℕ) × (last : ℕ) × IsSignedGroups most front last × (letters ≡ signed_flagged front last value.0) × (value.1 ≡ number_of 128 (front ++ last ∷ []))
+    (prefix : List ℕ) × (last : ℕ) × IsSignedGroups most prefix last × (letters ≡ signed_flagged prefix last value.0) × (value.1 ≡ number_of 128 (prefix ++ last ∷ []))
 
 -- a last byte is its sign and its six value bits
 last_byte : (byte : ℕ) (negative : Bool) → nat_lt 63 byte ≡ negative → byte < 128 → byte ≡ (if negative then 64 + byte % 64 else byte % 64)
@@ -263,7 +263,7 @@ last_byte byte false is small = let below : byte ≤ 63 = grind (arith, nat_test
 byte_spelled : (more : Grammar ℕ Signed) (most : ℕ)
     → ((value : Signed) (letters : List ℕ) → more.Spells value letters → IsSignedSpelledBy most value letters)
     → (value : Signed) (byte : ℕ) (back : List ℕ) (low : Bool) → nat_lt byte 128 ≡ low → byte < 256
-    → (choose low (always (last_of byte)) (behind_signed (byte - 128) more)).Spells value back → IsSignedSpelledBy (suc most) value (byte ∷ back)
+    → (choose low (always (last_of byte)) (after_signed (byte - 128) more)).Spells value back → IsSignedSpelledBy (suc most) value (byte ∷ back)
 unfolding signed_flagged
 byte_spelled more most rest value byte back true is_low small spelled =
     let below : byte < 128 = grind (arith, nat_tests) in
@@ -271,7 +271,7 @@ byte_spelled more most rest value byte back true is_low small spelled =
       [],
       byte % 64,
       record { within = omega arith; below = tt; last_below = omega arith },
-      ap₂ (λ first behind. first ∷ behind) (last_byte byte (nat_lt 63 byte) refl below) spelled.1,
+      ap₂ (λ first after. first ∷ after) (last_byte byte (nat_lt 63 byte) refl below) spelled.1,
       sym (number_one 128 (byte % 64)),
     ) in
     subst (λ (v : Signed). IsSignedSpelledBy (suc most) v (byte ∷ back)) (sym spelled.0) last
@@ -279,13 +279,13 @@ byte_spelled more most rest value byte back false is_high small (inner, is, spel
     let above : 128 ≤ byte = grind (arith, nat_tests) in
     let group : ℕ = byte - 128 in
     let same : byte ≡ 128 + group = omega arith in
-    let behind : IsSignedSpelledBy most inner back = rest inner back spelled in
+    let after : IsSignedSpelledBy most inner back = rest inner back spelled in
     let joined : IsSignedSpelledBy (suc most) (inner.0, group + 128 * inner.1) (byte ∷ back) = (
-      group ∷ behind.0,
-      behind.1,
-      record { within = omega (arith, behind.2.within); below = (omega arith, behind.2.below); last_below = behind.2.last_below },
-      ap₂ (λ first others. first ∷ others) same behind.3,
-      ap (λ n. group + 128 * n) behind.4 ∙ sym (number_more 128 group (behind.0 ++ behind.1 ∷ [])),
+      group ∷ after.0,
+      after.1,
+      record { within = omega (arith, after.2.within); below = (omega arith, after.2.below); last_below = after.2.last_below },
+      ap₂ (λ first others. first ∷ others) same after.3,
+      ap (λ n. group + 128 * n) after.4 ∙ sym (number_more 128 group (after.0 ++ after.1 ∷ [])),
     ) in
     subst (λ (v : Signed). IsSignedSpelledBy (suc most) v (byte ∷ back)) (sym is) joined
 
@@ -293,9 +293,9 @@ byte_spelled more most rest value byte back false is_high small (inner, is, spel
 signed_within_spelled : (count : ℕ) (value : Signed) (letters : List ℕ) → (signed_mc_within count).Spells value letters → IsSignedSpelledBy count value letters
 unfolding signed_mc_within
 signed_within_spelled zero value letters spelled = absurd spelled
-signed_within_spelled (suc more) value letters (byte, front, back, first, behind, whole) =
+signed_within_spelled (suc more) value letters (byte, prefix, back, first, after, whole) =
     subst (λ all. IsSignedSpelledBy (suc more) value all) (ap (λ one. one ++ back) (sym first.1) ∙ sym whole)
-    (byte_spelled (signed_mc_within more) more (signed_within_spelled more) value byte back (nat_lt byte 128) refl first.0 behind)
+    (byte_spelled (signed_mc_within more) more (signed_within_spelled more) value byte back (nat_lt byte 128) refl first.0 after)
 
 -- a last group with its sign
 last_again : (last : ℕ) (negative : Bool) → last < 64 → let byte : ℕ = if negative then 64 + last else last in
@@ -304,10 +304,10 @@ last_again last true small = (grind (arith, nat_tests), grind (arith, nat_tests)
 last_again last false small = (grind (arith, nat_tests), grind (arith, nat_tests), omega arith, omega arith)
 
 -- and by which bytes
-signed_within_spells : (count : ℕ) (value : Signed) (letters front : List ℕ) (last : ℕ) → IsSignedGroups count front last → letters ≡ signed_flagged front last value.0
-    → value.1 ≡ number_of 128 (front ++ last ∷ []) → (signed_mc_within count).Spells value letters
+signed_within_spells : (count : ℕ) (value : Signed) (letters prefix : List ℕ) (last : ℕ) → IsSignedGroups count prefix last → letters ≡ signed_flagged prefix last value.0
+    → value.1 ≡ number_of 128 (prefix ++ last ∷ []) → (signed_mc_within count).Spells value letters
 unfolding signed_mc_within signed_flagged
-signed_within_spells zero value letters front last are same is = absurd (omega (arith, are.within))
+signed_within_spells zero value letters prefix last are same is = absurd (omega (arith, are.within))
 signed_within_spells (suc more) value letters [] last are same is =
     let byte : ℕ = if value.0 then 64 + last else last in
     let again : (nat_lt byte 128 ≡ true) × (nat_lt 63 byte ≡ value.0) × (byte % 64 ≡ last) × (byte < 256) = last_again last value.0 are.last_below in (
@@ -315,25 +315,25 @@ signed_within_spells (suc more) value letters [] last are same is =
       byte ∷ [],
       [],
       (again.3, refl),
-      subst (λ test. (choose test (always (last_of byte)) (behind_signed (byte - 128) (signed_mc_within more))).Spells value []) (sym again.0)
+      subst (λ test. (choose test (always (last_of byte)) (after_signed (byte - 128) (signed_mc_within more))).Spells value []) (sym again.0)
           (ap₂ (λ (s : Bool) (m : ℕ). let v : Signed = (s, m) in v) (sym again.1) (is ∙ number_one 128 last ∙ sym again.2), refl),
       same,
     )
-signed_within_spells (suc more) value letters (group ∷ front) last are same is =
+signed_within_spells (suc more) value letters (group ∷ prefix) last are same is =
     let small : group < 128 = are.below.0 in
     let up : nat_lt (128 + group) 128 ≡ false = grind (arith, nat_tests) in
     let low : 128 + group - 128 ≡ group = omega arith in
-    let back : List ℕ = signed_flagged front last value.0 in
-    let high : ℕ = number_of 128 (front ++ last ∷ []) in
+    let back : List ℕ = signed_flagged prefix last value.0 in
+    let high : ℕ = number_of 128 (prefix ++ last ∷ []) in
     let inner : Signed = (value.0, high) in
-    let behind : (signed_mc_within more).Spells inner back =
-    signed_within_spells more inner back front last (record { within = omega (arith, are.within); below = are.below.1; last_below = are.last_below }) refl refl in (
+    let after : (signed_mc_within more).Spells inner back =
+    signed_within_spells more inner back prefix last (record { within = omega (arith, are.within); below = are.below.1; last_below = are.last_below }) refl refl in (
       128 + group,
       (128 + group) ∷ [],
       back,
       (omega arith, refl),
-      subst (λ test. (choose test (always (last_of (128 + group))) (behind_signed (128 + group - 128) (signed_mc_within more))).Spells value back) (sym up)
-          (inner, ap (λ (m : ℕ). let v : Signed = (value.0, m) in v) (is ∙ number_more 128 group (front ++ last ∷ []) ∙ ap (λ n. n + 128 * high) (sym low)), behind),
+      subst (λ test. (choose test (always (last_of (128 + group))) (after_signed (128 + group - 128) (signed_mc_within more))).Spells value back) (sym up)
+          (inner, ap (λ (m : ℕ). let v : Signed = (value.0, m) in v) (is ∙ number_more 128 group (prefix ++ last ∷ []) ∙ ap (λ n. n + 128 * high) (sym low)), after),
       same,
     )
 
@@ -342,20 +342,20 @@ pub signed_mc_spells : SignedMcSpells
 signed_mc_spells value letters = (into, from)
   where
     into : signed_mc.Spells value letters
-        → (front : List ℕ) × (last : ℕ) × (negative : Bool) × IsSignedGroups 10 front last × (letters ≡ signed_flagged front last negative)
-        × (number_of 128 (front ++ last ∷ []) < 2 ^ 63) × (value ≡ signed_number (negative, number_of 128 (front ++ last ∷ [])))
+        → (prefix : List ℕ) × (last : ℕ) × (negative : Bool) × IsSignedGroups 10 prefix last × (letters ≡ signed_flagged prefix last negative)
+        × (number_of 128 (prefix ++ last ∷ []) < 2 ^ 63) × (value ≡ signed_number (negative, number_of 128 (prefix ++ last ∷ [])))
     into (inner, is, spelled) =
         let by : IsSignedSpelledBy 10 inner letters = signed_within_spelled 10 inner letters spelled.1 in
         let passed : nat_lt inner.1 (2 ^ 63) ≡ true = spelled.0 in
         let small : inner.1 < 2 ^ 63 = grind (arith, nat_tests) in
         (by.0, by.1, inner.0, by.2, by.3, omega (arith, by.4), is ∙ ap (λ (m : ℕ). signed_number (inner.0, m)) by.4)
 
-    from : (front : List ℕ) × (last : ℕ) × (negative : Bool) × IsSignedGroups 10 front last × (letters ≡ signed_flagged front last negative)
-        × (number_of 128 (front ++ last ∷ []) < 2 ^ 63) × (value ≡ signed_number (negative, number_of 128 (front ++ last ∷ [])))
+    from : (prefix : List ℕ) × (last : ℕ) × (negative : Bool) × IsSignedGroups 10 prefix last × (letters ≡ signed_flagged prefix last negative)
+        × (number_of 128 (prefix ++ last ∷ []) < 2 ^ 63) × (value ≡ signed_number (negative, number_of 128 (prefix ++ last ∷ [])))
         → signed_mc.Spells value letters
-    from (front, last, negative, are, same, small, is) =
-        let inner : Signed = (negative, number_of 128 (front ++ last ∷ [])) in
-        (inner, is, (grind (arith, nat_tests), signed_within_spells 10 inner letters front last are same refl))
+    from (prefix, last, negative, are, same, small, is) =
+        let inner : Signed = (negative, number_of 128 (prefix ++ last ∷ [])) in
+        (inner, is, (grind (arith, nat_tests), signed_within_spells 10 inner letters prefix last are same refl))
 
 -- bytes are spelled by their bits
 bits_spell : (state : ℕ) (bytes : List ℕ) → AreBytes bytes → SpellsChain (λ (state : ℕ). rc) (λ value. 0) state bytes (bits bytes)
@@ -369,11 +369,11 @@ bits_spelled : (state : ℕ) (bytes : List ℕ) (letters : List Bool) → Spells
     → AreBytes bytes × (letters ≡ bits bytes)
 unfolding bits
 bits_spelled state [] letters spelled = (tt, spelled)
-bits_spelled state (byte ∷ bytes) letters (front, back, first, others, same) =
-    let behind : AreBytes bytes × (back ≡ bits bytes) = bits_spelled 0 bytes back others in
-    let here : front ≡ low_bits 8 byte = sym (low_bits_of_num front) ∙ ap₂ low_bits first.0 (sym first.1) in
-    let fits : byte < 2 ^ 8 = subst (λ n. n < 2 ^ 8) (sym first.1) (subst (λ n. num front < 2 ^ n) first.0 (num_fits front)) in
-    ((fits, behind.0), same ∙ ap₂ (λ a b. a ++ b) here behind.1)
+bits_spelled state (byte ∷ bytes) letters (prefix, back, first, others, same) =
+    let after : AreBytes bytes × (back ≡ bits bytes) = bits_spelled 0 bytes back others in
+    let here : prefix ≡ low_bits 8 byte = sym (low_bits_of_num prefix) ∙ ap₂ low_bits first.0 (sym first.1) in
+    let fits : byte < 2 ^ 8 = subst (λ n. n < 2 ^ 8) (sym first.1) (subst (λ n. num prefix < 2 ^ n) first.0 (num_fits prefix)) in
+    ((fits, after.0), same ∙ ap₂ (λ a b. a ++ b) here after.1)
 
 -- what a number of so many bytes spells
 word_spells : (count limit : ℕ) (from : List ℕ → ℕ) (to : ℕ → List ℕ)
@@ -416,17 +416,17 @@ pub tv_spells : TvSpells
 unfolding tv chain
 tv_spells text letters = (out, back)
   where
-    plain : (text : List ℕ) (front last : List Bool) (count : ℕ) (bytes : List ℕ) → text ≡ bytes → bs.Spells count front → length bytes ≡ count
-        → SpellsChain (λ (state : ℕ). rc) (λ value. 0) 0 bytes last → letters ≡ front ++ last
-        → AreBytes text × ((front : List Bool) × bs.Spells (length text) front × (letters ≡ front ++ bits text))
-    plain text front last count bytes seen first long spelled same =
+    plain : (text : List ℕ) (prefix last : List Bool) (count : ℕ) (bytes : List ℕ) → text ≡ bytes → bs.Spells count prefix → length bytes ≡ count
+        → SpellsChain (λ (state : ℕ). rc) (λ value. 0) 0 bytes last → letters ≡ prefix ++ last
+        → AreBytes text × ((prefix : List Bool) × bs.Spells (length text) prefix × (letters ≡ prefix ++ bits text))
+    plain text prefix last count bytes seen first long spelled same =
         let parts : AreBytes bytes × (last ≡ bits bytes) = bits_spelled 0 bytes last spelled in (
           subst AreBytes (sym seen) parts.0,
-          (front, subst (λ n. bs.Spells n front) (sym long ∙ ap length (sym seen)) first, same ∙ ap (λ behind. front ++ behind) (parts.1 ∙ ap bits (sym seen))),
+          (prefix, subst (λ n. bs.Spells n prefix) (sym long ∙ ap length (sym seen)) first, same ∙ ap (λ after. prefix ++ after) (parts.1 ∙ ap bits (sym seen))),
         )
 
-    out : tv.Spells text letters → AreBytes text × ((front : List Bool) × bs.Spells (length text) front × (letters ≡ front ++ bits text))
+    out : tv.Spells text letters → AreBytes text × ((prefix : List Bool) × bs.Spells (length text) prefix × (letters ≡ prefix ++ bits text))
     out (both, seen, spelled) = plain text spelled.0 spelled.1 both.0 both.1 seen spelled.2 spelled.3.0 spelled.3.1 spelled.4
 
-    back : AreBytes text × ((front : List Bool) × bs.Spells (length text) front × (letters ≡ front ++ bits text)) → tv.Spells text letters
+    back : AreBytes text × ((prefix : List Bool) × bs.Spells (length text) prefix × (letters ≡ prefix ++ bits text)) → tv.Spells text letters
     back (are, first) = ((length text, text), refl, (first.0, bits text, first.1, (refl, bits_spell 0 text are), first.2))

@@ -15,11 +15,11 @@ use Rattle.dwg_grammar.specs.References.{ReferencePart, no_refs, one_ref, some_r
 
 -- values that are spelled are spelled in two pieces
 pub split_all : {V : Type 0} (code : Grammar Bool V) (values others : List V) (letters : List Bool) → SpellsAll code (values ++ others) letters
-    → (front : List Bool) × (back : List Bool) × SpellsAll code values front × SpellsAll code others back × (letters ≡ front ++ back)
+    → (prefix : List Bool) × (back : List Bool) × SpellsAll code values prefix × SpellsAll code others back × (letters ≡ prefix ++ back)
 split_all code [] others letters spelled = ([], letters, refl, spelled, refl)
 split_all code (value ∷ values) others letters (first, rest, one, more, same) =
-    let behind = split_all code values others rest more in
-    (first ++ behind.0, behind.1, (first, behind.0, one, behind.2, refl), behind.3, same ∙ ap (λ last. first ++ last) behind.4 ∙ sym (append_assoc first behind.0 behind.1))
+    let after = split_all code values others rest more in
+    (first ++ after.0, after.1, (first, after.0, one, after.2, refl), after.3, same ∙ ap (λ last. first ++ last) after.4 ∙ sym (append_assoc first after.0 after.1))
 
 -- one value that is spelled as a list is spelled
 pub split_one : {V : Type 0} (code : Grammar Bool V) (value : V) (letters : List Bool) → SpellsAll code (value ∷ []) letters → code.Spells value letters

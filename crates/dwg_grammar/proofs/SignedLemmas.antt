@@ -9,22 +9,22 @@ use Rattle.dwg_grammar.specs.Combinators.{one_byte, always, tagged, choose, imag
 use Rattle.dwg_grammar.proofs.CombinatorLemmas.{bytes_closed, one_byte_is_code, always_is_code, never_is_code, choose_is_code, restrict_is_code, image_is_code, struct_is_code, tagged_is_code}
 use Rattle.dwg_grammar.specs.ModularCodes.{Signed, last_of, signed_mc_within, signed_number, sign_and_magnitude, signed_mc}
 
--- a signed number behind a group of 7 bits: the group's value bits, and the number that follows as what is above them
-abbrev pub behind_signed : ℕ → Grammar ℕ Signed → Grammar ℕ Signed
-behind_signed low more =
+-- a signed number after a group of 7 bits: the group's value bits, and the number that follows as what is above them
+abbrev pub after_signed : ℕ → Grammar ℕ Signed → Grammar ℕ Signed
+after_signed low more =
     image (λ value. (value.1 % 128 ≡ low) × more.IsValue (value.0, value.1 / 128)) (λ high. (high.0, low + 128 * high.1)) (λ value. (value.0, value.1 / 128)) more
 
 -- what follows a byte: nothing where its flag is down, and more bytes where it is up
 abbrev pub signed_by : Grammar ℕ Signed → ℕ → Grammar ℕ Signed
-signed_by more byte = choose (nat_lt byte 128) (always (last_of byte)) (behind_signed (byte - 128) more)
+signed_by more byte = choose (nat_lt byte 128) (always (last_of byte)) (after_signed (byte - 128) more)
 
 -- the first byte that is written of a signed number, by what the tests say
 abbrev pub signed_byte : Bool → Bool → ℕ → ℕ
 signed_byte last negative magnitude = if last then (if negative then 64 + magnitude else magnitude) else 128 + magnitude % 128
 
--- a signed number behind a group is a code
-pub behind_signed_is_code : (low : ℕ) (more : Grammar ℕ Signed) → low < 128 → IsCode AreBytes more → IsCode AreBytes (behind_signed low more)
-behind_signed_is_code low more small is =
+-- a signed number after a group is a code
+pub after_signed_is_code : (low : ℕ) (more : Grammar ℕ Signed) → low < 128 → IsCode AreBytes more → IsCode AreBytes (after_signed low more)
+after_signed_is_code low more small is =
     struct_is_code AreBytes (λ (value : Signed). (value.1 % 128 ≡ low) × more.IsValue (value.0, value.1 / 128)) (λ (high : Signed). (high.0, low + 128 * high.1))
     (λ (value : Signed). (value.0, value.1 / 128)) more is
     (λ high fits. (group_of low high.1 small, subst (λ (n : ℕ). more.IsValue (high.0, n)) (sym (above_of low high.1 small)) fits))
@@ -50,7 +50,7 @@ pub record AreSigned (more : Grammar ℕ Signed) (limit : ℕ) : Type 0 where
 
 -- what a first byte and what follows it spell has a magnitude below the limit
 signed_value : (more : Grammar ℕ Signed) (limit : ℕ) → AreSigned more limit → (byte : ℕ) (value : Signed) (last : Bool)
-    → (choose last (always (last_of byte)) (behind_signed (byte - 128) more)).IsValue value → value.1 < 64 * limit
+    → (choose last (always (last_of byte)) (after_signed (byte - 128) more)).IsValue value → value.1 < 64 * limit
 signed_value more limit are byte value true fits =
     let magnitude : value.1 ≡ byte % 64 = ap (λ (v : Signed). v.1) fits in
     omega (arith, magnitude, are.limit_some)
@@ -65,7 +65,7 @@ signed_picked more limit are true magnitude true is_last fits =
     let sign : true ≡ nat_lt 63 (64 + magnitude) = grind (arith, nat_tests) in
     let rest : magnitude ≡ (64 + magnitude) % 64 = omega arith in (
       omega arith,
-      subst (λ test. (choose test (always (last_of (64 + magnitude))) (behind_signed (64 + magnitude - 128) more)).IsValue (true, magnitude)) (sym low)
+      subst (λ test. (choose test (always (last_of (64 + magnitude))) (after_signed (64 + magnitude - 128) more)).IsValue (true, magnitude)) (sym low)
           (ap₂ (λ (s : Bool) (m : ℕ). let v : Signed = (s, m) in v) sign rest),
     )
 signed_picked more limit are false magnitude true is_last fits =
@@ -74,7 +74,7 @@ signed_picked more limit are false magnitude true is_last fits =
     let sign : false ≡ nat_lt 63 magnitude = grind (arith, nat_tests) in
     let rest : magnitude ≡ magnitude % 64 = omega arith in (
       omega arith,
-      subst (λ test. (choose test (always (last_of magnitude)) (behind_signed (magnitude - 128) more)).IsValue (false, magnitude)) (sym low)
+      subst (λ test. (choose test (always (last_of magnitude)) (after_signed (magnitude - 128) more)).IsValue (false, magnitude)) (sym low)
           (ap₂ (λ (s : Bool) (m : ℕ). let v : Signed = (s, m) in v) sign rest),
     )
 signed_picked more limit are negative magnitude false is_more fits =
@@ -82,23 +82,23 @@ signed_picked more limit are negative magnitude false is_more fits =
     let byte : ℕ = 128 + magnitude % 128 in
     let flagged : nat_lt byte 128 ≡ false = grind (arith, nat_tests) in (
       omega arith,
-      subst (λ test. (choose test (always (last_of byte)) (behind_signed (byte - 128) more)).IsValue (negative, magnitude)) (sym flagged)
+      subst (λ test. (choose test (always (last_of byte)) (after_signed (byte - 128) more)).IsValue (negative, magnitude)) (sym flagged)
           (omega arith, are.more_fits (negative, magnitude / 128) (omega arith) (omega arith)),
     )
 
 -- no first byte is shorter than the one that is written, with what follows it
 signed_least : (more : Grammar ℕ Signed) (byte : ℕ) (negative : Bool) (magnitude : ℕ) (last : Bool) → nat_lt magnitude 64 ≡ last
-    → (low : Bool) → nat_lt byte 128 ≡ low → (choose low (always (last_of byte)) (behind_signed (byte - 128) more)).IsValue (negative, magnitude)
+    → (low : Bool) → nat_lt byte 128 ≡ low → (choose low (always (last_of byte)) (after_signed (byte - 128) more)).IsValue (negative, magnitude)
     → length ((signed_by more (signed_byte last negative magnitude)).short (negative, magnitude)) ≤ length ((signed_by more byte).short (negative, magnitude))
 signed_least more byte true magnitude true is_last low is_low fits =
     let first : nat_lt (64 + magnitude) 128 ≡ true = grind (arith, nat_tests) in
     let none : length ((signed_by more (64 + magnitude)).short (true, magnitude)) ≡ 0 =
-    ap (λ test. length ((choose test (always (last_of (64 + magnitude))) (behind_signed (64 + magnitude - 128) more)).short (true, magnitude))) first in
+    ap (λ test. length ((choose test (always (last_of (64 + magnitude))) (after_signed (64 + magnitude - 128) more)).short (true, magnitude))) first in
     omega (arith, none)
 signed_least more byte false magnitude true is_last low is_low fits =
     let first : nat_lt magnitude 128 ≡ true = grind (arith, nat_tests) in
     let none : length ((signed_by more magnitude).short (false, magnitude)) ≡ 0 =
-    ap (λ test. length ((choose test (always (last_of magnitude)) (behind_signed (magnitude - 128) more)).short (false, magnitude))) first in
+    ap (λ test. length ((choose test (always (last_of magnitude)) (after_signed (magnitude - 128) more)).short (false, magnitude))) first in
     omega (arith, none)
 signed_least more byte negative magnitude false is_more true is_low fits =
     let rest : magnitude ≡ byte % 64 = ap (λ (v : Signed). v.1) fits in
@@ -116,8 +116,8 @@ pub signed_groups_is_code : (more : Grammar ℕ Signed) (limit : ℕ) → AreSig
 signed_groups_is_code more limit are =
     tagged_is_code AreBytes one_byte (signed_by more) (λ (value : Signed). value.1 < 64 * limit) (λ (value : Signed). signed_byte (nat_lt value.1 64) value.0 value.1)
     bytes_closed one_byte_is_code
-    (λ byte fits. choose_is_code AreBytes (nat_lt byte 128) (always (last_of byte)) (behind_signed (byte - 128) more) (λ low. always_is_code AreBytes (last_of byte))
-    (λ high. behind_signed_is_code (byte - 128) more (rest_below byte fits) are.more_is_code))
+    (λ byte fits. choose_is_code AreBytes (nat_lt byte 128) (always (last_of byte)) (after_signed (byte - 128) more) (λ low. always_is_code AreBytes (last_of byte))
+    (λ high. after_signed_is_code (byte - 128) more (rest_below byte fits) are.more_is_code))
     (λ byte value byte_fits fits. signed_value more limit are byte value (nat_lt byte 128) fits)
     (λ value fits. signed_picked more limit are value.0 value.1 (nat_lt value.1 64) refl fits)
     (λ byte value byte_fits fits. one_more byte value (signed_least more byte value.0 value.1 (nat_lt value.1 64) refl (nat_lt byte 128) refl fits))

@@ -12,7 +12,7 @@ use Rattle.dwg_grammar.specs.declared.points.Point3.{Point3}
 use Rattle.dwg_grammar.specs.Codes.{rc, ONE, bs_by, bs, bl_by, bl, bd_by, bd, bt_by, bt, IsPoint3, bd3, UPWARD, be_by, be_tag, be, tv}
 use Rattle.dwg_grammar.proofs.NumberLemmas.{bytes_of_items, items_of_bytes, rc_is_code, rs_is_code, rl_is_code, rd_is_code, length_of_rc, length_of_rs, length_of_rl}
 
--- a code behind a tag of so many bits is a code: all tags are as long
+-- a code after a tag of so many bits is a code: all tags are as long
 pub bit_tagged_is_code : {V : Type 0} (count : ℕ) (by : ℕ → Grammar Bool V) (IsTagged : V → Type 0) (pick : V → ℕ)
     → ((tag : ℕ) → tag < 2 ^ count → IsCode AnyLetters (by tag))
     → ((tag : ℕ) (value : V) → tag < 2 ^ count → (by tag).IsValue value → IsTagged value)
@@ -51,7 +51,7 @@ bs_picked value false true low is_none is_whole is_low fits = (omega arith, grin
 bs_picked value false false true is_none is_whole is_low fits = (omega arith, grind (arith, nat_tests))
 bs_picked value false false false is_none is_whole is_low fits = (omega arith, fits)
 
--- behind the tag that is written there are no more bits than behind another
+-- after the tag that is written there are no more bits than after another
 bs_least : (value tag : ℕ) (none whole low : Bool) → (value == 0) ≡ none → (value == 256) ≡ whole → nat_lt value 256 ≡ low → (bs_by tag).IsValue value
     → length ((bs_by (bs_tag_by none whole low)).short value) ≤ length ((bs_by tag).short value)
 bs_least value tag true whole low is_none is_whole is_low fits = omega arith
@@ -97,7 +97,7 @@ bl_picked value true low is_none is_low fits = (omega arith, grind (arith, nat_t
 bl_picked value false true is_none is_low fits = (omega arith, grind (arith, nat_tests))
 bl_picked value false false is_none is_low fits = (omega arith, fits)
 
--- behind the tag that is written there are no more bits than behind another
+-- after the tag that is written there are no more bits than after another
 bl_least : (value tag : ℕ) (none low : Bool) → (value == 0) ≡ none → nat_lt value 256 ≡ low → (bl_by tag).IsValue value
     → length ((bl_by (bl_tag_by none low)).short value) ≤ length ((bl_by tag).short value)
 bl_least value tag true low is_none is_low fits = omega arith
@@ -141,7 +141,7 @@ bd_picked value true one is_none is_one fits = (omega arith, grind (arith, nat_t
 bd_picked value false true is_none is_one fits = (omega arith, grind (arith, nat_tests))
 bd_picked value false false is_none is_one fits = (omega arith, fits)
 
--- behind the tag that is written there are no more bits than behind another
+-- after the tag that is written there are no more bits than after another
 bd_least : (value tag : ℕ) (none one : Bool) → (value == 0) ≡ none → (value == ONE) ≡ one → (bd_by tag).IsValue value
     → length ((bd_by (bd_tag_by none one)).short value) ≤ length ((bd_by tag).short value)
 bd_least value tag true one is_none is_one fits = omega arith
@@ -176,7 +176,7 @@ bt_picked : (value : ℕ) (none : Bool) → (value == 0) ≡ none → value < 2 
 bt_picked value true is_none fits = (omega arith, grind (arith, nat_tests))
 bt_picked value false is_none fits = (omega arith, fits)
 
--- behind the tag that is written there are no more bits than behind another
+-- after the tag that is written there are no more bits than after another
 bt_least : (value tag : ℕ) (none : Bool) → (value == 0) ≡ none → (bt_by tag).IsValue value
     → length ((bt_by (if none then 1 else 0)).short value) ≤ length ((bt_by tag).short value)
 bt_least value tag true is_none fits = omega arith
@@ -232,7 +232,7 @@ be_picked point true true false no_x no_y one_z fits = (omega arith, fits)
 be_picked point true false one no_x no_y one_z fits = (omega arith, fits)
 be_picked point false y one no_x no_y one_z fits = (omega arith, fits)
 
--- behind the tag that is written there are no more bits than behind another
+-- after the tag that is written there are no more bits than after another
 be_least : (point : Point3) (tag : ℕ) → (be_by tag).IsValue point → length ((be_by (be_tag point)).short point) ≤ length ((be_by tag).short point)
 be_least point zero fits = by_tests (point.x == 0) (point.y == 0) (point.z == ONE)
   where

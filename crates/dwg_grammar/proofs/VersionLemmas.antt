@@ -76,8 +76,8 @@ only_1015_is_body {V} base Ac1015 body is = record {
   sound = λ main main_left references references_left value found.
       let begins = is.sound main main_left references references_left value found in
       record {
-        main_front = begins.main_front;
-        reference_front = begins.reference_front;
+        main_prefix = begins.main_prefix;
+        reference_prefix = begins.reference_prefix;
         spelled = (refl, begins.spelled);
         main_whole = begins.main_whole;
         references_whole = begins.references_whole;

@@ -12,7 +12,7 @@ pub record BodyGrammar (V : Type 0) : Type 1 where
   pub Fits : V → Type 0
   -- so many bits may follow the references
   pub MayFollow : ℕ → Type 0
-  -- the value that fronts of the main bits and of the reference bits spell, and the bits behind those fronts
+  -- the value that prefixes of the main bits and of the reference bits spell, and the bits after those prefixes
   pub parse : List Bool → List Bool → Option (V × (List Bool × List Bool))
   -- the spelling that is written
   pub short_main : V → List Bool
@@ -20,20 +20,20 @@ pub record BodyGrammar (V : Type 0) : Type 1 where
   -- the references that the reference bits spell, in their order
   pub references : V → List Reference
 
--- fronts of the main bits and of the reference bits spell the value, and these bits are behind them
+-- prefixes of the main bits and of the reference bits spell the value, and these bits are after them
 pub record BeginsWithBody {V : Type 0} (body : BodyGrammar V) (value : V) (main main_left references references_left : List Bool) : Type 0 where
-  pub main_front : List Bool
-  pub reference_front : List Bool
-  pub spelled : body.Spells value main_front reference_front (length references_left)
-  pub main_whole : main ≡ main_front ++ main_left
-  pub references_whole : references ≡ reference_front ++ references_left
+  pub main_prefix : List Bool
+  pub reference_prefix : List Bool
+  pub spelled : body.Spells value main_prefix reference_prefix (length references_left)
+  pub main_whole : main ≡ main_prefix ++ main_left
+  pub references_whole : references ≡ reference_prefix ++ references_left
 
 -- the laws of a body of the object of a handle
 pub record IsBody {V : Type 0} (base : ℕ) (body : BodyGrammar V) : Type 0 where
-  -- what is parsed is spelled by fronts
+  -- what is parsed is spelled by prefixes
   pub sound : (main main_left references references_left : List Bool) (value : V) → body.parse main references ≡ Some (value, (main_left, references_left))
       → BeginsWithBody body value main main_left references references_left
-  -- what is spelled by fronts is parsed, whatever follows the main bits, and where the count of bits fits that follow the references
+  -- what is spelled by prefixes is parsed, whatever follows the main bits, and where the count of bits fits that follow the references
   pub complete : (main main_left references references_left : List Bool) (value : V) → body.Spells value main references (length references_left)
       → body.parse (main ++ main_left) (references ++ references_left) ≡ Some (value, (main_left, references_left))
   -- what is spelled fits
@@ -51,14 +51,14 @@ pub record IsBody {V : Type 0} (base : ℕ) (body : BodyGrammar V) : Type 0 wher
   -- fewer than eight bits may always follow
   pub padded : (over : ℕ) → over < 8 → body.MayFollow over
 
--- what a call read of the main bits and the reference bits by a body, and what it left of them: the value that fronts spell, and the bits behind; None where no fronts spell one, and then all bits are left
+-- what a call read of the main bits and the reference bits by a body, and what it left of them: the value that prefixes spell, and the bits after; None where no prefixes spell one, and then all bits are left
 abbrev pub ReadsBody : {V : Type 0} → BodyGrammar V → Option V → List Bool → List Bool → List Bool → List Bool → Type 0
 ReadsBody {V} body (Some value) main main_left references references_left = BeginsWithBody body value main main_left references references_left
 ReadsBody {V} body None main main_left references references_left =
-    ((value : V) (main_behind references_behind : List Bool) → BeginsWithBody body value main main_behind references references_behind → ⊥)
+    ((value : V) (main_after references_after : List Bool) → BeginsWithBody body value main main_after references references_after → ⊥)
     × (main_left ≡ main) × (references_left ≡ references)
 
--- main bits and reference bits spell at most one value by fronts, and by one front of each
+-- main bits and reference bits spell at most one value by prefixes, and by one prefix of each
 abbrev pub IsUniqueBody : {V : Type 0} → BodyGrammar V → Type 0
 IsUniqueBody {V} body =
     (value other : V) (main main_left other_main_left references references_left other_references_left : List Bool)
@@ -77,7 +77,7 @@ pub record IsLawfulBody {V : Type 0} (base : ℕ) (body : BodyGrammar V) : Type 
       → SpellsAll (reference base) (body.references value) other → body.MayFollow other_over → body.Spells value main other other_over
   pub padded : (over : ℕ) → over < 8 → body.MayFollow over
 
--- a lawful body behind whose references any count of bits may follow
+-- a lawful body after whose references any count of bits may follow
 pub record IsFreeBody {V : Type 0} (base : ℕ) (body : BodyGrammar V) : Type 0 where
   pub lawful : IsLawfulBody base body
   pub followed : (over : ℕ) → body.MayFollow over

@@ -46,7 +46,7 @@ never {A} {V} = record {
 -- one code and then another, which may depend on the first value
 abbrev pub seq : {A V W : Type 0} → Grammar A V → (V → Grammar A W) → Grammar A (V × W)
 seq {A} {V} {W} first second = record {
-  Spells = λ both letters. (front : List A) × (back : List A) × first.Spells both.0 front × (second both.0).Spells both.1 back × (letters ≡ front ++ back);
+  Spells = λ both letters. (prefix : List A) × (back : List A) × first.Spells both.0 prefix × (second both.0).Spells both.1 back × (letters ≡ prefix ++ back);
   IsValue = λ both. first.IsValue both.0 × (second both.0).IsValue both.1;
   parse = λ letters. option_and_then (λ (one : V × List A). option_map (λ (two : W × List A). ((one.0, two.0), two.1)) ((second one.0).parse one.1)) (first.parse letters);
   short = λ both. first.short both.0 ++ (second both.0).short both.1;
@@ -83,7 +83,7 @@ restrict {A} {V} test code = record {
 -- a tag, and then by the tag: a value may have spellings under several tags, and pick says which of them is written
 abbrev pub tagged : {A T V : Type 0} → Grammar A T → (T → Grammar A V) → (V → Type 0) → (V → T) → Grammar A V
 tagged {A} {T} {V} tags by IsTagged pick = record {
-  Spells = λ value letters. (tag : T) × (front : List A) × (back : List A) × tags.Spells tag front × (by tag).Spells value back × (letters ≡ front ++ back);
+  Spells = λ value letters. (tag : T) × (prefix : List A) × (back : List A) × tags.Spells tag prefix × (by tag).Spells value back × (letters ≡ prefix ++ back);
   IsValue = IsTagged;
   parse = λ letters. option_and_then (λ (one : T × List A). (by one.0).parse one.1) (tags.parse letters);
   short = λ value. tags.short (pick value) ++ (by (pick value)).short value;
@@ -103,11 +103,11 @@ when {A} {V} true code = record {
     short_of None = []
 when {A} {V} false code = always None
 
--- values one behind the other: the code of each follows from a state, and the state from the value before
+-- values one after the other: the code of each follows from a state, and the state from the value before
 abbrev pub SpellsChain : {A S V : Type 0} → (S → Grammar A V) → (V → S) → S → List V → List A → Type 0
 SpellsChain {A} {S} {V} code next state [] letters = letters ≡ []
 SpellsChain {A} {S} {V} code next state (value ∷ values) letters =
-    (front : List A) × (back : List A) × (code state).Spells value front × SpellsChain code next (next value) values back × (letters ≡ front ++ back)
+    (prefix : List A) × (back : List A) × (code state).Spells value prefix × SpellsChain code next (next value) values back × (letters ≡ prefix ++ back)
 
 abbrev pub IsChain : {A S V : Type 0} → (S → Grammar A V) → (V → S) → S → List V → Type 0
 IsChain {A} {S} {V} code next state [] = ⊤
@@ -143,12 +143,12 @@ counted {A} {V} counts code =
     image (λ values. counts.IsValue (length values) × IsChain (λ (state : ℕ). code) (λ value. 0) 0 values)
     (λ both. both.1) (λ values. (length values, values)) (seq counts (items code))
 
--- values up to a mark: each behind a tag that isn't the mark and on which its code depends
+-- values up to a mark: each after a tag that isn't the mark and on which its code depends
 abbrev pub SpellsUntil : {A T V : Type 0} → Grammar A T → T → (T → Grammar A V) → List V → List A → Type 0
 SpellsUntil {A} {T} {V} tags mark code [] letters = tags.Spells mark letters
 SpellsUntil {A} {T} {V} tags mark code (value ∷ values) letters =
-    (tag : T) × (front : List A) × (middle : List A) × (back : List A) × (tag ≢ mark) × tags.Spells tag front × (code tag).Spells value middle
-    × SpellsUntil tags mark code values back × (letters ≡ front ++ middle ++ back)
+    (tag : T) × (prefix : List A) × (middle : List A) × (back : List A) × (tag ≢ mark) × tags.Spells tag prefix × (code tag).Spells value middle
+    × SpellsUntil tags mark code values back × (letters ≡ prefix ++ middle ++ back)
 
 abbrev pub IsUntil : {V : Type 0} → (V → Type 0) → List V → Type 0
 IsUntil IsItem [] = ⊤

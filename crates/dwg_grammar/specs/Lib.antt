@@ -2,7 +2,7 @@
 pub mod Grammar
 -- Codes made of codes: each says what it spells of what its parts spell.
 pub mod Combinators
--- Values one behind the other, as many as there are letters for: another follows while so many letters are left as the shortest of them has.
+-- Values one after the other, as many as there are letters for: another follows while so many letters are left as the shortest of them has.
 pub mod ToEnd
 -- The table of bit codes.
 pub mod Codes
@@ -10,9 +10,9 @@ pub mod Codes
 pub mod ModularCodes
 -- What codes over bytes spell, said of all groups at once, and what numbers of whole bytes and texts over bits spell, said of all bytes at once.
 pub mod PlainSpellings
--- Flags: bits of a number that are told by what they are worth.
+-- Flags: bits of a number that are given by their weight.
 pub mod Flags
--- References: what a reference is for and how its target is told, and the target.
+-- References: what a reference is for and how its target is given, and the target.
 pub mod Reference
 -- References and own handles as bit codes.
 pub mod ReferenceCodes

@@ -4,14 +4,14 @@ use Rattle.std.specs.Int.{w16, from_le_bytes, to_le_bytes}
 use Rattle.dwg_grammar.specs.Grammar.{Grammar}
 use Rattle.dwg_grammar.specs.Combinators.{one_byte, always, never, tagged, choose, image, restrict, items}
 
--- a number behind a group: the group's value bits, and the number that follows as what is above them
-abbrev pub behind_group : ℕ → ℕ → Grammar ℕ ℕ → Grammar ℕ ℕ
-behind_group worth low code = image (λ value. (value % worth ≡ low) × code.IsValue (value / worth)) (λ high. low + worth * high) (λ value. value / worth) code
+-- a number after a group: the group's value bits, and the number that follows as what is above them
+abbrev pub after_group : ℕ → ℕ → Grammar ℕ ℕ → Grammar ℕ ℕ
+after_group weight low code = image (λ value. (value % weight ≡ low) × code.IsValue (value / weight)) (λ high. low + weight * high) (λ value. value / weight) code
 
 -- MC in at most so many bytes of 7 value bits each
 unfoldable pub mc_within : ℕ → Grammar ℕ ℕ
 mc_within zero = never
-mc_within (suc more) = tagged one_byte (λ byte. choose (nat_lt byte 128) (always byte) (behind_group 128 (byte - 128) (mc_within more)))
+mc_within (suc more) = tagged one_byte (λ byte. choose (nat_lt byte 128) (always byte) (after_group 128 (byte - 128) (mc_within more)))
     (λ value. value < 128 ^ suc more) (λ value. if nat_lt value 128 then value else 128 + value % 128)
 
 -- MC: 1 to 10 bytes, a value below 2^63
@@ -22,7 +22,7 @@ mc = restrict (λ value. nat_lt value (2 ^ 63)) (mc_within 10)
 abbrev pub Signed : Type 0
 Signed = Bool × ℕ
 
--- what the last byte of a signed MC says: 64 of its worth is the sign, and six bits are the value's
+-- what the last byte of a signed MC says: 64 of its weight is the sign, and six bits are the value's
 abbrev pub last_of : ℕ → Signed
 last_of byte = (nat_lt 63 byte, byte % 64)
 
@@ -59,7 +59,7 @@ unit = image (λ value. value < 2 ^ 16) (from_le_bytes w16) (to_le_bytes w16) (i
 -- MS in at most so many units of 15 value bits each
 unfoldable pub ms_within : ℕ → Grammar ℕ ℕ
 ms_within zero = never
-ms_within (suc more) = tagged unit (λ group. choose (nat_lt group 32768) (always group) (behind_group 32768 (group - 32768) (ms_within more)))
+ms_within (suc more) = tagged unit (λ group. choose (nat_lt group 32768) (always group) (after_group 32768 (group - 32768) (ms_within more)))
     (λ value. value < 32768 ^ suc more) (λ value. if nat_lt value 32768 then value else 32768 + value % 32768)
 
 -- MS: 1 to 4 units

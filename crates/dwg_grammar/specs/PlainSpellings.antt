@@ -9,17 +9,17 @@ use Rattle.dwg_grammar.specs.ModularCodes.{mc, ms, signed_mc, signed_number}
 
 -- the number of a list of groups of value bits, the low group first: each group is worth so many times as much as the one before it
 unfoldable pub number_of : ℕ → List ℕ → ℕ
-number_of worth groups = sum (map (λ i. slice_index groups i * worth ^ i) (range_with_len 0 (length groups)))
+number_of weight groups = sum (map (λ i. slice_index groups i * weight ^ i) (range_with_len 0 (length groups)))
 
 -- the groups as they are spelled: all but the last say that another follows
 unfoldable pub flagged : ℕ → List ℕ → List ℕ
-flagged worth groups = map (λ group. worth + group) (take (length groups - 1) groups) ++ drop (length groups - 1) groups
+flagged weight groups = map (λ group. weight + group) (take (length groups - 1) groups) ++ drop (length groups - 1) groups
 
--- from one to so many groups, each below its worth
-pub record IsGroups (worth most : ℕ) (groups : List ℕ) : Type 0 where
+-- from one to so many groups, each below its weight
+pub record IsGroups (weight most : ℕ) (groups : List ℕ) : Type 0 where
   pub some : 0 < length groups
   pub within : length groups ≤ most
-  pub below : AllByRecursion (λ group. group < worth) groups
+  pub below : AllByRecursion (λ group. group < weight) groups
 
 -- MC spells a number below 2^63 by 1 to 10 groups of 7 bits, each a byte
 abbrev pub McSpells : Type 0
@@ -31,21 +31,21 @@ abbrev pub MsSpells : Type 0
 MsSpells = (value : ℕ) (letters : List ℕ) → ms.Spells value letters
     ↔ ((groups : List ℕ) × IsGroups 32768 4 groups × (letters ≡ flat_map (to_le_bytes w16) (flagged 32768 groups)) × (value ≡ number_of 32768 groups))
 
--- at most so many groups in all: those in front of 7 bits, and a last one of 6 bits above them
-pub record IsSignedGroups (most : ℕ) (front : List ℕ) (last : ℕ) : Type 0 where
-  pub within : length front < most
-  pub below : AllByRecursion (λ group. group < 128) front
+-- at most so many groups in all: those before 7 bits, and a last one of 6 bits above them
+pub record IsSignedGroups (most : ℕ) (prefix : List ℕ) (last : ℕ) : Type 0 where
+  pub within : length prefix < most
+  pub below : AllByRecursion (λ group. group < 128) prefix
   pub last_below : last < 64
 
 -- signed groups as they are spelled: all but the last say that another follows, and the last says the sign
 unfoldable pub signed_flagged : List ℕ → ℕ → Bool → List ℕ
-signed_flagged front last negative = map (λ group. 128 + group) front ++ (if negative then 64 + last else last) ∷ []
+signed_flagged prefix last negative = map (λ group. 128 + group) prefix ++ (if negative then 64 + last else last) ∷ []
 
 -- signed MC spells a number by a sign and a magnitude below 2^63, of 0 to 9 groups of 7 bits and a last one of 6 bits, each a byte
 abbrev pub SignedMcSpells : Type 0
 SignedMcSpells = (value : ℤ) (letters : List ℕ) → signed_mc.Spells value letters
-    ↔ ((front : List ℕ) × (last : ℕ) × (negative : Bool) × IsSignedGroups 10 front last × (letters ≡ signed_flagged front last negative)
-    × (number_of 128 (front ++ last ∷ []) < 2 ^ 63) × (value ≡ signed_number (negative, number_of 128 (front ++ last ∷ []))))
+    ↔ ((prefix : List ℕ) × (last : ℕ) × (negative : Bool) × IsSignedGroups 10 prefix last × (letters ≡ signed_flagged prefix last negative)
+    × (number_of 128 (prefix ++ last ∷ []) < 2 ^ 63) × (value ≡ signed_number (negative, number_of 128 (prefix ++ last ∷ []))))
 
 -- RS, RL and RD spell a number by the bits of its two, four and eight bytes, the low one first
 abbrev pub RsSpells : Type 0
@@ -60,4 +60,4 @@ RdSpells = (value : ℕ) (letters : List Bool) → rd.Spells value letters ↔ (
 -- TV spells a text by its length as a BS, and then the bits of its bytes
 abbrev pub TvSpells : Type 0
 TvSpells = (text : List ℕ) (letters : List Bool) → tv.Spells text letters
-    ↔ (AreBytes text × ((front : List Bool) × bs.Spells (length text) front × (letters ≡ front ++ bits text)))
+    ↔ (AreBytes text × ((prefix : List Bool) × bs.Spells (length text) prefix × (letters ≡ prefix ++ bits text)))

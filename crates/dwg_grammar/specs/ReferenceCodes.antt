@@ -12,7 +12,7 @@ byte_count number = unwrap_or (find (λ count. nat_lt number (2 ^ (8 * count))) 
 abbrev pub byte_counts : Grammar Bool ℕ
 byte_counts = restrict (λ count. nat_le count 8) (fixed 4)
 
--- a number behind the count of its bytes, the most significant first
+-- a number after the count of its bytes, the most significant first
 abbrev pub counted_number : Grammar Bool ℕ
 counted_number = tagged byte_counts (λ count. fixed (8 * count)) (λ number. number < 2 ^ 64) byte_count
 
@@ -20,9 +20,9 @@ counted_number = tagged byte_counts (λ count. fixed (8 * count)) (λ number. nu
 abbrev pub reference_of : ℕ → ℕ → Reference
 reference_of code target = record { code = code; target = target }
 
--- what passes a test of its reach, told by a number from which its target follows and that follows from its target
-abbrev pub told : ℕ → ℕ → (ℕ → Bool) → (ℕ → ℕ) → (ℕ → ℕ) → Grammar Bool ℕ → Grammar Bool Reference
-told base code test target_of number_of numbers =
+-- what passes a test of its reach, given by a number from which its target follows and that follows from its target
+abbrev pub parsed : ℕ → ℕ → (ℕ → Bool) → (ℕ → ℕ) → (ℕ → ℕ) → Grammar Bool ℕ → Grammar Bool Reference
+parsed base code test target_of number_of numbers =
     image (λ reference. (reference.code ≡ code) × (reaches base reference ≡ true))
     (λ number. reference_of code (target_of number)) (λ reference. number_of reference.target)
     (restrict (λ number. test number && nat_lt (target_of number) (2 ^ 63)) numbers)
@@ -31,27 +31,27 @@ told base code test target_of number_of numbers =
 abbrev pub no_bytes : Grammar Bool ℕ
 no_bytes = restrict (λ count. count == 0) (fixed 4)
 
--- codes 0 to 5 tell the target itself
+-- codes 0 to 5 give the target itself
 abbrev pub absolute : ℕ → ℕ → Grammar Bool Reference
-absolute base code = told base code (λ number. true) (λ number. number) (λ target. target) counted_number
+absolute base code = parsed base code (λ number. true) (λ number. number) (λ target. target) counted_number
 
--- 6 tells the next handle, by no bytes
+-- 6 gives the next handle, by no bytes
 abbrev pub next_handle : ℕ → Grammar Bool Reference
-next_handle base = told base 6 (λ number. true) (λ number. base + 1) (λ target. 0) no_bytes
+next_handle base = parsed base 6 (λ number. true) (λ number. base + 1) (λ target. 0) no_bytes
 
--- 8 tells the one before, by no bytes
+-- 8 gives the one before, by no bytes
 abbrev pub handle_before : ℕ → Grammar Bool Reference
-handle_before base = told base 8 (λ number. nat_le 1 base) (λ number. base - 1) (λ target. 0) no_bytes
+handle_before base = parsed base 8 (λ number. nat_le 1 base) (λ number. base - 1) (λ target. 0) no_bytes
 
--- A tells how far ahead the target is
+-- A gives how far ahead the target is
 abbrev pub ahead : ℕ → Grammar Bool Reference
-ahead base = told base 10 (λ number. true) (λ number. base + number) (λ target. target - base) counted_number
+ahead base = parsed base 10 (λ number. true) (λ number. base + number) (λ target. target - base) counted_number
 
--- C tells how far back it is
+-- C gives how far back it is
 abbrev pub back : ℕ → Grammar Bool Reference
-back base = told base 12 (λ number. nat_le number base) (λ number. base - number) (λ target. base - target) counted_number
+back base = parsed base 12 (λ number. nat_le number base) (λ number. base - number) (λ target. base - target) counted_number
 
--- what stands behind each code; the others are no references
+-- what stands after each code; the others are no references
 abbrev pub by_reference_code : ℕ → ℕ → Grammar Bool Reference
 by_reference_code base code =
     choose (nat_lt code 6) (absolute base code)
@@ -62,11 +62,11 @@ unfoldable pub reference : ℕ → Grammar Bool Reference
 reference base = tagged (fixed 4) (by_reference_code base) (λ value. reaches base value ≡ true) (λ value. value.code)
 
 -- the number that is written of a reference: the target, how far ahead or back it is, or none
-abbrev pub number_behind : ℕ → Reference → ℕ
-number_behind base value =
+abbrev pub number_after : ℕ → Reference → ℕ
+number_after base value =
     if nat_lt value.code 6 then value.target else (if value.code == 10 then value.target - base else (if value.code == 12 then base - value.target else 0))
 
--- an object's own handle: a number behind code 0, positive and below 2^63
+-- an object's own handle: a number after code 0, positive and below 2^63
 unfoldable pub own_handle : Grammar Bool ℕ
 own_handle =
     image (λ own. (0 < own) × (own < 2 ^ 63)) (λ parts. parts.1) (λ own. (0, own))

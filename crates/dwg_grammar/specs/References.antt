@@ -28,7 +28,7 @@ maybe_refs {R} test part = record { grammar = when test part.grammar; list = λ 
 abbrev pub then_refs : {R S : Type 0} → ReferencePart R → ReferencePart S → ReferencePart (R × S)
 then_refs {R} {S} first second = record { grammar = seq first.grammar (λ value. second.grammar); list = λ both. first.list both.0 ++ second.list both.1 }
 
--- two references, one behind the other
+-- two references, one after the other
 abbrev pub two_refs : ℕ → ReferencePart (Reference × Reference)
 two_refs base = then_refs (one_ref base) (one_ref base)
 

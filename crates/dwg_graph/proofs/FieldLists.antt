@@ -13,20 +13,20 @@ use Rattle.dwg_graph.specs.Slots.{FieldReferences, slots_from, slots_of}
 use Rattle.dwg_grammar.specs.Reference.{Reference}
 use Rattle.dwg_kinds.specs.declared.field.Field.{Field}
 use Rattle.dwg_kinds.specs.Needs.{field_number}
-use Rattle.dwg_paths.proofs.MemberLemmas.{contains_none, contains_cases}
+use Rattle.dwg_chains.proofs.MemberLemmas.{contains_none, contains_cases}
 
--- a slot of a field, at a position or behind it
+-- a slot of a field, at a position or after it
 record IsOf (field : Field) (at : ℕ) (slot : Slot) : Type 0 where
   same : slot.field ≡ field
-  behind : at ≤ slot.position
+  after : at ≤ slot.position
 
 -- the slots of a field are of it
 of_field : (field : Field) (at : ℕ) (references : List Reference) (slot : Slot) → Contains (slots_from field at references) slot → IsOf field at slot
 unfolding slots_from
 of_field field at [] slot there = absurd (contains_none slot there)
 of_field field at (reference ∷ more) slot there = ⊎_elim
-    (λ is. subst (λ (s : Slot). IsOf field at s) is (record { same = refl; behind = omega arith }))
-    (λ later. let is = of_field field (at + 1) more slot later in record { same = is.same; behind = omega (arith, is.behind) })
+    (λ is. subst (λ (s : Slot). IsOf field at s) is (record { same = refl; after = omega arith }))
+    (λ later. let is = of_field field (at + 1) more slot later in record { same = is.same; after = omega (arith, is.after) })
     (contains_cases (record { field = field; position = at; target = reference.target }) (slots_from field (at + 1) more) slot there)
 
 -- and they ascend by their positions
@@ -35,16 +35,16 @@ unfolding slots_from
 positions_ascend field at [] = pairs_none StandsBefore
 positions_ascend field at (reference ∷ more) =
     pairs_more StandsBefore (record { field = field; position = at; target = reference.target }) (slots_from field (at + 1) more)
-    (λ slot there. let is = of_field field (at + 1) more slot there in inr (ap field_number (sym is.same), omega (arith, is.behind)))
+    (λ slot there. let is = of_field field (at + 1) more slot there in inr (ap field_number (sym is.same), omega (arith, is.after)))
     (positions_ascend field (at + 1) more)
 
--- a slot of fields is one of the first field, or of those behind it
+-- a slot of fields is one of the first field, or of those after it
 slots_either : (P : Slot → Type 0) (held : FieldReferences) (more : List FieldReferences) (slot : Slot) → Contains (slots_of (held ∷ more)) slot
     → (slot.field ≡ held.field → P slot) → (Contains (slots_of more) slot → P slot) → P slot
 unfolding slots_of
-slots_either P held more slot inside first behind = ⊎_elim
+slots_either P held more slot inside first after = ⊎_elim
     (λ here. first (of_field held.field 0 held.references slot here).same)
-    behind
+    after
     (Contains-append_cases (slots_from held.field 0 held.references) (slots_of more) slot inside)
 
 -- whether each of these fields passes a test
@@ -53,7 +53,7 @@ each_field test all = list_all (λ held. test held.field) all
 
 -- each of some and of more fields does
 pub each_of_both : (test : Field → Bool) (some more : List FieldReferences) → IsTrue (each_field test some) → IsTrue (each_field test more) → IsTrue (each_field test (some ++ more))
-each_of_both test some more here behind = list_all-append (λ held. test held.field) some more ∙ and_from (each_field test some) (each_field test more) here behind
+each_of_both test some more here after = list_all-append (λ held. test held.field) some more ∙ and_from (each_field test some) (each_field test more) here after
 
 -- so does the field of each slot
 pub slots_pass : (test : Field → Bool) (all : List FieldReferences) → IsTrue (each_field test all) → (slot : Slot) → Contains (slots_of all) slot → IsTrue (test slot.field)
@@ -79,7 +79,7 @@ slots_above least (held ∷ more) ascend slot inside =
     let first : least ≤ field_number held.field = leb-true least (field_number held.field) both.0 in
     slots_either (λ s. least ≤ field_number s.field) held more slot inside
     (λ same. omega (arith, first, ap field_number same))
-    (λ behind. omega (arith, first, slots_above (suc (field_number held.field)) more both.1 slot behind))
+    (λ after. omega (arith, first, slots_above (suc (field_number held.field)) more both.1 slot after))
 
 -- and they ascend
 pub slots_ascend : (least : ℕ) (all : List FieldReferences) → IsTrue (ascend_from least all) → AllPairs StandsBefore (slots_of all)
@@ -90,10 +90,10 @@ slots_ascend least (held ∷ more) ascend =
     pairs_joined StandsBefore (slots_from held.field 0 held.references) (slots_of more)
     (positions_ascend held.field 0 held.references)
     (slots_ascend (suc (field_number held.field)) more both.1)
-    (λ one other here behind. inl (omega (
+    (λ one other here after. inl (omega (
       arith,
       ap field_number (of_field held.field 0 held.references one here).same,
-      slots_above (suc (field_number held.field)) more both.1 other behind,
+      slots_above (suc (field_number held.field)) more both.1 other after,
     )))
 
 -- how many references these fields have

@@ -22,7 +22,7 @@ use Rattle.dwg_object.specs.declared.common.Common.{Common}
 use Rattle.dwg_object.specs.Objects.{ObjectValue, TypedValue, PlainValue, RawValue, is_of_entity}
 use Rattle.dwg_object.specs.OwnBodies.{body_kind}
 use Rattle.dwg_object.specs.Written.{IsWhole}
-use Rattle.dwg_paths.proofs.MemberLemmas.{contains_none}
+use Rattle.dwg_chains.proofs.MemberLemmas.{contains_none}
 
 -- a kind has a field
 abbrev held_of : Kind → Field → Bool

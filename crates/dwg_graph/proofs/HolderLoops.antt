@@ -1,4 +1,4 @@
--- The holders are counted one behind the other, and all of them give the claims on each object.
+-- The holders are counted one after the other, and all of them give the claims on each object.
 use Rattle.std.proofs.Common.{◌≡◌, refl, sym, ◌∙◌, ap, subst, ◌<◌, ◌≤◌, ◌+◌, ◌^◌, ℕ, suc, List, [], ◌∷◌, ◌++◌, length, map, take, get_or, replicate, Option, Some, Bool, true, false, arith}
 use Rattle.std.specs.Prelude.{◌==◌, ◌&&◌, if◌then◌else◌}
 use Rattle.std.specs.List.{slice_get, filter, flat_map, sum_by, count_by}
@@ -28,9 +28,9 @@ pub own_of : Option SpaceHandles → ObjectValue → ObjectValue → ℕ
 own_of known x holder = length (claims_held (owner_of known x) (claims_of (handle_of x) holder))
 
 -- a count for each object, of what these holders have
-pub record AreCounts (objects front : List ObjectValue) (one : ObjectValue → ObjectValue → ℕ) (counts : List ℕ) : Type 0 where
+pub record AreCounts (objects prefix : List ObjectValue) (one : ObjectValue → ObjectValue → ℕ) (counts : List ℕ) : Type 0 where
   pub long : length counts ≡ length objects
-  pub each : (place : ℕ) (x : ObjectValue) → slice_get objects place ≡ Some x → get_or counts place 0 ≡ sum_by (one x) front
+  pub each : (place : ℕ) (x : ObjectValue) → slice_get objects place ≡ Some x → get_or counts place 0 ≡ sum_by (one x) prefix
 
 -- no holder is counted
 counts_begin : (objects : List ObjectValue) (one : ObjectValue → ObjectValue → ℕ) → AreCounts objects (take 0 objects) one (replicate (length objects) 0)
@@ -142,7 +142,7 @@ tabled {A} f (x ∷ more) (count ∷ counts) long each =
     let rest : counts ≡ map f more = tabled f more counts (omega (arith, long)) (λ place y stands. each (suc place) y stands) in
     cc (first, rest)
 
--- those that pass, of lists that stand one behind the other
+-- those that pass, of lists that stand one after the other
 filter_flat : {A B : Type 0} (test : B → Bool) (f : A → List B) (things : List A) → filter test (flat_map f things) ≡ flat_map (λ x. filter test (f x)) things
 filter_flat {A} {B} test f [] = refl
 filter_flat {A} {B} test f (x ∷ more) = filter-append test (f x) (flat_map f more) ∙ ap (λ (rest : List B). filter test (f x) ++ rest) (filter_flat test f more)
@@ -160,9 +160,9 @@ own_sum objects known x =
     sym (ap length (filter_flat test (claims_of (handle_of x)) objects) ∙ length-flat_map (λ holder. filter test (claims_of (handle_of x) holder)) objects)
 
 -- both counts, of what these holders have
-pub record AreBothCounts (objects front : List ObjectValue) (known : Option SpaceHandles) (counts : Claimed) : Type 0 where
-  pub all : AreCounts objects front all_of counts.all.items
-  pub own : AreCounts objects front (own_of known) counts.own.items
+pub record AreBothCounts (objects prefix : List ObjectValue) (known : Option SpaceHandles) (counts : Claimed) : Type 0 where
+  pub all : AreCounts objects prefix all_of counts.all.items
+  pub own : AreCounts objects prefix (own_of known) counts.own.items
 
 -- no holder is counted
 pub none_counted : (objects : List declared.Object) (known : Option SpaceHandles) (counts : Claimed) → counts.all.items ≡ replicate (length objects) 0
@@ -204,9 +204,9 @@ still_open objects known place holder counts within is few are =
 -- all are, and the counts are those of the claims
 pub both_counted : (objects : List declared.Object) (known : Option SpaceHandles) (place : ℕ) (counts : Claimed) → length objects ≤ place
     → AreBothCounts (map value_of objects) (take place (map value_of objects)) known counts → AreBothCounted (map value_of objects) known counts
-both_counted objects known place counts behind are =
+both_counted objects known place counts after are =
     let values : List ObjectValue = map value_of objects in
-    let most : length values ≤ place = omega (arith, length-map objects value_of, behind) in
+    let most : length values ≤ place = omega (arith, length-map objects value_of, after) in
     record {
       all = tabled (λ (x : ObjectValue). length (claims values (handle_of x))) values counts.all.items are.all.long
           (λ i x stands. are.all.each i x stands ∙ (ap (sum_by (all_of x)) (take_all place values most) ∙ all_sum values x));

@@ -3,9 +3,9 @@ use Rattle.std.proofs.Common.{◌≡◌, sym, refl, ap, ◌∙◌, subst, ⊎_el
 use Rattle.std.specs.Prelude.{◌↔◌, ℕ, zero, suc, Bool, List, [], ◌∷◌, map, Option, Some, IsTrue, Contains}
 use Rattle.dwg_graph.proofs.ListLemmas.{contains_map}
 use Rattle.dwg_graph.specs.ObjectPaths.{IsChainOf}
-use Rattle.dwg_paths.specs.Paths.{AreDistinct, Follows, Begins, Ends, IsChain, HasPath, HasRank, HasChain}
-use Rattle.dwg_paths.proofs.MemberLemmas.{contains_none, contains_first, contains_behind, contains_cases}
-use Rattle.dwg_paths.proofs.RankLemmas.{path_of_rank, rank_of_path}
+use Rattle.dwg_chains.specs.Paths.{AreDistinct, Follows, Begins, Ends, IsChain, HasPath, HasRank, HasChain}
+use Rattle.dwg_chains.proofs.MemberLemmas.{contains_none, contains_first, contains_after, contains_cases}
+use Rattle.dwg_chains.proofs.RankLemmas.{path_of_rank, rank_of_path}
 
 -- each of these things has a key of its own, and steps over keys lead where those over things do
 pub record AreKeyed {A K : Type 0} (all : List A) (key : A → K) (step_key : K → Option K) (step_thing : A → Option A) : Type 0 where
@@ -55,7 +55,7 @@ thing_inside : {A K : Type 0} (key : A → K) (xs : List A) (k : K) → Contains
 thing_inside key [] k inside = absurd (contains_none k inside)
 thing_inside key (y ∷ ys) k inside = ⊎_elim
     (λ same. (y, contains_first y ys, same))
-    (λ behind. let further = thing_inside key ys k behind in (further.0, contains_behind y ys further.0 further.1, further.2))
+    (λ after. let further = thing_inside key ys k after in (further.0, contains_after y ys further.0 further.1, further.2))
     (contains_cases (key y) (map key ys) k inside)
 
 -- things of distinct keys are distinct
@@ -68,9 +68,9 @@ distinct_over key (x ∷ xs) distinct = (λ again. distinct.0 (contains_map key 
 abbrev pub AreWithin : {A : Type 0} → List A → List A → Type 0
 AreWithin {A} all xs = (x : A) → Contains xs x → Contains all x
 
--- so are those behind its first
+-- so are those after its first
 rest_within : {A : Type 0} (all : List A) (x : A) (xs : List A) → AreWithin all (x ∷ xs) → AreWithin all xs
-rest_within all x xs within y inside = within y (contains_behind x xs y inside)
+rest_within all x xs within y inside = within y (contains_after x xs y inside)
 
 -- distinct things have distinct keys
 distinct_back : {A K : Type 0} (all : List A) (key : A → K) → ((x y : A) → Contains all x → Contains all y → key x ≡ key y → x ≡ y) → (xs : List A) → AreWithin all xs → AreDistinct xs → AreDistinct (map key xs)
@@ -78,7 +78,7 @@ unfolding AreDistinct
 distinct_back all key one [] within distinct = tt
 distinct_back {A} all key one (x ∷ xs) within distinct = (
   λ again. let other = thing_inside key xs (key x) again in
-      let same : other.0 ≡ x = one other.0 x (within other.0 (contains_behind x xs other.0 other.1)) (within x (contains_first x xs)) other.2 in
+      let same : other.0 ≡ x = one other.0 x (within other.0 (contains_after x xs other.0 other.1)) (within x (contains_first x xs)) other.2 in
       distinct.0 (subst (λ (y : A). Contains xs y) same other.1),
   distinct_back all key one xs (rest_within all x xs within) distinct.1,
 )
@@ -102,7 +102,7 @@ follows_over all key step_key step_thing keyed [] within follows = tt
 follows_over all key step_key step_thing keyed (x ∷ []) within follows = tt
 follows_over all key step_key step_thing keyed (x ∷ y ∷ rest) within follows =
     let next = keyed.forth x (key y) (within x (contains_first x (y ∷ rest))) follows.0 in
-    let same : next.0 ≡ y = keyed.one next.0 y next.1 (within y (contains_behind x (y ∷ rest) y (contains_first y rest))) next.2 in
+    let same : next.0 ≡ y = keyed.one next.0 y next.1 (within y (contains_after x (y ∷ rest) y (contains_first y rest))) next.2 in
     (next.3 ∙ ap Some same, follows_over all key step_key step_thing keyed (y ∷ rest) (rest_within all x (y ∷ rest) within) follows.1)
 
 -- keys lead to each other as the things do
@@ -120,10 +120,10 @@ things_of : {A K : Type 0} (all : List A) (key : A → K) (ks : List K) → ((k 
 things_of all key [] each = ([], refl, λ x inside. absurd (contains_none x inside))
 things_of {A} {K} all key (k ∷ ks) each =
     let here = each k (contains_first k ks) in
-    let further = things_of all key ks (λ j inside. each j (contains_behind k ks j inside)) in (
+    let further = things_of all key ks (λ j inside. each j (contains_after k ks j inside)) in (
       here.0 ∷ further.0,
       ap (λ (j : K). j ∷ map key further.0) here.2 ∙ ap (λ (js : List K). k ∷ js) further.1,
-      λ x inside. ⊎_elim (λ same. subst (λ (y : A). Contains all y) same here.1) (λ behind. further.2 x behind) (contains_cases here.0 further.0 x inside),
+      λ x inside. ⊎_elim (λ same. subst (λ (y : A). Contains all y) same here.1) (λ after. further.2 x after) (contains_cases here.0 further.0 x inside),
     )
 
 -- the members of these things are those listed, where their keys are the keys listed

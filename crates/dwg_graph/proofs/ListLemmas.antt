@@ -6,7 +6,7 @@ use Rattle.std.proofs.lemmas.List.Kept.{AllPairs-cons}
 use Rattle.std.proofs.lemmas.List.Elements.{Contains-append_left, Contains-append_right, Contains-append_cases, Contains-get_or}
 use Rattle.std.specs.Prelude.{suc, ◌↔◌, List, [], ◌∷◌, ◌++◌, map, slice_index_or, Contains, AllPairs}
 use Rattle.std.specs.List.{flat_map}
-use Rattle.dwg_paths.proofs.MemberLemmas.{contains_none, contains_first, contains_behind, contains_cases}
+use Rattle.dwg_chains.proofs.MemberLemmas.{contains_none, contains_first, contains_after, contains_cases}
 
 -- a list that contains nothing is empty
 pub empty_of_none : {A : Type 0} (xs : List A) → ((x : A) → Contains xs x → ⊥) → xs ≡ []
@@ -20,7 +20,7 @@ none_of_empty {A} xs x is inside = contains_none x (subst (λ (those : List A). 
 -- the one thing of a list is what that contains
 pub contains_one : {A : Type 0} (x y : A) → Contains (x ∷ []) y ↔ y ≡ x
 contains_one {A} x y = (
-  λ inside. ⊎_elim (λ same. sym same) (λ behind. absurd (contains_none y behind)) (contains_cases x [] y inside),
+  λ inside. ⊎_elim (λ same. sym same) (λ after. absurd (contains_none y after)) (contains_cases x [] y inside),
   λ same. subst (λ (z : A). Contains (x ∷ []) z) (sym same) (contains_first x []),
 )
 
@@ -29,7 +29,7 @@ pub contains_map : {A B : Type 0} (turn : A → B) (xs : List A) (x : A) → Con
 contains_map turn [] x inside = absurd (contains_none x inside)
 contains_map {A} turn (y ∷ ys) x inside = ⊎_elim
     (λ same. subst (λ (z : A). Contains (map turn (y ∷ ys)) (turn z)) same (contains_first (turn y) (map turn ys)))
-    (λ behind. contains_behind (turn y) (map turn ys) (turn x) (contains_map turn ys x behind))
+    (λ after. contains_after (turn y) (map turn ys) (turn x) (contains_map turn ys x after))
     (contains_cases y ys x inside)
 
 -- what stands in joined lists stands in one of them
@@ -37,7 +37,7 @@ pub contained_in_one : {A B : Type 0} (each : A → List B) (xs : List A) (y : B
 contained_in_one each [] y inside = absurd (contains_none y inside)
 contained_in_one each (x ∷ xs) y inside = ⊎_elim
     (λ here. (x, contains_first x xs, here))
-    (λ behind. let one = contained_in_one each xs y behind in (one.0, contains_behind x xs one.0 one.1, one.2))
+    (λ after. let one = contained_in_one each xs y after in (one.0, contains_after x xs one.0 one.1, one.2))
     (Contains-append_cases (each x) (flat_map each xs) y inside)
 
 -- what stands in one of joined lists stands in them
@@ -45,16 +45,16 @@ pub contained_in_all : {A B : Type 0} (each : A → List B) (xs : List A) (x : A
 contained_in_all each [] x y inside held = absurd (contains_none x inside)
 contained_in_all {A} each (z ∷ zs) x y inside held = ⊎_elim
     (λ same. Contains-append_left (each z) (flat_map each zs) y (subst (λ (w : A). Contains (each w) y) (sym same) held))
-    (λ behind. Contains-append_right (each z) (flat_map each zs) y (contained_in_all each zs x y behind held))
+    (λ after. Contains-append_right (each z) (flat_map each zs) y (contained_in_all each zs x y after held))
     (contains_cases z zs x inside)
 
--- the first thing is related to each behind it
+-- the first thing is related to each after it
 pub pairs_first : {A : Type 0} (R : A → A → Type 0) (x : A) (xs : List A) (y : A) → AllPairs R (x ∷ xs) → Contains xs y → R x y
 pairs_first R x xs y pairs inside = subst (λ z. R x z) inside.2 (pairs 0 (suc inside.0) y (omega arith) (omega (arith, inside.1)))
 
--- the things behind the first are related
-pub pairs_behind : {A : Type 0} (R : A → A → Type 0) (x : A) (xs : List A) → AllPairs R (x ∷ xs) → AllPairs R xs
-pairs_behind R x xs pairs i j d before within = pairs (suc i) (suc j) d (omega (arith, before)) (omega (arith, within))
+-- the things after the first are related
+pub pairs_after : {A : Type 0} (R : A → A → Type 0) (x : A) (xs : List A) → AllPairs R (x ∷ xs) → AllPairs R xs
+pairs_after R x xs pairs i j d before within = pairs (suc i) (suc j) d (omega (arith, before)) (omega (arith, within))
 
 -- no things are related
 pub pairs_none : {A : Type 0} (R : A → A → Type 0) → AllPairs R []
@@ -70,7 +70,7 @@ pairs_joined R [] ys pairs others across = others
 pairs_joined R (x ∷ xs) ys pairs others across =
     pairs_more R x (xs ++ ys)
     (λ y inside. ⊎_elim (λ here. pairs_first R x xs y pairs here) (λ there. across x y (contains_first x xs) there) (Contains-append_cases xs ys y inside))
-    (pairs_joined R xs ys (pairs_behind R x xs pairs) others (λ y z inside there. across y z (contains_behind x xs y inside) there))
+    (pairs_joined R xs ys (pairs_after R x xs pairs) others (λ y z inside there. across y z (contains_after x xs y inside) there))
 
 -- things are related where what they are mapped to is
 pub pairs_of_map : {A B : Type 0} (R : B → B → Type 0) (turn : A → B) (xs : List A) → AllPairs R (map turn xs) → AllPairs (λ x y. R (turn x) (turn y)) xs
@@ -82,7 +82,7 @@ pub pairs_of_joined : {A B : Type 0} (P : A → A → Type 0) (R : B → B → T
 pairs_of_joined P R each [] pairs own across = pairs_none R
 pairs_of_joined P R each (x ∷ xs) pairs own across =
     pairs_joined R (each x) (flat_map each xs) (own x (contains_first x xs))
-    (pairs_of_joined P R each xs (pairs_behind P x xs pairs) (λ y inside. own y (contains_behind x xs y inside))
-    (λ y z v w inside also. across y z v w (contains_behind x xs y inside) (contains_behind x xs z also)))
+    (pairs_of_joined P R each xs (pairs_after P x xs pairs) (λ y inside. own y (contains_after x xs y inside))
+    (λ y z v w inside also. across y z v w (contains_after x xs y inside) (contains_after x xs z also)))
     (λ z w here there.
-    let one = contained_in_one each xs w there in across x one.0 z w (contains_first x xs) (contains_behind x xs one.0 one.1) (pairs_first P x xs one.0 pairs one.1) here one.2)
+    let one = contained_in_one each xs w there in across x one.0 z w (contains_first x xs) (contains_after x xs one.0 one.1) (pairs_first P x xs one.0 pairs one.1) here one.2)

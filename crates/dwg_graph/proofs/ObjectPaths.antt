@@ -12,9 +12,9 @@ use Rattle.dwg_graph.specs.Places.{Ascend, handles_of}
 use Rattle.dwg_graph.proofs.Keyed.{AreKeyed, AreKeys, KeysAgree, path_keyed, chain_keyed}
 use Rattle.dwg_graph.proofs.ListLemmas.{contains_map}
 use Rattle.dwg_object.specs.Objects.{ObjectValue, handle_of}
-use Rattle.dwg_paths.specs.Paths.{AreDistinct}
-use Rattle.dwg_paths.proofs.MemberLemmas.{contains_cases, contains_none}
-use Rattle.dwg_paths.proofs.TestLemmas.{passing_of_found, found_of_passing}
+use Rattle.dwg_chains.specs.Paths.{AreDistinct}
+use Rattle.dwg_chains.proofs.MemberLemmas.{contains_cases, contains_none}
+use Rattle.dwg_chains.proofs.TestLemmas.{passing_of_found, found_of_passing}
 
 -- handles that ascend are distinct
 pub ascending_are_distinct : (handles : List ℕ) → Ascend handles → AreDistinct handles
@@ -32,11 +32,11 @@ one_of_handle [] distinct x y here there same = absurd (contains_none x here)
 one_of_handle (z ∷ zs) distinct x y here there same = ⊎_elim
     (λ first. ⊎_elim
     (λ also. sym first ∙ also)
-    (λ behind. absurd (distinct.0 (subst (λ (h : ℕ). Contains (handles_of zs) h) (sym (ap handle_of first ∙ same)) (contains_map handle_of zs y behind))))
+    (λ after. absurd (distinct.0 (subst (λ (h : ℕ). Contains (handles_of zs) h) (sym (ap handle_of first ∙ same)) (contains_map handle_of zs y after))))
     (contains_cases z zs y there))
-    (λ behind. ⊎_elim
-    (λ first. absurd (distinct.0 (subst (λ (h : ℕ). Contains (handles_of zs) h) (same ∙ sym (ap handle_of first)) (contains_map handle_of zs x behind))))
-    (λ also. one_of_handle zs distinct.1 x y behind also same)
+    (λ after. ⊎_elim
+    (λ first. absurd (distinct.0 (subst (λ (h : ℕ). Contains (handles_of zs) h) (same ∙ sym (ap handle_of first)) (contains_map handle_of zs x after))))
+    (λ also. one_of_handle zs distinct.1 x y after also same)
     (contains_cases z zs y there))
     (contains_cases z zs x here)
 

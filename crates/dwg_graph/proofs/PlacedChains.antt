@@ -17,10 +17,10 @@ use Rattle.dwg_graph.proofs.PlacedObjects.{at_place, is_found, found_there, one_
 use Rattle.dwg_graph.proofs.PlacedPaths.{object_of_place, in_table, steps_seen}
 use Rattle.dwg_graph.proofs.Tests.{members_among}
 use Rattle.dwg_object.specs.Objects.{ObjectValue, handle_of, kind_of}
-use Rattle.dwg_paths.specs.ThingsAtPlaces.{TestsAgree}
-use Rattle.dwg_paths.proofs.PlaceLaws.{chain_seen, place_of_contained}
-use Rattle.dwg_paths.specs.Tables.{leads, lives_at, is_at, ends_at, HasChainAt}
-use Rattle.dwg_paths.specs.declared.tables.ChainEnds.{ChainEnds}
+use Rattle.dwg_chains.specs.ThingsAtPlaces.{TestsAgree}
+use Rattle.dwg_chains.proofs.PlaceLaws.{chain_seen, place_of_contained}
+use Rattle.dwg_chains.specs.Tables.{leads, lives_at, is_at, ends_at, HasChainAt}
+use Rattle.dwg_chains.specs.declared.tables.ChainEnds.{ChainEnds}
 
 -- two tests for being one agree where each is so exactly where the other is
 same_tests : (a b c d : ℕ) → (a ≡ b → c ≡ d) → (c ≡ d → a ≡ b) → (a == b) ≡ (c == d)

@@ -10,12 +10,12 @@ use Rattle.dwg_graph.specs.Graph.{object_at}
 use Rattle.dwg_graph.specs.Placed.{place_in}
 use Rattle.dwg_graph.specs.Places.{Ascend, handles_of}
 use Rattle.dwg_object.specs.Objects.{ObjectValue, handle_of}
-use Rattle.dwg_paths.proofs.WayLemmas.{option_map_found}
+use Rattle.dwg_chains.proofs.WayLemmas.{option_map_found}
 
 -- what stands at a place of all but the first
-behind : {A : Type 0} (x : A) (more : List A) (place : Option ℕ) → option_and_then (slice_get (x ∷ more)) (option_map suc place) ≡ option_and_then (slice_get more) place
-behind {A} x more None = refl
-behind {A} x more (Some n) = refl
+after : {A : Type 0} (x : A) (more : List A) (place : Option ℕ) → option_and_then (slice_get (x ∷ more)) (option_map suc place) ≡ option_and_then (slice_get more) place
+after {A} x more None = refl
+after {A} x more (Some n) = refl
 
 -- what has a key stands at the place of that key
 pub placed_by_key : {A : Type 0} (key : A → ℕ) (things : List A) (handle : ℕ) → option_and_then (slice_get things) (place_in (map key things) handle) ≡ find (λ y. key y == handle) things
@@ -26,7 +26,7 @@ placed_by_key {A} key (x ∷ more) handle = go (placed_by_key key more handle) (
     go : option_and_then (slice_get more) (place_in (map key more) handle) ≡ find (λ y. key y == handle) more → (test : Bool) → (key x == handle) ≡ test
         → option_and_then (slice_get (x ∷ more)) (place_in (map key (x ∷ more)) handle) ≡ find (λ y. key y == handle) (x ∷ more)
     go same true is = rw is refl
-    go same false is = rw is (behind x more (place_in (map key more) handle) ∙ same)
+    go same false is = rw is (after x more (place_in (map key more) handle) ∙ same)
 
 -- the object of a handle stands at the place of that handle
 pub object_placed : (objects : List ObjectValue) (handle : ℕ) → option_and_then (slice_get objects) (place_in (handles_of objects) handle) ≡ object_at objects handle

@@ -15,15 +15,15 @@ use Rattle.dwg_graph.proofs.ObjectPaths.{step_to}
 use Rattle.dwg_graph.proofs.PlacedObjects.{object_placed, at_place, object_there}
 use Rattle.dwg_graph.proofs.Tests.{there_inside}
 use Rattle.dwg_object.specs.Objects.{ObjectValue, handle_of}
-use Rattle.dwg_paths.specs.Ways.{IsClosed}
-use Rattle.dwg_paths.proofs.PathLaws.{path_decided}
-use Rattle.dwg_paths.specs.Paths.{HasPath}
-use Rattle.dwg_paths.specs.ThingsAtPlaces.{IsSeen, TestsAgree}
-use Rattle.dwg_paths.proofs.PlaceLaws.{path_seen, contains_of_place}
-use Rattle.dwg_paths.proofs.RankLemmas.{path_of_rank, rank_of_path}
-use Rattle.dwg_paths.proofs.WayLemmas.{option_map_found, option_then_found}
-use Rattle.dwg_paths.specs.Tables.{leads, marked, RankIs, AreWithin}
-use Rattle.dwg_paths.specs.Ways.{has_path}
+use Rattle.dwg_chains.specs.Ways.{IsClosed}
+use Rattle.dwg_chains.proofs.PathLaws.{path_decided}
+use Rattle.dwg_chains.specs.Paths.{HasPath}
+use Rattle.dwg_chains.specs.ThingsAtPlaces.{IsSeen, TestsAgree}
+use Rattle.dwg_chains.proofs.PlaceLaws.{path_seen, contains_of_place}
+use Rattle.dwg_chains.proofs.RankLemmas.{path_of_rank, rank_of_path}
+use Rattle.dwg_chains.proofs.WayLemmas.{option_map_found, option_then_found}
+use Rattle.dwg_chains.specs.Tables.{leads, marked, RankIs, AreWithin}
+use Rattle.dwg_chains.specs.Ways.{has_path}
 
 -- the object that has the handle at a place
 pub object_of_place : (objects : List ObjectValue) (i handle : ℕ) → slice_get (handles_of objects) i ≡ Some handle → (x : ObjectValue) × (slice_get objects i ≡ Some x) × (handle_of x ≡ handle)
@@ -89,12 +89,12 @@ tests_agree objects test ascend i h at =
     let stands = object_found_of objects i h ascend at in
     ap (λ o. unwrap_or o false) (slice_get-map test objects i ∙ ap (option_map test) stands.1) ∙ sym (ap (λ o. option_map_or test o false) stands.2)
 
--- a rank tells that a path leads from a place, and that it has none, that none does
+-- a rank reports that a path leads from a place, and that it has none, that none does
 rank_decides : (up : List (Option ℕ)) (goals : List Bool) (i : ℕ) (rank : Option ℕ) → RankIs up goals i rank → IsTrue (is_some rank) ↔ HasPath (leads up) (marked goals) i
 rank_decides up goals i None unranked = (λ is. absurd (cc is), λ has. let ranked = rank_of_path (leads up) (marked goals) i has in absurd (unranked ranked.0 ranked.1))
 rank_decides up goals i (Some r) ranked = (λ is. path_of_rank (leads up) (marked goals) i r ranked, λ has. refl)
 
--- the rank of an object's place tells whether a path leads from it
+-- the rank of an object's place reports whether a path leads from it
 pub path_placed : (objects : List ObjectValue) (known : Option SpaceHandles) (i : ℕ) (x : ObjectValue) (rank : Option ℕ) → Ascend (handles_of objects) → slice_get objects i ≡ Some x
     → RankIs (owner_table objects known) (root_table objects known) i rank
     → is_some rank ≡ has_path (handles_of objects) (owner_step objects known) (root_at objects known) (handle_of x)

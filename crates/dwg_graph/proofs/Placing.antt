@@ -3,7 +3,7 @@ use Rattle.std.proofs.Common.{◌≡◌, refl, sym, ℕ, List, Option, Some, Non
 use Rattle.dwg_graph.specs.Placed.{place_in}
 use Rattle.dwg_graph.specs.Places.{Ascend, IsPlaceOf}
 use Rattle.dwg_graph.proofs.PlacedObjects.{at_place, found_there}
-use Rattle.dwg_paths.proofs.PlaceLaws.{contains_of_place}
+use Rattle.dwg_chains.proofs.PlaceLaws.{contains_of_place}
 
 -- the place of a handle is the first
 pub place_known : (handles : List ℕ) (handle : ℕ) (place : Option ℕ) → Ascend handles → IsPlaceOf handles handle place → place ≡ place_in handles handle

@@ -1,4 +1,4 @@
--- A search among handles that ascend: all before what is left are less than the handle, and all behind it are greater.
+-- A search among handles that ascend: all before what is left are less than the handle, and all after it are greater.
 use Rattle.std.proofs.Common.{◌≡◌, refl, sym, ◌∙◌, ap, subst, inl, inr, ◌<◌, ◌≤◌, ◌+◌, ◌*◌, ◌-◌, ◌/◌, ◌^◌, pow-add, ℕ, zero, suc, List, length, arith}
 use Rattle.std.specs.Prelude.{◌⊎◌, true, false, Contains, ◌==◌, min}
 use Rattle.std.specs.Ordering.{is_lt, nat_cmp}
@@ -67,18 +67,18 @@ far_apart handles i j (suc more) ascend is within =
 at_or_before : (handles : List ℕ) (handle i at : ℕ) → Ascend handles → at < length handles → slice_index_or handles at 0 < handle → i ≤ at → slice_index_or handles i 0 < handle
 at_or_before handles handle i at ascend within less most = omega (arith, far_apart handles i at (at - i) ascend (omega (arith, most)) within, less)
 
--- what stands at a greater handle or behind it is greater
-at_or_behind : (handles : List ℕ) (handle i at : ℕ) → Ascend handles → i < length handles → handle < slice_index_or handles at 0 → at ≤ i → handle < slice_index_or handles i 0
-at_or_behind handles handle i at ascend within greater least = omega (arith, far_apart handles at i (i - at) ascend (omega (arith, least)) within, greater)
+-- what stands at a greater handle or after it is greater
+at_or_after : (handles : List ℕ) (handle i at : ℕ) → Ascend handles → i < length handles → handle < slice_index_or handles at 0 → at ≤ i → handle < slice_index_or handles i 0
+at_or_after handles handle i at ascend within greater least = omega (arith, far_apart handles at i (i - at) ascend (omega (arith, least)) within, greater)
 
--- the handle in the middle is less: the search goes on behind it
-pub goes_on_behind : (handles : List ℕ) (handle from width spent : ℕ) → Ascend handles → IsSearch handles handle from width spent → 0 < width
+-- the handle in the middle is less: the search goes on after it
+pub goes_on_after : (handles : List ℕ) (handle from width spent : ℕ) → Ascend handles → IsSearch handles handle from width spent → 0 < width
     → slice_index_or handles (from + width / 2) 0 < handle → IsSearch handles handle (from + width / 2 + 1) (width - width / 2 - 1) (spent + 1)
-goes_on_behind handles handle from width spent ascend is some less = record {
+goes_on_after handles handle from width spent ascend is some less = record {
   left = record {
     within = omega (arith, is.left.within, some);
     below = λ i before. at_or_before handles handle i (from + width / 2) ascend (omega (arith, is.left.within, some)) less (omega (arith, before));
-    above = λ i behind within. is.left.above i (omega (arith, behind, some)) within;
+    above = λ i after within. is.left.above i (omega (arith, after, some)) within;
   };
   halved = halved_again width (width - width / 2 - 1) spent (length handles) is.halved (omega (arith, some));
   taken = λ k fits. probed handles handle from width spent is some k fits;
@@ -91,7 +91,7 @@ goes_on_before handles handle from width spent ascend is some greater = record {
   left = record {
     within = omega (arith, is.left.within);
     below = is.left.below;
-    above = λ i behind within. at_or_behind handles handle i (from + width / 2) ascend within greater behind;
+    above = λ i after within. at_or_after handles handle i (from + width / 2) ascend within greater after;
   };
   halved = halved_again width (width / 2) spent (length handles) is.halved (omega arith);
   taken = λ k fits. probed handles handle from width spent is some k fits;
@@ -105,20 +105,20 @@ is_missing handles handle from width spent is none (i, within, same) =
   where
     not_here : slice_index_or handles i 0 ≡ handle → (i < from) ⊎ (from ≤ i) → ⊥
     not_here here (inl before) = omega (arith, is.left.below i before, here)
-    not_here here (inr behind) = omega (arith, is.left.above i (omega (arith, behind, none)) within, here)
+    not_here here (inr after) = omega (arith, is.left.above i (omega (arith, after, none)) within, here)
 
 -- a probe that finds a lesser handle
-pub spends_behind : (handles : List ℕ) (handle from width start steps more here : ℕ) → Ascend handles → Spends handles handle from width start steps → 0 < width
+pub spends_after : (handles : List ℕ) (handle from width start steps more here : ℕ) → Ascend handles → Spends handles handle from width start steps → 0 < width
     → here ≡ slice_index_or handles (from + width / 2) here → true ≡ is_lt (nat_cmp here handle) → more ≡ steps + 1
     → Spends handles handle (from + width / 2 + 1) (width - width / 2 - 1) start more
-spends_behind handles handle from width start steps more here ascend is some at less one =
+spends_after handles handle from width start steps more here ascend is some at less one =
     let spent : (steps - start) + 1 ≡ more - start = omega (arith, is.0, one) in
     let zero_default : slice_index_or handles (from + width / 2) here ≡ slice_index_or handles (from + width / 2) 0 =
     get_or_default handles (from + width / 2) here 0 (omega (arith, is.1.left.within, some)) in
     let lesser : slice_index_or handles (from + width / 2) 0 < handle = grind (arith, nat_tests, at, zero_default, less) in (
       omega (arith, is.0, one),
       subst (IsSearch handles handle (from + width / 2 + 1) (width - width / 2 - 1)) spent
-          (goes_on_behind handles handle from width (steps - start) ascend is.1 some lesser),
+          (goes_on_after handles handle from width (steps - start) ascend is.1 some lesser),
     )
 
 -- a probe that finds a greater handle
@@ -159,9 +159,9 @@ in_order handles handle lowest highest from end are = go (cases_lt 0 (length han
         few (omega (arith, apart, are.first, are.last, are.least, are.most))
     go (inr none) = few (omega (arith, none))
 
--- the second is behind all handles, or tells how much greater than the lowest one can be
-end_told : (count below end : ℕ) → end ≡ min count (below + 1) → end < count → end ≡ below + 1
-end_told count below end is less = go (cases_lt count (below + 1))
+-- the second is after all handles, or reports how much greater than the lowest one can be
+end_reported : (count below end : ℕ) → end ≡ min count (below + 1) → end < count → end ≡ below + 1
+end_reported count below end is less = go (cases_lt count (below + 1))
   where
     go : (count < below + 1) ⊎ (below + 1 ≤ count) → end ≡ below + 1
     go (inl more) = absurd (omega (arith, is, less, min-eq_left {n = count} {m = below + 1} (omega (arith, more))))
@@ -177,8 +177,8 @@ between handles handle lowest highest from end are =
           let apart : slice_index_or handles i 0 + (length handles - 1 - i) ≤ slice_index_or handles (length handles - 1) 0 =
           far_apart handles i (length handles - 1) (length handles - 1 - i) are.ascend (omega (arith, before, are.begins)) (omega (arith, before, are.begins)) in
           omega (arith, apart, before, are.begins, are.last, are.most);
-      above = λ i behind inside.
+      above = λ i after inside.
           let apart : slice_index_or handles 0 0 + i ≤ slice_index_or handles i 0 = far_apart handles 0 i i are.ascend (omega arith) inside in
-          let least : end ≡ handle - lowest + 1 = end_told (length handles) (handle - lowest) end are.ends (omega (arith, behind, inside, ordered)) in
-          omega (arith, apart, behind, inside, ordered, are.first, are.least, least);
+          let least : end ≡ handle - lowest + 1 = end_reported (length handles) (handle - lowest) end are.ends (omega (arith, after, inside, ordered)) in
+          omega (arith, apart, after, inside, ordered, are.first, are.least, least);
     }

@@ -58,8 +58,8 @@ use Rattle.dwg_tables.specs.StyleBody.{style_body}
 -- references have eight bits each at the least
 all_least : (base : ℕ) (references : List Reference) (letters : List Bool) → SpellsAll (reference base) references letters → 8 * length references ≤ length letters
 all_least base [] letters spelled = omega arith
-all_least base (value ∷ more) letters (front, back, one, others, same) =
-    omega (arith, reference_least base value front one, all_least base more back others, ap length same, length-append front back)
+all_least base (value ∷ more) letters (prefix, back, one, others, same) =
+    omega (arith, reference_least base value prefix one, all_least base more back others, ap length same, length-append prefix back)
 
 -- what is written of a body's references has eight bits for each
 pub written_least : {V : Type 0} (base : ℕ) (part : BodyGrammar V) (value : V) → IsBody base part → part.Fits value
@@ -70,20 +70,20 @@ written_least {V} base part value is fits =
 
 -- an item of application data has eight bits at the least
 item_least : (base size : ℕ) (item : AppData) (letters : List Bool) → (app_item base size).Spells item letters → 8 ≤ length letters
-item_least base size item letters (inner, is, (front, back, application, bytes, same)) =
-    omega (arith, reference_least base inner.0 front application, ap length same, length-append front back)
+item_least base size item letters (inner, is, (prefix, back, application, bytes, same)) =
+    omega (arith, reference_least base inner.0 prefix application, ap length same, length-append prefix back)
 
 -- items up to a mark
 until_least : (base : ℕ) (listed : List AppData) (letters : List Bool) → SpellsUntil bs 0 (app_item base) listed letters → 8 * length listed ≤ length letters
 until_least base [] letters spelled = omega arith
-until_least base (item ∷ more) letters (tag, front, middle, back, other, tag_spelled, one, others, same) =
+until_least base (item ∷ more) letters (tag, prefix, middle, back, other, tag_spelled, one, others, same) =
     omega (
       arith,
       item_least base tag item middle one,
       until_least base more back others,
       ap length same,
-      length-append (front ++ middle) back,
-      length-append front middle,
+      length-append (prefix ++ middle) back,
+      length-append prefix middle,
     )
 
 -- application data
@@ -95,23 +95,23 @@ apps_least base listed letters spelled = until_least base listed letters spelled
 entity_apps : (layout : Layout) (base : ℕ) (common : EntityCommon) (main references : List Bool) (over : ℕ) → (entity_common layout base).Spells common main references over
     → 8 * length common.app ≤ length main
 unfolding entity_common
-entity_apps layout base common main references over (told, named, is, (front, back, (first, behind, apps, others, cut), look, same), names) =
+entity_apps layout base common main references over (reported, named, is, (prefix, back, (first, after, apps, others, cut), look, same), names) =
     omega (
       arith,
-      apps_least base told.0.0 first apps,
+      apps_least base reported.0.0 first apps,
       ap (λ (one : EntityCommon). length one.app) is,
       ap length same,
-      length-append front back,
+      length-append prefix back,
       ap length cut,
-      length-append first behind,
+      length-append first after,
     )
 
 -- and of any other object
 object_apps : (layout : Layout) (base : ℕ) (common : ObjectCommon) (main references : List Bool) (over : ℕ) → (object_common layout base).Spells common main references over
     → 8 * length common.app ≤ length main
 unfolding object_common
-object_apps layout base common main references over (told, named, is, (front, back, apps, count, same), names) =
-    omega (arith, apps_least base told.0 front apps, ap (λ (one : ObjectCommon). length one.app) is, ap length same, length-append front back)
+object_apps layout base common main references over (reported, named, is, (prefix, back, apps, count, same), names) =
+    omega (arith, apps_least base reported.0 prefix apps, ap (λ (one : ObjectCommon). length one.app) is, ap length same, length-append prefix back)
 
 -- two fields that may be there together have a reference each where they are
 two_counted : {A : Type 0} (first second : A → Reference) (thing : Option A)

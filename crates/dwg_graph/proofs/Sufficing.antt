@@ -59,14 +59,14 @@ claimed_by_counts objects known x owner all own place count own_count =
     ∙ ap (λ o. option_map_or (λ (y : ObjectValue). by_counts (is_typed y) all own) o false) (object_placed objects (owner_of known x))
     ∙ go (object_at objects (owner_of known x))
   where
-    told : (typed : Bool) → by_counts typed all own ≡ (if typed then is_sole_claim (owner_of known x) (claims objects (handle_of x)) else is_unclaimed (claims objects (handle_of x)))
-    told true = ap (λ n. (n == 1) && (own == 1)) count ∙ ap (λ n. (length (claims objects (handle_of x)) == 1) && (n == 1)) own_count ∙ sole_by_counts (owner_of known x) (claims objects (handle_of x))
-    told false = ap (λ n. n == 0) count ∙ none_by_count (claims objects (handle_of x))
+    reported : (typed : Bool) → by_counts typed all own ≡ (if typed then is_sole_claim (owner_of known x) (claims objects (handle_of x)) else is_unclaimed (claims objects (handle_of x)))
+    reported true = ap (λ n. (n == 1) && (own == 1)) count ∙ ap (λ n. (length (claims objects (handle_of x)) == 1) && (n == 1)) own_count ∙ sole_by_counts (owner_of known x) (claims objects (handle_of x))
+    reported false = ap (λ n. n == 0) count ∙ none_by_count (claims objects (handle_of x))
 
     go : (found : Option ObjectValue) → option_map_or (λ (y : ObjectValue). by_counts (is_typed y) all own) found false
         ≡ option_map_or (λ owner. if is_typed owner then is_sole_claim (owner_of known x) (claims objects (handle_of x)) else is_unclaimed (claims objects (handle_of x))) found false
     go None = refl
-    go (Some y) = told (is_typed y)
+    go (Some y) = reported (is_typed y)
 
 -- the last end is null where both ends are
 pub last_of_ends : (ends : declared.Ends) → option_map_or (λ (e : EndHandles). e.last) (known_ends ends) 0 ≡ ends.last.target

@@ -22,9 +22,9 @@ use Rattle.dwg_kinds.proofs.SameKinds.{same_kinds}
 use Rattle.dwg_kinds.specs.Kinds.{is_entity_kind, same_kind}
 use Rattle.dwg_kinds.specs.Needs.{need_of}
 use Rattle.dwg_object.specs.Objects.{ObjectValue, handle_of, kind_of}
-use Rattle.dwg_paths.specs.Ways.{IsClosed}
-use Rattle.dwg_paths.proofs.TestLemmas.{one_of_any, any_of_one}
-use Rattle.dwg_paths.proofs.WayLemmas.{option_map_found, option_then_found}
+use Rattle.dwg_chains.specs.Ways.{IsClosed}
+use Rattle.dwg_chains.proofs.TestLemmas.{one_of_any, any_of_one}
+use Rattle.dwg_chains.proofs.WayLemmas.{option_map_found, option_then_found}
 
 -- an object stands before another by its handle
 abbrev pub IsBefore : ObjectValue → ObjectValue → Type 0
@@ -48,13 +48,13 @@ map_or_of_passing test found x is passes = rw is passes
 -- the kind of the object of a handle passes a test exactly where the object has such a kind
 of_kind_decided : (objects : List ObjectValue) (target : ℕ) (test : Kind → Bool) (Allowed : Kind → Type 0) → Ascend (handles_of objects) → ((kind : Kind) → IsTrue (test kind) ↔ Allowed kind)
     → IsTrue (option_map_or test (kind_at objects target) false) ↔ IsOfKind objects target Allowed
-of_kind_decided objects target test Allowed ascend tells = (
+of_kind_decided objects target test Allowed ascend reports = (
   λ is. let known = passing_of_map_or test (kind_at objects target) is in
       let object = option_map_found kind_of (object_at objects target) known.0 known.1 in
       let stands = stands_found objects target object.0 object.1 in
-      record { object = object.0; stands = stands.0; has = stands.1; kind = subst Allowed object.2 ((tells known.0).0 known.2) },
+      record { object = object.0; stands = stands.0; has = stands.1; kind = subst Allowed object.2 ((reports known.0).0 known.2) },
   λ has. let found : object_at objects target ≡ Some has.object = (object_found objects target has.object ascend).1 (has.stands, has.has) in
-      let passes : test (kind_of has.object) ≡ true = (tells (kind_of has.object)).1 has.kind in
+      let passes : test (kind_of has.object) ≡ true = (reports (kind_of has.object)).1 has.kind in
       rw found passes,
 )
 

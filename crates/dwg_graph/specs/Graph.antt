@@ -14,7 +14,7 @@ use Rattle.dwg_kinds.specs.Kinds.{is_entity_kind, same_kind}
 use Rattle.dwg_object.specs.declared.body.Body.TheVariants as bodies
 use Rattle.dwg_object.specs.declared.body.Body.{Body}
 use Rattle.dwg_object.specs.Objects.{ObjectValue, TypedValue, PlainValue, RawValue, handle_of, number_of, kind_of}
-use Rattle.dwg_paths.specs.Paths.{HasPath, HasChain}
+use Rattle.dwg_chains.specs.Paths.{HasPath, HasChain}
 use Rattle.dwg_tables.specs.declared.block_header.Ends as declared
 
 -- an object is Typed

@@ -1,6 +1,6 @@
 -- The references that an object holds beside that to its owner, in the order of the fields.
 pub mod Slots
--- Who owns an object, and which entity is behind another.
+-- Who owns an object, and which entity is after another.
 pub mod Owners
 -- What the references of objects make of them: roots, claims, members of blocks, owner paths and chains.
 pub mod Graph
@@ -14,7 +14,7 @@ pub mod SlotWalks
 pub mod SlotLaws
 -- Owner paths and chains of members as lists of the objects themselves, and that they are those over handles.
 pub mod ObjectPaths
--- Tests of the references of objects, which tell whether what they stand for holds where handles ascend.
+-- Tests of the references of objects, which report whether what they stand for holds where handles ascend.
 pub mod Tests
 -- The references of objects as tables of places.
 pub mod Placed

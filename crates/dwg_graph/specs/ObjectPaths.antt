@@ -4,7 +4,7 @@ use Rattle.dwg_graph.specs.Graph.{object_at, is_root, is_member, EndHandles, end
 use Rattle.dwg_graph.specs.Owners.{spaces, owner_of, next_of}
 use Rattle.dwg_graph.specs.Places.{Ascend, handles_of}
 use Rattle.dwg_object.specs.Objects.{ObjectValue, handle_of}
-use Rattle.dwg_paths.specs.Paths.{AreDistinct, Begins, Ends, Follows, HasPath}
+use Rattle.dwg_chains.specs.Paths.{AreDistinct, Begins, Ends, Follows, HasPath}
 
 -- the object that owns another, if it is there
 abbrev pub owner_object : List ObjectValue → ObjectValue → Option ObjectValue

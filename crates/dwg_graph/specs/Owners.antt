@@ -1,4 +1,4 @@
--- Who owns an object, and which entity is behind another (Open Design Specification, "Common entity data"). The space of a drawing without a sole table of blocks, and the owner of a Raw object, are rules of this project.
+-- Who owns an object, and which entity is after another (Open Design Specification, "Common entity data"). The space of a drawing without a sole table of blocks, and the owner of a Raw object, are rules of this project.
 use Rattle.std.specs.Prelude.{ℕ, ◌+◌, ◌==◌, ◌^◌, List, [], ◌∷◌, Option, Some, None, nat_lt, if◌then◌else◌}
 use Rattle.std.specs.List.{filter_map}
 use Rattle.std.specs.Option.{option_map_or}
@@ -18,14 +18,14 @@ spaces_of_body handle (bodies.BlockControl body) = Some (record { control = hand
 spaces_of_body handle other = None
 
 -- those of a Typed table of blocks
-abbrev pub told_spaces : ObjectValue → Option SpaceHandles
-told_spaces (TypedValue number handle common body) = spaces_of_body handle body
-told_spaces (PlainValue number handle common rest refs) = None
-told_spaces (RawValue number handle bytes) = None
+abbrev pub reported_spaces : ObjectValue → Option SpaceHandles
+reported_spaces (TypedValue number handle common body) = spaces_of_body handle body
+reported_spaces (PlainValue number handle common rest refs) = None
+reported_spaces (RawValue number handle bytes) = None
 
 -- those of all Typed tables of blocks
 unfoldable pub block_controls : List ObjectValue → List SpaceHandles
-block_controls objects = filter_map told_spaces objects
+block_controls objects = filter_map reported_spaces objects
 
 -- the only thing of a list
 abbrev pub sole : {A : Type 0} → List A → Option A
@@ -61,17 +61,17 @@ owner_of known (TypedValue number handle common body) = common_owner known commo
 owner_of known (PlainValue number handle common rest refs) = common_owner known common
 owner_of known (RawValue number handle bytes) = 0
 
--- the handle behind another, null where there is none
-abbrev pub handle_behind : ℕ → ℕ
-handle_behind handle = if nat_lt (handle + 1) (2 ^ 63) then handle + 1 else 0
+-- the handle after another, null where there is none
+abbrev pub handle_after : ℕ → ℕ
+handle_after handle = if nat_lt (handle + 1) (2 ^ 63) then handle + 1 else 0
 
--- what follows in a block: the entity that the links name, and without links the object of the handle behind
+-- what follows in a block: the entity that the links name, and without links the object of the handle after
 unfoldable pub common_next : ℕ → Common → ℕ
-common_next handle (commons.Entity common) = option_map_or (λ (links : Links). links.next.target) common.links (handle_behind handle)
-common_next handle (commons.Object common) = handle_behind handle
+common_next handle (commons.Entity common) = option_map_or (λ (links : Links). links.next.target) common.links (handle_after handle)
+common_next handle (commons.Object common) = handle_after handle
 
 -- what follows an object in a block
 unfoldable pub next_of : ObjectValue → ℕ
 next_of (TypedValue number handle common body) = common_next handle common
 next_of (PlainValue number handle common rest refs) = common_next handle common
-next_of (RawValue number handle bytes) = handle_behind handle
+next_of (RawValue number handle bytes) = handle_after handle

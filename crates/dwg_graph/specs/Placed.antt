@@ -7,7 +7,7 @@ use Rattle.dwg_graph.specs.Graph.{is_root, is_member, EndHandles, ends_of}
 use Rattle.dwg_graph.specs.Owners.{owner_of, next_of}
 use Rattle.dwg_graph.specs.Places.{handles_of}
 use Rattle.dwg_object.specs.Objects.{ObjectValue}
-use Rattle.dwg_paths.specs.declared.tables.ChainEnds.{ChainEnds}
+use Rattle.dwg_chains.specs.declared.tables.ChainEnds.{ChainEnds}
 
 -- the place of a handle among handles
 unfoldable pub place_in : List ℕ → ℕ → Option ℕ

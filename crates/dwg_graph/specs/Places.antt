@@ -16,7 +16,7 @@ abbrev pub IsPlaceOf : List ℕ → ℕ → Option ℕ → Type 0
 IsPlaceOf handles handle (Some place) = slice_get handles place ≡ Some handle
 IsPlaceOf handles handle None = Contains handles handle → ⊥
 
--- a handle can stand among handles only at so many places from one on: all before them are less, and all behind them are greater
+-- a handle can stand among handles only at so many places from one on: all before them are less, and all after them are greater
 pub record CanStand (handles : List ℕ) (handle from width : ℕ) : Type 0 where
   pub within : from + width ≤ length handles
   pub below : (i : ℕ) → i < from → slice_index_or handles i 0 < handle

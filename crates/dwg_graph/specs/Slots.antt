@@ -100,12 +100,12 @@ unfoldable pub slots_from : Field → ℕ → List Reference → List Slot
 slots_from field at [] = []
 slots_from field at (reference ∷ more) = record { field = field; position = at; target = reference.target } ∷ slots_from field (at + 1) more
 
--- the slots of fields, one field behind the other
+-- the slots of fields, one field after the other
 unfoldable pub slots_of : List FieldReferences → List Slot
 slots_of [] = []
 slots_of (held ∷ more) = slots_from held.field 0 held.references ++ slots_of more
 
--- the slots of an object: those of a Typed one; of any other nothing is known but its common part, and none are told
+-- the slots of an object: those of a Typed one; of any other nothing is known but its common part, and none are reported
 unfoldable pub slots : ObjectValue → List Slot
 slots (TypedValue number handle common body) = slots_of (held_by_common common ++ held_by_body body)
 slots (PlainValue number handle common rest refs) = []

@@ -1,4 +1,4 @@
--- Tests of the references of objects, which tell whether what they stand for holds where handles ascend. A rule of this project.
+-- Tests of the references of objects, which report whether what they stand for holds where handles ascend. A rule of this project.
 use Rattle.std.specs.Prelude.{◌==◌, ◌||◌, ℕ, Bool, true, false, List, [], ◌∷◌, Option, is_some, if◌then◌else◌}
 use Rattle.std.specs.Option.{option_map, option_map_or}
 use Rattle.dwg_graph.specs.declared.owner.SpaceHandles.{SpaceHandles}

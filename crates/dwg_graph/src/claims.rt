@@ -30,19 +30,19 @@ pub struct Claimed {
 }
 
 impl Claimed {
-    /// No claims on so many objects. Want of memory is the only refusal.
+    /// No claims on so many objects. Err: out of memory.
     pub fn none(alloc: Global, count: usize) -> Result<Claimed, NoMemory>
         ensures all { IfOk result (λ claimed. claimed.all.items ≡ replicate count 0) }
         ensures own { IfOk result (λ claimed. claimed.own.items ≡ replicate count 0) }
     {
-        let all = zeros(alloc, count)?;
-        let own = zeros(alloc, count)?;
+        let all = zeroed(alloc, count)?;
+        let own = zeroed(alloc, count)?;
         Ok(Claimed { all, own })
     }
 }
 
-/// A count of nothing for each of so many places. Want of memory is the only refusal.
-pub fn zeros(alloc: Global, count: usize) -> Result<Vec<u64>, NoMemory>
+/// A count of nothing for each of so many places. Err: out of memory.
+pub fn zeroed(alloc: Global, count: usize) -> Result<Vec<u64>, NoMemory>
     ensures { IfOk result (λ counts. counts.items ≡ replicate count 0) }
 {
     match vec![in alloc; 0; count] {
@@ -59,7 +59,7 @@ fn one_if(test: bool) -> u64
 }
 
 /// Counts so many more in one place.
-pub fn raise(counts: &mut Vec<u64>, place: usize, more: u64)
+pub fn increment(counts: &mut Vec<u64>, place: usize, more: u64)
     requires within { place < length counts.old.items }
     requires room { slice_index_or counts.old.items place 0 + more < 2 ^ 64 }
     ensures { counts.new.items ≡ raised counts.old.items place more }
@@ -76,8 +76,8 @@ fn tally(claimed: &mut Claimed, place: usize, owned: bool)
     ensures all { claimed.new.all.items ≡ raised claimed.old.all.items place 1 }
     ensures own { claimed.new.own.items ≡ raised claimed.old.own.items place (if owned then 1 else 0) }
 {
-    raise(&mut claimed.all, place, 1);
-    raise(&mut claimed.own, place, one_if(owned));
+    increment(&mut claimed.all, place, 1);
+    increment(&mut claimed.own, place, one_if(owned));
 }
 
 /// Whether a holder owns the object of a place.

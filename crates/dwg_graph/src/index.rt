@@ -5,7 +5,7 @@ ghost use Rattle.std.specs.List.{slice_index_or};
 ghost use Rattle.dwg_graph.specs.Places.{Ascend, CanStand, IsPlaceOf, handles_of};
 ghost use Rattle.dwg_object.specs.Objects.{value_of};
 
-use dwg_base::{Handle, NoMemory, push_item, with_room};
+use dwg_base::{Handle, NoMemory, push_item, vec_with_capacity};
 use dwg_object::Object;
 use dwg_steps::Steps;
 use std::alloc::Global;
@@ -41,7 +41,7 @@ struct Span {
 }
 
 /// Where a handle can stand among handles that ascend. Each is greater than the one before it, so that a handle stands at most as far
-/// behind the lowest, and before the highest, as it differs from them: at few places, where few numbers between are no handles.
+/// after the lowest, and before the highest, as it differs from them: at few places, where few numbers between are no handles.
 #[inline(always)]
 fn span_of(handles: &[Handle], lowest: Handle, highest: Handle, handle: Handle) -> Span
     requires ascend { Ascend handles.now }
@@ -101,11 +101,11 @@ fn place_of<L: Ledger>(
     None
 }
 
-/// The handles of objects, in their order. Want of memory is the only refusal.
+/// The handles of objects, in their order. Err: out of memory.
 fn gather(alloc: Global, objects: &[Object<'_>]) -> Result<Vec<Handle>, NoMemory>
     ensures { IfOk result (λ handles. handles.items ≡ handles_of (map value_of objects.now)) }
 {
-    let mut handles = with_room(alloc, objects.len())?;
+    let mut handles = vec_with_capacity(alloc, objects.len())?;
     'along: for object in objects {
         push_item(&mut handles, object.handle())?;
     }
@@ -133,7 +133,7 @@ fn last_of(handles: &[Handle]) -> Handle
 }
 
 impl Index {
-    /// The index of objects whose handles ascend. Want of memory is the only refusal.
+    /// The index of objects whose handles ascend. Err: out of memory.
     pub fn build(alloc: Global, objects: &[Object<'_>]) -> Result<Index, NoMemory>
         requires ascending { Ascend (handles_of (map value_of objects.now)) }
         ensures { IfOk result (λ index. index ≡ handles_of (map value_of objects.now)) }

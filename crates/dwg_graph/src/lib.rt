@@ -11,7 +11,7 @@ mod slot;
 mod slots;
 mod walk;
 
-pub use claims::{ClaimCounts, Claimed, count_slot, is_claimed, is_exempt, raise, zeros};
+pub use claims::{ClaimCounts, Claimed, count_slot, increment, is_claimed, is_exempt, zeroed};
 pub use index::Index;
 pub use laws::{graph_laws, slot_laws};
 pub use needs::{is_met, meets};

@@ -2,8 +2,8 @@
 
 ghost use Rattle.std.specs.Prelude.{◌≡◌, [], length, map};
 ghost use Rattle.std.specs.List.{cons_option};
-ghost use Rattle.dwg_paths.specs.Paths.{first_of};
-ghost use Rattle.dwg_graph.specs.Owners.{block_controls, common_next, common_owner, entity_owner, handle_behind, model_space, next_of, owner_of, paper_space, spaces, told_spaces};
+ghost use Rattle.dwg_chains.specs.Paths.{first_of};
+ghost use Rattle.dwg_graph.specs.Owners.{block_controls, common_next, common_owner, entity_owner, handle_after, model_space, next_of, owner_of, paper_space, spaces, reported_spaces};
 ghost use Rattle.dwg_object.specs.Objects.{value_of};
 
 use dwg_base::Handle;
@@ -21,9 +21,9 @@ pub struct SpaceHandles {
     pub paper: Handle,
 }
 
-/// The handle behind another, null where there is none.
-fn handle_behind(handle: Handle) -> Handle
-    ensures { result ≡ handle_behind handle }
+/// The handle after another, null where there is none.
+fn handle_after(handle: Handle) -> Handle
+    ensures { result ≡ handle_after handle }
 {
     match Handle::new(handle.value() + 1) {
         Some(next) => next,
@@ -98,14 +98,14 @@ fn next_by(handle: Handle, common: &Common) -> Handle
     match common {
         Common::Entity(common) => match common.links {
             Some(links) => links.next.target,
-            None => handle_behind(handle),
+            None => handle_after(handle),
         },
-        Common::Object(_) => handle_behind(handle),
+        Common::Object(_) => handle_after(handle),
     }
 }
 
 /// What follows an object in a block (Open Design Specification, "Common entity data"): the entity that its links name, and without
-/// links the object of the handle behind its own, null where there is no such handle.
+/// links the object of the handle after its own, null where there is no such handle.
 #[tactic(auto, unfolding(crate::specs::Owners::next_of))]
 pub fn next_of(object: &Object<'_>) -> Handle
     ensures { result ≡ next_of (value_of object.now) }
@@ -113,13 +113,13 @@ pub fn next_of(object: &Object<'_>) -> Handle
     match object {
         Object::Typed(typed) => next_by(typed.handle, &typed.common),
         Object::Plain(plain) => next_by(plain.handle, &plain.common),
-        Object::Raw(raw) => handle_behind(raw.handle),
+        Object::Raw(raw) => handle_after(raw.handle),
     }
 }
 
-/// The spaces that an object tells, which is a Typed table of blocks.
+/// The spaces that an object reports, which is a Typed table of blocks.
 fn spaces_in(object: &Object<'_>) -> Option<SpaceHandles>
-    ensures { result ≡ told_spaces (value_of object.now) }
+    ensures { result ≡ reported_spaces (value_of object.now) }
 {
     match object {
         Object::Typed(typed) => match &typed.body {
@@ -134,11 +134,11 @@ fn spaces_in(object: &Object<'_>) -> Option<SpaceHandles>
     }
 }
 
-/// One where something is told, and nothing else.
-fn one_if(told: Option<SpaceHandles>) -> u64
-    ensures { result ≡ length (cons_option told []) }
+/// One where something is reported, and nothing else.
+fn one_if(reported: Option<SpaceHandles>) -> u64
+    ensures { result ≡ length (cons_option reported []) }
 {
-    match told {
+    match reported {
         Some(_) => 1,
         None => 0,
     }
@@ -156,14 +156,14 @@ pub fn control_count(objects: &[Object<'_>]) -> u64
     count
 }
 
-/// The spaces that the first Typed table of blocks among objects tells.
+/// The spaces that the first Typed table of blocks among objects reports.
 #[tactic(auto, unfolding(crate::specs::Owners::block_controls))]
 fn first_spaces(objects: &[Object<'_>]) -> Option<SpaceHandles>
     ensures { result ≡ first_of (block_controls (map value_of objects.now)) }
 {
     'along: for object in objects {
-        if let Some(told) = spaces_in(object) {
-            return Some(told);
+        if let Some(reported) = spaces_in(object) {
+            return Some(reported);
         }
     }
     None

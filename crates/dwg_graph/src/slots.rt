@@ -91,7 +91,7 @@ fn body_slots(walk: Walk, body: &Body) -> Walk
 fn entity_slots(walk: Walk, common: &EntityCommon, body: &Body) -> Walk
     ensures { PassesFields walk (tables.held_by_entity common.now ++ tables.held_by_body body.now) result }
 {
-    let behind = walk
+    let after = walk
         .listed(Field::Application, &common.app)
         .references(Field::Reactor, &common.reactors)
         .one(Field::Xdict, common.xdict)
@@ -100,7 +100,7 @@ fn entity_slots(walk: Walk, common: &EntityCommon, body: &Body) -> Walk
         .one(Field::Layer, common.layer)
         .maybe(Field::Linetype, common.linetype)
         .maybe(Field::Plotstyle, common.plotstyle);
-    body_slots(behind, body)
+    body_slots(after, body)
 }
 
 /// What any other object holds: what all of them do, and what its kind does.
@@ -108,11 +108,11 @@ fn entity_slots(walk: Walk, common: &EntityCommon, body: &Body) -> Walk
 fn object_slots(walk: Walk, common: &ObjectCommon, body: &Body) -> Walk
     ensures { PassesFields walk (tables.held_by_object common.now ++ tables.held_by_body body.now) result }
 {
-    let behind = walk
+    let after = walk
         .listed(Field::Application, &common.app)
         .references(Field::Reactor, &common.reactors)
         .one(Field::Xdict, common.xdict);
-    body_slots(behind, body)
+    body_slots(after, body)
 }
 
 /// What a common part and a body hold.
@@ -126,7 +126,7 @@ fn typed_slots(walk: Walk, common: &Common, body: &Body) -> Walk
     }
 }
 
-/// A walk along the slots of an object: those of a Typed one; none are told of any other.
+/// A walk along the slots of an object: those of a Typed one; none are reported of any other.
 #[tactic(auto, using(crate::proofs::Passing::passes_none), unfolding(crate::specs::Slots::slots))]
 fn walk_slots(walk: Walk, object: &Object<'_>) -> Walk
     ensures { Passes walk (tables.slots (value_of object.now)) result }
@@ -138,9 +138,9 @@ fn walk_slots(walk: Walk, object: &Object<'_>) -> Walk
     }
 }
 
-/// How many references an object holds beside that to its owner; none are told of an object that isn't Typed. They are fewer than
+/// How many references an object holds beside that to its owner; none are reported of an object that isn't Typed. They are fewer than
 /// 2^58 in every object that a drawing can have: `slot_laws` bounds them by the bytes of its frame.
-#[tactic(auto, using(crate::proofs::Passing::passed_behind), unfolding(crate::specs::SlotWalks::IsBehind))]
+#[tactic(auto, using(crate::proofs::Passing::passed_after), unfolding(crate::specs::SlotWalks::IsAfter))]
 pub fn slot_count(object: &Object<'_>) -> u64
     requires few { length (tables.slots (value_of object.now)) < 2 ^ 58 }
     ensures { result ≡ length (tables.slots (value_of object.now)) }
@@ -149,13 +149,13 @@ pub fn slot_count(object: &Object<'_>) -> u64
         Walk::Left(left) => MANY - left,
         Walk::Found(_) => unreachable!(),
         Walk::Gathered(_) => unreachable!(),
-        Walk::Short => unreachable!(),
+        Walk::OutOfMemory => unreachable!(),
     }
 }
 
 /// The reference that an object holds at a place, from 0 on, among those that it holds beside that to its owner: the common part's
 /// first, each part's in the order of the fields, and those of a field that is a list in its order.
-#[tactic(auto, using(crate::proofs::Passing::passed_within), unfolding(crate::specs::SlotWalks::IsBehind))]
+#[tactic(auto, using(crate::proofs::Passing::passed_within), unfolding(crate::specs::SlotWalks::IsAfter))]
 pub fn slot_at(object: &Object<'_>, i: u64) -> Slot
     requires within { i < length (tables.slots (value_of object.now)) }
     ensures { slice_get (tables.slots (value_of object.now)) i ≡ Some result }
@@ -164,19 +164,19 @@ pub fn slot_at(object: &Object<'_>, i: u64) -> Slot
         Walk::Found(slot) => slot,
         Walk::Left(_) => unreachable!(),
         Walk::Gathered(_) => unreachable!(),
-        Walk::Short => unreachable!(),
+        Walk::OutOfMemory => unreachable!(),
     }
 }
 
-/// Slots, and behind them all those of an object in the order of `slot_at`, which are walked over once. The only refusal is want of
+/// Slots, and after them all those of an object in the order of `slot_at`, which are walked over once. The only refusal is want of
 /// memory.
-#[tactic(auto, unfolding(crate::specs::SlotWalks::IsBehind))]
+#[tactic(auto, unfolding(crate::specs::SlotWalks::IsAfter))]
 pub fn with_slots(slots: Items<Slot>, object: &Object<'_>) -> Result<Items<Slot>, NoMemory>
     ensures { IfOk result (λ all. all ≡ slots ++ tables.slots (value_of object.now)) }
 {
     match walk_slots(Walk::Gathered(slots), object) {
         Walk::Gathered(all) => Ok(all),
-        Walk::Short => Err(NoMemory),
+        Walk::OutOfMemory => Err(NoMemory),
         Walk::Found(_) => unreachable!(),
         Walk::Left(_) => unreachable!(),
     }

@@ -77,7 +77,7 @@ pub(crate) enum Walk {
     /// A gathering: all slots so far.
     Gathered(Items<Slot>),
     /// A gathering that had no memory for one of the slots.
-    Short,
+    OutOfMemory,
 }
 
 /// Searches on along the slots of a field that is a list.
@@ -95,7 +95,7 @@ fn searched<T: Refers>(place: u64, field: Field, items: &[T]) -> Walk
     })
 }
 
-/// Gathers the slots of a field that is a list behind those so far.
+/// Gathers the slots of a field that is a list after those so far.
 #[inline(always)]
 fn gathered<T: Refers>(slots: Items<Slot>, field: Field, items: &[T]) -> Walk
     ensures { IsGathered (slots ++ tables.slots_from field 0 (map T.refers items.now)) result }
@@ -109,7 +109,7 @@ fn gathered<T: Refers>(slots: Items<Slot>, field: Field, items: &[T]) -> Walk
         };
         match slots.push(slot) {
             Ok(()) => {}
-            Err(_) => return Walk::Short,
+            Err(_) => return Walk::OutOfMemory,
         }
     }
     Walk::Gathered(slots)
@@ -117,7 +117,7 @@ fn gathered<T: Refers>(slots: Items<Slot>, field: Field, items: &[T]) -> Walk
 
 impl Walk {
     /// Goes on along the slots of a field that is a list.
-    #[tactic(auto, using(crate::proofs::Passing::passes_field), unfolding(crate::specs::SlotWalks::IsBehind))]
+    #[tactic(auto, using(crate::proofs::Passing::passes_field), unfolding(crate::specs::SlotWalks::IsAfter))]
     #[inline(always)]
     fn along<T: Refers>(self, field: Field, items: &[T]) -> Walk
         ensures { PassesField self (tables.listed field (map T.refers items.now)) result }
@@ -126,7 +126,7 @@ impl Walk {
             Walk::Found(slot) => Walk::Found(slot),
             Walk::Left(place) => searched(place, field, items),
             Walk::Gathered(slots) => gathered(slots, field, items),
-            Walk::Short => Walk::Short,
+            Walk::OutOfMemory => Walk::OutOfMemory,
         }
     }
 

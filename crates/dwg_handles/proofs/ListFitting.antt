@@ -1,4 +1,4 @@
--- References that each can be told are values.
+-- References that each can be given are values.
 use Rattle.std.proofs.Common.{◌≡◌, refl, sym, ◌∙◌, ap₂, ℕ, Bool, true, false, List, [], ◌∷◌}
 use Rattle.std.specs.Prelude.{◌&&◌, ◌↔◌, IsTrue}
 use Rattle.std.specs.List.{list_all}
@@ -26,6 +26,6 @@ unfolding reference
 reached_of_values base [] are = refl
 reached_of_values base (value ∷ refs) are = ap₂ (λ (one other : Bool). one && other) are.0 (reached_of_values base refs are.1)
 
--- the test of each tells whether they are values
+-- the test of each gives whether they are values
 pub fit_are_values : (base : ℕ) (refs : List Reference) (fit : Bool) → fit ≡ list_all (λ value. reaches base value) refs → IsTrue fit ↔ AreValues (reference base) refs
 fit_are_values base refs fit same = ((λ holds. values_of_reached base refs (sym same ∙ holds)), (λ are. same ∙ reached_of_values base refs are))

@@ -5,35 +5,35 @@ use Rattle.dwg_grammar.specs.Grammar.{BeginsWith, Reads}
 use Rattle.dwg_grammar.specs.Reference.{OwnSpells}
 use Rattle.dwg_grammar.specs.ReferenceCodes.{own_handle}
 use Rattle.dwg_grammar.proofs.OwnLemmas.{own_spelled}
-use Rattle.dwg_handles.specs.declared.parts.Parts.{Parts}
+use Rattle.dwg_handles.specs.declared.parts.ReferenceParts.{ReferenceParts}
 use Rattle.dwg_handles.specs.PartsCode.{AreParts, IsOwn, parts}
-use Rattle.dwg_handles.proofs.PartsReading.{parts_bits, parts_spelled, parts_spells, parts_told}
+use Rattle.dwg_handles.proofs.PartsReading.{parts_bits, parts_spelled, parts_spells, parts_resolved}
 
 -- parts that were read, of code 0 and a positive number, are an own handle
-pub own_read : (own : ℕ) (found : Parts) (old new : List Bool) → Reads parts (Some found) old new → IsOwn found → own ≡ found.number → Reads own_handle (Some own) old new
-own_read own found old new (front, spelled, whole) is same =
-    let are = parts_spelled found front spelled in
-    let of_found : OwnSpells found.number front =
+pub own_read : (own : ℕ) (found : ReferenceParts) (old new : List Bool) → Reads parts (Some found) old new → IsOwn found → own ≡ found.number → Reads own_handle (Some own) old new
+own_read own found old new (prefix, spelled, whole) is same =
+    let are = parts_spelled found prefix spelled in
+    let of_found : OwnSpells found.number prefix =
     record { count = found.count; few = are.0.few; fits = are.0.fits; spelled = are.1 ∙ ap (λ (one : ℕ). low_bits 4 one ++ (low_bits 4 found.count ++ low_bits (8 * found.count) found.number)) is.code; positive = is.positive; within = is.within } in
-    (front, (own_spelled own front).1 (subst (λ (one : ℕ). OwnSpells one front) (sym same) of_found), whole)
+    (prefix, (own_spelled own prefix).1 (subst (λ (one : ℕ). OwnSpells one prefix) (sym same) of_found), whole)
 
--- the parts of an own handle in front of bits
-record Told (letters : List Bool) : Type 0 where
-  found : Parts
-  behind : List Bool
+-- the parts of an own handle before bits
+record Resolved (letters : List Bool) : Type 0 where
+  found : ReferenceParts
+  after : List Bool
   are : AreParts found
-  whole : letters ≡ parts_bits found ++ behind
+  whole : letters ≡ parts_bits found ++ after
   is_own : IsOwn found
 
 -- what begins with an own handle does so by its parts
-told : (letters : List Bool) → BeginsWith own_handle letters → Told letters
-told letters (own, front, behind, spelled, whole) =
-    let is = (own_spelled own front).0 spelled in
+resolved : (letters : List Bool) → BeginsWith own_handle letters → Resolved letters
+resolved letters (own, prefix, after, spelled, whole) =
+    let is = (own_spelled own prefix).0 spelled in
     record {
       found = record { code = 0; count = is.count; number = own };
-      behind = behind;
+      after = after;
       are = record { code = omega arith; few = is.few; fits = is.fits };
-      whole = whole ∙ ap (λ (one : List Bool). one ++ behind) is.spelled;
+      whole = whole ∙ ap (λ (one : List Bool). one ++ after) is.spelled;
       is_own = record { code = refl; positive = is.positive; within = is.within };
     }
 
@@ -44,13 +44,13 @@ none_read result old none begins = subst (λ (one : Option ℕ). Reads own_handl
 -- where no parts are, there is no own handle
 pub own_unread : (result : Option ℕ) (old left : List Bool) → result ≡ None → Reads parts None old left → Reads own_handle result old old
 own_unread result old left none unread =
-    none_read result old none (λ begins. let is = told old begins in unread.0 (is.found, parts_bits is.found, is.behind, parts_spells is.found is.are, is.whole))
+    none_read result old none (λ begins. let is = resolved old begins in unread.0 (is.found, parts_bits is.found, is.after, parts_spells is.found is.are, is.whole))
 
 -- nor where the parts are those of none
-pub own_untold : (result : Option ℕ) (found : Parts) (old mid : List Bool) → result ≡ None → Reads parts (Some found) old mid → (IsOwn found → ⊥) → Reads own_handle result old old
-own_untold result found old mid none read untold = none_read result old none (λ begins. of_parts (told old begins))
+pub own_unresolved : (result : Option ℕ) (found : ReferenceParts) (old mid : List Bool) → result ≡ None → Reads parts (Some found) old mid → (IsOwn found → ⊥) → Reads own_handle result old old
+own_unresolved result found old mid none read unresolved = none_read result old none (λ begins. of_parts (resolved old begins))
   where
-    of_parts : Told old → ⊥
+    of_parts : Resolved old → ⊥
     of_parts is =
-        let same : is.found ≡ found = sym (parts_told found is.found old mid is.behind read is.are is.whole) in
-        untold (subst IsOwn same is.is_own)
+        let same : is.found ≡ found = sym (parts_resolved found is.found old mid is.after read is.are is.whole) in
+        unresolved (subst IsOwn same is.is_own)

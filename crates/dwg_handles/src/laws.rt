@@ -8,7 +8,7 @@ ghost use Rattle.dwg_grammar.specs.Reference.{Reference, RefSpells, OwnSpells, r
 ghost use Rattle.dwg_grammar.specs.ReferenceCodes.{reference, own_handle};
 
 /// What holds of references, seen from any handle, and of own handles: bits spell at most one, and no spelling is a proper
-/// front of another; the spelling that is written of one spells it, and no other is shorter. The codes spell just what the
+/// prefix of another; the spelling that is written of one spells it, and no other is shorter. The codes spell just what the
 /// relations say, and a code reaches a target exactly where some bits spell the reference. A reference has eight bits at
 /// the least, and bits are cut into references to their end in one way at the most. Lists of so many references are such a
 /// code too.

@@ -19,8 +19,8 @@ use std::alloc::Global;
 /// The least count of bits that a reference has: its code and its count of bytes.
 const LEAST: u64 = 8;
 
-/// Reads so many references of the object of the handle `base`, one behind the other. None, with nothing moved, exactly
-/// where one of them isn't spelled; the only refusal is want of memory, which moves nothing either and is taken only for
+/// Reads so many references of the object of the handle `base`, one after the other. None, with nothing moved, exactly
+/// where one of them isn't spelled; the only refusal is out of memory, which moves nothing either and is taken only for
 /// references that are there.
 pub fn read_refs(
     alloc: Global,
@@ -39,7 +39,7 @@ pub fn read_refs(
 }
 
 /// Reads references of the object of the handle `base` until fewer than eight bits are left. None, with nothing moved,
-/// exactly where one of them isn't spelled; the only refusal is want of memory, which moves nothing either and is taken
+/// exactly where one of them isn't spelled; the only refusal is out of memory, which moves nothing either and is taken
 /// only for references that are there.
 #[tactic(auto, using(dwg_grammar::proofs::ReferenceLemmas::reference_least))]
 pub fn read_refs_to_end(
@@ -57,7 +57,7 @@ pub fn read_refs_to_end(
     read_to_end::<CodeH>(alloc, &base, LEAST, cursor)
 }
 
-/// Whether each of the references can be told from the object of the handle `base`.
+/// Whether each of the references can be given from the object of the handle `base`.
 pub fn refs_fit(refs: &[Ref], base: Handle) -> bool
     ensures { IsTrue result ↔ AreValues (reference base) refs.now }
 {
@@ -73,7 +73,7 @@ pub fn refs_bits(refs: &[Ref], base: Handle) -> u64
     list_length::<CodeH>(&base, refs)
 }
 
-/// Writes references of the object of the handle `base`, one behind the other, each by the fewest bytes.
+/// Writes references of the object of the handle `base`, one after the other, each by the fewest bytes.
 pub fn write_refs(refs: &[Ref], base: Handle, sink: &mut BitSink)
     requires fit { AreValues (reference base) refs.now }
     requires room { length (short_all (reference base) refs.now) ≤ sink.old.spare }

@@ -6,13 +6,13 @@ ghost use Rattle.dwg_bits.specs.Sink.{Extends};
 ghost use Rattle.dwg_grammar.specs.Grammar.{Reads};
 ghost use Rattle.dwg_grammar.specs.ReferenceCodes.{own_handle};
 
-use crate::parts::{Parts, parts_bits, write_parts};
+use crate::parts::{ReferenceParts, parts_bits, write_parts};
 use dwg_base::Handle;
 use dwg_bits::{BitCursor, BitSink};
 
-/// Reads an object's own handle. None, with nothing moved, exactly where no front of the rest spells one: too few bits, a
+/// Reads an object's own handle. None, with nothing moved, exactly where no prefix of the rest spells one: too few bits, a
 /// count above eight, a code that isn't 0, or a number that is 0 or not below 2^63.
-#[tactic(auto, using(crate::proofs::OwnReading::own_read, crate::proofs::OwnReading::own_unread, crate::proofs::OwnReading::own_untold))]
+#[tactic(auto, using(crate::proofs::OwnReading::own_read, crate::proofs::OwnReading::own_unread, crate::proofs::OwnReading::own_unresolved))]
 pub fn read_own(cursor: &mut BitCursor<'_>) -> Option<Handle>
     ensures reads { Reads own_handle result (rest cursor.old) (rest cursor.new) }
     ensures value { IfSome result (λ own. 0 < own) }
@@ -21,7 +21,7 @@ pub fn read_own(cursor: &mut BitCursor<'_>) -> Option<Handle>
     ensures same_end { cursor.new.end ≡ cursor.old.end }
 {
     let mut ahead = *cursor;
-    let parts = Parts::read(&mut ahead)?;
+    let parts = ReferenceParts::read(&mut ahead)?;
     let own = parts.own()?;
     *cursor = ahead;
     Some(own)

@@ -6,30 +6,30 @@ ghost use Rattle.dwg_bits.specs.Cursor.{rest};
 ghost use Rattle.dwg_bits.specs.Sink.{Extends};
 ghost use Rattle.dwg_grammar.specs.Grammar.{Reads};
 ghost use Rattle.dwg_handles.specs.PartsCode.{IsOwn, parts};
-ghost use Rattle.dwg_grammar.specs.Reference.{TellsTarget};
+ghost use Rattle.dwg_grammar.specs.Reference.{GivesTarget};
 ghost use Rattle.dwg_grammar.specs.ReferenceCodes.{byte_count, counted_number};
 
 use dwg_base::Handle;
 use dwg_bits::{BitCursor, BitSink};
 
-/// The most bytes that tell a number.
+/// The most bytes that give a number.
 const MOST_BYTES: u64 = 8;
 
 /// A code, a count of bytes, and the number in them.
 #[derive(Clone, Copy)]
-pub(crate) struct Parts {
+pub(crate) struct ReferenceParts {
     /// What the number is for, below 16.
     pub(crate) code: u8,
-    /// How many bytes tell the number, at most eight.
+    /// How many bytes give the number, at most eight.
     count: u32,
     /// The number.
     number: u64,
 }
 
-impl Parts {
+impl ReferenceParts {
     /// Reads four bits of code, four bits of a count of at most eight, and so many bytes, the most significant first. None,
     /// with nothing moved, exactly where these aren't there.
-    pub(crate) fn read(cursor: &mut BitCursor<'_>) -> Option<Parts>
+    pub(crate) fn read(cursor: &mut BitCursor<'_>) -> Option<ReferenceParts>
         ensures reads { Reads parts result (rest cursor.old) (rest cursor.new) }
         ensures unmoved { IfNone result (cursor.new.place ≡ cursor.old.place) }
         ensures same_bytes { cursor.new.bytes.now ≡ cursor.old.bytes.now }
@@ -44,17 +44,17 @@ impl Parts {
         let count = count as u32;
         let number = ahead.take(8 * count)?;
         *cursor = ahead;
-        Some(Parts {
+        Some(ReferenceParts {
             code: code as u8,
             count,
             number,
         })
     }
 
-    /// The target that the parts tell, seen from the object of the handle `base`. None exactly where they tell none.
+    /// The target that the parts give, seen from the object of the handle `base`. None exactly where they give none.
     pub(crate) fn target(&self, base: Handle) -> Option<Handle>
-        ensures told { IfSome result (λ target. TellsTarget base self.now.code self.now.count self.now.number target) }
-        ensures untold { IfNone result ((target : ℕ) → TellsTarget base self.now.code self.now.count self.now.number target → ⊥) }
+        ensures resolved { IfSome result (λ target. GivesTarget base self.now.code self.now.count self.now.number target) }
+        ensures unresolved { IfNone result ((target : ℕ) → GivesTarget base self.now.code self.now.count self.now.number target → ⊥) }
     {
         let base = base.value();
         match self.code {
@@ -67,10 +67,10 @@ impl Parts {
         }
     }
 
-    /// The own handle that the parts tell. None exactly where the code isn't 0, or the number 0 or not below 2^63.
+    /// The own handle that the parts give. None exactly where the code isn't 0, or the number 0 or not below 2^63.
     pub(crate) fn own(&self) -> Option<Handle>
-        ensures told { IfSome result (λ own. IsOwn self.now × (own ≡ self.now.number)) }
-        ensures untold { IfNone result (IsOwn self.now → ⊥) }
+        ensures resolved { IfSome result (λ own. IsOwn self.now × (own ≡ self.now.number)) }
+        ensures unresolved { IfNone result (IsOwn self.now → ⊥) }
     {
         if self.code != 0 || self.number == 0 {
             return None;
@@ -99,7 +99,7 @@ fn byte_count(number: u64) -> u32
     }
 }
 
-/// How many bits a code and a number behind it are written by.
+/// How many bits a code and a number after it are written by.
 #[tactic(auto, using(crate::proofs::PartsWriting::written_length))]
 pub(crate) fn parts_bits(code: u8, number: u64) -> u64
     ensures length { result ≡ length (low_bits 4 code ++ counted_number.short number) }

@@ -10,11 +10,11 @@ use std::marker::Model;
 /// A reference of one object to another (Open Design Specification, "Handle references").
 ///
 /// Codes 2 to 5 are soft owner, hard owner, soft pointer and hard pointer. 6 and 8 reach the handle next to the object's
-/// own and the one before it, A one at or ahead of it, and C one at or behind it. Contracts see a reference as its code
+/// own and the one before it, A one at or ahead of it, and C one at or after it. Contracts see a reference as its code
 /// and the number of its target.
 #[derive(Clone, Copy, Debug, PartialEq, Eq)]
 pub struct Ref {
-    /// What the reference is for, and how its target is told: 0 to 6, 8, 10 or 12.
+    /// What the reference is for, and how its target is given: 0 to 6, 8, 10 or 12.
     pub code: u8,
     /// The object that is named, always by its own handle.
     pub target: Handle,
@@ -44,8 +44,8 @@ impl Ref {
         }
     }
 
-    /// Whether the code can tell the target from the object of the handle `base`: 6 tells only the next handle, 8 only the
-    /// one before, A none before `base`, C none behind it, the others any.
+    /// Whether the code can give the target from the object of the handle `base`: 6 gives only the next handle, 8 only the
+    /// one before, A none before `base`, C none after it, the others any.
     pub fn fits(&self, base: Handle) -> bool
         ensures { result ≡ reaches base self.now }
     {

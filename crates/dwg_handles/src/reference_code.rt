@@ -5,10 +5,10 @@ ghost use Rattle.dwg_bits.specs.Cursor.{rest};
 ghost use Rattle.dwg_bits.specs.Sink.{Extends};
 ghost use Rattle.dwg_grammar.specs.Grammar.{Reads};
 ghost use Rattle.dwg_grammar.specs.Reference.{reaches};
-ghost use Rattle.dwg_grammar.specs.ReferenceCodes.{number_behind, reference};
+ghost use Rattle.dwg_grammar.specs.ReferenceCodes.{number_after, reference};
 ghost use Rattle.dwg_grammar.proofs.ReferenceLemmas.{reference_is_code};
 
-use crate::parts::{Parts, parts_bits, write_parts};
+use crate::parts::{ReferenceParts, parts_bits, write_parts};
 use crate::reference::Ref;
 use dwg_base::Handle;
 use dwg_bits::{BitCursor, BitSink};
@@ -16,9 +16,9 @@ use dwg_codes::BitCode;
 
 /// The number that is written of a reference: the target, how far ahead or back it is, or 0 for the next handle and the
 /// one before.
-fn number_behind(reference: &Ref, base: Handle) -> u64
+fn number_after(reference: &Ref, base: Handle) -> u64
     requires { reaches base reference.now ≡ true }
-    ensures { result ≡ number_behind base reference.now }
+    ensures { result ≡ number_after base reference.now }
 {
     let target = reference.target.value();
     match reference.code {
@@ -42,10 +42,10 @@ impl BitCode for CodeH {
 
     ghost IsContext = { λ base. base < 2 ^ 63 };
 
-    #[tactic(auto, using(crate::proofs::ReferenceReading::ref_read, crate::proofs::ReferenceReading::ref_unread, crate::proofs::ReferenceReading::ref_untold, crate::proofs::ReferenceReading::told_reached), unfolding(dwg_grammar::specs::ReferenceCodes::reference))]
+    #[tactic(auto, using(crate::proofs::ReferenceReading::ref_read, crate::proofs::ReferenceReading::ref_unread, crate::proofs::ReferenceReading::ref_unresolved, crate::proofs::ReferenceReading::resolved_reached), unfolding(dwg_grammar::specs::ReferenceCodes::reference))]
     fn read(context: &Handle, cursor: &mut BitCursor<'_>) -> Option<Ref> {
         let mut ahead = *cursor;
-        let parts = Parts::read(&mut ahead)?;
+        let parts = ReferenceParts::read(&mut ahead)?;
         let target = parts.target(*context)?;
         *cursor = ahead;
         Some(Ref {
@@ -56,19 +56,19 @@ impl BitCode for CodeH {
 
     #[tactic(auto, using(dwg_grammar::proofs::ReferenceLemmas::reference_short))]
     fn length(context: &Handle, value: &Ref) -> u64 {
-        parts_bits(value.code, number_behind(value, *context))
+        parts_bits(value.code, number_after(value, *context))
     }
 
     #[tactic(auto, using(dwg_grammar::proofs::ReferenceLemmas::reference_short))]
     fn write(context: &Handle, value: &Ref, sink: &mut BitSink) {
-        write_parts(value.code, number_behind(value, *context), sink);
+        write_parts(value.code, number_after(value, *context), sink);
     }
 
     ghost laws = { λ base small. reference_is_code base small };
 }
 
-/// Reads a reference of the object of the handle `base`. None, with nothing moved, exactly where no front of the rest
-/// spells one: too few bits, a count above eight, a code that no reference has, bytes behind 6 or 8, or a target below 0 or
+/// Reads a reference of the object of the handle `base`. None, with nothing moved, exactly where no prefix of the rest
+/// spells one: too few bits, a count above eight, a code that no reference has, bytes after 6 or 8, or a target below 0 or
 /// not below 2^63.
 #[tactic(auto, using(crate::proofs::ReferenceReading::value_reached))]
 pub fn read_ref(cursor: &mut BitCursor<'_>, base: Handle) -> Option<Ref>

@@ -1,4 +1,4 @@
--- Two kinds are one where their places or their names are, and two fields where their numbers or names are: each has a row, and is found again by what its row tells.
+-- Two kinds are one where their places or their names are, and two fields where their numbers or names are: each has a row, and is found again by what its row reports.
 -- Whether two kinds are one is cited by dwg_graph.
 use Rattle.std.proofs.Common.{◌≡◌, refl, sym, ◌∙◌, ap, ℕ, List, [], subst, arith}
 use Rattle.std.specs.Prelude.{◌+◌, ◌==◌, ◌↔◌, IsTrue, find, unwrap_or, get_or}

@@ -11,7 +11,7 @@ use Rattle.dwg_kinds.specs.declared.kind.Kind.TheVariants.{Text, Attrib, Attdef,
 use Rattle.dwg_kinds.specs.declared.number.ClassHint.{ClassHint}
 use Rattle.dwg_kinds.specs.declared.number.ClassHint.TheVariants as hint
 
--- what is told of a kind: the number that stands for it, where one does; the kind; its name, as it is printed; whether it is one of entities; what must own an object of it
+-- what is reported of a kind: the number that stands for it, where one does; the kind; its name, as it is printed; whether it is one of entities; what must own an object of it
 pub record KindRow : Type 0 where
   pub number : Option ℕ
   pub kind : Kind
@@ -23,7 +23,7 @@ pub record KindRow : Type 0 where
 abbrev row : Option ℕ → Kind → List ℕ → Bool → Option Need → KindRow
 row number kind name is_entity owner = record { number = number; kind = kind; name = name; is_entity = is_entity; owner = owner }
 
--- the row of objects of which nothing is told
+-- the row of objects of which nothing is reported
 abbrev pub UNKNOWN : KindRow
 UNKNOWN = row None Unknown (codes "UNKNOWN") false None
 
@@ -100,11 +100,11 @@ TYPED_KINDS = filter_map (λ row. option_map (λ number. (number, row.kind)) row
 abbrev pub Run : Type 0
 Run = ℕ × ℕ
 
--- the numbers of entities of which nothing more is told
+-- the numbers of entities of which nothing more is reported
 unfoldable pub PLAIN_ENTITIES : List Run
 PLAIN_ENTITIES = (10, 10) ∷ (12, 15) ∷ (20, 26) ∷ (29, 30) ∷ (33, 34) ∷ (36, 39) ∷ (43, 47) ∷ (74, 74) ∷ (78, 78) ∷ (498, 498) ∷ []
 
--- the numbers of other objects of which nothing more is told
+-- the numbers of other objects of which nothing more is reported
 unfoldable pub PLAIN_OBJECTS : List Run
 PLAIN_OBJECTS = (60, 65) ∷ (68, 71) ∷ []
 

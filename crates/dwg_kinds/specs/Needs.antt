@@ -11,7 +11,7 @@ use Rattle.dwg_kinds.specs.declared.field.Need.{Need}
 use Rattle.dwg_kinds.specs.declared.field.Need.TheVariants.{Any, NullOrAny, Entity, NullOrEntity, Is, NullOrIs}
 use Rattle.dwg_kinds.specs.Kinds.{row_of, is_entity_kind, same_kind}
 
--- what is told of a field: its number, the field, and its name, as it is printed
+-- what is reported of a field: its number, the field, and its name, as it is printed
 pub record FieldRow : Type 0 where
   pub number : ℕ
   pub field : Field

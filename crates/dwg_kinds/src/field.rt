@@ -13,13 +13,13 @@ pub enum Field {
     Application,
     /// The owner.
     Owner,
-    /// An object that is told of changes.
+    /// An object that is reported of changes.
     Reactor,
     /// The extension dictionary.
     Xdict,
     /// The entity before this one in its block.
     Previous,
-    /// The entity behind this one in its block.
+    /// The entity after this one in its block.
     Next,
     /// The layer of an entity.
     Layer,
@@ -78,7 +78,7 @@ pub enum Need {
     Is(Kind),
     /// Null or an object of that kind.
     NullOrIs(Kind),
-    /// An object that can have attributes or vertices: an INSERT, a MINSERT, a POLYLINE 3D, or an entity of which nothing more is told.
+    /// An object that can have attributes or vertices: an INSERT, a MINSERT, a POLYLINE 3D, or an entity of which nothing more is reported.
     Attributed,
 }
 
@@ -286,7 +286,7 @@ pub fn holds(field: Field, holder: Kind) -> bool
     needed(field, holder).is_some()
 }
 
-/// What a field of a holder of that kind must lead to. The holder has the field, as `holds` tells.
+/// What a field of a holder of that kind must lead to. The holder has the field, as `holds` reports.
 #[tactic(auto, unfolding(crate::specs::Needs::has_field))]
 pub fn required(field: Field, holder: Kind) -> Need
     requires { IsTrue (has_field field holder) }

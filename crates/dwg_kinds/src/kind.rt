@@ -7,7 +7,7 @@ ghost use Rattle.dwg_kinds.specs.Needs.{owner_need};
 use crate::field::Need;
 
 /// What an object is (Open Design Specification, "R13 to R2000 file layout, object data"). The last three are a rule of this
-/// project: objects of which no more is told than whether they are entities, or not even that.
+/// project: objects of which no more is reported than whether they are entities, or not even that.
 #[derive(Clone, Copy, Debug, PartialEq, Eq)]
 pub enum Kind {
     /// A line of text.
@@ -82,14 +82,14 @@ pub enum Kind {
     PlainEntity,
     /// Any other object that is no entity.
     PlainObject,
-    /// An object of which not even that is told.
+    /// An object of which not even that is reported.
     Unknown,
 }
 
 /// All kinds, a row for each: the number that stands for it, where one does; its name, as it is printed; whether it is one of
 /// entities; and what must own an object of it.
 ///
-/// - `by_row!(kind number; ..)`: the kind of a number, and behind the `;` the arms for numbers of no row;
+/// - `by_row!(kind number; ..)`: the kind of a number, and after the `;` the arms for numbers of no row;
 /// - `by_row!(row kind)`: the row of a kind.
 macro_rules! by_row {
     (kind $of:ident; $($others:tt)*) => {
@@ -152,7 +152,7 @@ macro_rules! by_row {
     };
 }
 
-/// What is told of a kind: its name, as it is printed, whether it is one of entities, and what must own an object of it.
+/// What is reported of a kind: its name, as it is printed, whether it is one of entities, and what must own an object of it.
 #[derive(Clone, Copy)]
 struct KindRow {
     name: &'static str,

@@ -37,9 +37,9 @@ abbrev end_of : ℕ → List ObjectValue → ℕ
 end_of low [] = low
 end_of low (object ∷ objects) = end_of (handle_of object + 1) objects
 
-front_ascends : (low : ℕ) (front back : List ObjectValue) → ascends low front ≡ true → Ascend (end_of low front) back → Ascend low (front ++ back)
-front_ascends low [] back passed behind = behind
-front_ascends low (object ∷ objects) back passed behind = (grind (arith, nat_tests), front_ascends (handle_of object + 1) objects back (grind (arith, nat_tests)) behind)
+prefix_ascends : (low : ℕ) (prefix back : List ObjectValue) → ascends low prefix ≡ true → Ascend (end_of low prefix) back → Ascend low (prefix ++ back)
+prefix_ascends low [] back passed after = after
+prefix_ascends low (object ∷ objects) back passed after = (grind (arith, nat_tests), prefix_ascends (handle_of object + 1) objects back (grind (arith, nat_tests)) after)
 
 -- the further entities
 further_ascends : (count seed from left : ℕ) → Ascend (0x30 + from) (map (further_entity count seed) (range_with_len from left))
@@ -54,4 +54,4 @@ pub all_ascend : (count seed : ℕ) → AreAscending (fixed_objects count ++ map
 unfolding fixed_objects controls dictionaries table_entries model_space paper_space tag_block tag_insert block_control layer_control style_control ltype_control appid_control dictionary xrecord layer style appid ltype block_header attribute_definition line_of_block attribute insert by_block by_layer continuous model_header model_begin model_end paper_header paper_begin paper_end tag_header tag_begin tag_end attributes_end
 all_ascend count seed =
     pairs_ascend 0 (fixed_objects count ++ map (further_entity count seed) (range_with_len 1 count))
-    (front_ascends 0 (fixed_objects count) (map (further_entity count seed) (range_with_len 1 count)) refl (further_ascends count seed 1 count))
+    (prefix_ascends 0 (fixed_objects count) (map (further_entity count seed) (range_with_len 1 count)) refl (further_ascends count seed 1 count))

@@ -22,9 +22,9 @@ pub record Few (most : ℕ) (letters : List Bool) : Type 0 where
 pub no_letters : Few 0 []
 no_letters = record { few = omega arith }
 
--- letters behind letters
-pub both : {most more : ℕ} {front back : List Bool} → Few most front → Few more back → Few (most + more) (front ++ back)
-both {most} {more} {front} {back} few fewer = record { few = omega (arith, length-append front back, few.few, fewer.few) }
+-- letters after letters
+pub both : {most more : ℕ} {prefix back : List Bool} → Few most prefix → Few more back → Few (most + more) (prefix ++ back)
+both {most} {more} {prefix} {back} few fewer = record { few = omega (arith, length-append prefix back, few.few, fewer.few) }
 
 -- a greater bound
 pub loosely : {most : ℕ} {letters : List Bool} (more : ℕ) → most ≤ more → Few most letters → Few more letters
@@ -83,7 +83,7 @@ be_line (suc (suc tag)) point = loosely 198 (omega arith) no_letters
 pub be_few : (point : Point3) → Few 199 (be.short point)
 be_few point = both (low_few 1 _) (be_line _ point)
 
--- values one behind the other, each of so many bits at the most
+-- values one after the other, each of so many bits at the most
 pub chain_few : {S V : Type 0} (code : S → Grammar Bool V) (next : V → S) (state : S) (values : List V) (most : ℕ) → ((state : S) (value : V) → Few most ((code state).short value))
     → Few (most * length values) (short_chain code next state values)
 chain_few code next state [] most each = record { few = omega arith }
@@ -110,18 +110,18 @@ found_few p (count ∷ counts) all = of_test (p count) (found_few p counts all.1
     of_test true others = all.0
     of_test false others = others
 
--- so the count that a number is written behind
+-- so the count that a number is written after
 bytes_few : (number : ℕ) → byte_count number ≤ 8
 unfolding byte_count
 bytes_few number =
     found_few (λ count. nat_lt number (2 ^ (8 * count))) (0 ∷ 1 ∷ 2 ∷ 3 ∷ 4 ∷ 5 ∷ 6 ∷ 7 ∷ [])
     (omega arith, (omega arith, (omega arith, (omega arith, (omega arith, (omega arith, (omega arith, (omega arith, tt))))))))
 
--- so a number behind the count of its bytes has no more than 68 bits
+-- so a number after the count of its bytes has no more than 68 bits
 pub number_few : (number : ℕ) → Few 68 (counted_number.short number)
 number_few number = record { few = omega (arith, (both (low_few 4 (byte_count number)) (low_few (8 * byte_count number) number)).few, bytes_few number) }
 
--- what stands behind the code of a reference
+-- what stands after the code of a reference
 choose_few : {V : Type 0} (most : ℕ) (test : Bool) (one other : Grammar Bool V) (value : V) → Few most (one.short value) → Few most (other.short value) → Few most ((choose test one other).short value)
 choose_few most true one other value few fewer = few
 choose_few most false one other value few fewer = fewer

@@ -35,7 +35,7 @@ owned_made base owner small = record {
   refs = loosely 65536 (omega arith) (both (ref_few base (soft_pointer owner)) (both no_letters (ref_few base (hard_owner 0))));
 }
 
--- the entities before and behind, and none
+-- the entities before and after, and none
 pub linked : (base previous next : ℕ) → previous < 2 ^ 63 → next < 2 ^ 63
     → ((when true (entities.links base).grammar).IsValue (Some (links previous next))) × Few 200 ((when true (entities.links base).grammar).short (Some (links previous next)))
 linked base previous next a b = (

@@ -9,7 +9,7 @@ use Rattle.dwg_make.specs.Draws.{draw_from}
 use Rattle.dwg_make.specs.Further.{drawn_entity, further_entity}
 use Rattle.dwg_make.specs.Random.{state_at, next_state}
 
--- states behind a state are states behind its seed
+-- states after a state are states after its seed
 pub state_at_add : (seed place more : ℕ) → state_at (state_at seed place) more ≡ state_at seed (place + more)
 unfolding state_at
 state_at_add seed place zero = rw add-zero
@@ -22,9 +22,9 @@ from_seed seed = refl
 
 -- nine states for each entity
 pub next_at : (seed done state next : ℕ) → state ≡ state_at seed (9 * done) → next ≡ state_at state 9 → next ≡ state_at seed (9 * (done + 1))
-next_at seed done state next at behind =
+next_at seed done state next at after =
     let place : 9 * done + 9 ≡ 9 * (done + 1) = omega arith in
-    behind ∙ ap (λ from. state_at from 9) at ∙ state_at_add seed (9 * done) 9 ∙ ap (state_at seed) place
+    after ∙ ap (λ from. state_at from 9) at ∙ state_at_add seed (9 * done) 9 ∙ ap (state_at seed) place
 
 -- what is drawn from where an entity's random numbers begin is that entity
 drawn_is : (count seed done : ℕ) → drawn_entity count (done + 1) (draw_from (state_at seed (9 * done))) ≡ further_entity count seed (done + 1)
@@ -40,9 +40,9 @@ pub more_made : (count seed done state : ℕ) (draw : Draw) (value : ObjectValue
     → new ≡ start ++ map (further_entity count seed) (range_with_len 1 (done + 1))
 more_made count seed done state draw value start old new at drawn is so_far more =
     let number : 1 + done ≡ done + 1 = omega arith in
-    let front : List ObjectValue = map (further_entity count seed) (range_with_len 1 done) in
+    let prefix : List ObjectValue = map (further_entity count seed) (range_with_len 1 done) in
     let entity : value ≡ further_entity count seed (done + 1) = is ∙ ap (drawn_entity count (done + 1)) (drawn ∙ ap draw_from at) ∙ drawn_is count seed done in
-    let moved : (start ++ front) ++ value ∷ [] ≡ start ++ (front ++ value ∷ []) = simp append_assoc in
+    let moved : (start ++ prefix) ++ value ∷ [] ≡ start ++ (prefix ++ value ∷ []) = simp append_assoc in
     more ∙ ap (λ all. all ++ value ∷ []) so_far ∙ moved
-    ∙ ap (λ last. start ++ (front ++ last ∷ [])) entity
+    ∙ ap (λ last. start ++ (prefix ++ last ∷ [])) entity
     ∙ ap (λ back. start ++ back) (sym (map-range_with_len_more (further_entity count seed) 1 done (done + 1) number))

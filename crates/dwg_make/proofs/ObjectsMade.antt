@@ -17,7 +17,7 @@ use Rattle.dwg_object.specs.Forms.{kind_under, common_part}
 use Rattle.dwg_object.specs.Heads.{head}
 use Rattle.dwg_object.specs.Objects.{HeadParts, TypedValue, is_of_entity}
 use Rattle.dwg_object.specs.OwnBodies.{body_kind, own_body}
-use Rattle.dwg_object.specs.Written.{common_main, common_refs, main_size, written_head, front_bits, refs_bits, object_bits, own_main, own_refs}
+use Rattle.dwg_object.specs.Written.{common_main, common_refs, main_size, written_head, prefix_bits, refs_bits, object_bits, own_main, own_refs}
 use Rattle.dwg_make.proofs.CodeSizes.{Few, both, low_few, bs_few, rl_few, number_few}
 use Rattle.dwg_make.proofs.PartsMade.{IsMade}
 
@@ -29,7 +29,7 @@ head_few parts = both (bs_few parts.number) (both (rl_few parts.size) (both (low
 -- the bits of an object, by those of its parts
 bits_few : (number handle : ℕ) (common : Common) (own refs : List Bool) → Few 65536 (common_main NEWER handle common) → Few 65536 (common_refs NEWER handle common) → Few 65536 own → Few 65536 refs
     → Few 262266 (object_bits Ac1015 number handle common own refs)
-unfolding front_bits refs_bits
+unfolding prefix_bits refs_bits
 bits_few number handle common own refs main named own_few refs_few =
     both (both (head_few (written_head Ac1015 number handle (main_size Ac1015 number handle common own))) (both main own_few)) (both named refs_few)
 

@@ -21,9 +21,9 @@ use Rattle.dwg_make.proofs.CodeSizes.{Few, no_letters, both, loosely, rc_few, bs
 use Rattle.dwg_make.proofs.PartsMade.{IsMade, IsWord, word_fits, word_few, ref_fits, no_word}
 
 -- what every entry begins with
-entry_told : (name : List ℕ) → IsWord name → entry_main.IsValue (title_of (entry name))
+entry_reported : (name : List ℕ) → IsWord name → entry_main.IsValue (title_of (entry name))
 unfolding entry_main
-entry_told name word = (word_fits name word, (tt, (omega arith, tt)))
+entry_reported name word = (word_fits name word, (tt, (omega arith, tt)))
 
 entry_few : (name : List ℕ) → IsWord name → Few 294 (entry_main.short (title_of (entry name)))
 unfolding entry_main
@@ -35,7 +35,7 @@ pub layer_made : (base : ℕ) (name : List ℕ) (colour : ℕ) → IsWord name �
 unfolding layer_body
 layer_made base name colour word small = record {
   fits = (
-    (entry_told name word, (omega arith, small)),
+    (entry_reported name word, (omega arith, small)),
     (ref_fits base 5 0 (omega arith) (omega arith), (ref_fits base 5 0 (omega arith) (omega arith), ref_fits base 5 0x16 (omega arith) (omega arith))),
   );
   main = loosely 65536 (omega arith) (both (entry_few name word) (both (bs_few 0) (bs_few colour)));
@@ -49,7 +49,7 @@ unfolding style_body style_form
 style_made base name font word drawn = record {
   fits = (
     (
-      entry_told name word,
+      entry_reported name word,
       (
         (tt, (tt, (omega arith, (omega arith, (omega arith, (omega arith, omega arith)))))),
         (word_fits font drawn, word_fits [] no_word),
@@ -68,7 +68,7 @@ style_made base name font word drawn = record {
 pub appid_made : (base : ℕ) (name : List ℕ) → IsWord name → IsMade (app_id_body base) (record { entry = entry name; extra = 0 })
 unfolding app_id_body
 appid_made base name word = record {
-  fits = ((entry_told name word, omega arith), ref_fits base 5 0 (omega arith) (omega arith));
+  fits = ((entry_reported name word, omega arith), ref_fits base 5 0 (omega arith) (omega arith));
   main = loosely 65536 (omega arith) (both (entry_few name word) (rc_few 0));
   refs = loosely 65536 (omega arith) (ref_few base (hard_pointer 0));
 }
@@ -85,7 +85,7 @@ unfolding ltype_body ltype_main chain
 ltype_made base name word = record {
   fits = (
     (
-      entry_told name word,
+      entry_reported name word,
       (word_fits [] no_word, (omega arith, (omega arith, ((omega arith, tt), (values_of_bytes 256 (replicate 256 0)).1 (refl, zeros_are_bytes 256))))),
     ),
     (ref_fits base 5 0 (omega arith) (omega arith), (refl, tt)),
@@ -100,9 +100,9 @@ ltype_made base name word = record {
 }
 
 -- the content of a block without path, description and preview, by the counts of its marks
-content_told : (counts : List ℕ) → mark_counts.IsValue counts → (block_content Ac1015).IsValue (ORIGIN, ([], (counts, ([], []))))
+content_reported : (counts : List ℕ) → mark_counts.IsValue counts → (block_content Ac1015).IsValue (ORIGIN, ([], (counts, ([], []))))
 unfolding block_content newer_extras
-content_told counts are =
+content_reported counts are =
     (record { x = omega arith; y = omega arith; z = omega arith }, (word_fits [] no_word, (are, (word_fits [] no_word, (omega arith, tt)))))
 
 content_few : (counts : List ℕ) → Few 100 (mark_counts.short counts) → Few 880 ((block_content Ac1015).short (ORIGIN, ([], (counts, ([], [])))))
@@ -119,7 +119,7 @@ pub header_made : (base : ℕ) (name : List ℕ) (has_attributes : Bool) (insert
 unfolding block_header_body block_flags
 header_made base name has_attributes inserts block first last endblk word are few named named_few a b c d = record {
   fits = (
-    (entry_told name word, ((tt, (tt, (tt, (tt, tt)))), content_told (map count_of inserts) are)),
+    (entry_reported name word, ((tt, (tt, (tt, (tt, tt)))), content_reported (map count_of inserts) are)),
     (
       ref_fits base 5 0 (omega arith) (omega arith),
       (

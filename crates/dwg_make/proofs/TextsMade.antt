@@ -18,9 +18,9 @@ use Rattle.dwg_make.proofs.CodeSizes.{Few, no_letters, both, loosely, low_few, r
 use Rattle.dwg_make.proofs.PartsMade.{IsMade, IsWord, word_fits, word_few, ref_fits}
 
 -- the main bits of a text in a style
-text_told : (insertion : Point2) (height : ℕ) (text : List ℕ) → IsPoint2 insertion → height < 2 ^ 64 → IsWord text → (text_main Ac1015).IsValue (inscription_of (plain_text insertion height text))
+text_reported : (insertion : Point2) (height : ℕ) (text : List ℕ) → IsPoint2 insertion → height < 2 ^ 64 → IsWord text → (text_main Ac1015).IsValue (inscription_of (plain_text insertion height text))
 unfolding text_main flags_of
-text_told insertion height text is high word = (
+text_reported insertion height text is high word = (
   omega arith,
   (
     (refl, ((is.x, is.y), (refl, (record { x = omega arith; y = omega arith; z = omega arith }, omega arith)))),
@@ -42,7 +42,7 @@ text_few insertion height text word =
 pub text_made : (base : ℕ) (insertion : Point2) (height : ℕ) (text : List ℕ) → IsPoint2 insertion → height < 2 ^ 64 → IsWord text → IsMade (text_body Ac1015 base) (plain_text insertion height text)
 unfolding text_body
 text_made base insertion height text is high word = record {
-  fits = (text_told insertion height text is high word, ref_fits base 5 0x11 (omega arith) (omega arith));
+  fits = (text_reported insertion height text is high word, ref_fits base 5 0x11 (omega arith) (omega arith));
   main = loosely 65536 (omega arith) (text_few insertion height text word);
   refs = loosely 65536 (omega arith) (ref_few base (hard_pointer 0x11));
 }
@@ -52,10 +52,10 @@ abbrev attribute_of : Point2 → ℕ → List ℕ → List ℕ → Attrib
 attribute_of insertion height text tag = record { text = plain_text insertion height text; tag = tag; length = 0; flags = 0 }
 
 -- its main bits
-attrib_told : (insertion : Point2) (height : ℕ) (text tag : List ℕ) → IsPoint2 insertion → height < 2 ^ 64 → IsWord text → IsWord tag
+attrib_reported : (insertion : Point2) (height : ℕ) (text tag : List ℕ) → IsPoint2 insertion → height < 2 ^ 64 → IsWord text → IsWord tag
     → (attrib_main Ac1015).IsValue (label_of (attribute_of insertion height text tag))
 unfolding attrib_main
-attrib_told insertion height text tag is high word named = (text_told insertion height text is high word, (word_fits tag named, (omega arith, omega arith)))
+attrib_reported insertion height text tag is high word named = (text_reported insertion height text is high word, (word_fits tag named, (omega arith, omega arith)))
 
 -- and they are few
 attrib_few : (insertion : Point2) (height : ℕ) (text tag : List ℕ) → IsWord text → IsWord tag → Few 1040 ((attrib_main Ac1015).short (label_of (attribute_of insertion height text tag)))
@@ -67,7 +67,7 @@ pub attrib_made : (base : ℕ) (insertion : Point2) (height : ℕ) (text tag : L
     → IsMade (attrib_body Ac1015 base) (record { text = plain_text insertion height text; tag = tag; length = 0; flags = 0 })
 unfolding attrib_body
 attrib_made base insertion height text tag is high word named = record {
-  fits = (attrib_told insertion height text tag is high word named, ref_fits base 5 0x11 (omega arith) (omega arith));
+  fits = (attrib_reported insertion height text tag is high word named, ref_fits base 5 0x11 (omega arith) (omega arith));
   main = loosely 65536 (omega arith) (attrib_few insertion height text tag word named);
   refs = loosely 65536 (omega arith) (ref_few base (hard_pointer 0x11));
 }
@@ -77,7 +77,7 @@ pub attdef_made : (base : ℕ) (insertion : Point2) (height : ℕ) (text tag pro
     → IsMade (attdef_body Ac1015 base) (record { attrib = record { text = plain_text insertion height text; tag = tag; length = 0; flags = 0 }; prompt = prompt })
 unfolding attdef_body
 attdef_made base insertion height text tag prompt is high word named asked = record {
-  fits = ((attrib_told insertion height text tag is high word named, word_fits prompt asked), ref_fits base 5 0x11 (omega arith) (omega arith));
+  fits = ((attrib_reported insertion height text tag is high word named, word_fits prompt asked), ref_fits base 5 0x11 (omega arith) (omega arith));
   main = loosely 65536 (omega arith) (both (attrib_few insertion height text tag word named) (word_few prompt asked));
   refs = loosely 65536 (omega arith) (ref_few base (hard_pointer 0x11));
 }

@@ -21,10 +21,10 @@ use Rattle.dwg_make.proofs.FixedObjects.{controls_small, dictionaries_small, ent
 use Rattle.dwg_make.proofs.FurtherObjects.{all_further}
 use Rattle.dwg_make.proofs.TablesMade.{zeros_are_bytes}
 
--- small objects behind small objects
-joined_small : (front back : List ObjectValue) → AllByRecursion (IsSmall Ac1015 [] MOST_BYTES) front → AllByRecursion (IsSmall Ac1015 [] MOST_BYTES) back → AllByRecursion (IsSmall Ac1015 [] MOST_BYTES) (front ++ back)
+-- small objects after small objects
+joined_small : (prefix back : List ObjectValue) → AllByRecursion (IsSmall Ac1015 [] MOST_BYTES) prefix → AllByRecursion (IsSmall Ac1015 [] MOST_BYTES) back → AllByRecursion (IsSmall Ac1015 [] MOST_BYTES) (prefix ++ back)
 joined_small [] back small others = others
-joined_small (object ∷ front) back small others = (small.0, joined_small front back small.1 others)
+joined_small (object ∷ prefix) back small others = (small.0, joined_small prefix back small.1 others)
 
 -- the fixed objects, and all objects
 fixed_small : (count : ℕ) → count < 2 ^ 20 → AllByRecursion (IsSmall Ac1015 [] MOST_BYTES) (fixed_objects count)

@@ -40,7 +40,7 @@ unfoldable pub layer : ℕ → List ℕ → ℕ → ObjectValue
 layer handle name colour =
     other_object 51 handle 0x2 (bodies.Layer (record { entry = entry name; values = 0; colour = colour; plotstyle = hard_pointer 0; linetype = hard_pointer 0x16 }))
 
--- what a text style tells, by its name and the file of its letters
+-- what a text style reports, by its name and the file of its letters
 abbrev pub style_of : List ℕ → List ℕ → Style
 style_of name font = record {
   entry = entry name;
@@ -68,7 +68,7 @@ unfoldable pub ltype : ℕ → List ℕ → ObjectValue
 ltype handle name =
     other_object 57 handle 0x5 (bodies.Ltype (record { entry = entry name; description = []; length = 0; alignment = 65; dashes = []; texts = replicate 256 0 }))
 
--- what the header of a block tells, by its name, whether it has attributes, marks, begin, first and last entity, and end
+-- what the header of a block reports, by its name, whether it has attributes, marks, begin, first and last entity, and end
 abbrev pub header_of : List ℕ → Bool → List InsertMark → ℕ → ℕ → ℕ → ℕ → BlockHeader
 header_of name has_attributes inserts block first last endblk = record {
   entry = entry name;
@@ -88,7 +88,7 @@ header_of name has_attributes inserts block first last endblk = record {
   layout = hard_pointer 0;
 }
 
--- the header of a block, by its handle and what it tells
+-- the header of a block, by its handle and what it reports
 unfoldable pub block_header : ℕ → List ℕ → Bool → List InsertMark → ℕ → ℕ → ℕ → ℕ → ObjectValue
 block_header handle name has_attributes inserts block first last endblk =
     other_object 49 handle 0x1 (bodies.BlockHeader (header_of name has_attributes inserts block first last endblk))
@@ -188,7 +188,7 @@ tag_end = owned_entity 5 0x24 0x20 (links 0 0) (bodies.EndBlk (record {}))
 unfoldable pub tag_block : List ObjectValue
 tag_block = tag_header ∷ tag_begin ∷ attribute_definition ∷ line_of_block ∷ tag_end ∷ []
 
--- the insert of the block, behind what belongs to it
+-- the insert of the block, after what belongs to it
 unfoldable pub attributes_end : ObjectValue
 attributes_end = owned_entity 6 0x2F 0x30 (links 0 0) (bodies.SeqEnd (record {}))
 

@@ -1,4 +1,4 @@
--- What the objects of a made drawing have in common. What isn't told of an object is 0, false, empty or None. A rule of this project.
+-- What the objects of a made drawing have in common. What isn't reported of an object is 0, false, empty or None. A rule of this project.
 use Rattle.std.specs.Prelude.{ℕ, false, List, [], Option, Some, None}
 use Rattle.dwg_grammar.specs.Codes.{ONE, UPWARD}
 use Rattle.dwg_grammar.specs.declared.points.Point2.{Point2}
@@ -44,7 +44,7 @@ owned_by owner = record { app = []; reactors = []; owner = soft_pointer owner; x
 abbrev pub other_object : ℕ → ℕ → ℕ → Body → ObjectValue
 other_object number handle owner body = TypedValue number handle (commons.Object (owned_by owner)) body
 
--- the entities before and behind an entity
+-- the entities before and after an entity
 abbrev pub links : ℕ → ℕ → Links
 links previous next = record { previous = soft_pointer previous; next = soft_pointer next }
 

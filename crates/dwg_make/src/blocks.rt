@@ -28,7 +28,7 @@ pub(crate) struct Extent {
     pub(crate) endblk: u64,
 }
 
-/// The header of a block, by its handle, name, whether it has attributes, marks, and extent. The only refusal is want of memory.
+/// The header of a block, by its handle, name, whether it has attributes, marks, and extent. Err: out of memory.
 #[tactic(auto, unfolding(crate::specs::Fixed::block_header))]
 pub(crate) fn block_header(
     alloc: Global,
@@ -68,7 +68,7 @@ pub(crate) fn block_header(
     Ok(other_object(alloc, 49, own, 0x1, body))
 }
 
-/// The begin of a block. The only refusal is want of memory.
+/// The begin of a block. Err: out of memory.
 pub(crate) fn begin_of(alloc: Global, name: &[u8]) -> Result<Body, NoMemory>
     ensures { IfOk result (λ body. body ≡ begin_of name.now) }
 {
@@ -77,7 +77,7 @@ pub(crate) fn begin_of(alloc: Global, name: &[u8]) -> Result<Body, NoMemory>
     }))
 }
 
-/// The header of the model space, where so many entities follow. The only refusal is want of memory.
+/// The header of the model space, where so many entities follow. Err: out of memory.
 #[tactic(auto, unfolding(crate::specs::Fixed::model_header))]
 fn model_header(alloc: Global, count: u32) -> Result<Object<'static>, NoMemory>
     ensures { IfOk result (λ object. value_of object ≡ model_header count) }
@@ -93,7 +93,7 @@ fn model_header(alloc: Global, count: u32) -> Result<Object<'static>, NoMemory>
     Ok(header)
 }
 
-/// The begin of the model space. The only refusal is want of memory.
+/// The begin of the model space. Err: out of memory.
 #[tactic(auto, unfolding(crate::specs::Fixed::model_begin))]
 fn model_begin(alloc: Global) -> Result<Object<'static>, NoMemory>
     ensures { IfOk result (λ object. value_of object ≡ model_begin) }
@@ -111,7 +111,7 @@ fn model_end(alloc: Global) -> Object<'static>
     model_entity(alloc, 5, 0x1A, Some(links(0, 0)), 0x10, body)
 }
 
-/// Makes the model space, where so many entities follow. The only refusal is want of memory.
+/// Makes the model space, where so many entities follow. Err: out of memory.
 #[tactic(auto, unfolding(crate::specs::Fixed::model_space))]
 pub(crate) fn make_model_space(
     alloc: Global,
@@ -126,7 +126,7 @@ pub(crate) fn make_model_space(
     Ok(())
 }
 
-/// The header of the paper space, which has no entities. The only refusal is want of memory.
+/// The header of the paper space, which has no entities. Err: out of memory.
 #[tactic(auto, unfolding(crate::specs::Fixed::paper_header))]
 fn paper_header(alloc: Global) -> Result<Object<'static>, NoMemory>
     ensures { IfOk result (λ object. value_of object ≡ paper_header) }
@@ -142,7 +142,7 @@ fn paper_header(alloc: Global) -> Result<Object<'static>, NoMemory>
     Ok(header)
 }
 
-/// The begin of the paper space. The only refusal is want of memory.
+/// The begin of the paper space. Err: out of memory.
 #[tactic(auto, unfolding(crate::specs::Fixed::paper_begin))]
 fn paper_begin(alloc: Global) -> Result<Object<'static>, NoMemory>
     ensures { IfOk result (λ object. value_of object ≡ paper_begin) }
@@ -159,7 +159,7 @@ fn paper_end(alloc: Global) -> Object<'static>
     paper_entity(alloc, 5, 0x1D, Body::EndBlk(EndBlk))
 }
 
-/// Makes the paper space. The only refusal is want of memory.
+/// Makes the paper space. Err: out of memory.
 #[tactic(auto, unfolding(crate::specs::Fixed::paper_space))]
 pub(crate) fn make_paper_space(alloc: Global, making: &mut Making) -> Result<(), NoMemory>
     ensures { OnOk result (making.new ≡ making.old ++ paper_space) }

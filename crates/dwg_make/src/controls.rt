@@ -70,7 +70,7 @@ fn appid_control(alloc: Global) -> Result<Object<'static>, NoMemory>
     Ok(other_object(alloc, 66, 0x9, 0, body))
 }
 
-/// Makes the controls. The only refusal is want of memory.
+/// Makes the controls. Err: out of memory.
 #[tactic(auto, unfolding(crate::specs::Fixed::controls))]
 pub(crate) fn make_controls(alloc: Global, making: &mut Making) -> Result<(), NoMemory>
     ensures { OnOk result (making.new ≡ making.old ++ controls) }

@@ -52,7 +52,7 @@ fn record_of_three(alloc: Global) -> Result<Object<'static>, NoMemory>
     Ok(other_object(alloc, 79, 0xE, 0xD, body))
 }
 
-/// Makes the dictionaries. The only refusal is want of memory.
+/// Makes the dictionaries. Err: out of memory.
 #[tactic(auto, unfolding(crate::specs::Fixed::dictionaries))]
 pub(crate) fn make_dictionaries(alloc: Global, making: &mut Making) -> Result<(), NoMemory>
     ensures { OnOk result (making.new ≡ making.old ++ dictionaries) }

@@ -26,7 +26,7 @@ use thiserror::Error;
 /// Why no drawing is made.
 #[derive(Clone, Copy, Debug, PartialEq, Eq, Error)]
 pub enum MakeFault {
-    /// Want of memory.
+    /// Out of memory.
     #[error("out of memory")]
     NoMemory,
     /// The count of entities is 0 or above 200,000.
@@ -40,7 +40,7 @@ const LARGEST: u32 = 200_000;
 /// The code page of the texts.
 const CODE_PAGE: u16 = 30;
 
-/// Makes the objects that every drawing has, where so many entities follow. The only refusal is want of memory.
+/// Makes the objects that every drawing has, where so many entities follow. Err: out of memory.
 #[tactic(auto, unfolding(crate::specs::Fixed::fixed_objects))]
 fn make_fixed(alloc: Global, count: u32, making: &mut Making) -> Result<(), NoMemory>
     ensures { OnOk result (making.new ≡ making.old ++ fixed_objects count) }
@@ -55,7 +55,7 @@ fn make_fixed(alloc: Global, count: u32, making: &mut Making) -> Result<(), NoMe
     Ok(())
 }
 
-/// The objects of the drawing of two numbers. The only refusal is want of memory.
+/// The objects of the drawing of two numbers. Err: out of memory.
 fn objects_of(alloc: Global, count: u32, seed: u32) -> Result<Items<Object<'static>>, NoMemory>
     ensures { IfOk result (λ objects. map value_of objects ≡ fixed_objects count ++ map (further_entity count seed) (range_with_len 1 count)) }
 {
@@ -65,7 +65,7 @@ fn objects_of(alloc: Global, count: u32, seed: u32) -> Result<Items<Object<'stat
     Ok(making.finish())
 }
 
-/// The parts of the drawing of two numbers. The only refusal is want of memory.
+/// The parts of the drawing of two numbers. Err: out of memory.
 #[tactic(auto, unfolding(crate::specs::Made::made))]
 fn parts_of(alloc: Global, count: u32, seed: u32) -> Result<Parts<'static>, NoMemory>
     ensures { IfOk result (λ parts. contents_of parts ≡ made count seed) }
@@ -84,12 +84,12 @@ fn parts_of(alloc: Global, count: u32, seed: u32) -> Result<Parts<'static>, NoMe
 
 /// Makes a drawing of so many entities, from 1 to 200,000, and 29 objects before them (tables, both spaces, a block and an insert of
 /// it): the entities are drawn by random numbers from the seed on. The same two numbers give the same drawing. Size exactly where the
-/// count is out of range; the only other refusal is want of memory.
+/// count is out of range; the only other refusal is out of memory.
 pub fn make(alloc: Global, n: u32, seed: u32) -> Result<Drawing<'static>, MakeFault>
     ensures made { IfOk result (λ drawing. contents_of drawing ≡ made n seed) }
     ensures within { OnOk result ((0 < n) × (n ≤ MOST_ENTITIES)) }
     ensures size { IsErrOf result MakeFault.Size → (n ≡ 0) ⊎ (MOST_ENTITIES < n) }
-    ensures size_told { (n ≡ 0) ⊎ (MOST_ENTITIES < n) → IsErrOf result MakeFault.Size }
+    ensures size_reported { (n ≡ 0) ⊎ (MOST_ENTITIES < n) → IsErrOf result MakeFault.Size }
 {
     if n == 0 || n > LARGEST {
         return Err(MakeFault::Size);

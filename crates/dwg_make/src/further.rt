@@ -20,7 +20,7 @@ use dwg_object::{Body, Object};
 use dwg_shapes::{Arc, Circle, Line, LwPolyline, Point};
 use std::alloc::{AllocError, Global};
 
-/// The handle of the insert, from which the entities behind it are counted.
+/// The handle of the insert, from which the entities after it are counted.
 const INSERT: u64 = 0x30;
 
 /// The type number of a choice.
@@ -39,7 +39,7 @@ fn number_of(choice: u32) -> u16
     }
 }
 
-/// What the text of a number says. The only refusal is want of memory.
+/// What the text of a number says. Err: out of memory.
 fn label_of(alloc: Global, number: u32) -> Result<String, AllocError>
     ensures { IfOk result (λ label. string_bytes label ≡ codes "T" ++ decimal number) }
 {
@@ -47,7 +47,7 @@ fn label_of(alloc: Global, number: u32) -> Result<String, AllocError>
     Ok(label)
 }
 
-/// The text of a number. The only refusal is want of memory.
+/// The text of a number. Err: out of memory.
 fn text_of(alloc: Global, number: u32, draw: &Draw) -> Result<Text, NoMemory>
     ensures { IfOk result (λ text. text ≡ plain_text (flat_point draw.now.w2 draw.now.w3) draw.now.w4 (codes "T" ++ decimal number)) }
 {
@@ -60,7 +60,7 @@ fn text_of(alloc: Global, number: u32, draw: &Draw) -> Result<Text, NoMemory>
     }
 }
 
-/// The polyline of four points. The only refusal is want of memory.
+/// The polyline of four points. Err: out of memory.
 fn polyline_of(alloc: Global, draw: &Draw) -> Result<LwPolyline, NoMemory>
     ensures { IfOk result (λ polyline. bodies.LwPolyline polyline ≡ further_body 5 0 draw.now.w2 draw.now.w3 draw.now.w4 draw.now.w5 draw.now.w6 draw.now.w7 draw.now.w8 draw.now.w9) }
 {
@@ -81,7 +81,7 @@ fn polyline_of(alloc: Global, draw: &Draw) -> Result<LwPolyline, NoMemory>
     })
 }
 
-/// The body that a draw gives the entity of a number. The only refusal is want of memory.
+/// The body that a draw gives the entity of a number. Err: out of memory.
 fn body_of(alloc: Global, number: u32, draw: &Draw) -> Result<Body, NoMemory>
     requires { draw.now.choice < 6 }
     ensures { IfOk result (λ body. body ≡ drawn_body number draw.now) }
@@ -136,13 +136,13 @@ fn links_of(count: u32, number: u32) -> Option<Links>
 
 /// The layer of the entity of a number.
 fn layer_of(number: u32) -> u64
-    ensures told { result ≡ further_layer number }
+    ensures reported { result ≡ further_layer number }
     ensures small { result ≤ 0x17 }
 {
     if number % 2 == 1 { 0x10 } else { 0x17 }
 }
 
-/// The entity of a number that a draw gives, where there are so many. The only refusal is want of memory.
+/// The entity of a number that a draw gives, where there are so many. Err: out of memory.
 #[tactic(auto, unfolding(crate::specs::Further::drawn_entity))]
 fn entity_of(
     alloc: Global,
@@ -166,7 +166,7 @@ fn entity_of(
     ))
 }
 
-/// Makes so many entities, by the random numbers of a seed. The only refusal is want of memory.
+/// Makes so many entities, by the random numbers of a seed. Err: out of memory.
 pub(crate) fn make_further(
     alloc: Global,
     count: u32,

@@ -12,7 +12,7 @@ pub(crate) fn no_bytes(alloc: Global) -> ByteRun
     ByteRun::from_vec(Vec::new(alloc))
 }
 
-/// The list of one item. The only refusal is want of memory.
+/// The list of one item. Err: out of memory.
 pub(crate) fn one<T: Drop>(alloc: Global, item: T) -> Result<Items<T>, NoMemory>
     ensures { IfOk result (λ list. list ≡ item ∷ []) }
 {

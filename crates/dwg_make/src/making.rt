@@ -33,7 +33,7 @@ impl Making {
         }
     }
 
-    /// Puts an object at the end. The only refusal is want of memory.
+    /// Puts an object at the end. Err: out of memory.
     pub(crate) fn add(&mut self, object: Object<'static>) -> Result<(), NoMemory>
         ensures { OnOk result (self.new ≡ self.old ++ value_of object.entry ∷ []) }
     {

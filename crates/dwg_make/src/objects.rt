@@ -47,7 +47,7 @@ pub(crate) fn other_object(
     })
 }
 
-/// The entities before and behind an entity.
+/// The entities before and after an entity.
 pub(crate) fn links(previous: u64, next: u64) -> Links
     requires previous { previous < 2 ^ 63 }
     requires next { next < 2 ^ 63 }

@@ -66,7 +66,7 @@ impl Random {
     /// The next state.
     #[tactic(auto, unfolding(crate::specs::Random::next_state))]
     fn state(&mut self) -> u32
-        ensures told { result ≡ next_state self.old }
+        ensures reported { result ≡ next_state self.old }
         ensures next { self.new ≡ next_state self.old }
     {
         let state = (u64::from(self.state) * FACTOR + STEP) % STATES;
@@ -76,7 +76,7 @@ impl Random {
 
     /// The word that the next state gives.
     fn word(&mut self) -> u64
-        ensures told { result ≡ word_of (next_state self.old) }
+        ensures reported { result ≡ word_of (next_state self.old) }
         ensures next { self.new ≡ next_state self.old }
     {
         LEAST_WORD + u64::from(self.state()) * 65_536
@@ -85,7 +85,7 @@ impl Random {
     /// What the next nine states give.
     #[tactic(auto, unfolding(crate::specs::Draws::draw_from, crate::specs::Random::state_at))]
     pub(crate) fn draw(&mut self) -> Draw
-        ensures told { result ≡ draw_from self.old }
+        ensures reported { result ≡ draw_from self.old }
         ensures choice { result.choice < 6 }
         ensures next { self.new ≡ state_at self.old 9 }
     {

@@ -92,7 +92,7 @@ fn ltype_of(alloc: Global, own: u64, name: &[u8]) -> Result<Object<'static>, NoM
     Ok(other_object(alloc, 57, own, 0x5, body))
 }
 
-/// The linetype of the block. The only refusal is want of memory.
+/// The linetype of the block. Err: out of memory.
 #[tactic(auto, unfolding(crate::specs::Fixed::by_block))]
 fn by_block(alloc: Global) -> Result<Object<'static>, NoMemory>
     ensures { IfOk result (λ object. value_of object ≡ by_block) }
@@ -100,7 +100,7 @@ fn by_block(alloc: Global) -> Result<Object<'static>, NoMemory>
     ltype_of(alloc, 0x14, b"BYBLOCK")
 }
 
-/// The linetype of the layer. The only refusal is want of memory.
+/// The linetype of the layer. Err: out of memory.
 #[tactic(auto, unfolding(crate::specs::Fixed::by_layer))]
 fn by_layer(alloc: Global) -> Result<Object<'static>, NoMemory>
     ensures { IfOk result (λ object. value_of object ≡ by_layer) }
@@ -108,7 +108,7 @@ fn by_layer(alloc: Global) -> Result<Object<'static>, NoMemory>
     ltype_of(alloc, 0x15, b"BYLAYER")
 }
 
-/// The linetype without gaps. The only refusal is want of memory.
+/// The linetype without gaps. Err: out of memory.
 #[tactic(auto, unfolding(crate::specs::Fixed::continuous))]
 fn continuous(alloc: Global) -> Result<Object<'static>, NoMemory>
     ensures { IfOk result (λ object. value_of object ≡ continuous) }
@@ -116,7 +116,7 @@ fn continuous(alloc: Global) -> Result<Object<'static>, NoMemory>
     ltype_of(alloc, 0x16, b"CONTINUOUS")
 }
 
-/// Makes the linetypes. The only refusal is want of memory.
+/// Makes the linetypes. Err: out of memory.
 fn make_linetypes(alloc: Global, making: &mut Making) -> Result<(), NoMemory>
     ensures { OnOk result (making.new ≡ making.old ++ by_block ∷ by_layer ∷ continuous ∷ []) }
 {
@@ -126,7 +126,7 @@ fn make_linetypes(alloc: Global, making: &mut Making) -> Result<(), NoMemory>
     Ok(())
 }
 
-/// Makes the table entries beside the blocks. The only refusal is want of memory.
+/// Makes the table entries beside the blocks. Err: out of memory.
 #[tactic(auto, unfolding(crate::specs::Fixed::table_entries))]
 pub(crate) fn make_entries(alloc: Global, making: &mut Making) -> Result<(), NoMemory>
     ensures { OnOk result (making.new ≡ making.old ++ table_entries) }

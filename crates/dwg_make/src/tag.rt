@@ -19,7 +19,7 @@ use dwg_shapes::Line;
 use dwg_tables::InsertMark;
 use std::alloc::Global;
 
-/// An attribute with the tag "NO", by its text. The only refusal is want of memory.
+/// An attribute with the tag "NO", by its text. Err: out of memory.
 fn attrib_of(alloc: Global, text: &[u8]) -> Result<Attrib, NoMemory>
     ensures { IfOk result (λ made. made ≡ record { text = plain_text (flat_point 0 0) ONE text.now; tag = codes "NO"; length = 0; flags = 0 }) }
 {
@@ -32,7 +32,7 @@ fn attrib_of(alloc: Global, text: &[u8]) -> Result<Attrib, NoMemory>
     })
 }
 
-/// The definition of the attribute. The only refusal is want of memory.
+/// The definition of the attribute. Err: out of memory.
 #[tactic(auto, unfolding(crate::specs::Fixed::attribute_definition))]
 fn attribute_definition(alloc: Global) -> Result<Object<'static>, NoMemory>
     ensures { IfOk result (λ object. value_of object ≡ attribute_definition) }
@@ -58,7 +58,7 @@ fn line_of_block(alloc: Global) -> Object<'static>
     owned_entity(alloc, 19, 0x23, 0x20, links(0x22, 0), body)
 }
 
-/// The attribute of the insert. The only refusal is want of memory.
+/// The attribute of the insert. Err: out of memory.
 #[tactic(auto, unfolding(crate::specs::Fixed::attribute))]
 fn attribute(alloc: Global) -> Result<Object<'static>, NoMemory>
     ensures { IfOk result (λ object. value_of object ≡ attribute) }
@@ -87,7 +87,7 @@ fn insert_of_block(alloc: Global) -> Object<'static>
     model_entity(alloc, 7, 0x30, Some(links(0, 0x31)), 0x10, body)
 }
 
-/// The header of the block, which is inserted once. The only refusal is want of memory.
+/// The header of the block, which is inserted once. Err: out of memory.
 #[tactic(auto, unfolding(crate::specs::Fixed::tag_header))]
 fn tag_header(alloc: Global) -> Result<Object<'static>, NoMemory>
     ensures { IfOk result (λ object. value_of object ≡ tag_header) }
@@ -107,7 +107,7 @@ fn tag_header(alloc: Global) -> Result<Object<'static>, NoMemory>
     Ok(header)
 }
 
-/// The begin of the block. The only refusal is want of memory.
+/// The begin of the block. Err: out of memory.
 #[tactic(auto, unfolding(crate::specs::Fixed::tag_begin))]
 fn tag_begin(alloc: Global) -> Result<Object<'static>, NoMemory>
     ensures { IfOk result (λ object. value_of object ≡ tag_begin) }
@@ -125,7 +125,7 @@ fn tag_end(alloc: Global) -> Object<'static>
     owned_entity(alloc, 5, 0x24, 0x20, links(0, 0), body)
 }
 
-/// Makes the block. The only refusal is want of memory.
+/// Makes the block. Err: out of memory.
 #[tactic(auto, unfolding(crate::specs::Fixed::tag_block))]
 pub(crate) fn make_block(alloc: Global, making: &mut Making) -> Result<(), NoMemory>
     ensures { OnOk result (making.new ≡ making.old ++ tag_block) }
@@ -147,7 +147,7 @@ fn attributes_end(alloc: Global) -> Object<'static>
     owned_entity(alloc, 6, 0x2F, 0x30, links(0, 0), body)
 }
 
-/// Makes the insert, behind what belongs to it. The only refusal is want of memory.
+/// Makes the insert, after what belongs to it. Err: out of memory.
 #[tactic(auto, unfolding(crate::specs::Fixed::tag_insert))]
 pub(crate) fn make_insert(alloc: Global, making: &mut Making) -> Result<(), NoMemory>
     ensures { OnOk result (making.new ≡ making.old ++ tag_insert) }

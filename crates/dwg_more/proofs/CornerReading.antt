@@ -1,4 +1,4 @@
--- Corners behind the first that are parsed are read.
+-- Corners after the first that are parsed are read.
 use Rattle.std.proofs.Common.{◌≡◌, sym, subst, Bool, List, Option, Some, None}
 use Rattle.dwg_grammar.proofs.BodyReading.{parsed_value}
 use Rattle.dwg_grammar.proofs.CodeLemmas.{reads_some, reads_none}

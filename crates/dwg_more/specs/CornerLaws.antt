@@ -35,7 +35,7 @@ height_picked : (z : ℕ) (flat : Bool) → (z == 0) ≡ flat → z < 2 ^ 64 →
 height_picked z true none fits = (Decides-eqb z 0).0 none
 height_picked z false some fits = fits
 
--- and no fewer bits behind another
+-- and no fewer bits after another
 height_least : (z : ℕ) (flat z_zero : Bool) → (z == 0) ≡ flat → (height z_zero).IsValue z → length ((height flat).short z) ≤ length ((height z_zero).short z)
 height_least z true z_zero none fits = omega arith
 height_least z false true some fits = absurd (grind (arith, nat_tests, fits))

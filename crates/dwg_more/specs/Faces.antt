@@ -28,24 +28,24 @@ dd3 default =
     shaped (λ (x, (y, z)). record { x = x; y = y; z = z }) (λ point. (point.x, (point.y, point.z))) (dd default.x ⋄ dd default.y ⋄ dd default.z)
 
 -- 3DD for each corner but the first, whose default is the corner before; BS where no-flags is 0
-abbrev pub behind_first : Bool → Point3 → Grammar Bool (Point3 × (Point3 × (Point3 × Option ℕ)))
-behind_first no_flags first =
+abbrev pub after_first : Bool → Point3 → Grammar Bool (Point3 × (Point3 × (Point3 × Option ℕ)))
+after_first no_flags first =
     seq (dd3 first) (λ second. seq (dd3 second) (λ third. seq (dd3 third) (λ fourth. when (not no_flags) bs)))
 
--- what of a face they tell
-abbrev pub behind_first_of : Face3d → Point3 × (Point3 × (Point3 × Option ℕ))
-behind_first_of face = (face.second, (face.third, (face.fourth, face.invisible)))
+-- what of a face they give
+abbrev pub after_first_of : Face3d → Point3 × (Point3 × (Point3 × Option ℕ))
+after_first_of face = (face.second, (face.third, (face.fourth, face.invisible)))
 
 -- B no-flags; the first corner; 3DD for each other, whose default is the corner before; BS where no-flags is 0
 abbrev pub face_parts : Grammar Bool (Bool × (Point3 × (Point3 × (Point3 × (Point3 × Option ℕ)))))
 face_parts =
-    seq b (λ no_flags. seq first_corner (λ first. behind_first no_flags first))
+    seq b (λ no_flags. seq first_corner (λ first. after_first no_flags first))
 
 -- the main bits of a face
 unfoldable pub face_main : Grammar Bool Face3d
 face_main =
     shaped (λ (no_flags, (first, (second, (third, (fourth, invisible))))). record { first = first; second = second; third = third; fourth = fourth; invisible = invisible })
-    (λ face. (is_none face.invisible, (face.first, behind_first_of face))) face_parts
+    (λ face. (is_none face.invisible, (face.first, after_first_of face))) face_parts
 
 -- a face: no references
 abbrev pub face_body : ℕ → BodyGrammar Face3d

@@ -15,6 +15,6 @@ group_main = tv ⋄ bs ⋄ bs ⋄ bl
 -- a group: its entries
 unfoldable pub group_body : ℕ → BodyGrammar Group
 group_body base =
-    body group_main (λ told. some_refs base told.1.1.1)
+    body group_main (λ parsed. some_refs base parsed.1.1.1)
     (λ (name, (unnamed, (selectable, count))) entries. record { name = name; unnamed = unnamed; selectable = selectable; entries = entries })
     (λ group. (group.name, (group.unnamed, (group.selectable, length group.entries)))) (λ group. group.entries)

@@ -63,17 +63,17 @@ trace_is_body base = search (bodies, solid_parts_is_code) depth 12
 pub trace_is_free : (base : ℕ) → base < 2 ^ 63 → IsFreeBody base (trace_body base)
 trace_is_free base small = free_of_body base _ (trace_is_body base) (λ over. tt)
 
--- the flags of a face tell whether there are some
-none_told : (no_flags : Bool) (invisible : Option ℕ) → (when (not no_flags) bs).IsValue invisible → is_none invisible ≡ no_flags
-none_told true invisible none = ap (λ (one : Option ℕ). is_none one) none
-none_told false invisible (inner, same, fits) = ap (λ (one : Option ℕ). is_none one) same
+-- the flags of a face give whether there are some
+none_parsed : (no_flags : Bool) (invisible : Option ℕ) → (when (not no_flags) bs).IsValue invisible → is_none invisible ≡ no_flags
+none_parsed true invisible none = ap (λ (one : Option ℕ). is_none one) none
+none_parsed false invisible (inner, same, fits) = ap (λ (one : Option ℕ). is_none one) same
 
 -- the main bits of a face are a code
 face_is_code : IsCode AnyLetters face_main
 unfolding face_main
 face_is_code =
     shaped_is_code _ _ face_parts (search (codes, first_corner_is_code, dd3_is_code, dd3_of_read) depth 20)
-    (λ parts fits. ap (λ (no_flags : Bool). (no_flags, parts.1)) (none_told parts.0 parts.1.1.1.1.1 fits.1.1.1.1.1)) (λ face. refl)
+    (λ parts fits. ap (λ (no_flags : Bool). (no_flags, parts.1)) (none_parsed parts.0 parts.1.1.1.1.1 fits.1.1.1.1.1)) (λ face. refl)
 
 -- a face
 pub face_is_body : (base : ℕ) → IsBody base (face_body base)
@@ -103,8 +103,8 @@ vertex_is_free base small = free_of_body base _ (vertex_is_body base) (λ over. 
 pub group_is_body : (base : ℕ) → base < 2 ^ 63 → IsBody base (group_body base)
 unfolding group_body chain
 group_is_body base small =
-    body_is_body base group_main (λ told. some_refs base told.1.1.1) _ _ _ (search codes depth 12) (λ told fits. some_is_part base told.1.1.1 small)
-    (λ told entries fits are. (ap (λ (count : ℕ). (told.0, (told.1.0, (told.1.1.0, count)))) are.0, refl)) (λ group. refl)
+    body_is_body base group_main (λ parsed. some_refs base parsed.1.1.1) _ _ _ (search codes depth 12) (λ parsed fits. some_is_part base parsed.1.1.1 small)
+    (λ parsed entries fits are. (ap (λ (count : ℕ). (parsed.0, (parsed.1.0, (parsed.1.1.0, count)))) are.0, refl)) (λ group. refl)
 
 pub group_is_free : (base : ℕ) → base < 2 ^ 63 → IsFreeBody base (group_body base)
 unfolding group_body

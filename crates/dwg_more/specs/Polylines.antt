@@ -21,7 +21,7 @@ polyline_refs base = then_refs (one_ref base) (then_refs (one_ref base) (one_ref
 -- a polyline in space
 unfoldable pub polyline_body : ℕ → BodyGrammar Polyline3d
 polyline_body base =
-    body polyline_main (λ told. polyline_refs base)
+    body polyline_main (λ parsed. polyline_refs base)
     (λ (flags_a, flags_b) (first, (last, seqend)). record { flags_a = flags_a; flags_b = flags_b; first = first; last = last; seqend = seqend })
     (λ polyline. (polyline.flags_a, polyline.flags_b)) (λ polyline. (polyline.first, (polyline.last, polyline.seqend)))
 

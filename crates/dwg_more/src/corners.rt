@@ -9,7 +9,7 @@ ghost use Rattle.dwg_more.specs.Faces.{height, corner_by, first_corner, dd3};
 
 use dwg_bits::{BitCursor, BitSink};
 use dwg_codes::{BitCode, CodeB, CodeDD, CodeRD, Point3};
-use dwg_common::{known_point, parse_code};
+use dwg_common::{parse_code, point_with_range};
 
 /// Reads the z word of a first corner, as it is parsed: no bit where z-zero is 1.
 fn read_height(z_zero: bool, cursor: &mut BitCursor<'_>) -> Option<u64>
@@ -22,7 +22,7 @@ fn read_height(z_zero: bool, cursor: &mut BitCursor<'_>) -> Option<u64>
     parse_code::<CodeRD>(&(), cursor)
 }
 
-/// Reads a first corner behind its z-zero, as it is parsed.
+/// Reads a first corner after its z-zero, as it is parsed.
 fn read_corner_by(z_zero: bool, cursor: &mut BitCursor<'_>) -> Option<Point3>
     ensures parsed { Parses (corner_by z_zero) result cursor.old cursor.new }
     ensures kept { Keeps cursor.old cursor.new }
@@ -143,7 +143,7 @@ impl BitCode for Code3DD {
     #[tactic(auto, using(crate::proofs::CornerReading::dd3_read, crate::proofs::CornerReading::dd3_unread, crate::proofs::CornerReading::dd3_value))]
     fn read(context: &Point3, cursor: &mut BitCursor<'_>) -> Option<Point3> {
         // The laws of a DD ask that its default is a word.
-        known_point(context);
+        point_with_range(context);
         let mut ahead = *cursor;
         let point = read_three_against(*context, &mut ahead)?;
         *cursor = ahead;

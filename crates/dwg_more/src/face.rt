@@ -5,14 +5,14 @@ ghost use Rattle.dwg_bits.specs.Sink.{Extends};
 ghost use Rattle.dwg_grammar.specs.Codes.{bs, IsPoint3};
 ghost use Rattle.dwg_grammar.specs.Combinators.{when};
 ghost use Rattle.dwg_common.specs.Parsing.{Keeps, Parses};
-ghost use Rattle.dwg_more.specs.Faces.{behind_first, behind_first_of, face_body, face_main};
+ghost use Rattle.dwg_more.specs.Faces.{after_first, after_first_of, face_body, face_main};
 ghost use Rattle.dwg_more.specs.MoreLaws.{face_is_body};
 
 use crate::corners::{Code3DD, CodeFirstCorner};
 use dwg_base::{Handle, NoMemory};
 use dwg_bits::{BitCursor, BitSink};
 use dwg_codes::{BitCode, CodeB, CodeBS, Point3, length_when, write_when};
-use dwg_common::{BodyCode, Layout, Lengths, known_point, parse_code, parse_when};
+use dwg_common::{BodyCode, Layout, Lengths, parse_code, parse_when, point_with_range};
 use std::alloc::Global;
 
 /// A face with four corners in space (Open Design Specification, "3DFACE").
@@ -26,7 +26,7 @@ pub struct Face3d {
     pub third: Point3,
     /// Its fourth corner; the third where it has three.
     pub fourth: Point3,
-    /// Which of its edges aren't seen, a bit for each, that of the first edge lowest. None where no flags are told.
+    /// Which of its edges aren't seen, a bit for each, that of the first edge lowest. None where no flags are given.
     pub invisible: Option<u16>,
 }
 
@@ -38,11 +38,11 @@ fn read_face(cursor: &mut BitCursor<'_>) -> Option<Face3d>
 {
     let no_flags = parse_code::<CodeB>(&(), cursor)?;
     let first = parse_code::<CodeFirstCorner>(&(), cursor)?;
-    known_point(&first);
+    point_with_range(&first);
     let second = parse_code::<Code3DD>(&first, cursor)?;
-    known_point(&second);
+    point_with_range(&second);
     let third = parse_code::<Code3DD>(&second, cursor)?;
-    known_point(&third);
+    point_with_range(&third);
     let fourth = parse_code::<Code3DD>(&third, cursor)?;
     let invisible = parse_when::<CodeBS>(&(), !no_flags, cursor)?;
     Some(Face3d {
@@ -54,7 +54,7 @@ fn read_face(cursor: &mut BitCursor<'_>) -> Option<Face3d>
     })
 }
 
-/// Whether no flags are told, which the bit before the corners says.
+/// Whether no flags are given, which the bit before the corners says.
 fn has_no_flags(invisible: Option<u16>) -> bool
     ensures { result ≡ is_none invisible }
 {
@@ -74,12 +74,12 @@ fn known_flags(invisible: Option<u16>)
     }
 }
 
-/// Writes what stands behind the first corner of a face.
-fn write_behind_first(no_flags: bool, face: &Face3d, sink: &mut BitSink)
+/// Writes what stands after the first corner of a face.
+fn write_after_first(no_flags: bool, face: &Face3d, sink: &mut BitSink)
     requires first { IsPoint3 face.now.first }
-    requires value { (behind_first no_flags face.now.first).IsValue (behind_first_of face.now) }
-    requires room { length ((behind_first no_flags face.now.first).short (behind_first_of face.now)) ≤ sink.old.spare }
-    ensures { Extends sink.old sink.new ((behind_first no_flags face.now.first).short (behind_first_of face.now)) }
+    requires value { (after_first no_flags face.now.first).IsValue (after_first_of face.now) }
+    requires room { length ((after_first no_flags face.now.first).short (after_first_of face.now)) ≤ sink.old.spare }
+    ensures { Extends sink.old sink.new ((after_first no_flags face.now.first).short (after_first_of face.now)) }
 {
     Code3DD::write(&face.first, &face.second, sink);
     Code3DD::write(&face.second, &face.third, sink);
@@ -102,10 +102,10 @@ impl BodyCode for Face3d {
 
     #[tactic(auto, unfolding(crate::specs::Faces::face_main))]
     fn fits_in(&self, _layout: Layout, _base: Handle) -> bool {
-        known_point(&self.first);
-        known_point(&self.second);
-        known_point(&self.third);
-        known_point(&self.fourth);
+        point_with_range(&self.first);
+        point_with_range(&self.second);
+        point_with_range(&self.third);
+        point_with_range(&self.fourth);
         known_flags(self.invisible);
         true
     }
@@ -129,7 +129,7 @@ impl BodyCode for Face3d {
         let no_flags = has_no_flags(self.invisible);
         CodeB::write(&(), &no_flags, sink);
         CodeFirstCorner::write(&(), &self.first, sink);
-        write_behind_first(no_flags, self, sink);
+        write_after_first(no_flags, self, sink);
     }
 
     fn write_refs_in(&self, _layout: Layout, _base: Handle, _sink: &mut BitSink) {}

@@ -28,12 +28,12 @@ pub struct Group {
     pub entries: Items<Ref>,
 }
 
-/// What the main bits of a group tell, as its definition has it: name, unnamed, selectable, and the count of its entries.
-type Told = (ByteRun, (u16, (u16, u32)));
+/// What the main bits of a group give, as its definition has it: name, unnamed, selectable, and the count of its entries.
+type Parsed = (ByteRun, (u16, (u16, u32)));
 
-/// Reads what the main bits of a group tell, as it is parsed. The only refusal is want of memory, which is taken only for bytes
+/// Reads what the main bits of a group give, as it is parsed. Err: out of memory, which is taken only for bytes
 /// that are there.
-fn read_told(alloc: Global, cursor: &mut BitCursor<'_>) -> Result<Option<Told>, NoMemory>
+fn read_parsed(alloc: Global, cursor: &mut BitCursor<'_>) -> Result<Option<Parsed>, NoMemory>
     ensures parsed { IfOk result (λ found. Parses group_main found cursor.old cursor.new) }
     ensures kept { Keeps cursor.old cursor.new }
 {
@@ -63,7 +63,7 @@ impl BodyCode for Group {
         refs: &mut BitCursor<'_>,
         base: Handle,
     ) -> Result<Option<Group>, NoMemory> {
-        let Some((name, (unnamed, (selectable, count)))) = read_told(alloc, main)? else {
+        let Some((name, (unnamed, (selectable, count)))) = read_parsed(alloc, main)? else {
             return Ok(None);
         };
         let Some(entries) = parse_refs(alloc, refs, base, count)? else {

@@ -9,7 +9,7 @@ ghost use Rattle.dwg_more.specs.Polylines.{polyline_body, vertex_body};
 ghost use Rattle.dwg_more.specs.Rays.{ray_body, xline_body};
 ghost use Rattle.dwg_more.specs.Solids.{solid_body, trace_body};
 
-/// What holds of these bodies, in the object of any handle: main bits and reference bits spell at most one by their fronts;
+/// What holds of these bodies, in the object of any handle: main bits and reference bits spell at most one by their prefixes;
 /// just those that fit are spelled, each by what is written of it, and none by fewer main bits or fewer reference bits; and
 /// other bits that spell the same references spell the same, and any bits may follow these.
 pub fn more_laws()

@@ -22,7 +22,7 @@ pub struct Polyline3d {
     pub first: Ref,
     /// Its last vertex.
     pub last: Ref,
-    /// The end behind its vertices.
+    /// The end after its vertices.
     pub seqend: Ref,
 }
 

@@ -8,7 +8,7 @@ ghost use Rattle.dwg_more.specs.Solids.{solid_body, solid_main};
 use dwg_base::{Handle, NoMemory, Version};
 use dwg_bits::{BitCursor, BitSink};
 use dwg_codes::{CodeBD, CodeBE, CodeBT, Point2, Point3};
-use dwg_common::{BodyCode, Code2RD, Layout, Lengths, field, known_place, known_point, row};
+use dwg_common::{BodyCode, Code2RD, Layout, Lengths, field, known_place, point_with_range, row};
 use std::alloc::Global;
 
 /// A filled area with four corners (Open Design Specification, "SOLID").
@@ -51,7 +51,7 @@ macro_rules! solid_field {
         known_place(&$of.$field);
     };
     (fits CodeBE, $of:expr, $field:ident, $version:expr) => {
-        known_point(&$of.$field);
+        point_with_range(&$of.$field);
     };
     ($($done:tt)*) => {
         field!($($done)*)

@@ -9,7 +9,7 @@ use crate::solid::{solid_field, solid_row};
 use dwg_base::{Handle, NoMemory, Version};
 use dwg_bits::{BitCursor, BitSink};
 use dwg_codes::{CodeBD, CodeBE, CodeBT, Point2, Point3};
-use dwg_common::{BodyCode, Code2RD, Layout, Lengths, field, known_place, known_point, row};
+use dwg_common::{BodyCode, Code2RD, Layout, Lengths, field, known_place, point_with_range, row};
 use std::alloc::Global;
 
 /// A filled line that has a width (Open Design Specification, "TRACE").

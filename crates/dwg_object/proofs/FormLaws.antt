@@ -86,7 +86,7 @@ found_is_form : (version : Version) (classes : List Class) (body : List ℕ) (pa
     → FormOf version classes body (form_found version classes body found same)
 unfolding form_found
 found_is_form version classes body parts is None same = absurd (head_unparsed (bits body) same parts is)
-found_is_form version classes body parts is (Some (told, rest)) same = (form_of_head version classes body told (head_parsed (bits body) rest told same)).1
+found_is_form version classes body parts is (Some (reported, rest)) same = (form_of_head version classes body reported (head_parsed (bits body) rest reported same)).1
 
 -- a body with a head is read as that object
 pub form_is_at : (version : Version) (classes : List Class) (body : List ℕ) (parts : HeadParts) → HasHead version (bits body) parts → FormOf version classes body (form_at version classes body)

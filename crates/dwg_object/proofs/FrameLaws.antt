@@ -1,4 +1,4 @@
--- What is tried of a frame is what the input tells: by its span, by the check word of that, and by the head of its body.
+-- What is tried of a frame is what the input reports: by its span, by the check word of that, and by the head of its body.
 use Rattle.std.proofs.Common.{◌≡◌, refl, sym, ◌∙◌, ap, ap₂, subst, ℕ, ◌+◌, ◌-◌, Bool, true, false, List, ◌++◌, length, Option, Some, None, inl, inr, arith}
 use Rattle.dwg_base.specs.declared.version.Version.{Version}
 use Rattle.std.specs.Prelude.{◌==◌, not, Ok, Err, if◌then◌else◌}
@@ -18,11 +18,11 @@ use Rattle.dwg_object.specs.Heads.{HasHead, BeginsWithHead}
 use Rattle.dwg_object.specs.Frames.{FrameAt, FrameHolds, SpanAt}
 use Rattle.dwg_object.specs.FrameLines.{frame_refusal, span_of, bytes_from, span_body, has_check_word, head_at, head_tried, frame_checked, tried_span, tried_frame}
 use Rattle.dwg_base.specs.Versions.{version_at}
-use Rattle.dwg_object.specs.FrameCauses.{IsFramed, TellsSpan, TellsFrame}
+use Rattle.dwg_object.specs.FrameCauses.{IsFramed, ReportsSpan, ReportsFrame}
 use Rattle.dwg_object.proofs.StandingLemmas.{take_stands, stands_first, stands_next, stands_same, stands_bytes}
-use Rattle.dwg_object.proofs.HeadLemmas.{TellsHead, head_told, head_only, head_begins, begins_head}
-use Rattle.dwg_object.proofs.SpanLaws.{lengths_same, span_size, span_told, tried_span_means}
-use Rattle.dwg_object.specs.FrameLaws.{FramesAreHeld, FramesAreOne, FramesAreTold}
+use Rattle.dwg_object.proofs.HeadLemmas.{ReportsHead, head_reported, head_only, head_begins, begins_head}
+use Rattle.dwg_object.proofs.SpanLaws.{lengths_same, span_size, span_reported, tried_span_means}
+use Rattle.dwg_object.specs.FrameLaws.{FramesAreHeld, FramesAreOne, FramesAreReported}
 
 -- the word that is written of a check word
 abbrev word_of : List ℕ → List ℕ
@@ -34,9 +34,9 @@ frame_size bytes place body end is =
     stands_first bytes place is.size body (stands_first bytes place (is.size ++ body) (word_of (is.size ++ body)) is.stands)
 
 -- a length and a body that stand at one place are one
-fronts_same : (bytes : List ℕ) (place : ℕ) (size body other_size other : List ℕ) → StandsAt bytes place (size ++ body) → StandsAt bytes place (other_size ++ other)
+prefixes_same : (bytes : List ℕ) (place : ℕ) (size body other_size other : List ℕ) → StandsAt bytes place (size ++ body) → StandsAt bytes place (other_size ++ other)
     → size ≡ other_size → length body ≡ length other → body ≡ other
-fronts_same bytes place size body other_size other stands others same long =
+prefixes_same bytes place size body other_size other stands others same long =
     append_cancel_left size body other (stands_same bytes place (size ++ body) (size ++ other) stands (subst (λ (s : List ℕ). StandsAt bytes place (s ++ other)) (sym same) others)
     (length-append size body ∙ ap (λ n. length size + n) long ∙ sym (length-append size other)))
 
@@ -44,7 +44,7 @@ fronts_same bytes place size body other_size other stands others same long =
 pub frames_same : FramesAreOne
 frames_same bytes place body other end other_end is was =
     let sizes = lengths_same bytes place (length body) (length other) is.size was.size is.spelled was.spelled (frame_size bytes place body end is) (frame_size bytes place other other_end was) in (
-      fronts_same bytes place is.size body was.size other (stands_first bytes place (is.size ++ body) (word_of (is.size ++ body)) is.stands)
+      prefixes_same bytes place is.size body was.size other (stands_first bytes place (is.size ++ body) (word_of (is.size ++ body)) is.stands)
           (stands_first bytes place (was.size ++ other) (word_of (was.size ++ other)) was.stands) sizes.1 sizes.0,
       omega (arith, is.ends, was.ends, ap length sizes.1, sizes.0),
     )
@@ -54,8 +54,8 @@ from_stands : (bytes : List ℕ) (place to : ℕ) (piece : List ℕ) → StandsA
 from_stands bytes place to piece stands ends = take_stands bytes place piece (to - place) stands (omega (arith, ends))
 
 -- the length and the body of a span
-front_of_span : (bytes : List ℕ) (span : Span) (is : SpanAt bytes span) → bytes_from bytes span.from span.body_end ≡ is.size ++ is.body
-front_of_span bytes span is =
+prefix_of_span : (bytes : List ℕ) (span : Span) (is : SpanAt bytes span) → bytes_from bytes span.from span.body_end ≡ is.size ++ is.body
+prefix_of_span bytes span is =
     from_stands bytes span.from span.body_end (is.size ++ is.body) (stands_first bytes span.from (is.size ++ is.body) is.word is.stands)
     (omega (arith, is.body_place, is.body_end, length-append is.size is.body))
 
@@ -95,7 +95,7 @@ word_of_frame bytes span is frame =
 -- the test of a check word is one of the word that stands there
 test_of_word : (bytes : List ℕ) (span : Span) (is : SpanAt bytes span) → has_check_word bytes span ≡ (from_le_bytes w16 is.word == check_word FRAME_START (is.size ++ is.body))
 test_of_word bytes span is =
-    ap₂ (λ (w front : List ℕ). from_le_bytes w16 w == check_word FRAME_START front) (word_of_span bytes span is) (front_of_span bytes span is)
+    ap₂ (λ (w prefix : List ℕ). from_le_bytes w16 w == check_word FRAME_START prefix) (word_of_span bytes span is) (prefix_of_span bytes span is)
 
 -- numbers that pass the test are one
 test_same : (a b : ℕ) → (a == b) ≡ true → a ≡ b
@@ -118,9 +118,9 @@ framed_where bytes span are is passed =
 pub tested_where : (bytes : List ℕ) (span : Span) → SpanAt bytes span → FrameAt bytes span.from (span_body bytes span) span.end → has_check_word bytes span ≡ true
 tested_where bytes span is frame =
     let word = word_of_frame bytes span is (subst (λ (b : List ℕ). FrameAt bytes span.from b span.end) (body_of_span bytes span is) frame) in
-    let front : List ℕ = is.size ++ is.body in
+    let prefix : List ℕ = is.size ++ is.body in
     test_of_word bytes span is
-    ∙ same_test _ _ (ap (from_le_bytes w16) word ∙ (number_of_16 (check_word FRAME_START front) (check_word_fits FRAME_START front (omega arith))).0)
+    ∙ same_test _ _ (ap (from_le_bytes w16) word ∙ (number_of_16 (check_word FRAME_START prefix) (check_word_fits FRAME_START prefix (omega arith))).0)
 
 -- a test that doesn't hold fails
 fails_where : (bytes : List ℕ) (span : Span) → AreBytes bytes → SpanAt bytes span → (FrameAt bytes span.from (span_body bytes span) span.end → ⊥) → (right : Bool) → has_check_word bytes span ≡ right → has_check_word bytes span ≡ false
@@ -135,15 +135,15 @@ framed_at bytes place span are is from passed = record {
   frame = subst (λ n. FrameAt bytes n (span_body bytes span) span.end) from (framed_where bytes span are is passed);
 }
 
--- what is told of a span whose check word is right, by the head of its body
-frame_of_head : (version : Version) (bytes : List ℕ) (place index : ℕ) (span : Span) → IsFramed bytes place span → (found : Option HeadParts) → TellsHead version (bits (span_body bytes span)) found
-    → TellsFrame version bytes place index (head_tried place index span found)
+-- what is reported of a span whose check word is right, by the head of its body
+frame_of_head : (version : Version) (bytes : List ℕ) (place index : ℕ) (span : Span) → IsFramed bytes place span → (found : Option HeadParts) → ReportsHead version (bits (span_body bytes span)) found
+    → ReportsFrame version bytes place index (head_tried place index span found)
 frame_of_head version bytes place index span is (Some parts) found = (is, found)
 frame_of_head version bytes place index span is None none = inr (inr (record { span = span; framed = is; headless = none; line = refl }))
 
 -- a span whose check word is wrong refuses its frame
 pub check_refused : {version : Version} (bytes : List ℕ) (place index : ℕ) (span : Span) (refusal : Refusal) → SpanAt bytes span → span.from ≡ place → has_check_word bytes span ≡ false
-    → refusal ≡ frame_refusal 30 index place → TellsFrame version bytes place index (Err refusal)
+    → refusal ≡ frame_refusal 30 index place → ReportsFrame version bytes place index (Err refusal)
 check_refused bytes place index span refusal is from failed line = inr (inl (record {
   span = span;
   stands = is;
@@ -155,33 +155,33 @@ check_refused bytes place index span refusal is from failed line = inr (inl (rec
     passes_not : false ≡ true → ⊥
     passes_not same = cc
 
--- what is told of a span, by its check word
+-- what is reported of a span, by its check word
 frame_of_span : (version : Version) (bytes : List ℕ) (place index : ℕ) (span : Span) → AreBytes bytes → SpanAt bytes span → span.from ≡ place → (right : Bool) → has_check_word bytes span ≡ right
-    → TellsFrame version bytes place index (if not right then Err (frame_refusal 30 index place) else head_tried place index span (head_at version bytes span))
+    → ReportsFrame version bytes place index (if not right then Err (frame_refusal 30 index place) else head_tried place index span (head_at version bytes span))
 frame_of_span version bytes place index span are is from true passed =
-    frame_of_head version bytes place index span (framed_at bytes place span are is from passed) (head_at version bytes span) (head_told version (bits (span_body bytes span)))
+    frame_of_head version bytes place index span (framed_at bytes place span are is from passed) (head_at version bytes span) (head_reported version (bits (span_body bytes span)))
 frame_of_span version bytes place index span are is from false failed = check_refused bytes place index span _ is from failed refl
 
--- what is told of what was tried of a span
-frame_of_tried : (version : Version) (bytes : List ℕ) (place index : ℕ) (tried : Tried Span) → AreBytes bytes → TellsSpan bytes place index tried → TellsFrame version bytes place index (frame_checked version place index bytes tried)
+-- what is reported of what was tried of a span
+frame_of_tried : (version : Version) (bytes : List ℕ) (place index : ℕ) (tried : Tried Span) → AreBytes bytes → ReportsSpan bytes place index tried → ReportsFrame version bytes place index (frame_checked version place index bytes tried)
 frame_of_tried version bytes place index (Err refusal) are is = inl is
 frame_of_tried version bytes place index (Ok span) are is = frame_of_span version bytes place index span are is.0 is.1 (has_check_word bytes span) refl
 
--- what is tried of a frame is what the input tells
-pub frame_told : (version : Version) (bytes : List ℕ) (place index : ℕ) → AreBytes bytes → TellsFrame version bytes place index (tried_frame version place index bytes)
+-- what is tried of a frame is what the input reports
+pub frame_reported : (version : Version) (bytes : List ℕ) (place index : ℕ) → AreBytes bytes → ReportsFrame version bytes place index (tried_frame version place index bytes)
 unfolding tried_frame
-frame_told version bytes place index are = frame_of_tried version bytes place index (tried_span place index bytes) are (span_told bytes place index are)
+frame_reported version bytes place index are = frame_of_tried version bytes place index (tried_span place index bytes) are (span_reported bytes place index are)
 
--- what is checked of a span whose check word is right and of whose head this is told
-checked_head : (version : Version) (bytes : List ℕ) (place index : ℕ) (span : Span) (found : Option HeadParts) → IsFramed bytes place span → TellsHead version (bits (span_body bytes span)) found
+-- what is checked of a span whose check word is right and of whose head this is reported
+checked_head : (version : Version) (bytes : List ℕ) (place index : ℕ) (span : Span) (found : Option HeadParts) → IsFramed bytes place span → ReportsHead version (bits (span_body bytes span)) found
     → frame_checked version place index bytes (Ok span) ≡ head_tried place index span found
-checked_head version bytes place index span found is told =
+checked_head version bytes place index span found is reported =
     let passed : has_check_word bytes span ≡ true = tested_where bytes span is.stands (subst (λ n. FrameAt bytes n (span_body bytes span) span.end) (sym is.from) is.frame) in
     ap (λ right. if not right then Err (frame_refusal 30 index place) else head_tried place index span (head_at version bytes span)) passed
-    ∙ ap (head_tried place index span) (head_only version (bits (span_body bytes span)) (head_at version bytes span) found (head_told version (bits (span_body bytes span))) told)
+    ∙ ap (head_tried place index span) (head_only version (bits (span_body bytes span)) (head_at version bytes span) found (head_reported version (bits (span_body bytes span))) reported)
 
--- what the input tells of a frame is what is checked of its span
-frame_checks : (version : Version) (bytes : List ℕ) (place index : ℕ) (tried : Tried (Span × HeadParts)) → AreBytes bytes → TellsFrame version bytes place index tried
+-- what the input reports of a frame is what is checked of its span
+frame_checks : (version : Version) (bytes : List ℕ) (place index : ℕ) (tried : Tried (Span × HeadParts)) → AreBytes bytes → ReportsFrame version bytes place index tried
     → frame_checked version place index bytes (tried_span place index bytes) ≡ tried
 frame_checks version bytes place index (Ok (span, parts)) are is =
     ap (frame_checked version place index bytes) ((tried_span_means bytes place index (Ok span) are).1 (is.0.stands, is.0.from))
@@ -199,10 +199,10 @@ frame_checks version bytes place index (Err refusal) are (inr (inr is)) =
     ∙ ap Err (sym is.line)
 
 -- so it is
-pub tried_frame_means : FramesAreTold
+pub tried_frame_means : FramesAreReported
 unfolding tried_frame
 tried_frame_means version bytes place index tried are = (
-  (λ same. subst (TellsFrame version bytes place index) same (frame_told version bytes place index are)),
+  (λ same. subst (ReportsFrame version bytes place index) same (frame_reported version bytes place index are)),
   frame_checks version bytes place index tried are,
 )
 

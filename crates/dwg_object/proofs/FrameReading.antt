@@ -14,7 +14,7 @@ use Rattle.dwg_object.specs.Forms.{FormOf}
 use Rattle.dwg_object.specs.Heads.{HasHead}
 use Rattle.dwg_object.proofs.FormLaws.{head_of_form}
 use Rattle.dwg_object.specs.FoundFrames.{IsTried}
-use Rattle.dwg_object.specs.FrameCauses.{IsFramed, TellsFrame}
+use Rattle.dwg_object.specs.FrameCauses.{IsFramed, ReportsFrame}
 use Rattle.dwg_object.proofs.FrameLaws.{body_of_span, tried_frame_means}
 use Rattle.dwg_object.specs.FrameLines.{frame_refusal, span_body, frame_checked, tried_span, tried_frame}
 use Rattle.dwg_object.specs.Frames.{FrameAt, SpanAt}
@@ -30,13 +30,13 @@ pub refused_span : (version : Version) (bytes : List ℕ) (place index : ℕ) (r
 unfolding tried_frame
 refused_span version bytes place index refusal tried = ap (frame_checked version place index bytes) tried
 
--- what the input tells of a frame is what is tried there
-pub told_frame : (version : Version) (bytes : List ℕ) (place index : ℕ) (tried : Tried (Span × HeadParts)) → ((i : ℕ) → get_or bytes i 0 < 256) → TellsFrame version bytes place index tried → tried_frame version place index bytes ≡ tried
-told_frame version bytes place index tried small tells = (tried_frame_means version bytes place index tried (are_bytes bytes small)).1 tells
+-- what the input reports of a frame is what is tried there
+pub reported_frame : (version : Version) (bytes : List ℕ) (place index : ℕ) (tried : Tried (Span × HeadParts)) → ((i : ℕ) → get_or bytes i 0 < 256) → ReportsFrame version bytes place index tried → tried_frame version place index bytes ≡ tried
+reported_frame version bytes place index tried small reports = (tried_frame_means version bytes place index tried (are_bytes bytes small)).1 reports
 
 -- a body without a head refuses its frame
 pub head_refused : {version : Version} (bytes : List ℕ) (index : ℕ) (span : Span) (body : List ℕ) (refusal : Refusal) → IsFramed bytes span.from span → body ≡ span_body bytes span
-    → ((parts : HeadParts) → HasHead version (bits body) parts → ⊥) → refusal ≡ frame_refusal 31 index span.from → TellsFrame version bytes span.from index (Err refusal)
+    → ((parts : HeadParts) → HasHead version (bits body) parts → ⊥) → refusal ≡ frame_refusal 31 index span.from → ReportsFrame version bytes span.from index (Err refusal)
 head_refused {version} bytes index span body refusal framed same none line =
     inr (inr (record { span = span; framed = framed; headless = λ parts is. none parts (subst (λ (b : List ℕ). HasHead version (bits b) parts) (sym same) is); line = line }))
 
@@ -53,7 +53,7 @@ found_tried version bytes index span body classes object small framed same form 
     record {
       span = span;
       parts = has.0;
-      tries = told_frame version bytes span.from index (Ok (span, has.0)) small (framed, subst (λ (b : List ℕ). HasHead version (bits b) has.0) same has.1);
+      tries = reported_frame version bytes span.from index (Ok (span, has.0)) small (framed, subst (λ (b : List ℕ). HasHead version (bits b) has.0) same has.1);
       same_end = refl;
       same_number = has.2;
       same_own = has.3;

@@ -37,15 +37,15 @@ size_small Ac1015 parts is = is.size
 -- bits begin with at most one head
 pub heads_same : {version : Version} (letters : List Bool) (parts other : HeadParts) → HasHead version letters parts → HasHead version letters other → parts ≡ other
 heads_same {version} letters parts other is was =
-    (unique_of_code AnyLetters (head version) (head_is_code version) parts other is.front was.front is.rest was.rest is.spelled was.spelled (sym is.whole ∙ was.whole)).0
+    (unique_of_code AnyLetters (head version) (head_is_code version) parts other is.prefix was.prefix is.rest was.rest is.spelled was.spelled (sym is.whole ∙ was.whole)).0
 
 -- a head of a number and an own handle is a head
 pub head_begins : {version : Version} (letters : List Bool) (number own : ℕ) (begins : BeginsWithHead version letters number own) → HasHead version letters (record { number = number; size = begins.size; own = own })
-head_begins letters number own begins = record { front = begins.front; rest = begins.rest; spelled = begins.spelled; whole = begins.whole }
+head_begins letters number own begins = record { prefix = begins.prefix; rest = begins.rest; spelled = begins.spelled; whole = begins.whole }
 
 -- a head is one of its number and its own handle
 pub begins_head : {version : Version} (letters : List Bool) (parts : HeadParts) → HasHead version letters parts → BeginsWithHead version letters parts.number parts.own
-begins_head letters parts is = record { size = parts.size; front = is.front; rest = is.rest; spelled = is.spelled; whole = is.whole }
+begins_head letters parts is = record { size = parts.size; prefix = is.prefix; rest = is.rest; spelled = is.spelled; whole = is.whole }
 
 -- so they have one number and one own handle
 pub begins_same : HeadsAreOne
@@ -56,38 +56,38 @@ begins_same version letters number own other other_own is was =
 -- the parts of a head lie in their ranges
 pub head_fits : {version : Version} (letters : List Bool) (parts : HeadParts) → HasHead version letters parts → IsHead version parts
 unfolding head
-head_fits {version} letters parts is = (head_is_code version).value is.front parts is.spelled
+head_fits {version} letters parts is = (head_is_code version).value is.prefix parts is.spelled
 
 -- what is parsed is a head that the bits begin with
 pub head_parsed : {version : Version} (letters rest : List Bool) (parts : HeadParts) → (head version).parse letters ≡ Some (parts, rest) → HasHead version letters parts
-head_parsed {version} letters rest parts same = let is = (head_is_code version).sound letters rest parts tt same in record { front = is.0; rest = rest; spelled = is.1; whole = is.2 }
+head_parsed {version} letters rest parts same = let is = (head_is_code version).sound letters rest parts tt same in record { prefix = is.0; rest = rest; spelled = is.1; whole = is.2 }
 
 -- where none is parsed, they begin with none
 pub head_unparsed : {version : Version} (letters : List Bool) → (head version).parse letters ≡ None → (parts : HeadParts) → HasHead version letters parts → ⊥
-head_unparsed {version} letters same parts is = (reads_none AnyLetters (head version) letters (head_is_code version) same).0 (parts, is.front, is.rest, is.spelled, is.whole)
+head_unparsed {version} letters same parts is = (reads_none AnyLetters (head version) letters (head_is_code version) same).0 (parts, is.prefix, is.rest, is.spelled, is.whole)
 
--- what the front of the bits tells of a head: its parts, or that there is none
-abbrev pub TellsHead : Version → List Bool → Option HeadParts → Type 0
-TellsHead version letters (Some parts) = HasHead version letters parts
-TellsHead version letters None = (parts : HeadParts) → HasHead version letters parts → ⊥
+-- what the begin of the bits reports of a head: its parts, or that there is none
+abbrev pub ReportsHead : Version → List Bool → Option HeadParts → Type 0
+ReportsHead version letters (Some parts) = HasHead version letters parts
+ReportsHead version letters None = (parts : HeadParts) → HasHead version letters parts → ⊥
 
--- what is parsed of a head is what the bits tell
-pub head_told : (version : Version) (letters : List Bool) → TellsHead version letters (option_map (λ (found : HeadParts × List Bool). found.0) ((head version).parse letters))
-head_told version letters = of_found ((head version).parse letters) refl
+-- what is parsed of a head is what the bits report
+pub head_reported : (version : Version) (letters : List Bool) → ReportsHead version letters (option_map (λ (found : HeadParts × List Bool). found.0) ((head version).parse letters))
+head_reported version letters = of_found ((head version).parse letters) refl
   where
-    of_found : (found : Option (HeadParts × List Bool)) → (head version).parse letters ≡ found → TellsHead version letters (option_map (λ (found : HeadParts × List Bool). found.0) found)
+    of_found : (found : Option (HeadParts × List Bool)) → (head version).parse letters ≡ found → ReportsHead version letters (option_map (λ (found : HeadParts × List Bool). found.0) found)
     of_found (Some (parts, rest)) same = head_parsed letters rest parts same
     of_found None same = head_unparsed letters same
 
--- and it is all that they tell
-pub head_only : (version : Version) (letters : List Bool) (told other : Option HeadParts) → TellsHead version letters told → TellsHead version letters other → told ≡ other
+-- and it is all that they report
+pub head_only : (version : Version) (letters : List Bool) (reported other : Option HeadParts) → ReportsHead version letters reported → ReportsHead version letters other → reported ≡ other
 head_only version letters (Some parts) (Some other) is was = ap Some (heads_same letters parts other is was)
 head_only version letters (Some parts) None is none = absurd (none parts is)
 head_only version letters None (Some other) none was = absurd (none other was)
 head_only version letters None None none also = refl
 
--- it is that of every head that the bits tell
-pub own_told : (version : Version) (letters : List Bool) (told : Option HeadParts) → TellsHead version letters told → option_map (λ (parts : HeadParts). parts.own) told ≡ own_of version letters
-own_told version letters told is =
+-- it is that of every head that the bits report
+pub own_reported : (version : Version) (letters : List Bool) (reported : Option HeadParts) → ReportsHead version letters reported → option_map (λ (parts : HeadParts). parts.own) reported ≡ own_of version letters
+own_reported version letters reported is =
     ap (option_map (λ (parts : HeadParts). parts.own))
-    (head_only version letters told (option_map (λ (found : HeadParts × List Bool). found.0) ((head version).parse letters)) is (head_told version letters))
+    (head_only version letters reported (option_map (λ (found : HeadParts × List Bool). found.0) ((head version).parse letters)) is (head_reported version letters))

@@ -15,7 +15,7 @@ use Rattle.dwg_grammar.specs.Grammar.{Reads}
 use Rattle.dwg_grammar.specs.ReferenceCodes.{own_handle}
 use Rattle.dwg_object.specs.Objects.{HeadParts}
 use Rattle.dwg_object.specs.Heads.{head, head_size, HasHead, IsHeadAt, own_of}
-use Rattle.dwg_object.proofs.HeadLemmas.{head_is_code, own_told, head_unparsed}
+use Rattle.dwg_object.proofs.HeadLemmas.{head_is_code, own_reported, head_unparsed}
 
 -- what was read of an own handle is what is parsed
 pub own_parsed : (found : Option ℕ) (old new : List Bool) → Reads own_handle found old new → own_handle.parse old ≡ option_map (λ (value : ℕ). (value, new)) found
@@ -26,13 +26,13 @@ whole_rest : (body : List ℕ) (cursor : BitCursor) → cursor.bytes.now ≡ bod
 whole_rest body cursor same from to =
     ap (λ (some : List ℕ). bits_between some cursor.place cursor.end) same ∙ ap (λ (n : ℕ). bits_between body n cursor.end) from ∙ bits_between_all body cursor.end to
 
--- what is parsed from there is the head of the body, behind which the cursor stands
+-- what is parsed from there is the head of the body, after which the cursor stands
 pub body_begins : {version : Version} (body : List ℕ) (old new : BitCursor) (parts : HeadParts) → old.bytes.now ≡ body → old.place ≡ 0 → old.end ≡ 8 * length body → Keeps old new
     → (head version).parse (rest old) ≡ Some (parts, rest new) → IsHeadAt version (bits body) parts new.place
 body_begins {version} body old new parts same from to kept found =
     let is = (head_is_code version).sound (bits body) (rest new) parts tt (ap (head version).parse (sym (whole_rest body old same from to)) ∙ found) in
     record {
-      has = record { front = is.0; rest = rest new; spelled = is.1; whole = is.2 };
+      has = record { prefix = is.0; rest = rest new; spelled = is.1; whole = is.2 };
       far = omega (
         arith,
         length_of_bits_between new.bytes.now new.place new.end new.within,
@@ -52,7 +52,7 @@ body_begins_not {version} body old same from to none = head_unparsed (bits body)
 
 -- a head ends within the body
 pub head_within : {version : Version} (body : List ℕ) (parts : HeadParts) (at : ℕ) → IsHeadAt version (bits body) parts at → at ≤ 8 * length body
-head_within body parts at is = omega (arith, is.far, ap length is.has.whole, length-append is.has.front is.has.rest, length_of_bits body)
+head_within body parts at is = omega (arith, is.far, ap length is.has.whole, length-append is.has.prefix is.has.rest, length_of_bits body)
 
 -- a head is as long as its parts
 pub head_long : (version : Version) (number own a b c : ℕ) → a ≡ length (bs.short number) → b ≡ length ((head_size version).short 0) → c ≡ length (own_handle.short own)
@@ -68,10 +68,10 @@ head_long version number own a b c is is_size is_own =
       length-append ((head_size version).short 0) (own_handle.short own),
     )
 
--- a head that a body begins with tells its own handle
+-- a head that a body begins with reports its own handle
 pub own_found : {version : Version} (letters : List Bool) (parts : HeadParts) (end : ℕ) → IsHeadAt version letters parts end → Some parts.own ≡ own_of version letters
-own_found {version} letters parts end is = own_told version letters (Some parts) is.has
+own_found {version} letters parts end is = own_reported version letters (Some parts) is.has
 
--- a body without a head tells none
+-- a body without a head reports none
 pub own_missing : {version : Version} (letters : List Bool) → ((parts : HeadParts) → HasHead version letters parts → ⊥) → None ≡ own_of version letters
-own_missing {version} letters none = own_told version letters None none
+own_missing {version} letters none = own_reported version letters None none

@@ -10,9 +10,9 @@ use Rattle.dwg_codes.proofs.ShortReading.{ms_short_last, ms_short_more}
 use Rattle.dwg_grammar.proofs.NumberLemmas.{bytes_of_number}
 
 -- joined bytes are bytes
-pub bytes_joined : (front rest : List ℕ) → AreBytes front → AreBytes rest → AreBytes (front ++ rest)
+pub bytes_joined : (prefix rest : List ℕ) → AreBytes prefix → AreBytes rest → AreBytes (prefix ++ rest)
 bytes_joined [] rest are others = others
-bytes_joined (byte ∷ front) rest are others = (are.0, bytes_joined front rest are.1 others)
+bytes_joined (byte ∷ prefix) rest are others = (are.0, bytes_joined prefix rest are.1 others)
 
 -- a unit is written by its two bytes
 unit_short : (group : ℕ) → unit.short group ≡ to_le_bytes w16 group

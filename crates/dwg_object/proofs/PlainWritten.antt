@@ -56,15 +56,15 @@ plain_stays_plain {version} {classes} {number = number} {handle = handle} {commo
     let kind : Kind = kind_under classes number in
     let form = common_of_plain (has_plain was) in
     let are = own_of_typed form has in
-    let own_refs : List Bool = are.begins.reference_front in
+    let own_refs : List Bool = are.begins.reference_prefix in
     let left : List Bool = has.form.left in
     let small = (fits_of_common was.form).own in
     let part = own_is_body version kind handle small in
     let spelled : (own_body version kind handle).Spells has.value rest own_refs (length left) =
-    subst (λ (own : List Bool). (own_body version kind handle).Spells has.value own own_refs (length left)) (sym (are.begins.main_whole ∙ append-nil are.begins.main_front)) are.begins.spelled in
+    subst (λ (own : List Bool). (own_body version kind handle).Spells has.value own own_refs (length left)) (sym (are.begins.main_whole ∙ append-nil are.begins.main_prefix)) are.begins.spelled in
     let names : List Reference = (own_body version kind handle).references has.value in
     let named : SpellsToEnd 8 (reference handle) names (was.refs_bits ++ was.left) left =
-    record { front = own_refs; spelled = part.listed has.value rest own_refs (length left) spelled; whole = are.begins.references_whole; short = are.few } in
+    record { prefix = own_refs; spelled = part.listed has.value rest own_refs (length left) spelled; whole = are.begins.references_whole; short = are.few } in
     let same : names ≡ refs =
     (cut_uniquely AnyLetters 8 (reference handle) (reference_is_code handle small) (reference_least handle) names refs (was.refs_bits ++ was.left) left was.left
     named (refs_cut form (has_plain was))).0 in

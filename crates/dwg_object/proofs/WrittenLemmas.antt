@@ -21,9 +21,9 @@ use Rattle.dwg_object.specs.declared.common.Common.{Common}
 use Rattle.dwg_object.specs.Objects.{is_of_entity}
 use Rattle.dwg_object.proofs.CommonForms.{common_is_body, common_of_entity, common_may_follow, fits_of_common, layout_small, size_of_form}
 use Rattle.dwg_object.specs.Forms.{CommonForm, kind_under, common_part, layout_in}
-use Rattle.dwg_object.specs.Heads.{head, head_size, told_size}
+use Rattle.dwg_object.specs.Heads.{head, head_size, size_given}
 use Rattle.dwg_object.proofs.HeadLemmas.{head_is_code}
-use Rattle.dwg_object.specs.Written.{common_main, common_refs, written_size, main_size, written_head, sized_main, front_bits, refs_bits, object_bits, object_bytes}
+use Rattle.dwg_object.specs.Written.{common_main, common_refs, written_size, main_size, written_head, sized_main, prefix_bits, refs_bits, object_bits, object_bytes}
 
 -- a bit size of a head is as long as another
 sizes_long : (version : Version) (size other : ℕ) → length ((head_size version).short size) ≡ length ((head_size version).short other)
@@ -78,7 +78,7 @@ sized_long version size handle common = sym (sizes_alike version size handle com
 -- the head that is written has as many bits as one with size 0
 pub head_long_written : (version : Version) (number handle size : ℕ)
     → length ((head version).short (written_head version number handle size)) ≡ length ((head version).short (record { number = number; size = 0; own = handle }))
-head_long_written version number handle size = head_as_long version number handle (told_size version size) 0
+head_long_written version number handle size = head_as_long version number handle (size_given version size) 0
 
 -- what a common part can be in AC1014 it can be in AC1015
 pub common_narrower : (version : Version) (handle : ℕ) (common : Common) → (common_part (layout_in version 0) (is_of_entity common) handle).Fits common
@@ -96,22 +96,22 @@ main_long version size number handle common own =
       arith,
       length-append ((head version).short (written_head version number handle size)) (common_main (layout_in version size) handle common ++ own),
       length-append (common_main (layout_in version size) handle common) own,
-      head_as_long version number handle (told_size version size) 0,
+      head_as_long version number handle (size_given version size) 0,
       (sizes_alike version size handle common).main,
     )
 
 -- how many bits stand before the references: as many as the head says
-pub front_long : (version : Version) (number handle : ℕ) (common : Common) (own : List Bool)
-    → length (front_bits version number handle common own)
+pub prefix_long : (version : Version) (number handle : ℕ) (common : Common) (own : List Bool)
+    → length (prefix_bits version number handle common own)
     ≡ length ((head version).short (record { number = number; size = 0; own = handle })) + length (common_main (layout_in version 0) handle common) + length own
-unfolding front_bits
-front_long version number handle common own = main_long version (main_size version number handle common own) number handle common own
+unfolding prefix_bits
+prefix_long version number handle common own = main_long version (main_size version number handle common own) number handle common own
 
 -- that is the bit size
-pub front_sized : (version : Version) (number handle : ℕ) (common : Common) (own : List Bool) → length (front_bits version number handle common own) ≡ main_size version number handle common own
+pub prefix_sized : (version : Version) (number handle : ℕ) (common : Common) (own : List Bool) → length (prefix_bits version number handle common own) ≡ main_size version number handle common own
 unfolding written_size
-front_sized version number handle common own =
-    omega (arith, front_long version number handle common own, length-append (common_main (layout_in version 0) handle common) own)
+prefix_sized version number handle common own =
+    omega (arith, prefix_long version number handle common own, length-append (common_main (layout_in version 0) handle common) own)
 
 -- how many are the references
 pub refs_long : (version : Version) (handle : ℕ) (common : Common) (own_refs : List Bool)
@@ -121,15 +121,15 @@ refs_long version handle common own_refs = length-append (common_refs (layout_in
 
 -- and both
 pub object_long : (version : Version) (number handle : ℕ) (common : Common) (own own_refs : List Bool)
-    → length (object_bits version number handle common own own_refs) ≡ length (front_bits version number handle common own) + length (refs_bits version handle common own_refs)
-object_long version number handle common own own_refs = length-append (front_bits version number handle common own) (refs_bits version handle common own_refs)
+    → length (object_bits version number handle common own own_refs) ≡ length (prefix_bits version number handle common own) + length (refs_bits version handle common own_refs)
+object_long version number handle common own own_refs = length-append (prefix_bits version number handle common own) (refs_bits version handle common own_refs)
 
 pub length_of_object : (version : Version) (number handle : ℕ) (common : Common) (own own_refs : List Bool)
     → length (object_bits version number handle common own own_refs)
     ≡ length ((head version).short (record { number = number; size = 0; own = handle })) + length (common_main (layout_in version 0) handle common) + length own
     + length (common_refs (layout_in version 0) handle common) + length own_refs
 length_of_object version number handle common own own_refs =
-    omega (arith, object_long version number handle common own own_refs, front_long version number handle common own, refs_long version handle common own_refs)
+    omega (arith, object_long version number handle common own own_refs, prefix_long version number handle common own, refs_long version handle common own_refs)
 
 -- whole bytes hold the bits that fill them and fewer than eight more
 pub record IsPadded (count : ℕ) (bytes : List ℕ) : Type 0 where
@@ -156,13 +156,13 @@ pub record IsFittingCommon (version : Version) (entity : Bool) (handle : ℕ) (c
   pub fewer : length (common_main (layout_in version 0) handle common) ≤ length main
   pub fewer_refs : length (common_refs (layout_in version 0) handle common) ≤ length references
 
-pub common_fits : {version : Version} {classes : List Class} {body : List ℕ} {number handle : ℕ} {common : Common} {own behind : List Bool} (is : CommonForm version classes body number handle common own behind)
+pub common_fits : {version : Version} {classes : List Class} {body : List ℕ} {number handle : ℕ} {common : Common} {own after : List Bool} (is : CommonForm version classes body number handle common own after)
     → IsFittingCommon version (is_entity_kind (kind_under classes number)) handle common is.common_main is.common_refs
-common_fits {version} {classes} {number = number} {handle = handle} {common = common} {behind = behind} is =
+common_fits {version} {classes} {number = number} {handle = handle} {common = common} {after = after} is =
     let entity : Bool = is_entity_kind (kind_under classes number) in
     let layout : Layout = layout_in version is.size in
     let part = common_is_body layout entity handle (layout_small version is.size (size_of_form is)) (fits_of_common is).own in
-    let over : ℕ = length behind in
+    let over : ℕ = length after in
     let same : is_of_entity common ≡ entity = common_of_entity layout entity handle common is.common_main is.common_refs over is.common_spelled in
     let alike = sizes_alike version is.size handle common in
     let fewer : length (common_main layout handle common) ≤ length is.common_main =
@@ -179,28 +179,28 @@ common_fits {version} {classes} {number = number} {handle = handle} {common = co
     }
 
 -- what own bits and own references were read as is written by no more bytes than the body, where they are written by no more bits
-pub object_short : {version : Version} {classes : List Class} {body : List ℕ} {number handle : ℕ} {common : Common} {own behind : List Bool} (written written_refs : List Bool)
-    → CommonForm version classes body number handle common own behind → length written ≤ length own → length written_refs ≤ length behind
+pub object_short : {version : Version} {classes : List Class} {body : List ℕ} {number handle : ℕ} {common : Common} {own after : List Bool} (written written_refs : List Bool)
+    → CommonForm version classes body number handle common own after → length written ≤ length own → length written_refs ≤ length after
     → length (object_bytes version number handle common written written_refs) ≤ length body
-object_short {version} {classes} {body} {number} {handle} {common} {own} {behind} written written_refs is fewer fewer_refs =
+object_short {version} {classes} {body} {number} {handle} {common} {own} {after} written written_refs is fewer fewer_refs =
     let common_fewer = common_fits is in
     let padded = bytes_padded (object_bits version number handle common written written_refs) in
     let bits_fewer : length (object_bits version number handle common written written_refs) ≤ 8 * length body =
     omega (
       arith,
       length_of_object version number handle common written written_refs,
-      head_as_long version number handle (told_size version is.size) 0,
-      (head_is_code version).least is.head_bits (record { number = number; size = told_size version is.size; own = handle }) is.head_spelled,
+      head_as_long version number handle (size_given version is.size) 0,
+      (head_is_code version).least is.head_bits (record { number = number; size = size_given version is.size; own = handle }) is.head_spelled,
       common_fewer.fewer,
       common_fewer.fewer_refs,
       fewer,
       fewer_refs,
       length_of_bits body,
       ap length is.whole,
-      length-append (is.head_bits ++ (is.common_main ++ own)) (is.common_refs ++ behind),
+      length-append (is.head_bits ++ (is.common_main ++ own)) (is.common_refs ++ after),
       length-append is.head_bits (is.common_main ++ own),
       length-append is.common_main own,
-      length-append is.common_refs behind,
+      length-append is.common_refs after,
     ) in
     omega (arith, padded.few, bits_fewer)
 
@@ -208,19 +208,19 @@ object_short {version} {classes} {body} {number} {handle} {common} {own} {behind
 written_whole : (version : Version) (number handle : ℕ) (common : Common) (own own_refs fill : List Bool)
     → object_bits version number handle common own own_refs ++ fill
     ≡ sized_main version (main_size version number handle common own) number handle common own ++ (common_refs (layout_in version (main_size version number handle common own)) handle common ++ (own_refs ++ fill))
-unfolding front_bits refs_bits
+unfolding prefix_bits refs_bits
 written_whole version number handle common own own_refs fill =
     let size : ℕ = main_size version number handle common own in
-    let front : List Bool = sized_main version size number handle common own in
-    append_assoc front (common_refs (layout_in version 0) handle common ++ own_refs) fill
-    ∙ ap (λ behind. front ++ behind) (append_assoc (common_refs (layout_in version 0) handle common) own_refs fill)
-    ∙ ap (λ (names : List Bool). front ++ (names ++ (own_refs ++ fill))) (sizes_alike version size handle common).references
+    let prefix : List Bool = sized_main version size number handle common own in
+    append_assoc prefix (common_refs (layout_in version 0) handle common ++ own_refs) fill
+    ∙ ap (λ after. prefix ++ after) (append_assoc (common_refs (layout_in version 0) handle common) own_refs fill)
+    ∙ ap (λ (names : List Bool). prefix ++ (names ++ (own_refs ++ fill))) (sizes_alike version size handle common).references
 
 -- the head that is written says how many bits stand before the references
 written_filled : (version : Version) (number handle : ℕ) (common : Common) (own : List Bool)
     → length (sized_main version (main_size version number handle common own) number handle common own) ≡ main_size version number handle common own
-unfolding front_bits
-written_filled version number handle common own = front_sized version number handle common own
+unfolding prefix_bits
+written_filled version number handle common own = prefix_sized version number handle common own
 
 -- the parts of an object that is written by them lie in their ranges
 pub record AreWritten (version : Version) (number handle : ℕ) (common : Common) : Type 0 where
@@ -229,24 +229,24 @@ pub record AreWritten (version : Version) (number handle : ℕ) (common : Common
   pub handle_fits : handle < 2 ^ 63
   pub common_fits : (common_part (layout_in version 0) (is_of_entity common) handle).Fits common
 
--- what is told of a bit size of an RL is one of a head
-told_value : (version : Version) (size : ℕ) → size < 2 ^ 32 → (head_size version).IsValue (told_size version size)
-told_value Ac1014 size small = refl
-told_value Ac1015 size small = small
+-- what is reported of a bit size of an RL is one of a head
+reported_value : (version : Version) (size : ℕ) → size < 2 ^ 32 → (head_size version).IsValue (size_given version size)
+reported_value Ac1014 size small = refl
+reported_value Ac1015 size small = small
 
 -- its bit size is one of an RL
 written_small : (version : Version) (number handle : ℕ) (common : Common) (own own_refs : List Bool) → length (object_bits version number handle common own own_refs) < 2 ^ 32
     → main_size version number handle common own < 2 ^ 32
-written_small version number handle common own own_refs small = omega (arith, small, object_long version number handle common own own_refs, front_sized version number handle common own)
+written_small version number handle common own own_refs small = omega (arith, small, object_long version number handle common own own_refs, prefix_sized version number handle common own)
 
 -- its head is spelled
 written_spelled : (version : Version) (number handle size : ℕ) → number < 2 ^ 16 → 0 < handle → handle < 2 ^ 63 → size < 2 ^ 32
     → (head version).Spells (written_head version number handle size) ((head version).short (written_head version number handle size))
 unfolding head
 written_spelled version number handle size few positive own small =
-    (head_is_code version).canonical (written_head version number handle size) (record { number = few; size = told_value version size small; positive = positive; own = own })
+    (head_is_code version).canonical (written_head version number handle size) (record { number = few; size = reported_value version size small; positive = positive; own = own })
 
--- what is written is cut into these parts, behind which the bits stand that fill it up
+-- what is written is cut into these parts, after which the bits stand that fill it up
 pub common_form_written : (version : Version) (classes : List Class) (number handle : ℕ) (common : Common) (own own_refs : List Bool) → AreWritten version number handle common
     → is_of_entity common ≡ is_entity_kind (kind_under classes number) → length (object_bytes version number handle common own own_refs) < 2 ^ 29
     → CommonForm version classes (object_bytes version number handle common own own_refs) number handle common own (own_refs ++ padding (object_bits version number handle common own own_refs))

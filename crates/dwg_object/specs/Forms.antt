@@ -23,7 +23,7 @@ use Rattle.dwg_kinds.specs.declared.kind.Kind.TheVariants.{Unknown}
 use Rattle.dwg_object.specs.declared.common.Common.{Common}
 use Rattle.dwg_object.specs.declared.body.Body.{Body}
 use Rattle.dwg_object.specs.declared.common.Common.TheVariants.{Entity, Object}
-use Rattle.dwg_object.specs.Heads.{BeginsWithHead, head, told_size}
+use Rattle.dwg_object.specs.Heads.{BeginsWithHead, head, size_given}
 use Rattle.dwg_object.specs.Objects.{HeadParts, ObjectValue, TypedValue, PlainValue, RawValue}
 use Rattle.dwg_object.specs.OwnBodies.{own_body}
 
@@ -54,20 +54,20 @@ abbrev pub common_part : Layout → Bool → ℕ → BodyGrammar Common
 common_part layout true base = variant Entity entity_inside (entity_common layout base)
 common_part layout false base = variant Object object_inside (object_common layout base)
 
--- the head of a body and the bits after it tell the bit size: in AC1014 these do, in AC1015 the head does
-abbrev pub SizeTold : Version → Bool → HeadParts → ℕ → List Bool → Type 0
-SizeTold Ac1014 entity parts size after = SpellsSize entity parts.own size after
-SizeTold Ac1015 entity parts size after = size ≡ parts.size
+-- the head of a body and the bits after it report the bit size: in AC1014 these do, in AC1015 the head does
+abbrev pub HasSize : Version → Bool → HeadParts → ℕ → List Bool → Type 0
+HasSize Ac1014 entity parts size after = SpellsSize entity parts.own size after
+HasSize Ac1015 entity parts size after = size ≡ parts.size
 
--- what the forms that read a common part have in common: the head, the common part and the own bits before the references, together as many as the bit size says; the references of the common part, and the bits behind them
-pub record CommonForm (version : Version) (classes : List Class) (body : List ℕ) (number handle : ℕ) (common : Common) (own behind : List Bool) : Type 0 where
+-- what the forms that read a common part have in common: the head, the common part and the own bits before the references, together as many as the bit size says; the references of the common part, and the bits after them
+pub record CommonForm (version : Version) (classes : List Class) (body : List ℕ) (number handle : ℕ) (common : Common) (own after : List Bool) : Type 0 where
   pub size : ℕ
   pub head_bits : List Bool
   pub common_main : List Bool
   pub common_refs : List Bool
-  pub whole : bits body ≡ (head_bits ++ (common_main ++ own)) ++ (common_refs ++ behind)
-  pub head_spelled : (head version).Spells (record { number = number; size = told_size version size; own = handle }) head_bits
-  pub common_spelled : (common_part (layout_in version size) (is_entity_kind (kind_under classes number)) handle).Spells common common_main common_refs (length behind)
+  pub whole : bits body ≡ (head_bits ++ (common_main ++ own)) ++ (common_refs ++ after)
+  pub head_spelled : (head version).Spells (record { number = number; size = size_given version size; own = handle }) head_bits
+  pub common_spelled : (common_part (layout_in version size) (is_entity_kind (kind_under classes number)) handle).Spells common common_main common_refs (length after)
   pub filled : length (head_bits ++ (common_main ++ own)) ≡ size
 
 -- a body has that
@@ -76,10 +76,10 @@ pub record HasCommonForm (version : Version) (classes : List Class) (body : List
   pub handle : ℕ
   pub common : Common
   pub own : List Bool
-  pub behind : List Bool
-  pub form : CommonForm version classes body number handle common own behind
+  pub after : List Bool
+  pub form : CommonForm version classes body number handle common own after
 
--- the form of a body whose own bits and own references are those of its kind, behind which fewer than eight bits are left
+-- the form of a body whose own bits and own references are those of its kind, after which fewer than eight bits are left
 pub record TypedForm (version : Version) (classes : List Class) (body : List ℕ) (number handle : ℕ) (common : Common) (value : Body) : Type 0 where
   pub own : List Bool
   pub own_refs : List Bool
@@ -96,7 +96,7 @@ pub record HasTypedForm (version : Version) (classes : List Class) (body : List 
   pub value : Body
   pub form : TypedForm version classes body number handle common value
 
--- the form of a body whose kind is known: its own bits are any, and behind the references of the common part stand any number of others, until fewer than eight bits are left
+-- the form of a body whose kind is known: its own bits are any, and after the references of the common part stand any number of others, until fewer than eight bits are left
 pub record PlainForm (version : Version) (classes : List Class) (body : List ℕ) (number handle : ℕ) (common : Common) (rest : List Bool) (refs : List Reference) : Type 0 where
   pub known : kind_under classes number ≢ Unknown
   pub refs_bits : List Bool

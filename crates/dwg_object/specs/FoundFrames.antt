@@ -16,7 +16,7 @@ pub record IsTried (found : Found) (tried : Tried (Span × HeadParts)) : Type 0 
   pub same_number : number_of (value_of found.object) ≡ parts.number
   pub same_own : handle_of (value_of found.object) ≡ parts.own
 
--- a call answers what was tried of a frame: what was found, or the refusal; want of memory tells nothing
+-- a call answers what was tried of a frame: what was found, or the refusal; out of memory reports nothing
 abbrev pub AnswersFrame : Result Found Fault → Tried (Span × HeadParts) → Type 0
 AnswersFrame (Ok found) tried = IsTried found tried
 AnswersFrame (Err NoMemory) tried = ⊤

@@ -16,16 +16,16 @@ use Rattle.dwg_object.specs.FrameLines.{frame_refusal, span_body}
 abbrev pub PassesEnd : List ℕ → ℕ → Type 0
 PassesEnd bytes place = (long : ℕ) (size : List ℕ) → ms.Spells long size → StandsAt bytes place size → length bytes < place + length size + long + 2
 
--- why no span stands at a place: the place is behind the input, or no frame in the input begins there
+-- why no span stands at a place: the place is after the input, or no frame in the input begins there
 abbrev pub SpanRefused : List ℕ → ℕ → ℕ → Refusal → Type 0
 SpanRefused bytes place index refusal =
     ((length bytes ≤ place) × (refusal ≡ frame_refusal 27 index place))
     ⊎ ((place < length bytes) × PassesEnd bytes place × (refusal ≡ frame_refusal 28 index place))
 
 -- what was tried of a span: the one that stands at the place, or why none does
-abbrev pub TellsSpan : List ℕ → ℕ → ℕ → Tried Span → Type 0
-TellsSpan bytes place index (Ok span) = SpanAt bytes span × (span.from ≡ place)
-TellsSpan bytes place index (Err refusal) = SpanRefused bytes place index refusal
+abbrev pub ReportsSpan : List ℕ → ℕ → ℕ → Tried Span → Type 0
+ReportsSpan bytes place index (Ok span) = SpanAt bytes span × (span.from ≡ place)
+ReportsSpan bytes place index (Err refusal) = SpanRefused bytes place index refusal
 
 -- the body of the span at a place is framed there
 pub record IsFramed (bytes : List ℕ) (place : ℕ) (span : Span) : Type 0 where
@@ -49,7 +49,7 @@ pub record HeadRefused (version : Version) (bytes : List ℕ) (place index : ℕ
   pub line : refusal ≡ frame_refusal 31 index place
 
 -- what was tried of a frame: its span and its head, or why there is none
-abbrev pub TellsFrame : Version → List ℕ → ℕ → ℕ → Tried (Span × HeadParts) → Type 0
-TellsFrame version bytes place index (Ok found) = IsFramed bytes place found.0 × HasHead version (bits (span_body bytes found.0)) found.1
-TellsFrame version bytes place index (Err refusal) =
+abbrev pub ReportsFrame : Version → List ℕ → ℕ → ℕ → Tried (Span × HeadParts) → Type 0
+ReportsFrame version bytes place index (Ok found) = IsFramed bytes place found.0 × HasHead version (bits (span_body bytes found.0)) found.1
+ReportsFrame version bytes place index (Err refusal) =
     SpanRefused bytes place index refusal ⊎ (CheckRefused bytes place index refusal ⊎ HeadRefused version bytes place index refusal)

@@ -26,7 +26,7 @@ span_parsed place index len left (Some (long, rest)) =
     if nat_lt len (place + (left - length rest) + long + 2) then Err (frame_refusal 28 index place)
     else Ok (span_of place (left - length rest) long)
 
--- the span of the frame at a place, or its refusal: the place is behind the input, or no length is spelled there, or the frame passes the end of the input
+-- the span of the frame at a place, or its refusal: the place is after the input, or no length is spelled there, or the frame passes the end of the input
 unfoldable pub tried_span : ℕ → ℕ → List ℕ → Tried Span
 tried_span place index bytes =
     if not (nat_lt place (length bytes)) then Err (frame_refusal 27 index place)

@@ -39,7 +39,7 @@ pub record SpanAt (bytes : List ℕ) (span : Span) : Type 0 where
   pub body_end : span.body_end ≡ span.body + length body
   pub ends : span.end ≡ span.body_end + 2
 
--- bytes behind their length in the fewest units
+-- bytes after their length in the fewest units
 abbrev pub sized : List ℕ → List ℕ
 sized bytes = ms.short (length bytes) ++ bytes
 

@@ -9,13 +9,13 @@ use Rattle.dwg_grammar.specs.ReferenceCodes.{own_handle}
 use Rattle.dwg_grammar.specs.Versions.{since_1015}
 use Rattle.dwg_object.specs.Objects.{HeadParts}
 
--- the bit size as a head tells it: in AC1014 it stands in the common part, and that of a head is 0
+-- the bit size as a head reports it: in AC1014 it stands in the common part, and that of a head is 0
 abbrev pub head_size : Version → Grammar Bool ℕ
 head_size version = since_1015 version 0 rl
 
-abbrev pub told_size : Version → ℕ → ℕ
-told_size Ac1014 size = 0
-told_size Ac1015 size = size
+abbrev pub size_given : Version → ℕ → ℕ
+size_given Ac1014 size = 0
+size_given Ac1015 size = size
 
 -- the parts of a head lie in their ranges
 pub record IsHead (version : Version) (parts : HeadParts) : Type 0 where
@@ -32,23 +32,23 @@ head version =
 
 -- the bits begin with this head
 pub record HasHead (version : Version) (letters : List Bool) (parts : HeadParts) : Type 0 where
-  pub front : List Bool
+  pub prefix : List Bool
   pub rest : List Bool
-  pub spelled : (head version).Spells parts front
-  pub whole : letters ≡ front ++ rest
+  pub spelled : (head version).Spells parts prefix
+  pub whole : letters ≡ prefix ++ rest
 
 -- the bits begin with a head of this number and this own handle
 pub record BeginsWithHead (version : Version) (letters : List Bool) (number own : ℕ) : Type 0 where
   pub size : ℕ
-  pub front : List Bool
+  pub prefix : List Bool
   pub rest : List Bool
-  pub spelled : (head version).Spells (record { number = number; size = size; own = own }) front
-  pub whole : letters ≡ front ++ rest
+  pub spelled : (head version).Spells (record { number = number; size = size; own = own }) prefix
+  pub whole : letters ≡ prefix ++ rest
 
 -- the bits begin with this head, which takes so many of them
 pub record IsHeadAt (version : Version) (letters : List Bool) (parts : HeadParts) (end : ℕ) : Type 0 where
   pub has : HasHead version letters parts
-  pub far : length has.front ≡ end
+  pub far : length has.prefix ≡ end
 
 -- the own handle in the head that the bits begin with
 abbrev pub own_of : Version → List Bool → Option ℕ

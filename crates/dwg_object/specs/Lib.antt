@@ -1,4 +1,4 @@
--- What the kinds of objects have of their own behind their common part.
+-- What the kinds of objects have of their own after their common part.
 pub mod OwnBodies
 -- Objects, whoever holds their bits and bytes.
 pub mod Objects

@@ -33,7 +33,7 @@ parts_of head = record { number = head.number; size = head.size; own = head.own 
 pub data ObjectValue : Type 0 where
   -- the type number, the own handle, the common part, and what its kind has of its own
   TypedValue : (number handle : ℕ) (common : Common) (body : Body) → ObjectValue
-  -- the type number, the own handle, the common part, the bits between it and the references, and the references behind those of the common part
+  -- the type number, the own handle, the common part, the bits between it and the references, and the references after those of the common part
   PlainValue : (number handle : ℕ) (common : Common) (rest : List Bool) (refs : List Reference) → ObjectValue
   -- the type number, the own handle, and the bytes of the body
   RawValue : (number handle : ℕ) (bytes : List ℕ) → ObjectValue

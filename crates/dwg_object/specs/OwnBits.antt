@@ -7,12 +7,12 @@ use Rattle.dwg_object.specs.declared.body.Body.{Body}
 use Rattle.dwg_object.specs.OwnBodies.{own_body}
 
 -- own bits and own references are wholly what a kind has of its own, but for fewer than eight bits
-pub record AreOwn (version : Version) (kind : Kind) (handle : ℕ) (value : Body) (own behind left : List Bool) : Type 0 where
-  pub begins : BeginsWithBody (own_body version kind handle) value own [] behind left
+pub record AreOwn (version : Version) (kind : Kind) (handle : ℕ) (value : Body) (own after left : List Bool) : Type 0 where
+  pub begins : BeginsWithBody (own_body version kind handle) value own [] after left
   pub few : length left < 8
 
 -- own bits and own references are those of some value
-pub record HasOwn (version : Version) (kind : Kind) (handle : ℕ) (own behind : List Bool) : Type 0 where
+pub record HasOwn (version : Version) (kind : Kind) (handle : ℕ) (own after : List Bool) : Type 0 where
   pub value : Body
   pub left : List Bool
-  pub are : AreOwn version kind handle value own behind left
+  pub are : AreOwn version kind handle value own after left

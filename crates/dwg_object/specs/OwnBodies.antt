@@ -1,4 +1,4 @@
--- What the kinds of objects have of their own behind their common part (Open Design Specification, the sections named by the kinds). Which kinds have a body is a rule of this project.
+-- What the kinds of objects have of their own after their common part (Open Design Specification, the sections named by the kinds). Which kinds have a body is a rule of this project.
 use Rattle.std.specs.Prelude.{⊤, ℕ, [], Some, None}
 use Rattle.dwg_base.specs.declared.version.Version.{Version}
 use Rattle.dwg_grammar.specs.Bodies.{BodyGrammar}

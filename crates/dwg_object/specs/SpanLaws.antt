@@ -5,9 +5,9 @@ use Rattle.dwg_base.specs.Bytes.{AreBytes}
 use Rattle.dwg_base.specs.Refusals.{Tried}
 use Rattle.dwg_object.specs.declared.span.Span.{Span}
 use Rattle.dwg_object.specs.FrameLines.{tried_span}
-use Rattle.dwg_object.specs.FrameCauses.{TellsSpan}
+use Rattle.dwg_object.specs.FrameCauses.{ReportsSpan}
 
--- what is tried of a span is what the input tells, and nothing else
-abbrev pub SpansAreTold : Type 0
-SpansAreTold =
-    (bytes : List ℕ) (place index : ℕ) (tried : Tried Span) → AreBytes bytes → (tried_span place index bytes ≡ tried) ↔ TellsSpan bytes place index tried
+-- what is tried of a span is what the input reports, and nothing else
+abbrev pub SpansAreReported : Type 0
+SpansAreReported =
+    (bytes : List ℕ) (place index : ℕ) (tried : Tried Span) → AreBytes bytes → (tried_span place index bytes ≡ tried) ↔ ReportsSpan bytes place index tried

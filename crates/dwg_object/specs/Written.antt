@@ -18,7 +18,7 @@ use Rattle.dwg_object.specs.declared.body.Body.{Body}
 use Rattle.dwg_object.specs.Objects.{HeadParts, ObjectValue, TypedValue, PlainValue, RawValue, is_of_entity}
 use Rattle.dwg_object.specs.OwnBodies.{body_kind, own_body}
 use Rattle.dwg_object.specs.Forms.{HasTypedForm, HasPlainForm, kind_under, common_part, layout_in}
-use Rattle.dwg_object.specs.Heads.{head, told_size, BeginsWithHead}
+use Rattle.dwg_object.specs.Heads.{head, size_given, BeginsWithHead}
 
 -- the bits of a common part as they are written in a layout: before the references, and among them
 abbrev pub common_main : Layout → ℕ → Common → List Bool
@@ -27,9 +27,9 @@ common_main layout handle common = (common_part layout (is_of_entity common) han
 abbrev pub common_refs : Layout → ℕ → Common → List Bool
 common_refs layout handle common = (common_part layout (is_of_entity common) handle).short_references common
 
--- the bit size of an object as it is written, behind whose head so many bits stand before the references: it counts both, and a head has as many bits whatever its bit size
+-- the bit size of an object as it is written, after whose head so many bits stand before the references: it counts both, and a head has as many bits whatever its bit size
 unfoldable pub written_size : Version → ℕ → ℕ → ℕ → ℕ
-written_size version number handle behind = length ((head version).short (record { number = number; size = 0; own = handle })) + behind
+written_size version number handle after = length ((head version).short (record { number = number; size = 0; own = handle })) + after
 
 -- that of an object with this common part and these own bits: a common part has as many bits whatever the bit size
 abbrev pub main_size : Version → ℕ → ℕ → Common → List Bool → ℕ
@@ -37,7 +37,7 @@ main_size version number handle common own = written_size version number handle 
 
 -- the head of an object as it is written
 abbrev pub written_head : Version → ℕ → ℕ → ℕ → HeadParts
-written_head version number handle size = record { number = number; size = told_size version size; own = handle }
+written_head version number handle size = record { number = number; size = size_given version size; own = handle }
 
 -- the bits of an object as they are written before the references with a bit size: head, common part, its own bits
 abbrev pub sized_main : Version → ℕ → ℕ → ℕ → Common → List Bool → List Bool
@@ -45,8 +45,8 @@ sized_main version size number handle common own =
     (head version).short (written_head version number handle size) ++ (common_main (layout_in version size) handle common ++ own)
 
 -- with theirs
-unfoldable pub front_bits : Version → ℕ → ℕ → Common → List Bool → List Bool
-front_bits version number handle common own = sized_main version (main_size version number handle common own) number handle common own
+unfoldable pub prefix_bits : Version → ℕ → ℕ → Common → List Bool → List Bool
+prefix_bits version number handle common own = sized_main version (main_size version number handle common own) number handle common own
 
 -- its references as they are written: those of the common part, and its own
 unfoldable pub refs_bits : Version → ℕ → Common → List Bool → List Bool
@@ -54,7 +54,7 @@ refs_bits version handle common own_refs = common_refs (layout_in version 0) han
 
 -- and both
 abbrev pub object_bits : Version → ℕ → ℕ → Common → List Bool → List Bool → List Bool
-object_bits version number handle common own own_refs = front_bits version number handle common own ++ refs_bits version handle common own_refs
+object_bits version number handle common own own_refs = prefix_bits version number handle common own ++ refs_bits version handle common own_refs
 
 -- with zero bits up to a whole byte
 abbrev pub object_bytes : Version → ℕ → ℕ → Common → List Bool → List Bool → List ℕ

@@ -19,7 +19,7 @@ use dwg_shapes::{Arc, Circle, Line, LwPolyline, Point};
 use dwg_tables::{AppId, BlockHeader, Layer, Ltype, Style};
 use std::alloc::Global;
 
-/// What an object has of its own behind its common part, by its kind (Open Design Specification, the sections of the kinds).
+/// What an object has of its own after its common part, by its kind (Open Design Specification, the sections of the kinds).
 pub enum Body {
     /// A line of text.
     Text(Text),
@@ -94,23 +94,23 @@ pub enum Body {
 /// What is done by kind, for all kinds that have a body: here alone do they stand in lists, first those of both versions, then those
 /// of AC1015 alone.
 ///
-/// - `by_kind!(body of, held => done)`: what is done with the body that is held, whichever it is;
-/// - `by_kind!(kind of)`: the kind of a body;
-/// - `by_kind!(parse kind, ..)`, in this file alone: the body of a kind as it is parsed, `Ok(None)` for each kind that has none in
+/// - `match_body!(body of, held => done)`: what is done with the body that is held, whichever it is;
+/// - `match_body!(kind of)`: the kind of a body;
+/// - `match_body!(parse kind, ..)`, in this file alone: the body of a kind as it is parsed, `Ok(None)` for each kind that has none in
 ///   the version.
 #[macro_export]
-macro_rules! by_kind {
+macro_rules! match_body {
     (body $of:expr, $held:ident => $done:expr) => {
-        $crate::by_kind!(names done_with $of, $held => $done)
+        $crate::match_body!(names done_with $of, $held => $done)
     };
     (kind $of:expr) => {
-        $crate::by_kind!(names kind_held $of)
+        $crate::match_body!(names kind_held $of)
     };
     (parse $kind:expr, $alloc:expr, $version:expr, $main:expr, $refs:expr, $base:expr) => {
-        $crate::by_kind!(names parse_as $kind, $alloc, $version, $main, $refs, $base)
+        $crate::match_body!(names parse_as $kind, $alloc, $version, $main, $refs, $base)
     };
     (names $then:ident $($given:tt)*) => {
-        $crate::by_kind!($then [
+        $crate::match_body!($then [
             Text Attrib Attdef Block EndBlk SeqEnd Insert Arc Circle Line Point LwPolyline Dictionary BlockControl BlockHeader
             LayerControl Layer StyleControl Style LtypeControl Ltype AppIdControl AppId XRecord
         ] [
@@ -188,7 +188,7 @@ fn parse_newer<B: BodyCode, H: FnOnce(B) -> Body>(
 impl Drop for Body {
     // Written, since who lets go of a body would go through a derived one kind by kind, in a proof of its own.
     fn drop(self) {
-        by_kind!(body self, _held => ())
+        match_body!(body self, _held => ())
     }
 }
 
@@ -207,13 +207,13 @@ impl Body {
     ) -> Result<Option<Body>, NoMemory>
         ensures parsed { IfOk result (λ found. ParsesBody (own_body version kind base) found main.old main.new refs.old refs.new) }
     {
-        by_kind!(parse kind, alloc, version, main, refs, base)
+        match_body!(parse kind, alloc, version, main, refs, base)
     }
 
     /// The kind of what is held.
     pub(crate) fn kind(&self) -> Kind
         ensures { result ≡ body_kind self.now }
     {
-        by_kind!(kind self)
+        match_body!(kind self)
     }
 }

@@ -11,7 +11,7 @@ ghost use Rattle.dwg_object.specs.Objects.{IsBorrowedObject, value_of};
 
 use crate::head::head_of;
 use crate::object::Object;
-use crate::reading::read_behind_head;
+use crate::reading::read_after_head;
 use crate::span::{Span, frame_refusal, span_at};
 use dwg_base::{Fault, NoMemory, Version};
 use dwg_check::{FRAME_START, check};
@@ -28,7 +28,7 @@ const HEAD_LINE: u8 = 31;
 pub struct Found<'a> {
     /// The object.
     pub object: Object<'a>,
-    /// The place behind its frame's check word.
+    /// The place after its frame's check word.
     pub end: u64,
 }
 
@@ -50,7 +50,7 @@ pub fn span_body<'a>(bytes: &'a [u8], span: &Span) -> &'a [u8]
     piece(bytes, span.body, span.body_end)
 }
 
-/// The check word behind the body of a span that lies in the input: an RS, two bytes, the low one first.
+/// The check word after the body of a span that lies in the input: an RS, two bytes, the low one first.
 pub fn span_word(bytes: &[u8], span: &Span) -> u16
     requires ends { span.now.end ≡ span.now.body_end + 2 }
     requires within { span.now.end ≤ length bytes.now }
@@ -87,7 +87,7 @@ pub fn read_span<'a>(
     ensures lent { IfOk result (λ found. IsBorrowedObject found.object) }
     ensures found { IfOk result (λ found. (body : List ℕ) × FrameAt bytes.now span.now.from body found.end × FormOf version hints.now body (value_of found.object)) }
 
-    // What is found and what is refused is what is tried; there is want of memory beside.
+    // What is found and what is refused is what is tried; there is out of memory beside.
     ensures tried { AnswersFrame result (tried_frame version span.now.from index bytes.now) }
     ensures of_table { IfErr result IsFaultOfTable }
 {
@@ -98,7 +98,7 @@ pub fn read_span<'a>(
     let Some(head) = head_of(version, body) else {
         return Err(Fault::Refused(frame_refusal(HEAD_LINE, index, span.from)));
     };
-    match read_behind_head(alloc, body, &head, hints, version) {
+    match read_after_head(alloc, body, &head, hints, version) {
         Ok(object) => Ok(Found {
             object,
             end: span.end,
@@ -107,7 +107,7 @@ pub fn read_span<'a>(
     }
 }
 
-/// Reads the frame at a place of the input, of the pair of this index, by the rules of a version, whatever the input begins with. It is refused where the place is behind the input,
+/// Reads the frame at a place of the input, of the pair of this index, by the rules of a version, whatever the input begins with. It is refused where the place is after the input,
 /// where no length is spelled there or the frame passes the end of the input, where the check word is wrong, and where the
 /// body has no head, in this order.
 ///
@@ -124,7 +124,7 @@ pub fn read_frame<'a>(
     ensures lent { IfOk result (λ found. IsBorrowedObject found.object) }
     ensures found { IfOk result (λ found. (body : List ℕ) × FrameAt bytes.now place body found.end × FormOf version classes.now body (value_of found.object)) }
 
-    // What is found and what is refused is what is tried; there is want of memory beside.
+    // What is found and what is refused is what is tried; there is out of memory beside.
     ensures tried { AnswersFrame result (tried_frame version place index bytes.now) }
     ensures of_table { IfErr result IsFaultOfTable }
 {

@@ -5,7 +5,7 @@ ghost use Rattle.dwg_bits.specs.Bits.{bits};
 ghost use Rattle.dwg_bits.specs.Sink.{Extends};
 ghost use Rattle.dwg_common.specs.Parsing.{Keeps, Parses};
 ghost use Rattle.dwg_grammar.specs.ReferenceCodes.{own_handle};
-ghost use Rattle.dwg_object.specs.Heads.{BeginsWithHead, HasHead, head, head_size, IsHeadAt, own_of, told_size};
+ghost use Rattle.dwg_object.specs.Heads.{BeginsWithHead, HasHead, head, head_size, IsHeadAt, own_of, size_given};
 ghost use Rattle.dwg_object.specs.Objects.{HeadParts, parts_of};
 ghost use Rattle.dwg_object.specs.Written.{written_head};
 
@@ -20,7 +20,7 @@ use dwg_handles::{own_bits, read_own, write_own};
 pub(crate) struct Head {
     /// The type number.
     pub(crate) number: u16,
-    /// How many bits the body has before its references, from the type number on; 0 in AC1014, which tells it in the common part.
+    /// How many bits the body has before its references, from the type number on; 0 in AC1014, which reports it in the common part.
     pub(crate) size: u32,
     /// The own handle, positive.
     pub(crate) own: Handle,
@@ -48,7 +48,7 @@ fn read_head(version: Version, cursor: &mut BitCursor<'_>) -> Option<Head>
     Some(Head { number, size, own })
 }
 
-/// A head and the place behind it.
+/// A head and the place after it.
 #[derive(Clone, Copy)]
 pub(crate) struct HeadAt {
     /// The head.
@@ -57,7 +57,7 @@ pub(crate) struct HeadAt {
     pub(crate) end: u64,
 }
 
-/// The head of a version that a body begins with, and the place behind it. None exactly where it begins with none.
+/// The head of a version that a body begins with, and the place after it. None exactly where it begins with none.
 pub(crate) fn head_of(version: Version, body: &[u8]) -> Option<HeadAt>
     requires { length body.now < 2 ^ 60 }
     ensures some { IfSome result (λ found. IsHeadAt version (bits body.now) (parts_of found.head) found.end) }
@@ -100,8 +100,8 @@ fn size_bits(version: Version) -> u64
 
 /// Writes the bit size of a head: in AC1014 nothing.
 fn write_size(version: Version, size: u32, sink: &mut BitSink)
-    requires { length ((head_size version).short (told_size version size)) ≤ sink.old.spare }
-    ensures { Extends sink.old sink.new ((head_size version).short (told_size version size)) }
+    requires { length ((head_size version).short (size_given version size)) ≤ sink.old.spare }
+    ensures { Extends sink.old sink.new ((head_size version).short (size_given version size)) }
 {
     match version {
         Version::Ac1014 => {}

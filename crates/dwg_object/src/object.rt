@@ -35,7 +35,7 @@ pub struct Plain<'a> {
     pub common: Common,
     /// The bits between the common part and the references.
     pub rest: BitPart<'a>,
-    /// The references behind those of the common part.
+    /// The references after those of the common part.
     pub refs: Items<Ref>,
 }
 

@@ -10,7 +10,7 @@ ghost use Rattle.dwg_object.specs.OwnBodies.{body_kind, own_body};
 ghost use Rattle.dwg_object.specs.Written.{own_main, own_refs};
 
 use crate::body::Body;
-use crate::by_kind;
+use crate::match_body;
 use crate::object::Plain;
 use dwg_base::{Handle, Version};
 use dwg_bits::BitSink;
@@ -59,15 +59,15 @@ impl Part for Body {
     ghost refs = { own_refs };
 
     fn lengths(&self, version: Version, base: Handle) -> Lengths {
-        by_kind!(body self, body => body.lengths_in(Layout { version, size: 0 }, base))
+        match_body!(body self, body => body.lengths_in(Layout { version, size: 0 }, base))
     }
 
     fn write_main(&self, version: Version, base: Handle, sink: &mut BitSink) {
-        by_kind!(body self, body => body.write_main_in(Layout { version, size: 0 }, base, sink))
+        match_body!(body self, body => body.write_main_in(Layout { version, size: 0 }, base, sink))
     }
 
     fn write_refs(&self, version: Version, base: Handle, sink: &mut BitSink) {
-        by_kind!(body self, body => body.write_refs_in(Layout { version, size: 0 }, base, sink))
+        match_body!(body self, body => body.write_refs_in(Layout { version, size: 0 }, base, sink))
     }
 }
 

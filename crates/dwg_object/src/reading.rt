@@ -11,7 +11,7 @@ ghost use Rattle.dwg_grammar.specs.Reference.{Reference};
 ghost use Rattle.dwg_grammar.specs.ReferenceCodes.{reference};
 ghost use Rattle.dwg_kinds.specs.declared.kind.Kind.TheVariants as kinds;
 ghost use Rattle.dwg_object.specs.declared.reading.Rest.{Rest};
-ghost use Rattle.dwg_object.specs.Forms.{CommonForm, FormOf, HasCommonForm, HasPlainForm, HasTypedForm, SizeTold, kind_under};
+ghost use Rattle.dwg_object.specs.Forms.{CommonForm, FormOf, HasCommonForm, HasPlainForm, HasTypedForm, HasSize, kind_under};
 ghost use Rattle.dwg_object.specs.Heads.{BeginsWithHead, IsHeadAt};
 ghost use Rattle.dwg_object.specs.Objects.{IsBorrowedObject, PlainValue, parts_of, value_of};
 ghost use Rattle.dwg_object.specs.OwnBits.{HasOwn};
@@ -43,12 +43,12 @@ fn span_left<'a>(cursor: &BitCursor<'a>) -> BitSpan<'a>
 
 /// The common part of a body, and what is left before the references and of these.
 #[derive(Drop)]
-struct Front<'a> {
+struct CommonStart<'a> {
     /// The common part.
     common: Common,
-    /// The bits behind it before the references.
+    /// The bits after it before the references.
     main: BitCursor<'a>,
-    /// The bits behind its references.
+    /// The bits after its references.
     refs: BitCursor<'a>,
 }
 
@@ -66,12 +66,12 @@ fn size_after(body: &[u8], found: &HeadAt, entity: bool) -> Option<u32>
     }
 }
 
-/// The bit size of a body with this head, of an entity or of another object: in AC1015 the head has it. None exactly where none is told.
+/// The bit size of a body with this head, of an entity or of another object: in AC1015 the head has it. None exactly where none is reported.
 fn size_of(version: Version, body: &[u8], found: &HeadAt, entity: bool) -> Option<u32>
     requires small { length body.now < 2 ^ 60 }
     requires head { IsHeadAt version (bits body.now) (parts_of found.now.head) found.now.end }
-    ensures some { IfSome result (λ size. SizeTold version entity (parts_of found.now.head) size (bits_between body.now found.now.end (8 * length body.now))) }
-    ensures none { IfNone result ((size : ℕ) → SizeTold version entity (parts_of found.now.head) size (bits_between body.now found.now.end (8 * length body.now)) → ⊥) }
+    ensures some { IfSome result (λ size. HasSize version entity (parts_of found.now.head) size (bits_between body.now found.now.end (8 * length body.now))) }
+    ensures none { IfNone result ((size : ℕ) → HasSize version entity (parts_of found.now.head) size (bits_between body.now found.now.end (8 * length body.now)) → ⊥) }
 {
     match version {
         Version::Ac1014 => size_after(body, found, entity),
@@ -80,36 +80,36 @@ fn size_of(version: Version, body: &[u8], found: &HeadAt, entity: bool) -> Optio
 }
 
 /// Reads the common part of a body of a kind. None exactly where the body isn't cut into head, common part, own bits and
-/// references; the only refusal is want of memory.
-fn read_front<'a>(
+/// references; the only refusal is out of memory.
+fn read_prefix<'a>(
     alloc: Global,
     body: &'a [u8],
     version: Version,
     found: &HeadAt,
     kind: Kind,
-) -> Result<Option<Front<'a>>, NoMemory>
+) -> Result<Option<CommonStart<'a>>, NoMemory>
     requires small { length body.now < 2 ^ 60 }
     requires head { IsHeadAt version (bits body.now) (parts_of found.now.head) found.now.end }
-    ensures form { IfOk result (λ read. IfSome read (λ front. (classes : List Class) → kind ≡ kind_under classes found.now.head.number → CommonForm version classes body.now found.now.head.number found.now.head.own front.common (rest front.main) (rest front.refs))) }
+    ensures form { IfOk result (λ read. IfSome read (λ prefix. (classes : List Class) → kind ≡ kind_under classes found.now.head.number → CommonForm version classes body.now found.now.head.number found.now.head.own prefix.common (rest prefix.main) (rest prefix.refs))) }
     ensures none { result ≡ Ok None → (classes : List Class) → kind ≡ kind_under classes found.now.head.number → HasCommonForm version classes body.now → ⊥ }
 {
     let entity = is_entity(kind);
-    let Some(told) = size_of(version, body, found, entity) else {
+    let Some(reported) = size_of(version, body, found, entity) else {
         return Ok(None);
     };
-    let size = u64::from(told);
+    let size = u64::from(reported);
     let end = 8 * body.len() as u64;
     if size < found.end || end < size {
         return Ok(None);
     }
-    let layout = layout_in(version, told);
+    let layout = layout_in(version, reported);
     let own = found.head.own;
     let mut main = BitCursor::new(body, found.end, size);
     let mut refs = BitCursor::new(body, size, end);
     let Some(common) = Common::parse(alloc, layout, entity, &mut main, &mut refs, own)? else {
         return Ok(None);
     };
-    Ok(Some(Front { common, main, refs }))
+    Ok(Some(CommonStart { common, main, refs }))
 }
 
 /// Whether all is read that a body of a kind has of its own: no bit is left of its own, and of the references fewer than eight.
@@ -119,7 +119,7 @@ fn is_read_out(main: &BitCursor<'_>, refs: &BitCursor<'_>) -> bool
     main.left() == 0 && refs.left() < 8
 }
 
-/// What stands behind the common part of a body in its Plain form.
+/// What stands after the common part of a body in its Plain form.
 #[derive(Drop)]
 struct Rest<'a> {
     /// The bits before the references.
@@ -128,27 +128,27 @@ struct Rest<'a> {
     refs: Items<Ref>,
 }
 
-/// Reads what stands behind the common part of a body in its Plain form. None exactly where the kind is unknown or what stands
-/// there are no references; the only refusal is want of memory.
+/// Reads what stands after the common part of a body in its Plain form. None exactly where the kind is unknown or what stands
+/// there are no references; the only refusal is out of memory.
 fn read_rest<'a>(
     alloc: Global,
-    front: &Front<'a>,
+    prefix: &CommonStart<'a>,
     kind: Kind,
     own: Handle,
 ) -> Result<Option<Rest<'a>>, NoMemory>
-    ensures known { IfOk result (λ read. IfSome read (λ behind. kind ≢ kinds.Unknown)) }
-    ensures bits { IfOk result (λ read. IfSome read (λ behind. behind.bits ≡ rest front.now.main)) }
-    ensures refs { IfOk result (λ read. IfSome read (λ behind. (left : List Bool) × ReadsToEnd 8 (reference own) (Some behind.refs) (rest front.now.refs) left)) }
-    ensures none { result ≡ Ok None → (kind ≡ kinds.Unknown) ⊎ ((left : List Bool) × ReadsToEnd {V = Reference} 8 (reference own) None (rest front.now.refs) left) }
+    ensures known { IfOk result (λ read. IfSome read (λ after. kind ≢ kinds.Unknown)) }
+    ensures bits { IfOk result (λ read. IfSome read (λ after. after.bits ≡ rest prefix.now.main)) }
+    ensures refs { IfOk result (λ read. IfSome read (λ after. (left : List Bool) × ReadsToEnd 8 (reference own) (Some after.refs) (rest prefix.now.refs) left)) }
+    ensures none { result ≡ Ok None → (kind ≡ kinds.Unknown) ⊎ ((left : List Bool) × ReadsToEnd {V = Reference} 8 (reference own) None (rest prefix.now.refs) left) }
 {
     if kind == Kind::Unknown {
         return Ok(None);
     }
-    let mut cursor = front.refs;
+    let mut cursor = prefix.refs;
     let Some(refs) = read_refs_to_end(alloc, &mut cursor, own)? else {
         return Ok(None);
     };
-    let bits = span_left(&front.main);
+    let bits = span_left(&prefix.main);
     Ok(Some(Rest { bits, refs }))
 }
 
@@ -166,16 +166,16 @@ fn raw_object<'a>(version: Version, found: &HeadAt, body: &'a [u8]) -> Object<'a
 }
 
 /// The object of a body in its Plain form, which borrows its free bits.
-fn plain_object<'a>(found: &HeadAt, common: Common, behind: Rest<'a>) -> Object<'a>
-    ensures value { value_of result ≡ PlainValue found.now.head.number found.now.head.own common behind.entry.bits behind.entry.refs }
+fn plain_object<'a>(found: &HeadAt, common: Common, after: Rest<'a>) -> Object<'a>
+    ensures value { value_of result ≡ PlainValue found.now.head.number found.now.head.own common after.entry.bits after.entry.refs }
     ensures lent { IsBorrowedObject result }
 {
     Object::Plain(Plain {
         number: found.head.number,
         handle: found.head.own,
         common,
-        rest: BitPart::Lent(behind.bits),
-        refs: behind.refs,
+        rest: BitPart::Lent(after.bits),
+        refs: after.refs,
     })
 }
 
@@ -187,22 +187,22 @@ fn read_untyped<'a>(
     version: Version,
     found: &HeadAt,
     kind: Kind,
-    front: Front<'a>,
+    prefix: CommonStart<'a>,
 ) -> Result<Object<'a>, NoMemory>
     requires head { IsHeadAt version (bits body.now) (parts_of found.now.head) found.now.end }
-    requires form { (classes : List Class) → kind ≡ kind_under classes found.now.head.number → CommonForm version classes body.now found.now.head.number found.now.head.own front.common (rest front.main) (rest front.refs) }
-    requires untyped { HasOwn version kind found.now.head.own (rest front.main) (rest front.refs) → ⊥ }
+    requires form { (classes : List Class) → kind ≡ kind_under classes found.now.head.number → CommonForm version classes body.now found.now.head.number found.now.head.own prefix.common (rest prefix.main) (rest prefix.refs) }
+    requires untyped { HasOwn version kind found.now.head.own (rest prefix.main) (rest prefix.refs) → ⊥ }
     ensures form { IfOk result (λ object. (classes : List Class) → kind ≡ kind_under classes found.now.head.number → FormOf version classes body.now (value_of object)) }
     ensures lent { IfOk result IsBorrowedObject }
 {
-    let Some(behind) = read_rest(alloc, &front, kind, found.head.own)? else {
+    let Some(after) = read_rest(alloc, &prefix, kind, found.head.own)? else {
         return Ok(raw_object(version, found, body));
     };
-    Ok(plain_object(found, front.common, behind))
+    Ok(plain_object(found, prefix.common, after))
 }
 
 /// Reads a body of a kind, in the strongest form that it has: its parts are read one by one, and put together where the object is
-/// answered. The only refusal is want of memory.
+/// answered. Err: out of memory.
 fn read_kind<'a>(
     alloc: Global,
     body: &'a [u8],
@@ -216,27 +216,27 @@ fn read_kind<'a>(
     ensures lent { IfOk result IsBorrowedObject }
 {
     let Head { number, own, .. } = found.head;
-    let Some(front) = read_front(alloc, body, version, found, kind)? else {
+    let Some(prefix) = read_prefix(alloc, body, version, found, kind)? else {
         return Ok(raw_object(version, found, body));
     };
     // The laws of bodies ask that their base is a handle's number.
     let _base = own.value();
-    let mut main = front.main;
-    let mut refs = front.refs;
+    let mut main = prefix.main;
+    let mut refs = prefix.refs;
     match Body::parse(alloc, version, kind, &mut main, &mut refs, own)? {
         Some(value) if is_read_out(&main, &refs) => Ok(Object::Typed(Typed {
             number,
             handle: own,
-            common: front.common,
+            common: prefix.common,
             body: value,
         })),
-        _ => read_untyped(alloc, body, version, found, kind, front),
+        _ => read_untyped(alloc, body, version, found, kind, prefix),
     }
 }
 
 /// Reads a body that begins with this head, in the strongest form that it has under the classes of its drawing. The only refusal
-/// is want of memory.
-pub(crate) fn read_behind_head<'a>(
+/// is out of memory.
+pub(crate) fn read_after_head<'a>(
     alloc: Global,
     body: &'a [u8],
     found: &HeadAt,
@@ -255,7 +255,7 @@ pub(crate) fn read_behind_head<'a>(
 
 /// Reads a body of fewer than 2^60 bytes by the rules of a version, in the strongest form that it has under the classes of its drawing: with its
 /// common part and the body of its kind, or with its common part and its references, or as its bytes, whichever of these comes
-/// first. None exactly where the body has no head; the only refusal is want of memory.
+/// first. None exactly where the body has no head; the only refusal is out of memory.
 pub fn read_body_hinted<'a>(
     alloc: Global,
     body: &'a [u8],
@@ -273,7 +273,7 @@ pub fn read_body_hinted<'a>(
     let Some(found) = head_of(version, body) else {
         return Ok(None);
     };
-    Ok(Some(read_behind_head(alloc, body, &found, hints, version)?))
+    Ok(Some(read_after_head(alloc, body, &found, hints, version)?))
 }
 
 /// The same by the classes themselves: it makes a table of them, which who reads more than one body makes once.

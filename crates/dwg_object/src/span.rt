@@ -5,7 +5,7 @@ ghost use Rattle.dwg_base.specs.Refusals.{IsOfTable};
 ghost use Rattle.dwg_object.specs.Frames.{SpanAt};
 ghost use Rattle.dwg_object.specs.FrameLines.{frame_refusal, tried_span};
 
-use dwg_base::{Refusal, bytes_behind};
+use dwg_base::{Refusal, bytes_after};
 use dwg_codes::read_ms;
 
 // The lines of the table on the place and the length of a frame.
@@ -13,7 +13,7 @@ const PLACE_LINE: u8 = 27;
 
 const LENGTH_LINE: u8 = 28;
 
-/// The bytes of the check word, which stands behind the body.
+/// The bytes of the check word, which stands after the body.
 pub(crate) const CHECK_SIZE: u64 = 2;
 
 /// The places of a frame in the input, in bytes (Open Design Specification, "R13 to R2000 file layout, object data").
@@ -23,9 +23,9 @@ pub struct Span {
     pub from: u64,
     /// The place of the body's first byte.
     pub body: u64,
-    /// The place behind the body.
+    /// The place after the body.
     pub body_end: u64,
-    /// The place behind the check word.
+    /// The place after the check word.
     pub end: u64,
 }
 
@@ -36,9 +36,9 @@ pub(crate) fn frame_refusal(line: u8, index: u64, place: u64) -> Refusal
     Refusal { line, index, place }
 }
 
-/// The span of the frame at a place of the input, of the pair of this index. It is refused where the place is behind the
+/// The span of the frame at a place of the input, of the pair of this index. It is refused where the place is after the
 /// input, and where no length is spelled there or the frame passes the end of the input.
-#[tactic(auto, using(crate::proofs::SpanReading::span_behind))]
+#[tactic(auto, using(crate::proofs::SpanReading::span_after))]
 pub fn span_at(bytes: &[u8], place: u64, index: u64) -> Result<Span, Refusal>
     // What stands there, and why nothing does.
     ensures found { IfOk result (SpanAt bytes.now) }
@@ -53,7 +53,7 @@ pub fn span_at(bytes: &[u8], place: u64, index: u64) -> Result<Span, Refusal>
     if length <= place {
         return Err(frame_refusal(PLACE_LINE, index, place));
     }
-    let Some((long, wide)) = read_ms(bytes_behind(bytes, place as usize)) else {
+    let Some((long, wide)) = read_ms(bytes_after(bytes, place as usize)) else {
         return Err(frame_refusal(LENGTH_LINE, index, place));
     };
     let body = place + wide as u64;

@@ -9,14 +9,14 @@ ghost use Rattle.dwg_check.specs.CheckWord.{FRAME_START, check_word};
 ghost use Rattle.dwg_object.specs.Forms.{common_part, layout_in};
 ghost use Rattle.dwg_object.specs.Frames.{frame_bytes, sized};
 ghost use Rattle.dwg_object.specs.Objects.{is_of_entity, value_of};
-ghost use Rattle.dwg_object.specs.Written.{PartsFit, body_bytes, front_bits, object_bytes, refs_bits};
+ghost use Rattle.dwg_object.specs.Written.{PartsFit, body_bytes, prefix_bits, object_bytes, refs_bits};
 
 use crate::common::Common;
 use crate::head::{head_length, write_head};
 use crate::object::Object;
 use crate::part::Part;
 use crate::span::CHECK_SIZE;
-use dwg_base::{Handle, Version, bounded_bytes, bytes_behind};
+use dwg_base::{Handle, Version, bytes_after, bytes_with_range};
 use dwg_bits::BitSink;
 use dwg_check::{FRAME_START, check};
 use dwg_codes::{ms_bytes, write_ms};
@@ -25,13 +25,13 @@ use dwg_codes::{ms_bytes, write_ms};
 #[derive(Clone, Copy)]
 struct ObjectLengths {
     /// How many bits stand before the references.
-    front: u64,
+    prefix: u64,
     /// How many bytes there are in all.
     bytes: u64,
 }
 
 /// What an object is written by.
-#[tactic(auto, using(crate::proofs::WrittenLemmas::front_long, crate::proofs::WrittenLemmas::refs_long, crate::proofs::WrittenLemmas::object_long, crate::proofs::FrameWriting::object_small))]
+#[tactic(auto, using(crate::proofs::WrittenLemmas::prefix_long, crate::proofs::WrittenLemmas::refs_long, crate::proofs::WrittenLemmas::object_long, crate::proofs::FrameWriting::object_small))]
 fn object_lengths<P: Part>(
     version: Version,
     number: u16,
@@ -43,23 +43,23 @@ fn object_lengths<P: Part>(
     requires common { (common_part (layout_in version 0) (is_of_entity common.now) handle).Fits common.now }
     requires own { P.PartFits version handle own.now }
     requires few { length (object_bytes version number handle common.now (P.main version handle own.now) (P.refs version handle own.now)) < 2 ^ 29 }
-    ensures front { result.front ≡ length (front_bits version number handle common.now (P.main version handle own.now)) }
-    ensures few { result.front < 2 ^ 32 }
+    ensures prefix { result.prefix ≡ length (prefix_bits version number handle common.now (P.main version handle own.now)) }
+    ensures few { result.prefix < 2 ^ 32 }
     ensures bytes { result.bytes ≡ length (object_bytes version number handle common.now (P.main version handle own.now) (P.refs version handle own.now)) }
 {
     let shared = common.lengths(version, handle);
     let owned = own.lengths(version, handle);
-    let front = head_length(version, number, handle) + shared.main + owned.main;
+    let prefix = head_length(version, number, handle) + shared.main + owned.main;
     let refs = shared.refs + owned.refs;
     ObjectLengths {
-        front,
-        bytes: (front + refs).div_ceil(8),
+        prefix,
+        bytes: (prefix + refs).div_ceil(8),
     }
 }
 
 /// Writes what stands before the references: head, common part, its own bits; together as many bits as the head says.
-#[tactic(auto, using(crate::proofs::WrittenLemmas::front_long, crate::proofs::WrittenLemmas::head_long_written, crate::proofs::WrittenLemmas::sized_long))]
-fn write_front<P: Part>(
+#[tactic(auto, using(crate::proofs::WrittenLemmas::prefix_long, crate::proofs::WrittenLemmas::head_long_written, crate::proofs::WrittenLemmas::sized_long))]
+fn write_prefix<P: Part>(
     version: Version,
     number: u16,
     handle: Handle,
@@ -71,9 +71,9 @@ fn write_front<P: Part>(
     requires positive { 0 < handle }
     requires common { (common_part (layout_in version 0) (is_of_entity common.now) handle).Fits common.now }
     requires own { P.PartFits version handle own.now }
-    requires size { size ≡ length (front_bits version number handle common.now (P.main version handle own.now)) }
-    requires room { length (front_bits version number handle common.now (P.main version handle own.now)) ≤ sink.old.spare }
-    ensures { Extends sink.old sink.new (front_bits version number handle common.now (P.main version handle own.now)) }
+    requires size { size ≡ length (prefix_bits version number handle common.now (P.main version handle own.now)) }
+    requires room { length (prefix_bits version number handle common.now (P.main version handle own.now)) ≤ sink.old.spare }
+    ensures { Extends sink.old sink.new (prefix_bits version number handle common.now (P.main version handle own.now)) }
 {
     write_head(version, number, size, handle, sink);
     common.write_main(version, size, handle, sink);
@@ -118,9 +118,9 @@ fn parts_length<P: Part>(
     object_lengths(version, number, handle, common, own).bytes
 }
 
-/// Writes an object at a whole byte, behind its length in the fewest units and with zero bits up to a whole byte. It is measured
+/// Writes an object at a whole byte, after its length in the fewest units and with zero bits up to a whole byte. It is measured
 /// once.
-#[tactic(auto, using(crate::proofs::FrameWriting::object_small, crate::proofs::WrittenLemmas::object_long, crate::proofs::FrameWriting::object_room, crate::proofs::FrameWriting::room_behind_size, dwg_bits::proofs::BitLaws::length_of_bits, dwg_bits::proofs::WholeBytes::whole_are_bytes))]
+#[tactic(auto, using(crate::proofs::FrameWriting::object_small, crate::proofs::WrittenLemmas::object_long, crate::proofs::FrameWriting::object_room, crate::proofs::FrameWriting::room_after_size, dwg_bits::proofs::BitLaws::length_of_bits, dwg_bits::proofs::WholeBytes::whole_are_bytes))]
 fn write_sized_parts<P: Part>(
     version: Version,
     number: u16,
@@ -140,20 +140,20 @@ fn write_sized_parts<P: Part>(
 {
     let lengths = object_lengths(version, number, handle, common, own);
     write_ms(lengths.bytes, sink);
-    write_front(
+    write_prefix(
         version,
         number,
         handle,
         common,
         own,
-        lengths.front as u32,
+        lengths.prefix as u32,
         sink,
     );
     write_references(version, handle, common, own, sink);
     sink.pad();
 }
 
-/// Writes bytes at a whole byte, behind their length in the fewest units.
+/// Writes bytes at a whole byte, after their length in the fewest units.
 #[tactic(auto, using(crate::proofs::FrameWriting::sized_room, dwg_bits::proofs::BitLaws::length_of_bits))]
 fn write_sized_bytes(bytes: &[u8], sink: &mut BitSink)
     requires few { length bytes.now < 2 ^ 29 }
@@ -187,11 +187,11 @@ impl Object<'_> {
                 &plain.common,
                 plain,
             ),
-            Object::Raw(raw) => bounded_bytes(raw.bytes.as_slice()).len() as u64,
+            Object::Raw(raw) => bytes_with_range(raw.bytes.as_slice()).len() as u64,
         }
     }
 
-    /// Writes the body at a whole byte, behind its length in the fewest units.
+    /// Writes the body at a whole byte, after its length in the fewest units.
     fn write_sized_body(&self, version: Version, sink: &mut BitSink)
         requires fits { PartsFit version (value_of self.now) }
         requires few { length (body_bytes version (value_of self.now)) < 2 ^ 29 }
@@ -221,7 +221,7 @@ impl Object<'_> {
                     sink,
                 )
             }
-            Object::Raw(raw) => write_sized_bytes(bounded_bytes(raw.bytes.as_slice()), sink),
+            Object::Raw(raw) => write_sized_bytes(bytes_with_range(raw.bytes.as_slice()), sink),
         }
     }
 }
@@ -238,21 +238,21 @@ pub fn frame_length(object: &Object<'_>, version: Version) -> u64
     ms_bytes(length) as u64 + length + CHECK_SIZE
 }
 
-/// The check word of what was written behind so many whole bytes.
+/// The check word of what was written after so many whole bytes.
 #[tactic(auto, using(crate::proofs::FrameWriting::sink_bytes, dwg_bits::proofs::BitLaws::length_of_bits))]
-fn word_behind(sink: &BitSink, from: u64) -> u16
+fn word_after(sink: &BitSink, from: u64) -> u16
     requires aligned { length sink.now.written % 8 ≡ 0 }
     requires within { 8 * from ≤ length sink.now.written }
     ensures { result ≡ check_word FRAME_START (drop from (whole_bytes sink.now.written)) }
 {
     check(
         FRAME_START,
-        bytes_behind(bounded_bytes(sink.as_bytes()), from as usize),
+        bytes_after(bytes_with_range(sink.as_bytes()), from as usize),
     )
 }
 
 /// Writes the frame of an object in a version at a whole byte: a length in the fewest units, the body, a check word.
-#[tactic(auto, using(crate::proofs::FrameWriting::frame_room, dwg_bits::proofs::BitLaws::length_of_bits, crate::proofs::FrameWriting::aligned_behind))]
+#[tactic(auto, using(crate::proofs::FrameWriting::frame_room, dwg_bits::proofs::BitLaws::length_of_bits, crate::proofs::FrameWriting::aligned_after))]
 pub fn write_frame(object: &Object<'_>, version: Version, sink: &mut BitSink)
     requires fits { PartsFit version (value_of object.now) }
     requires few { length (body_bytes version (value_of object.now)) < 2 ^ 29 }
@@ -262,6 +262,6 @@ pub fn write_frame(object: &Object<'_>, version: Version, sink: &mut BitSink)
 {
     let from = sink.length() / 8;
     object.write_sized_body(version, sink);
-    let word = word_behind(sink, from);
+    let word = word_after(sink, from);
     sink.push_bytes(&word.to_le_bytes());
 }

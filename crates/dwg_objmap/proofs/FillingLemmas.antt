@@ -11,41 +11,41 @@ use Rattle.dwg_check.specs.CheckWord.{FRAME_START, check_word}
 use Rattle.dwg_grammar.specs.Combinators.{short_chain}
 use Rattle.dwg_grammar.proofs.ModularBytes.{AreFewBytes, mc_few, signed_mc_few}
 use Rattle.dwg_objmap.specs.declared.pair.Pair.{Pair}
-use Rattle.dwg_objmap.specs.Pairs.{IsPair, ORIGIN, pair_behind}
+use Rattle.dwg_objmap.specs.Pairs.{IsPair, ORIGIN, pair_after}
 use Rattle.dwg_objmap.proofs.PairLemmas.{pair_is_code}
 use Rattle.dwg_objmap.specs.Pages.{PairsSpell, PageAt, PagesAt, AreHandles, handles_of, MapOf, page_bytes}
 use Rattle.dwg_objmap.specs.MapLines.{last_of}
 use Rattle.dwg_objmap.proofs.PairChains.{origin_is_pair, last_of_more, spell_more, pair_has_bytes}
 use Rattle.dwg_objmap.proofs.MapLemmas.{joined}
-use Rattle.dwg_objmap.specs.Writing.{MOST_PAGE, OpenPage, FRESH, told_behind, told_from, added, has_room, given, filled, closing_body, closing, map_behind, map_bytes, Ascend, body_of, HasNoRoom, AreFilled, IsFilling}
+use Rattle.dwg_objmap.specs.Writing.{MOST_PAGE, OpenPage, FRESH, reported_after, reported_from, added, has_room, given, filled, closing_body, closing, map_after, map_bytes, Ascend, body_of, HasNoRoom, AreFilled, IsFilling}
 
 -- what spells a pair are at most twenty bytes
-pub pair_few : (before pair : Pair) (bytes : List ℕ) → (pair_behind before).Spells pair bytes → AreFewBytes 20 bytes
-unfolding pair_behind
+pub pair_few : (before pair : Pair) (bytes : List ℕ) → (pair_after before).Spells pair bytes → AreFewBytes 20 bytes
+unfolding pair_after
 pair_few before pair bytes spelled =
-    let one = mc_few spelled.step spelled.front spelled.step_spelled in
+    let one = mc_few spelled.step spelled.prefix spelled.step_spelled in
     let two = signed_mc_few spelled.move spelled.back spelled.move_spelled in
     subst (AreFewBytes 20) (sym spelled.whole) (record {
-      few = omega (arith, one.few, two.few, length-append spelled.front spelled.back);
-      are_bytes = joined_are_bytes spelled.front spelled.back one.are_bytes two.are_bytes;
+      few = omega (arith, one.few, two.few, length-append spelled.prefix spelled.back);
+      are_bytes = joined_are_bytes spelled.prefix spelled.back one.are_bytes two.are_bytes;
     })
 
--- a pair behind another of no greater handle is a value there
-pair_is_value : (before pair : Pair) → IsPair pair → before.handle ≤ pair.handle → (pair_behind before).IsValue pair
-unfolding pair_behind
+-- a pair after another of no greater handle is a value there
+pair_is_value : (before pair : Pair) → IsPair pair → before.handle ≤ pair.handle → (pair_after before).IsValue pair
+unfolding pair_after
 pair_is_value before pair fits above = (fits, above)
 
 -- so it is spelled by what is written of it
-pub pair_written : (before pair : Pair) → IsPair before → IsPair pair → before.handle ≤ pair.handle → (pair_behind before).Spells pair ((pair_behind before).short pair)
+pub pair_written : (before pair : Pair) → IsPair before → IsPair pair → before.handle ≤ pair.handle → (pair_after before).Spells pair ((pair_after before).short pair)
 pair_written before pair fits_before fits above = (pair_is_code before fits_before).canonical pair (pair_is_value before pair fits above)
 
--- pairs, and then one more, are written one behind the other
+-- pairs, and then one more, are written one after the other
 pub short_more : (pairs : List Pair) (before pair : Pair)
-    → short_chain pair_behind (λ pair. pair) before (pairs ++ pair ∷ []) ≡ short_chain pair_behind (λ pair. pair) before pairs ++ (pair_behind (last_of before pairs)).short pair
-short_more [] before pair = append-nil ((pair_behind before).short pair)
+    → short_chain pair_after (λ pair. pair) before (pairs ++ pair ∷ []) ≡ short_chain pair_after (λ pair. pair) before pairs ++ (pair_after (last_of before pairs)).short pair
+short_more [] before pair = append-nil ((pair_after before).short pair)
 short_more (other ∷ pairs) before pair =
-    ap (λ rest. (pair_behind before).short other ++ rest) (short_more pairs other pair)
-    ∙ sym (append_assoc ((pair_behind before).short other) (short_chain pair_behind (λ pair. pair) other pairs) ((pair_behind (last_of other pairs)).short pair))
+    ap (λ rest. (pair_after before).short other ++ rest) (short_more pairs other pair)
+    ∙ sym (append_assoc ((pair_after before).short other) (short_chain pair_after (λ pair. pair) other pairs) ((pair_after (last_of other pairs)).short pair))
 
 -- the open page holds these pairs
 pub record Holds (page : OpenPage) (held : List Pair) : Type 0 where
@@ -57,36 +57,36 @@ pub record Holds (page : OpenPage) (held : List Pair) : Type 0 where
 
 -- no bytes hold no pair
 pub some_bytes : (pair : Pair) (pairs : List Pair) (body : List ℕ) → PairsSpell (pair ∷ pairs) body → 0 < length body
-some_bytes pair pairs body (front, back, one, others, same) = omega (arith, pair_has_bytes ORIGIN pair front one, ap length same, length-append front back)
+some_bytes pair pairs body (prefix, back, one, others, same) = omega (arith, pair_has_bytes ORIGIN pair prefix one, ap length same, length-append prefix back)
 
--- the next pair is told from the last one held
-pub told_last : (page : OpenPage) (held : List Pair) → Holds page held → told_from page ≡ last_of ORIGIN held
-told_last page [] holds = ap (λ body. told_behind body page.last) holds.spelled
-told_last page (pair ∷ pairs) holds = of_some page.body (some_bytes pair pairs page.body holds.spelled) ∙ holds.last
+-- the next pair is written from the last one held
+pub reported_last : (page : OpenPage) (held : List Pair) → Holds page held → reported_from page ≡ last_of ORIGIN held
+reported_last page [] holds = ap (λ body. reported_after body page.last) holds.spelled
+reported_last page (pair ∷ pairs) holds = of_some page.body (some_bytes pair pairs page.body holds.spelled) ∙ holds.last
   where
-    of_some : (body : List ℕ) → 0 < length body → told_behind body page.last ≡ page.last
+    of_some : (body : List ℕ) → 0 < length body → reported_after body page.last ≡ page.last
     of_some [] some = absurd (omega arith)
     of_some (byte ∷ bytes) some = refl
 
 -- from a pair that is no greater than the last one put
-pub told_fits : (page : OpenPage) → IsPair page.last → IsPair (told_from page) × ((told_from page).handle ≤ page.last.handle)
-told_fits page fits = by_body page.body
+pub reported_fits : (page : OpenPage) → IsPair page.last → IsPair (reported_from page) × ((reported_from page).handle ≤ page.last.handle)
+reported_fits page fits = by_body page.body
   where
-    by_body : (body : List ℕ) → IsPair (told_behind body page.last) × ((told_behind body page.last).handle ≤ page.last.handle)
+    by_body : (body : List ℕ) → IsPair (reported_after body page.last) × ((reported_after body page.last).handle ≤ page.last.handle)
     by_body [] = (origin_is_pair, omega arith)
     by_body (byte ∷ bytes) = (fits, omega arith)
 
--- the page behind a pair for which there is room
+-- the page after a pair for which there is room
 pub filled_on : (page : OpenPage) (pair : Pair) → has_room page pair ≡ true → filled page pair ≡ record { body = page.body ++ added page pair; last = pair; ended = false }
 unfolding filled
 filled_on page pair room =
-    ap (λ (test : Bool). if test then record { body = page.body ++ added page pair; last = pair; ended = false } else record { body = (pair_behind ORIGIN).short pair; last = pair; ended = false }) room
+    ap (λ (test : Bool). if test then record { body = page.body ++ added page pair; last = pair; ended = false } else record { body = (pair_after ORIGIN).short pair; last = pair; ended = false }) room
 
--- and behind one for which there is none
-pub filled_new : (page : OpenPage) (pair : Pair) → has_room page pair ≡ false → filled page pair ≡ record { body = (pair_behind ORIGIN).short pair; last = pair; ended = false }
+-- and after one for which there is none
+pub filled_new : (page : OpenPage) (pair : Pair) → has_room page pair ≡ false → filled page pair ≡ record { body = (pair_after ORIGIN).short pair; last = pair; ended = false }
 unfolding filled
 filled_new page pair room =
-    ap (λ (test : Bool). if test then record { body = page.body ++ added page pair; last = pair; ended = false } else record { body = (pair_behind ORIGIN).short pair; last = pair; ended = false }) room
+    ap (λ (test : Bool). if test then record { body = page.body ++ added page pair; last = pair; ended = false } else record { body = (pair_after ORIGIN).short pair; last = pair; ended = false }) room
 
 -- a pair for which there is room makes no bytes go out
 pub given_none : (page : OpenPage) (pair : Pair) → has_room page pair ≡ true → given page pair ≡ []
@@ -98,43 +98,43 @@ pub given_page : (page : OpenPage) (pair : Pair) → has_room page pair ≡ fals
 unfolding given
 given_page page pair room = ap (λ (test : Bool). if test then [] else page_bytes page.body) room
 
--- the page with one more pair holds it behind the others
+-- the page with one more pair holds it after the others
 pub holds_more : (page : OpenPage) (held : List Pair) (pair : Pair) → Holds page held → IsPair pair → page.last.handle < pair.handle → has_room page pair ≡ true
     → Holds (record { body = page.body ++ added page pair; last = pair; ended = false }) (held ++ pair ∷ [])
 holds_more page held pair holds fits above room = record {
   body =
-      ap₂ (λ front back. front ++ back) holds.body (ap (λ (from : Pair). (pair_behind from).short pair) (told_last page held holds))
+      ap₂ (λ prefix back. prefix ++ back) holds.body (ap (λ (from : Pair). (pair_after from).short pair) (reported_last page held holds))
       ∙ sym (short_more held ORIGIN pair);
-  spelled = spell_more held ORIGIN pair page.body (added page pair) holds.spelled (subst (λ (from : Pair). (pair_behind from).Spells pair (added page pair)) (told_last page held holds) written);
+  spelled = spell_more held ORIGIN pair page.body (added page pair) holds.spelled (subst (λ (from : Pair). (pair_after from).Spells pair (added page pair)) (reported_last page held holds) written);
   last = sym (last_of_more held ORIGIN pair);
   fits = fits;
   size = omega (arith, below, length-append page.body (added page pair));
 }
   where
-    written : (pair_behind (told_from page)).Spells pair (added page pair)
-    written = let told = told_fits page holds.fits in pair_written (told_from page) pair told.0 fits (omega (arith, told.1, above))
+    written : (pair_after (reported_from page)).Spells pair (added page pair)
+    written = let reported = reported_fits page holds.fits in pair_written (reported_from page) pair reported.0 fits (omega (arith, reported.1, above))
 
     below : 2 + length page.body + length (added page pair) ≤ MOST_PAGE
     below = grind (arith, nat_tests, room)
 
 -- a new page holds its first pair
-pub holds_first : (pair : Pair) → IsPair pair → Holds (record { body = (pair_behind ORIGIN).short pair; last = pair; ended = false }) (pair ∷ [])
+pub holds_first : (pair : Pair) → IsPair pair → Holds (record { body = (pair_after ORIGIN).short pair; last = pair; ended = false }) (pair ∷ [])
 holds_first pair fits = record {
-  body = sym (append-nil ((pair_behind ORIGIN).short pair));
-  spelled = ((pair_behind ORIGIN).short pair, [], written, refl, sym (append-nil ((pair_behind ORIGIN).short pair)));
+  body = sym (append-nil ((pair_after ORIGIN).short pair));
+  spelled = ((pair_after ORIGIN).short pair, [], written, refl, sym (append-nil ((pair_after ORIGIN).short pair)));
   last = refl;
   fits = fits;
-  size = omega (arith, (pair_few ORIGIN pair ((pair_behind ORIGIN).short pair) written).few);
+  size = omega (arith, (pair_few ORIGIN pair ((pair_after ORIGIN).short pair) written).few);
 }
   where
-    written : (pair_behind ORIGIN).Spells pair ((pair_behind ORIGIN).short pair)
+    written : (pair_after ORIGIN).Spells pair ((pair_after ORIGIN).short pair)
     written = pair_written ORIGIN pair origin_is_pair fits (omega arith)
 
 -- a page without pairs has room
 some_held : (page : OpenPage) (held : List Pair) (pair : Pair) → Holds page held → IsPair pair → page.last.handle < pair.handle → has_room page pair ≡ false → held ≢ []
 some_held page [] pair holds fits above full = λ none.
-    let told = told_fits page holds.fits in
-    let few = (pair_few (told_from page) pair (added page pair) (pair_written (told_from page) pair told.0 fits (omega (arith, told.1, above)))).few in
+    let reported = reported_fits page holds.fits in
+    let few = (pair_few (reported_from page) pair (added page pair) (pair_written (reported_from page) pair reported.0 fits (omega (arith, reported.1, above)))).few in
     let empty : length page.body ≡ 0 = ap length holds.spelled in
     let large : MOST_PAGE < 2 + length page.body + length (added page pair) = grind (arith, nat_tests, full) in
     absurd (omega arith)
@@ -145,7 +145,7 @@ no_room : (page : OpenPage) (held : List Pair) (pair : Pair) → Holds page held
 no_room page held pair holds full =
     let large : MOST_PAGE < 2 + length page.body + length (added page pair) = grind (arith, nat_tests, full) in
     let same : body_of (held ++ pair ∷ []) ≡ page.body ++ added page pair =
-    short_more held ORIGIN pair ∙ ap₂ (λ front back. front ++ back) (sym holds.body) (ap (λ (from : Pair). (pair_behind from).short pair) (sym (told_last page held holds))) in
+    short_more held ORIGIN pair ∙ ap₂ (λ prefix back. prefix ++ back) (sym holds.body) (ap (λ (from : Pair). (pair_after from).short pair) (sym (reported_last page held holds))) in
     omega (arith, large, ap length same, length-append page.body (added page pair))
 
 -- the first of the pages begins with the pairs held
@@ -179,8 +179,8 @@ fills_last page (pair ∷ held) holds = record {
   filled = ((λ none. cc), subst (λ body. 2 + length body ≤ MOST_PAGE) holds.body holds.size, tt, tt);
   spelled = (subst (PairsSpell (pair ∷ held)) holds.body holds.spelled, tt);
   whole =
-      ap (λ front. front ++ page_bytes []) (of_some page.body (some_bytes pair held page.body holds.spelled))
-      ∙ ap (λ front. front ++ page_bytes []) (ap page_bytes holds.body ∙ sym (append-nil (page_bytes (body_of (pair ∷ held)))));
+      ap (λ prefix. prefix ++ page_bytes []) (of_some page.body (some_bytes pair held page.body holds.spelled))
+      ∙ ap (λ prefix. prefix ++ page_bytes []) (ap page_bytes holds.body ∙ sym (append-nil (page_bytes (body_of (pair ∷ held)))));
   begin = (held, [], refl);
 }
   where
@@ -217,7 +217,7 @@ fills_new page held pairs pair bytes holds some full fills = record {
   );
   spelled = (subst (PairsSpell held) holds.body holds.spelled, fills.spelled);
   whole =
-      ap₂ (λ front rest. front ++ rest) (ap page_bytes holds.body) fills.whole
+      ap₂ (λ prefix rest. prefix ++ rest) (ap page_bytes holds.body) fills.whole
       ∙ sym (append_assoc (page_bytes (body_of held)) (flat_map (λ (page : List Pair). page_bytes (body_of page)) fills.pages) (page_bytes []));
   begin = of_some held some;
 }
@@ -227,13 +227,13 @@ fills_new page held pairs pair bytes holds some full fills = record {
     of_some (first ∷ others) some = (others, fills.pages, refl)
 
 -- the map from an open page on is written page by page
-fills : (pairs : List Pair) (page : OpenPage) (held : List Pair) → Holds page held → Ascend page.last.handle pairs → FillsFrom held pairs (map_behind page pairs)
-unfolding map_behind
+fills : (pairs : List Pair) (page : OpenPage) (held : List Pair) → Holds page held → Ascend page.last.handle pairs → FillsFrom held pairs (map_after page pairs)
+unfolding map_after
 fills [] page held holds ascend = fills_last page held holds
 fills (pair ∷ pairs) page held holds (above, small, place, others) =
     by_room (has_room page pair) refl
     (fills pairs (record { body = page.body ++ added page pair; last = pair; ended = false }) (held ++ pair ∷ []))
-    (fills pairs (record { body = (pair_behind ORIGIN).short pair; last = pair; ended = false }) (pair ∷ []))
+    (fills pairs (record { body = (pair_after ORIGIN).short pair; last = pair; ended = false }) (pair ∷ []))
   where
     fits : IsPair pair
     fits = record { handle = small; place = place }
@@ -241,20 +241,20 @@ fills (pair ∷ pairs) page held holds (above, small, place, others) =
     More : Type 0
     More =
         Holds (record { body = page.body ++ added page pair; last = pair; ended = false }) (held ++ pair ∷ []) → Ascend pair.handle pairs
-        → FillsFrom (held ++ pair ∷ []) pairs (map_behind (record { body = page.body ++ added page pair; last = pair; ended = false }) pairs)
+        → FillsFrom (held ++ pair ∷ []) pairs (map_after (record { body = page.body ++ added page pair; last = pair; ended = false }) pairs)
 
     New : Type 0
     New =
-        Holds (record { body = (pair_behind ORIGIN).short pair; last = pair; ended = false }) (pair ∷ []) → Ascend pair.handle pairs
-        → FillsFrom (pair ∷ []) pairs (map_behind (record { body = (pair_behind ORIGIN).short pair; last = pair; ended = false }) pairs)
+        Holds (record { body = (pair_after ORIGIN).short pair; last = pair; ended = false }) (pair ∷ []) → Ascend pair.handle pairs
+        → FillsFrom (pair ∷ []) pairs (map_after (record { body = (pair_after ORIGIN).short pair; last = pair; ended = false }) pairs)
 
-    by_room : (room : Bool) → has_room page pair ≡ room → More → New → FillsFrom held (pair ∷ pairs) (given page pair ++ map_behind (filled page pair) pairs)
+    by_room : (room : Bool) → has_room page pair ≡ room → More → New → FillsFrom held (pair ∷ pairs) (given page pair ++ map_after (filled page pair) pairs)
     by_room true room more new =
-        subst (FillsFrom held (pair ∷ pairs)) (ap₂ (λ front (next : OpenPage). front ++ map_behind next pairs) (sym (given_none page pair room)) (sym (filled_on page pair room)))
-        (fills_on held pairs pair (map_behind (record { body = page.body ++ added page pair; last = pair; ended = false }) pairs) (more (holds_more page held pair holds fits above room) others))
+        subst (FillsFrom held (pair ∷ pairs)) (ap₂ (λ prefix (next : OpenPage). prefix ++ map_after next pairs) (sym (given_none page pair room)) (sym (filled_on page pair room)))
+        (fills_on held pairs pair (map_after (record { body = page.body ++ added page pair; last = pair; ended = false }) pairs) (more (holds_more page held pair holds fits above room) others))
     by_room false room more new =
-        subst (FillsFrom held (pair ∷ pairs)) (ap₂ (λ front (next : OpenPage). front ++ map_behind next pairs) (sym (given_page page pair room)) (sym (filled_new page pair room)))
-        (fills_new page held pairs pair (map_behind (record { body = (pair_behind ORIGIN).short pair; last = pair; ended = false }) pairs) holds (some_held page held pair holds fits above room)
+        subst (FillsFrom held (pair ∷ pairs)) (ap₂ (λ prefix (next : OpenPage). prefix ++ map_after next pairs) (sym (given_page page pair room)) (sym (filled_new page pair room)))
+        (fills_new page held pairs pair (map_after (record { body = (pair_after ORIGIN).short pair; last = pair; ended = false }) pairs) holds (some_held page held pair holds fits above room)
         (no_room page held pair holds room) (new (holds_first pair fits) others))
 
 -- the fresh page holds no pairs
@@ -271,23 +271,23 @@ pub map_is_filled : (pairs : List Pair) → Ascend 0 pairs → IsFilling pairs (
 map_is_filled pairs ascend =
     let fills = map_pages pairs ascend in record { pages = fills.pages; all = fills.all; filled = fills.filled; whole = fills.whole }
 
--- what stands at a place has its front there
-stands_front : {A : Type 0} (letters front back : List A) (place : ℕ) → StandsAt letters place (front ++ back) → StandsAt letters place front
-stands_front letters front back place stands = record {
+-- what stands at a place has its prefix there
+stands_prefix : {A : Type 0} (letters prefix back : List A) (place : ℕ) → StandsAt letters place (prefix ++ back) → StandsAt letters place prefix
+stands_prefix letters prefix back place stands = record {
   before = stands.before;
-  behind = back ++ stands.behind;
-  whole = stands.whole ∙ ap (λ rest. stands.before ++ rest) (append_assoc front back stands.behind);
+  after = back ++ stands.after;
+  whole = stands.whole ∙ ap (λ rest. stands.before ++ rest) (append_assoc prefix back stands.after);
   far = stands.far;
 }
 
--- and what is behind its front further on
-stands_further : {A : Type 0} (letters front back : List A) (place : ℕ) → StandsAt letters place (front ++ back) → StandsAt letters (place + length front) back
-stands_further letters front back place stands = record {
-  before = stands.before ++ front;
-  behind = stands.behind;
+-- and what is after its prefix further on
+stands_further : {A : Type 0} (letters prefix back : List A) (place : ℕ) → StandsAt letters place (prefix ++ back) → StandsAt letters (place + length prefix) back
+stands_further letters prefix back place stands = record {
+  before = stands.before ++ prefix;
+  after = stands.after;
   whole =
-      stands.whole ∙ ap (λ rest. stands.before ++ rest) (append_assoc front back stands.behind) ∙ sym (append_assoc stands.before front (back ++ stands.behind));
-  far = omega (arith, length-append stands.before front, stands.far);
+      stands.whole ∙ ap (λ rest. stands.before ++ rest) (append_assoc prefix back stands.after) ∙ sym (append_assoc stands.before prefix (back ++ stands.after));
+  far = omega (arith, length-append stands.before prefix, stands.far);
 }
 
 -- a page has four bytes beside its pairs
@@ -304,7 +304,7 @@ page_written : (bytes : List ℕ) (place : ℕ) (page : List Pair) (body : List 
     → PageAt bytes place page (place + 4 + length body)
 page_written bytes place page body spelled small stands = record { body = body; spelled = spelled; size = omega arith; stands = stands; ends = refl }
 
--- pages and the page that ends them stand one behind the other
+-- pages and the page that ends them stand one after the other
 pages_written : (pages : List (List Pair)) (bytes : List ℕ) (place : ℕ) → AreFilled pages → AllByRecursion (λ (page : List Pair). PairsSpell page (body_of page)) pages
     → StandsAt bytes place (flat_map (λ (page : List Pair). page_bytes (body_of page)) pages ++ page_bytes [])
     → (last : ℕ) × (next : ℕ) × PagesAt bytes place pages last × PageAt bytes last [] next
@@ -322,7 +322,7 @@ pages_written (page ∷ pages) bytes place (some, small, full, others) (one, mor
       (
         place + 4 + length (body_of page),
         page_written bytes place page (body_of page) one small
-            (stands_front bytes (page_bytes (body_of page)) (flat_map (λ (page : List Pair). page_bytes (body_of page)) pages ++ page_bytes []) place split),
+            (stands_prefix bytes (page_bytes (body_of page)) (flat_map (λ (page : List Pair). page_bytes (body_of page)) pages ++ page_bytes []) place split),
         some,
         stand,
       ),

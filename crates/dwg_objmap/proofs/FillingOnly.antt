@@ -5,31 +5,31 @@ use Rattle.std.proofs.lemmas.Bool.Decides.{nat_tests}
 use Rattle.std.proofs.lemmas.List.{append-nil}
 use Rattle.dwg_grammar.specs.Combinators.{short_chain}
 use Rattle.dwg_objmap.specs.declared.pair.Pair.{Pair}
-use Rattle.dwg_objmap.specs.Pairs.{IsPair, ORIGIN, pair_behind}
+use Rattle.dwg_objmap.specs.Pairs.{IsPair, ORIGIN, pair_after}
 use Rattle.dwg_objmap.specs.Pages.{page_bytes}
 use Rattle.dwg_objmap.specs.MapLines.{last_of}
 use Rattle.dwg_objmap.proofs.MapLemmas.{joined}
-use Rattle.dwg_objmap.specs.Writing.{MOST_PAGE, OpenPage, FRESH, added, has_room, given, filled, closing_body, closing, map_behind, map_bytes, Ascend, body_of, HasNoRoom, AreFilled, IsFilling}
-use Rattle.dwg_objmap.proofs.FillingLemmas.{Holds, some_bytes, told_last, short_more, filled_on, filled_new, given_none, given_page, holds_more, holds_first, holds_none}
+use Rattle.dwg_objmap.specs.Writing.{MOST_PAGE, OpenPage, FRESH, added, has_room, given, filled, closing_body, closing, map_after, map_bytes, Ascend, body_of, HasNoRoom, AreFilled, IsFilling}
+use Rattle.dwg_objmap.proofs.FillingLemmas.{Holds, some_bytes, reported_last, short_more, filled_on, filled_new, given_none, given_page, holds_more, holds_first, holds_none}
 
--- pages one behind the other, and the page that ends them
+-- pages one after the other, and the page that ends them
 abbrev paged : List (List Pair) → List ℕ
 paged pages = flat_map (λ (page : List Pair). page_bytes (body_of page)) pages ++ page_bytes []
 
--- pairs and then others are written one behind the other
+-- pairs and then others are written one after the other
 short_append : (pairs others : List Pair) (before : Pair)
-    → short_chain pair_behind (λ pair. pair) before (pairs ++ others)
-    ≡ short_chain pair_behind (λ pair. pair) before pairs ++ short_chain pair_behind (λ pair. pair) (last_of before pairs) others
+    → short_chain pair_after (λ pair. pair) before (pairs ++ others)
+    ≡ short_chain pair_after (λ pair. pair) before pairs ++ short_chain pair_after (λ pair. pair) (last_of before pairs) others
 short_append [] others before = refl
 short_append (pair ∷ pairs) others before =
-    ap (λ rest. (pair_behind before).short pair ++ rest) (short_append pairs others pair)
-    ∙ sym (append_assoc ((pair_behind before).short pair) (short_chain pair_behind (λ pair. pair) pair pairs) (short_chain pair_behind (λ pair. pair) (last_of pair pairs) others))
+    ap (λ rest. (pair_after before).short pair ++ rest) (short_append pairs others pair)
+    ∙ sym (append_assoc ((pair_after before).short pair) (short_chain pair_after (λ pair. pair) pair pairs) (short_chain pair_after (λ pair. pair) (last_of pair pairs) others))
 
 -- the test for room, said of the pairs held
 room_of_pairs : (page : OpenPage) (held : List Pair) (pair : Pair) → Holds page held → has_room page pair ≡ nat_le (2 + length (body_of (held ++ pair ∷ []))) MOST_PAGE
 room_of_pairs page held pair holds =
     let same : body_of (held ++ pair ∷ []) ≡ page.body ++ added page pair =
-    short_more held ORIGIN pair ∙ ap₂ (λ front back. front ++ back) (sym holds.body) (ap (λ (from : Pair). (pair_behind from).short pair) (sym (told_last page held holds))) in
+    short_more held ORIGIN pair ∙ ap₂ (λ prefix back. prefix ++ back) (sym holds.body) (ap (λ (from : Pair). (pair_after from).short pair) (sym (reported_last page held holds))) in
     let long : 2 + length page.body + length (added page pair) ≡ 2 + length (body_of (held ++ pair ∷ [])) = omega (arith, ap length same, length-append page.body (added page pair)) in
     ap (λ n. nat_le n MOST_PAGE) long
 
@@ -38,7 +38,7 @@ has_its_room : (page : OpenPage) (held rest : List Pair) (pair : Pair) → Holds
 has_its_room page held rest pair holds small =
     let long = ap length (short_append (held ++ pair ∷ []) rest ORIGIN) in
     let less : 2 + length (body_of (held ++ pair ∷ [])) ≤ MOST_PAGE =
-    omega (arith, small, long, length-append (body_of (held ++ pair ∷ [])) (short_chain pair_behind (λ pair. pair) (last_of ORIGIN (held ++ pair ∷ [])) rest)) in
+    omega (arith, small, long, length-append (body_of (held ++ pair ∷ [])) (short_chain pair_after (λ pair. pair) (last_of ORIGIN (held ++ pair ∷ [])) rest)) in
     room_of_pairs page held pair holds ∙ test (2 + length (body_of (held ++ pair ∷ []))) less
   where
     test : (n : ℕ) → n ≤ MOST_PAGE → nat_le n MOST_PAGE ≡ true
@@ -56,54 +56,54 @@ closes : (page : OpenPage) (held : List Pair) → Holds page held → held ≢ [
 unfolding closing
 closes page [] holds some = absurd (some refl)
 closes page (pair ∷ held) holds some =
-    ap (λ front. front ++ page_bytes []) (of_some page.body (some_bytes pair held page.body holds.spelled) ∙ ap page_bytes holds.body)
+    ap (λ prefix. prefix ++ page_bytes []) (of_some page.body (some_bytes pair held page.body holds.spelled) ∙ ap page_bytes holds.body)
   where
     of_some : (body : List ℕ) → 0 < length body → closing_body body ≡ page_bytes body
     of_some [] some = absurd (omega arith)
     of_some (byte ∷ bytes) some = refl
 
--- a list that isn't empty with one more front isn't either
+-- a list that isn't empty with one more prefix isn't either
 more_some : (held rest : List Pair) (pair : Pair) → (held ++ pair ∷ []) ++ rest ≢ []
 more_some [] rest pair = λ none. cc
 more_some (first ∷ held) rest pair = λ none. cc
 
 -- a pair with room goes into the open page
 goes_on : (page : OpenPage) (pair : Pair) (pairs : List Pair) → has_room page pair ≡ true
-    → given page pair ++ map_behind (filled page pair) pairs ≡ map_behind (record { body = page.body ++ added page pair; last = pair; ended = false }) pairs
-goes_on page pair pairs room = ap₂ (λ front (next : OpenPage). front ++ map_behind next pairs) (given_none page pair room) (filled_on page pair room)
+    → given page pair ++ map_after (filled page pair) pairs ≡ map_after (record { body = page.body ++ added page pair; last = pair; ended = false }) pairs
+goes_on page pair pairs room = ap₂ (λ prefix (next : OpenPage). prefix ++ map_after next pairs) (given_none page pair room) (filled_on page pair room)
 
 -- one without begins a new page
 goes_new : (page : OpenPage) (pair : Pair) (pairs : List Pair) → has_room page pair ≡ false
-    → given page pair ++ map_behind (filled page pair) pairs ≡ page_bytes page.body ++ map_behind (record { body = (pair_behind ORIGIN).short pair; last = pair; ended = false }) pairs
-goes_new page pair pairs room = ap₂ (λ front (next : OpenPage). front ++ map_behind next pairs) (given_page page pair room) (filled_new page pair room)
+    → given page pair ++ map_after (filled page pair) pairs ≡ page_bytes page.body ++ map_after (record { body = (pair_after ORIGIN).short pair; last = pair; ended = false }) pairs
+goes_new page pair pairs room = ap₂ (λ prefix (next : OpenPage). prefix ++ map_after next pairs) (given_page page pair room) (filled_new page pair room)
 
--- the first page and those behind it
+-- the first page and those after it
 paged_first : (page : List Pair) (pages : List (List Pair)) → paged (page ∷ pages) ≡ page_bytes (body_of page) ++ paged pages
 paged_first page pages = append_assoc (page_bytes (body_of page)) (flat_map (λ (page : List Pair). page_bytes (body_of page)) pages) (page_bytes [])
 
 -- the map from an open page on is the pages that are filled with its pairs
 refills : (pairs : List Pair) (page : OpenPage) (held rest : List Pair) (pages : List (List Pair)) → pairs ≡ rest ++ joined pages → Holds page held → Ascend page.last.handle pairs
     → held ++ rest ≢ [] → 2 + length (body_of (held ++ rest)) ≤ MOST_PAGE → HasNoRoom (held ++ rest) pages → AreFilled pages
-    → map_behind page pairs ≡ page_bytes (body_of (held ++ rest)) ++ paged pages
-unfolding map_behind
+    → map_after page pairs ≡ page_bytes (body_of (held ++ rest)) ++ paged pages
+unfolding map_after
 refills [] page held [] [] same holds ascend some small full are =
     closes page held holds (λ none. some (append-nil held ∙ none)) ∙ ap (λ all. page_bytes (body_of all) ++ page_bytes []) (sym (append-nil held))
 refills [] page held [] (next ∷ pages) same holds ascend some small (first, others, begins, large) are =
-    let all : ◌≡◌ {A = List Pair} [] (first ∷ (others ++ joined pages)) = same ∙ ap (λ front. front ++ joined pages) begins in absurd (cc)
+    let all : ◌≡◌ {A = List Pair} [] (first ∷ (others ++ joined pages)) = same ∙ ap (λ prefix. prefix ++ joined pages) begins in absurd (cc)
 refills [] page held (first ∷ rest) pages same holds ascend some small full are = absurd (cc)
 refills (pair ∷ pairs) page held [] [] same holds ascend some small full are = absurd (cc)
 refills (pair ∷ pairs) page held [] (next ∷ pages) same holds ascend some small (first, others, begins, large) are =
-    let all : pair ∷ pairs ≡ first ∷ (others ++ joined pages) = same ∙ ap (λ front. front ++ joined pages) begins in
+    let all : pair ∷ pairs ≡ first ∷ (others ++ joined pages) = same ∙ ap (λ prefix. prefix ++ joined pages) begins in
     let is : pair ≡ first = cc in
     let tail : pairs ≡ others ++ joined pages = cc in
     let begin : pair ∷ others ≡ next = ap (λ one. one ∷ others) is ∙ sym begins in
     let fits : IsPair pair = record { handle = ascend.1; place = ascend.2 } in
     let none : has_room page pair ≡ false =
     has_none page held pair holds
-    (subst (λ one. MOST_PAGE < 2 + length (body_of (held ++ one ∷ []))) (sym is) (subst (λ front. MOST_PAGE < 2 + length (body_of (front ++ first ∷ []))) (append-nil held) large)) in
+    (subst (λ one. MOST_PAGE < 2 + length (body_of (held ++ one ∷ []))) (sym is) (subst (λ prefix. MOST_PAGE < 2 + length (body_of (prefix ++ first ∷ []))) (append-nil held) large)) in
     goes_new page pair pairs none
-    ∙ ap₂ (λ front back. front ++ back) (ap page_bytes holds.body ∙ ap (λ front. page_bytes (body_of front)) (sym (append-nil held)))
-    (refills pairs (record { body = (pair_behind ORIGIN).short pair; last = pair; ended = false }) (pair ∷ []) others pages tail (holds_first pair fits) ascend.3 (λ empty. cc)
+    ∙ ap₂ (λ prefix back. prefix ++ back) (ap page_bytes holds.body ∙ ap (λ prefix. page_bytes (body_of prefix)) (sym (append-nil held)))
+    (refills pairs (record { body = (pair_after ORIGIN).short pair; last = pair; ended = false }) (pair ∷ []) others pages tail (holds_first pair fits) ascend.3 (λ empty. cc)
     (subst (λ page. 2 + length (body_of page) ≤ MOST_PAGE) (sym begin) are.1) (subst (λ page. HasNoRoom page pages) (sym begin) are.2) are.3
     ∙ ap (λ page. page_bytes (body_of page) ++ paged pages) begin ∙ sym (paged_first next pages))
 refills (pair ∷ pairs) page held (first ∷ rest) pages same holds ascend some small full are =
@@ -120,10 +120,10 @@ refills (pair ∷ pairs) page held (first ∷ rest) pages same holds ascend some
 
 -- bytes that are pages filled with ascending pairs are what is written of them
 pub only_filling : (pairs : List Pair) (bytes : List ℕ) → Ascend 0 pairs → IsFilling pairs bytes → bytes ≡ map_bytes pairs
-unfolding map_bytes map_behind closing
+unfolding map_bytes map_after closing
 only_filling pairs bytes ascend filling = by_pages filling.pages filling.all filling.filled filling.whole
   where
-    by_pages : (pages : List (List Pair)) → pairs ≡ joined pages → AreFilled pages → bytes ≡ paged pages → bytes ≡ map_behind FRESH pairs
-    by_pages [] all are whole = whole ∙ ap (map_behind FRESH) (sym all)
+    by_pages : (pages : List (List Pair)) → pairs ≡ joined pages → AreFilled pages → bytes ≡ paged pages → bytes ≡ map_after FRESH pairs
+    by_pages [] all are whole = whole ∙ ap (map_after FRESH) (sym all)
     by_pages (page ∷ pages) all are whole =
         whole ∙ paged_first page pages ∙ sym (refills pairs FRESH [] page pages all holds_none ascend are.0 are.1 are.2 are.3)

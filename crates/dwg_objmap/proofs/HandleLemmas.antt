@@ -26,9 +26,9 @@ others_differ (other ∷ numbers) number i none inside = by_test (other == numbe
   where
     by_test : (test : Bool) → (other == number) ≡ test → (i : ℕ) → i < length (other ∷ numbers) → test || has numbers number ≡ false
         → (has numbers number ≡ false → (j : ℕ) → j < length numbers → slice_index numbers j ≢ number) → slice_index (other ∷ numbers) i ≢ number
-    by_test true is i inside none behind = absurd (cc)
-    by_test false is zero inside none behind = λ same. grind (arith, nat_tests)
-    by_test false is (suc i) inside none behind = behind none i (omega arith)
+    by_test true is i inside none after = absurd (cc)
+    by_test false is zero inside none after = λ same. grind (arith, nat_tests)
+    by_test false is (suc i) inside none after = after none i (omega arith)
 
 -- where each is another, none of them is
 none_of_them : (numbers : List ℕ) (number : ℕ) → ((i : ℕ) → i < length numbers → slice_index numbers i ≢ number) → has numbers number ≡ false
@@ -45,8 +45,8 @@ one_of_them [] number one = absurd (cc)
 one_of_them (other ∷ numbers) number one = by_test (other == number) refl one (λ rest. one_of_them numbers number rest)
   where
     by_test : (test : Bool) → (other == number) ≡ test → test || has numbers number ≡ true → (has numbers number ≡ true → Contains numbers number) → Contains (other ∷ numbers) number
-    by_test true is one behind = (0, omega arith, grind (arith, nat_tests))
-    by_test false is one behind = let (i, inside, same) = behind one in (suc i, omega arith, same)
+    by_test true is one after = (0, omega arith, grind (arith, nat_tests))
+    by_test false is one after = let (i, inside, same) = after one in (suc i, omega arith, same)
 
 -- and what stands among them is one of them
 stands_one : (numbers : List ℕ) (number : ℕ) → Contains numbers number → has numbers number ≡ true
@@ -72,17 +72,17 @@ all_more : (P : ℕ → Type 0) (numbers : List ℕ) (number : ℕ) → AllByRec
 all_more P [] number all one = (one, tt)
 all_more P (other ∷ numbers) number all one = (all.0, all_more P numbers number all.1 one)
 
--- all of the front of a list
-all_front : (P : ℕ → Type 0) (numbers others : List ℕ) → AllByRecursion P (numbers ++ others) → AllByRecursion P numbers
-all_front P [] others all = tt
-all_front P (number ∷ numbers) others all = (all.0, all_front P numbers others all.1)
+-- all of the prefix of a list
+all_prefix : (P : ℕ → Type 0) (numbers others : List ℕ) → AllByRecursion P (numbers ++ others) → AllByRecursion P numbers
+all_prefix P [] others all = tt
+all_prefix P (number ∷ numbers) others all = (all.0, all_prefix P numbers others all.1)
 
--- the one behind the front of a list
-all_behind : (P : ℕ → Type 0) (numbers others : List ℕ) (number : ℕ) → AllByRecursion P (numbers ++ number ∷ others) → P number
-all_behind P [] others number all = all.0
-all_behind P (other ∷ numbers) others number all = all_behind P numbers others number all.1
+-- the one after the prefix of a list
+all_after : (P : ℕ → Type 0) (numbers others : List ℕ) (number : ℕ) → AllByRecursion P (numbers ++ number ∷ others) → P number
+all_after P [] others number all = all.0
+all_after P (other ∷ numbers) others number all = all_after P numbers others number all.1
 
--- one more handle behind handles, positive and new
+-- one more handle after handles, positive and new
 are_more : (handles : List ℕ) (handle : ℕ) → AreHandles handles → 0 < handle → has handles handle ≡ false → AreHandles (handles ++ handle ∷ [])
 are_more handles handle are some new = record {
   positive = all_more (λ n. 0 < n) handles handle are.positive some;
@@ -101,18 +101,18 @@ are_more handles handle are some new = record {
         (sym (get_or-append handles (handle ∷ []) 0 i (omega arith)) ∙ same ∙ get_or-append handles (handle ∷ []) 0 j within)
 
 -- the handles of pairs and of one more
-handles_behind : (pairs others : List Pair) (pair : Pair) → handles_of (pairs ++ pair ∷ others) ≡ handles_of pairs ++ pair.handle ∷ handles_of others
-handles_behind pairs others pair = map-append (λ (pair : Pair). pair.handle) pairs (pair ∷ others)
+handles_after : (pairs others : List Pair) (pair : Pair) → handles_of (pairs ++ pair ∷ others) ≡ handles_of pairs ++ pair.handle ∷ handles_of others
+handles_after pairs others pair = map-append (λ (pair : Pair). pair.handle) pairs (pair ∷ others)
 
 -- the handles of one more pair are positive and distinct, where its own is positive and new
 pub handles_more : (pairs : List Pair) (pair : Pair) → AreHandles (handles_of pairs) → 0 < pair.handle → has_handle pairs pair.handle ≡ false → AreHandles (handles_of (pairs ++ pair ∷ []))
 handles_more pairs pair are some new =
-    subst AreHandles (sym (handles_behind pairs [] pair)) (are_more (handles_of pairs) pair.handle are some (sym (has_handles pairs pair.handle) ∙ new))
+    subst AreHandles (sym (handles_after pairs [] pair)) (are_more (handles_of pairs) pair.handle are some (sym (has_handles pairs pair.handle) ∙ new))
 
--- so are those of a front of the pairs
-pub handles_front : (pairs others : List Pair) → AreHandles (handles_of (pairs ++ others)) → AreHandles (handles_of pairs)
-handles_front pairs others are_all = record {
-  positive = all_front (λ n. 0 < n) (handles_of pairs) (handles_of others) are.positive;
+-- so are those of a prefix of the pairs
+pub handles_prefix : (pairs others : List Pair) → AreHandles (handles_of (pairs ++ others)) → AreHandles (handles_of pairs)
+handles_prefix pairs others are_all = record {
+  positive = all_prefix (λ n. 0 < n) (handles_of pairs) (handles_of others) are.positive;
   distinct = λ i j before inside same.
       are.distinct i j before (omega (arith, length-append (handles_of pairs) (handles_of others)))
       (get_or-append (handles_of pairs) (handles_of others) 0 i (omega arith) ∙ same ∙ sym (get_or-append (handles_of pairs) (handles_of others) 0 j inside));
@@ -121,17 +121,17 @@ handles_front pairs others are_all = record {
     are : AreHandles (handles_of pairs ++ handles_of others)
     are = subst AreHandles (map-append (λ (pair : Pair). pair.handle) pairs others) are_all
 
--- the handle of a pair behind others is positive and new
-pub handle_behind : (pairs others : List Pair) (pair : Pair) → AreHandles (handles_of (pairs ++ pair ∷ others)) → (0 < pair.handle) × (has_handle pairs pair.handle ≡ false)
-handle_behind pairs others pair are_all = (
-  all_behind (λ n. 0 < n) (handles_of pairs) (handles_of others) pair.handle are.positive,
+-- the handle of a pair after others is positive and new
+pub handle_after : (pairs others : List Pair) (pair : Pair) → AreHandles (handles_of (pairs ++ pair ∷ others)) → (0 < pair.handle) × (has_handle pairs pair.handle ≡ false)
+handle_after pairs others pair are_all = (
+  all_after (λ n. 0 < n) (handles_of pairs) (handles_of others) pair.handle are.positive,
   has_handles pairs pair.handle ∙ none_of_them (handles_of pairs) pair.handle (λ i inside same.
       are.distinct i (length (handles_of pairs)) inside (omega (arith, length-append (handles_of pairs) (pair.handle ∷ handles_of others)))
       (get_or-append (handles_of pairs) (pair.handle ∷ handles_of others) 0 i inside ∙ same ∙ sym (get_or-append_seam (handles_of pairs) pair.handle (handles_of others) 0))),
 )
   where
     are : AreHandles (handles_of pairs ++ pair.handle ∷ handles_of others)
-    are = subst AreHandles (handles_behind pairs others pair) are_all
+    are = subst AreHandles (handles_after pairs others pair) are_all
 
 -- no handles are positive and distinct
 pub no_handles : AreHandles []

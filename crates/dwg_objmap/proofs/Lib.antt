@@ -11,7 +11,7 @@ pub mod PairsTried
 pub mod WalkingLemmas
 pub mod PairReading
 pub mod StepReading
-pub mod FrontReading
+pub mod PrefixReading
 pub mod Answered
 pub mod PairWriting
 pub mod PageFilling

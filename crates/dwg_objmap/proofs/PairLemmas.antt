@@ -1,4 +1,4 @@
--- A pair behind another is a code over bytes, and so are pairs one behind the other.
+-- A pair after another is a code over bytes, and so are pairs one after the other.
 use Rattle.std.proofs.Common.{◌≡◌, refl, sym, ◌∙◌, ap, ap₂, subst, ℕ, suc, ◌+◌, ◌-◌, ◌^◌, ◌<◌, ◌≤◌, Bool, true, false, List, ◌++◌, length, Option, Some, None, arith}
 use Rattle.std.specs.Prelude.{ℤ, pos, negsuc, ◌+ℤ◌, nat_lt, nat_le, option_map, option_and_then, if◌then◌else◌}
 use Rattle.std.proofs.lemmas.Bool.Decides.{nat_tests}
@@ -12,7 +12,7 @@ use Rattle.dwg_grammar.specs.ModularCodes.{mc, signed_mc, sign_and_magnitude}
 use Rattle.dwg_grammar.proofs.ModularLemmas.{mc_is_code, mc_has}
 use Rattle.dwg_grammar.proofs.SignedLemmas.{signed_mc_is_code}
 use Rattle.dwg_objmap.specs.declared.pair.Pair.{Pair}
-use Rattle.dwg_objmap.specs.Pairs.{IsPair, PairSpells, moved, move_between, place_at_step, pair_at_steps, pair_behind}
+use Rattle.dwg_objmap.specs.Pairs.{IsPair, PairSpells, moved, move_between, place_at_step, pair_at_steps, pair_after}
 
 -- what two steps from a pair lead to
 pub record StepsLead (before : Pair) (step : ℕ) (move : ℤ) (pair : Pair) : Type 0 where
@@ -117,26 +117,26 @@ steps_there before pair step move leads =
     passes : (handle : ℕ) → handle < 2 ^ 63 → nat_lt handle (2 ^ 63) ≡ true
     passes handle small = grind (arith, nat_tests)
 
--- a pair behind another is a code
-pub pair_is_code : (before : Pair) → IsPair before → IsCode AreBytes (pair_behind before)
-unfolding pair_behind
+-- a pair after another is a code
+pub pair_is_code : (before : Pair) → IsPair before → IsCode AreBytes (pair_after before)
+unfolding pair_after
 pair_is_code before fits_before = record {
   sound = λ letters rest pair text found.
       option_and_then_some after (mc.parse letters) (pair, rest) found
-      (λ one was behind. option_and_then_some (last one.0) (signed_mc.parse one.1) (pair, rest) behind
+      (λ one was next. option_and_then_some (last one.0) (signed_mc.parse one.1) (pair, rest) next
       (λ two was_two made. option_map_some (λ (pair : Pair). (pair, two.1)) (pair_at_steps before one.0 two.0) (pair, rest) made
-      (λ of_steps leads same. subst (IsFound (pair_behind before).Spells letters) same
+      (λ of_steps leads same. subst (IsFound (pair_after before).Spells letters) same
       (of_parts letters one two of_steps text (mc_is_code.sound letters one.1 one.0 text was) was_two (steps_lead before of_steps one.0 two.0 leads)))));
-  complete = λ front rest pair spelled.
-      ap (λ all. option_and_then after (mc.parse all)) (ap (λ all. all ++ rest) spelled.whole ∙ append_assoc spelled.front spelled.back rest)
-      ∙ ap (option_and_then after) (mc_is_code.complete spelled.front (spelled.back ++ rest) spelled.step spelled.step_spelled)
+  complete = λ prefix rest pair spelled.
+      ap (λ all. option_and_then after (mc.parse all)) (ap (λ all. all ++ rest) spelled.whole ∙ append_assoc spelled.prefix spelled.back rest)
+      ∙ ap (option_and_then after) (mc_is_code.complete spelled.prefix (spelled.back ++ rest) spelled.step spelled.step_spelled)
       ∙ ap (option_and_then (last spelled.step)) (signed_mc_is_code.complete spelled.back rest spelled.move spelled.move_spelled)
-      ∙ ap (option_map (λ (pair : Pair). (pair, rest))) (steps_there before pair spelled.step spelled.move (leads_of front pair spelled));
-  value = λ front pair spelled. (spelled.in_range, omega (arith, spelled.handle));
+      ∙ ap (option_map (λ (pair : Pair). (pair, rest))) (steps_there before pair spelled.step spelled.move (leads_of prefix pair spelled));
+  value = λ prefix pair spelled. (spelled.in_range, omega (arith, spelled.handle));
   canonical = λ pair fits. record {
     step = pair.handle - before.handle;
     move = move_between before.place pair.place;
-    front = mc.short (pair.handle - before.handle);
+    prefix = mc.short (pair.handle - before.handle);
     back = signed_mc.short (move_between before.place pair.place);
     in_range = fits.0;
     handle = omega (arith, fits.1);
@@ -145,17 +145,17 @@ pair_is_code before fits_before = record {
     move_spelled = signed_mc_is_code.canonical (move_between before.place pair.place) (move_small before.place pair.place fits_before.place fits.0.place);
     whole = refl;
   };
-  least = λ front pair spelled.
+  least = λ prefix pair spelled.
       let step : spelled.step ≡ pair.handle - before.handle = omega (arith, spelled.handle) in
-      let one : length (mc.short (pair.handle - before.handle)) ≤ length spelled.front =
-      subst (λ n. length (mc.short n) ≤ length spelled.front) step (mc_is_code.least spelled.front spelled.step spelled.step_spelled) in
+      let one : length (mc.short (pair.handle - before.handle)) ≤ length spelled.prefix =
+      subst (λ n. length (mc.short n) ≤ length spelled.prefix) step (mc_is_code.least spelled.prefix spelled.step spelled.step_spelled) in
       let two : length (signed_mc.short (move_between before.place pair.place)) ≤ length spelled.back =
       subst (λ z. length (signed_mc.short z) ≤ length spelled.back) (move_is before.place pair.place spelled.move spelled.place)
       (signed_mc_is_code.least spelled.back spelled.move spelled.move_spelled) in
       omega (
         arith,
         ap length spelled.whole,
-        length-append spelled.front spelled.back,
+        length-append spelled.prefix spelled.back,
         length-append (mc.short (pair.handle - before.handle)) (signed_mc.short (move_between before.place pair.place)),
       );
 }
@@ -166,18 +166,18 @@ pair_is_code before fits_before = record {
     after : ℕ × List ℕ → Option (Pair × List ℕ)
     after one = option_and_then (last one.0) (signed_mc.parse one.1)
 
-    leads_of : (front : List ℕ) (pair : Pair) (spelled : PairSpells before pair front) → StepsLead before spelled.step spelled.move pair
-    leads_of front pair spelled = record { in_range = spelled.in_range; handle = spelled.handle; place = spelled.place }
+    leads_of : (prefix : List ℕ) (pair : Pair) (spelled : PairSpells before pair prefix) → StepsLead before spelled.step spelled.move pair
+    leads_of prefix pair spelled = record { in_range = spelled.in_range; handle = spelled.handle; place = spelled.place }
 
     of_parts : (letters : List ℕ) (one : ℕ × List ℕ) (two : ℤ × List ℕ) (pair : Pair) → AreBytes letters → IsFound mc.Spells letters one → signed_mc.parse one.1 ≡ Some two
         → StepsLead before one.0 two.0 pair → IsFound (PairSpells before) letters (pair, two.1)
-    of_parts letters one two pair text (front, first, same) was leads =
-        let (back, second, behind) = signed_mc_is_code.sound one.1 two.1 two.0 (bytes_closed front one.1 (subst AreBytes same text)) was in (
-          front ++ back,
+    of_parts letters one two pair text (prefix, first, same) was leads =
+        let (back, second, after) = signed_mc_is_code.sound one.1 two.1 two.0 (bytes_closed prefix one.1 (subst AreBytes same text)) was in (
+          prefix ++ back,
           record {
             step = one.0;
             move = two.0;
-            front = front;
+            prefix = prefix;
             back = back;
             in_range = leads.in_range;
             handle = leads.handle;
@@ -186,5 +186,5 @@ pair_is_code before fits_before = record {
             move_spelled = second;
             whole = refl;
           },
-          same ∙ ap (λ rest. front ++ rest) behind ∙ sym (append_assoc front back two.1),
+          same ∙ ap (λ rest. prefix ++ rest) after ∙ sym (append_assoc prefix back two.1),
         )

@@ -1,4 +1,4 @@
--- The pairs in front of a page's bytes are the longest list that is spelled there, and a page that stands gives its own.
+-- The leading pairs of a page's bytes are the longest list that is spelled there, and a page that stands gives its own.
 use Rattle.std.proofs.Common.{◌≡◌, refl, sym, ◌∙◌, ap, ap₂, subst, ℕ, zero, suc, ◌≤◌, Bool, true, false, List, [], ◌∷◌, ◌++◌, length, Option, Some, None, arith, append_assoc, length-append}
 use Rattle.std.specs.Prelude.{◌↔◌, ◌&&◌, nat_le, if◌then◌else◌}
 use Rattle.std.proofs.lemmas.Bool.Decides.{nat_tests}
@@ -9,23 +9,23 @@ use Rattle.dwg_grammar.specs.Grammar.{BeginsWith}
 use Rattle.dwg_grammar.proofs.CombinatorLemmas.{bytes_closed}
 use Rattle.dwg_grammar.proofs.CodeLemmas.{unique_of_code}
 use Rattle.dwg_objmap.specs.declared.pair.Pair.{Pair}
-use Rattle.dwg_objmap.specs.Pairs.{IsPair, ORIGIN, pair_behind}
+use Rattle.dwg_objmap.specs.Pairs.{IsPair, ORIGIN, pair_after}
 use Rattle.dwg_objmap.proofs.PairLemmas.{pair_is_code}
 use Rattle.dwg_objmap.specs.Pages.{PairsSpell, PageAt}
 use Rattle.dwg_objmap.specs.MapLines.{word_at, body_at, page_end, last_of, HasPage, HasPageWord}
-use Rattle.dwg_objmap.proofs.PairChains.{SpellBehind, origin_is_pair, spelled_is_pair, last_is_pair, pair_has_bytes}
+use Rattle.dwg_objmap.proofs.PairChains.{SpellAfter, origin_is_pair, spelled_is_pair, last_is_pair, pair_has_bytes}
 use Rattle.dwg_objmap.proofs.PairsTried.{none_parsed}
 use Rattle.dwg_objmap.proofs.PageLemmas.{page_lies, page_next}
-use Rattle.dwg_objmap.specs.Walking.{AreLongest, with_next, pairs_from, pairs_in_front, size_of_page}
+use Rattle.dwg_objmap.specs.Walking.{AreLongest, with_next, pairs_from, leading_pairs, size_of_page}
 
 -- no pair is parsed of what is left: the pairs seen are all
-pub from_none : (fuel : ℕ) (seen : List Pair) (last : Pair) (bytes : List ℕ) → (pair_behind last).parse bytes ≡ None → pairs_from fuel seen last bytes ≡ seen
+pub from_none : (fuel : ℕ) (seen : List Pair) (last : Pair) (bytes : List ℕ) → (pair_after last).parse bytes ≡ None → pairs_from fuel seen last bytes ≡ seen
 unfolding pairs_from
 from_none zero seen last bytes none = refl
 from_none (suc fuel) seen last bytes none = ap (with_next seen (λ pair rest. pairs_from fuel (seen ++ pair ∷ []) pair rest)) none
 
--- a pair is parsed: it goes on behind it
-pub from_some : (fuel : ℕ) (seen : List Pair) (last pair : Pair) (bytes rest : List ℕ) → (pair_behind last).parse bytes ≡ Some (pair, rest)
+-- a pair is parsed: it goes on after it
+pub from_some : (fuel : ℕ) (seen : List Pair) (last pair : Pair) (bytes rest : List ℕ) → (pair_after last).parse bytes ≡ Some (pair, rest)
     → pairs_from (suc fuel) seen last bytes ≡ pairs_from fuel (seen ++ pair ∷ []) pair rest
 unfolding pairs_from
 from_some fuel seen last pair bytes rest found = ap (with_next seen (λ pair rest. pairs_from fuel (seen ++ pair ∷ []) pair rest)) found
@@ -36,46 +36,46 @@ unfolding pairs_from
 from_out seen last bytes = refl
 
 -- no pair is spelled by no bytes
-none_of_nothing : (last : Pair) → IsPair last → (pair_behind last).parse [] ≡ None
-none_of_nothing last fits = none_parsed AreBytes (pair_behind last) [] (pair_is_code last fits) tt none
+none_of_nothing : (last : Pair) → IsPair last → (pair_after last).parse [] ≡ None
+none_of_nothing last fits = none_parsed AreBytes (pair_after last) [] (pair_is_code last fits) tt none
   where
-    none : BeginsWith (pair_behind last) [] → ⊥
-    none (pair, front, rest, spelled, same) = absurd (omega (arith, pair_has_bytes last pair front spelled, ap length same, length-append front rest))
+    none : BeginsWith (pair_after last) [] → ⊥
+    none (pair, prefix, rest, spelled, same) = absurd (omega (arith, pair_has_bytes last pair prefix spelled, ap length same, length-append prefix rest))
 
--- a pair in front of bytes is parsed of them
-parsed_in_front : (last pair : Pair) (first back rest front : List ℕ) → IsPair last → (pair_behind last).Spells pair first → front ≡ first ++ back
-    → (pair_behind last).parse (front ++ rest) ≡ Some (pair, back ++ rest)
-parsed_in_front last pair first back rest front fits one same =
-    ap (pair_behind last).parse (ap (λ all. all ++ rest) same ∙ append_assoc first back rest) ∙ (pair_is_code last fits).complete first (back ++ rest) pair one
+-- a pair before bytes is parsed of them
+parsed_leading : (last pair : Pair) (first back rest prefix : List ℕ) → IsPair last → (pair_after last).Spells pair first → prefix ≡ first ++ back
+    → (pair_after last).parse (prefix ++ rest) ≡ Some (pair, back ++ rest)
+parsed_leading last pair first back rest prefix fits one same =
+    ap (pair_after last).parse (ap (λ all. all ++ rest) same ∙ append_assoc first back rest) ∙ (pair_is_code last fits).complete first (back ++ rest) pair one
 
--- pairs that are spelled by a front behind which none is parsed are those that follow
-pub from_spelled : (pairs : List Pair) (fuel : ℕ) (seen : List Pair) (last : Pair) (front rest : List ℕ) → IsPair last → SpellBehind last pairs front → length (front ++ rest) ≤ fuel
-    → (pair_behind (last_of last pairs)).parse rest ≡ None → pairs_from fuel seen last (front ++ rest) ≡ seen ++ pairs
-from_spelled [] fuel seen last front rest fits spelled enough none =
+-- pairs that are spelled by a prefix after which none is parsed are those that follow
+pub from_spelled : (pairs : List Pair) (fuel : ℕ) (seen : List Pair) (last : Pair) (prefix rest : List ℕ) → IsPair last → SpellAfter last pairs prefix → length (prefix ++ rest) ≤ fuel
+    → (pair_after (last_of last pairs)).parse rest ≡ None → pairs_from fuel seen last (prefix ++ rest) ≡ seen ++ pairs
+from_spelled [] fuel seen last prefix rest fits spelled enough none =
     ap (λ first. pairs_from fuel seen last (first ++ rest)) spelled ∙ from_none fuel seen last rest none ∙ sym (append-nil seen)
-from_spelled (pair ∷ pairs) zero seen last front rest fits (first, back, one, others, same) enough none =
-    absurd (omega (arith, pair_has_bytes last pair first one, ap length same, length-append first back, length-append front rest))
-from_spelled (pair ∷ pairs) (suc fuel) seen last front rest fits (first, back, one, others, same) enough none =
-    from_some fuel seen last pair (front ++ rest) (back ++ rest) (parsed_in_front last pair first back rest front fits one same)
+from_spelled (pair ∷ pairs) zero seen last prefix rest fits (first, back, one, others, same) enough none =
+    absurd (omega (arith, pair_has_bytes last pair first one, ap length same, length-append first back, length-append prefix rest))
+from_spelled (pair ∷ pairs) (suc fuel) seen last prefix rest fits (first, back, one, others, same) enough none =
+    from_some fuel seen last pair (prefix ++ rest) (back ++ rest) (parsed_leading last pair first back rest prefix fits one same)
     ∙ from_spelled pairs fuel (seen ++ pair ∷ []) pair back rest (spelled_is_pair last pair first one) others
-    (omega (arith, enough, pair_has_bytes last pair first one, ap length same, length-append first back, length-append front rest, length-append back rest)) none
+    (omega (arith, enough, pair_has_bytes last pair first one, ap length same, length-append first back, length-append prefix rest, length-append back rest)) none
     ∙ append_assoc seen (pair ∷ []) pairs
 
 -- bytes that pairs spell give just these
-pub whole_in_front : (body : List ℕ) (pairs : List Pair) → PairsSpell pairs body → pairs_in_front body ≡ pairs
-unfolding pairs_in_front
-whole_in_front body pairs spelled =
+pub whole_is_leading : (body : List ℕ) (pairs : List Pair) → PairsSpell pairs body → leading_pairs body ≡ pairs
+unfolding leading_pairs
+whole_is_leading body pairs spelled =
     ap (pairs_from (length body) [] ORIGIN) (sym (append-nil body))
     ∙ from_spelled pairs (length body) [] ORIGIN body [] origin_is_pair spelled (omega (arith, length-append body []))
     (none_of_nothing (last_of ORIGIN pairs) (last_is_pair pairs ORIGIN body origin_is_pair spelled))
 
--- pairs behind a pair that a front of the bytes spells, behind which none is parsed
+-- pairs after a pair that a prefix of the bytes spells, after which none is parsed
 record Stops (last : Pair) (bytes : List ℕ) (pairs : List Pair) : Type 0 where
-  front : List ℕ
+  prefix : List ℕ
   rest : List ℕ
-  spelled : SpellBehind last pairs front
-  whole : bytes ≡ front ++ rest
-  none : (pair_behind (last_of last pairs)).parse rest ≡ None
+  spelled : SpellAfter last pairs prefix
+  whole : bytes ≡ prefix ++ rest
+  none : (pair_after (last_of last pairs)).parse rest ≡ None
 
 -- what follows the pairs seen, up to where none is parsed
 record Follow (fuel : ℕ) (seen : List Pair) (last : Pair) (bytes : List ℕ) : Type 0 where
@@ -83,17 +83,17 @@ record Follow (fuel : ℕ) (seen : List Pair) (last : Pair) (bytes : List ℕ) :
   all : pairs_from fuel seen last bytes ≡ seen ++ pairs
   stops : Stops last bytes pairs
 
--- a pair, and what follows behind it
-follow_more : (fuel : ℕ) (seen : List Pair) (last pair : Pair) (bytes spelling behind : List ℕ) → (pair_behind last).parse bytes ≡ Some (pair, behind) → (pair_behind last).Spells pair spelling
-    → bytes ≡ spelling ++ behind → Follow fuel (seen ++ pair ∷ []) pair behind → Follow (suc fuel) seen last bytes
-follow_more fuel seen last pair bytes spelling behind found spelled same more = record {
+-- a pair, and what follows after it
+follow_more : (fuel : ℕ) (seen : List Pair) (last pair : Pair) (bytes spelling after : List ℕ) → (pair_after last).parse bytes ≡ Some (pair, after) → (pair_after last).Spells pair spelling
+    → bytes ≡ spelling ++ after → Follow fuel (seen ++ pair ∷ []) pair after → Follow (suc fuel) seen last bytes
+follow_more fuel seen last pair bytes spelling after found spelled same more = record {
   pairs = pair ∷ more.pairs;
-  all = from_some fuel seen last pair bytes behind found ∙ more.all ∙ append_assoc seen (pair ∷ []) more.pairs;
+  all = from_some fuel seen last pair bytes after found ∙ more.all ∙ append_assoc seen (pair ∷ []) more.pairs;
   stops = record {
-    front = spelling ++ more.stops.front;
+    prefix = spelling ++ more.stops.prefix;
     rest = more.stops.rest;
-    spelled = (spelling, more.stops.front, spelled, more.stops.spelled, refl);
-    whole = same ∙ ap (λ left. spelling ++ left) more.stops.whole ∙ sym (append_assoc spelling more.stops.front more.stops.rest);
+    spelled = (spelling, more.stops.prefix, spelled, more.stops.spelled, refl);
+    whole = same ∙ ap (λ left. spelling ++ left) more.stops.whole ∙ sym (append_assoc spelling more.stops.prefix more.stops.rest);
     none = more.stops.none;
   };
 }
@@ -103,92 +103,92 @@ follow : (fuel : ℕ) (seen : List Pair) (last : Pair) (bytes : List ℕ) → Is
 follow fuel seen last [] fits text enough = record {
   pairs = [];
   all = from_none fuel seen last [] (none_of_nothing last fits) ∙ sym (append-nil seen);
-  stops = record { front = []; rest = []; spelled = refl; whole = refl; none = none_of_nothing last fits };
+  stops = record { prefix = []; rest = []; spelled = refl; whole = refl; none = none_of_nothing last fits };
 }
 follow zero seen last (byte ∷ bytes) fits text enough = absurd (omega arith)
 follow (suc fuel) seen last (byte ∷ bytes) fits text enough =
-    by_parse ((pair_behind last).parse (byte ∷ bytes)) refl (λ pair behind fits_pair text_behind fewer. follow fuel (seen ++ pair ∷ []) pair behind fits_pair text_behind fewer)
+    by_parse ((pair_after last).parse (byte ∷ bytes)) refl (λ pair after fits_pair text_after fewer. follow fuel (seen ++ pair ∷ []) pair after fits_pair text_after fewer)
   where
-    Behind : Type 0
-    Behind = (pair : Pair) (behind : List ℕ) → IsPair pair → AreBytes behind → length behind ≤ fuel → Follow fuel (seen ++ pair ∷ []) pair behind
+    After : Type 0
+    After = (pair : Pair) (after : List ℕ) → IsPair pair → AreBytes after → length after ≤ fuel → Follow fuel (seen ++ pair ∷ []) pair after
 
-    by_parse : (found : Option (Pair × List ℕ)) → (pair_behind last).parse (byte ∷ bytes) ≡ found → Behind → Follow (suc fuel) seen last (byte ∷ bytes)
+    by_parse : (found : Option (Pair × List ℕ)) → (pair_after last).parse (byte ∷ bytes) ≡ found → After → Follow (suc fuel) seen last (byte ∷ bytes)
     by_parse None none go_on = record {
       pairs = [];
       all = from_none (suc fuel) seen last (byte ∷ bytes) none ∙ sym (append-nil seen);
-      stops = record { front = []; rest = byte ∷ bytes; spelled = refl; whole = refl; none = none };
+      stops = record { prefix = []; rest = byte ∷ bytes; spelled = refl; whole = refl; none = none };
     }
-    by_parse (Some (pair, behind)) found go_on =
-        let (spelling, spelled, same) = (pair_is_code last fits).sound (byte ∷ bytes) behind pair text found in
-        follow_more fuel seen last pair (byte ∷ bytes) spelling behind found spelled same
-        (go_on pair behind (spelled_is_pair last pair spelling spelled) (bytes_closed spelling behind (subst AreBytes same text))
-        (omega (arith, enough, ap length same, length-append spelling behind, pair_has_bytes last pair spelling spelled)))
+    by_parse (Some (pair, after)) found go_on =
+        let (spelling, spelled, same) = (pair_is_code last fits).sound (byte ∷ bytes) after pair text found in
+        follow_more fuel seen last pair (byte ∷ bytes) spelling after found spelled same
+        (go_on pair after (spelled_is_pair last pair spelling spelled) (bytes_closed spelling after (subst AreBytes same text))
+        (omega (arith, enough, ap length same, length-append spelling after, pair_has_bytes last pair spelling spelled)))
 
--- the first pairs that fronts of the same bytes spell are the same, and so is what is behind them
-same_first : (last pair other : Pair) (first back rest front other_first other_back other_rest other_front : List ℕ) → IsPair last
-    → (pair_behind last).Spells pair first → front ≡ first ++ back → (pair_behind last).Spells other other_first → other_front ≡ other_first ++ other_back
-    → front ++ rest ≡ other_front ++ other_rest → (pair ≡ other) × (back ++ rest ≡ other_back ++ other_rest)
-same_first last pair other first back rest front other_first other_back other_rest other_front fits one same other_one other_same both =
+-- the first pairs that prefixes of the same bytes spell are the same, and so is what is after them
+same_first : (last pair other : Pair) (first back rest prefix other_first other_back other_rest other_prefix : List ℕ) → IsPair last
+    → (pair_after last).Spells pair first → prefix ≡ first ++ back → (pair_after last).Spells other other_first → other_prefix ≡ other_first ++ other_back
+    → prefix ++ rest ≡ other_prefix ++ other_rest → (pair ≡ other) × (back ++ rest ≡ other_back ++ other_rest)
+same_first last pair other first back rest prefix other_first other_back other_rest other_prefix fits one same other_one other_same both =
     let joined : first ++ (back ++ rest) ≡ other_first ++ (other_back ++ other_rest) =
     sym (ap (λ all. all ++ rest) same ∙ append_assoc first back rest) ∙ both ∙ ap (λ all. all ++ other_rest) other_same ∙ append_assoc other_first other_back other_rest in
-    let parts = unique_of_code AreBytes (pair_behind last) (pair_is_code last fits) pair other first other_first (back ++ rest) (other_back ++ other_rest) one other_one joined in
-    (parts.0, append_cancel_left other_first (back ++ rest) (other_back ++ other_rest) (ap (λ front. front ++ (back ++ rest)) (sym parts.1) ∙ joined))
+    let parts = unique_of_code AreBytes (pair_after last) (pair_is_code last fits) pair other first other_first (back ++ rest) (other_back ++ other_rest) one other_one joined in
+    (parts.0, append_cancel_left other_first (back ++ rest) (other_back ++ other_rest) (ap (λ prefix. prefix ++ (back ++ rest)) (sym parts.1) ∙ joined))
 
--- no front of the bytes spells more pairs than one behind which none is parsed
-no_longer : (pairs others : List Pair) (last : Pair) (front rest other_front other_rest : List ℕ) → IsPair last → SpellBehind last pairs front → (pair_behind (last_of last pairs)).parse rest ≡ None
-    → SpellBehind last others other_front → front ++ rest ≡ other_front ++ other_rest → length others ≤ length pairs
-no_longer pairs [] last front rest other_front other_rest fits spelled none other_spelled both = omega arith
-no_longer [] (other ∷ others) last front rest other_front other_rest fits spelled none (other_first, other_back, other_one, other_others, other_same) both =
+-- no prefix of the bytes spells more pairs than one after which none is parsed
+no_longer : (pairs others : List Pair) (last : Pair) (prefix rest other_prefix other_rest : List ℕ) → IsPair last → SpellAfter last pairs prefix → (pair_after (last_of last pairs)).parse rest ≡ None
+    → SpellAfter last others other_prefix → prefix ++ rest ≡ other_prefix ++ other_rest → length others ≤ length pairs
+no_longer pairs [] last prefix rest other_prefix other_rest fits spelled none other_spelled both = omega arith
+no_longer [] (other ∷ others) last prefix rest other_prefix other_rest fits spelled none (other_first, other_back, other_one, other_others, other_same) both =
     absurd (none-some {A = Pair × List ℕ} (other, other_back ++ other_rest)
-    (sym none ∙ ap (pair_behind last).parse (ap (λ first. first ++ rest) (sym spelled) ∙ both)
-    ∙ parsed_in_front last other other_first other_back other_rest other_front fits other_one other_same))
-no_longer (pair ∷ pairs) (other ∷ others) last front rest other_front other_rest fits (first, back, one, more, same) none (other_first, other_back, other_one, other_more, other_same) both =
-    let (is, behind) = same_first last pair other first back rest front other_first other_back other_rest other_front fits one same other_one other_same both in
+    (sym none ∙ ap (pair_after last).parse (ap (λ first. first ++ rest) (sym spelled) ∙ both)
+    ∙ parsed_leading last other other_first other_back other_rest other_prefix fits other_one other_same))
+no_longer (pair ∷ pairs) (other ∷ others) last prefix rest other_prefix other_rest fits (first, back, one, more, same) none (other_first, other_back, other_one, other_more, other_same) both =
+    let (is, after) = same_first last pair other first back rest prefix other_first other_back other_rest other_prefix fits one same other_one other_same both in
     let fewer = no_longer pairs others pair back rest other_back other_rest (spelled_is_pair last pair first one) more none
-    (subst (λ (from : Pair). SpellBehind from others other_back) (sym is) other_more) behind in
+    (subst (λ (from : Pair). SpellAfter from others other_back) (sym is) other_more) after in
     omega (arith, fewer)
 
--- as many pairs that fronts of the same bytes spell are the same
-same_pairs : (pairs others : List Pair) (last : Pair) (front rest other_front other_rest : List ℕ) → IsPair last → SpellBehind last pairs front → SpellBehind last others other_front
-    → front ++ rest ≡ other_front ++ other_rest → length pairs ≡ length others → pairs ≡ others
-same_pairs [] [] last front rest other_front other_rest fits spelled other_spelled both many = refl
-same_pairs [] (other ∷ others) last front rest other_front other_rest fits spelled other_spelled both many = absurd (omega arith)
-same_pairs (pair ∷ pairs) [] last front rest other_front other_rest fits spelled other_spelled both many = absurd (omega arith)
-same_pairs (pair ∷ pairs) (other ∷ others) last front rest other_front other_rest fits (first, back, one, more, same) (other_first, other_back, other_one, other_more, other_same) both many =
-    let (is, behind) = same_first last pair other first back rest front other_first other_back other_rest other_front fits one same other_one other_same both in
+-- as many pairs that prefixes of the same bytes spell are the same
+same_pairs : (pairs others : List Pair) (last : Pair) (prefix rest other_prefix other_rest : List ℕ) → IsPair last → SpellAfter last pairs prefix → SpellAfter last others other_prefix
+    → prefix ++ rest ≡ other_prefix ++ other_rest → length pairs ≡ length others → pairs ≡ others
+same_pairs [] [] last prefix rest other_prefix other_rest fits spelled other_spelled both many = refl
+same_pairs [] (other ∷ others) last prefix rest other_prefix other_rest fits spelled other_spelled both many = absurd (omega arith)
+same_pairs (pair ∷ pairs) [] last prefix rest other_prefix other_rest fits spelled other_spelled both many = absurd (omega arith)
+same_pairs (pair ∷ pairs) (other ∷ others) last prefix rest other_prefix other_rest fits (first, back, one, more, same) (other_first, other_back, other_one, other_more, other_same) both many =
+    let (is, after) = same_first last pair other first back rest prefix other_first other_back other_rest other_prefix fits one same other_one other_same both in
     ap₂ (λ (head : Pair) (tail : List Pair). head ∷ tail) is
-    (same_pairs pairs others pair back rest other_back other_rest (spelled_is_pair last pair first one) more (subst (λ (from : Pair). SpellBehind from others other_back) (sym is) other_more) behind
+    (same_pairs pairs others pair back rest other_back other_rest (spelled_is_pair last pair first one) more (subst (λ (from : Pair). SpellAfter from others other_back) (sym is) other_more) after
     (omega (arith, many)))
 
 -- the pairs that are computed are the longest
-pub longest_in_front : (body : List ℕ) → AreBytes body → AreLongest body (pairs_in_front body)
-unfolding pairs_in_front
-longest_in_front body text =
+pub longest_leading : (body : List ℕ) → AreBytes body → AreLongest body (leading_pairs body)
+unfolding leading_pairs
+longest_leading body text =
     let all = follow (length body) [] ORIGIN body origin_is_pair text (omega arith) in
     subst (AreLongest body) (sym all.all) (record {
-      front = all.stops.front;
+      prefix = all.stops.prefix;
       rest = all.stops.rest;
       spelled = all.stops.spelled;
       whole = all.stops.whole;
-      longest = λ others other_front other_rest spelled same.
-          no_longer all.pairs others ORIGIN all.stops.front all.stops.rest other_front other_rest origin_is_pair all.stops.spelled all.stops.none spelled (sym all.stops.whole ∙ same);
+      longest = λ others other_prefix other_rest spelled same.
+          no_longer all.pairs others ORIGIN all.stops.prefix all.stops.rest other_prefix other_rest origin_is_pair all.stops.spelled all.stops.none spelled (sym all.stops.whole ∙ same);
     })
 
 -- bytes have one longest list of pairs
 pub longest_is_unique : (body : List ℕ) (pairs others : List Pair) → AreLongest body pairs → AreLongest body others → pairs ≡ others
 longest_is_unique body pairs others longest other =
-    same_pairs pairs others ORIGIN longest.front longest.rest other.front other.rest origin_is_pair longest.spelled other.spelled (sym longest.whole ∙ other.whole)
-    (omega (arith, longest.longest others other.front other.rest other.spelled other.whole, other.longest pairs longest.front longest.rest longest.spelled longest.whole))
+    same_pairs pairs others ORIGIN longest.prefix longest.rest other.prefix other.rest origin_is_pair longest.spelled other.spelled (sym longest.whole ∙ other.whole)
+    (omega (arith, longest.longest others other.prefix other.rest other.spelled other.whole, other.longest pairs longest.prefix longest.rest longest.spelled longest.whole))
 
 -- a page that stands at a place gives its own pairs
 pub page_gives : (bytes : List ℕ) (place next : ℕ) (pairs : List Pair) → PageAt bytes place pairs next
-    → HasPage bytes place × HasPageWord bytes place × (next ≡ page_end bytes place) × (pairs_in_front (body_at bytes place) ≡ pairs)
+    → HasPage bytes place × HasPageWord bytes place × (next ≡ page_end bytes place) × (leading_pairs (body_at bytes place) ≡ pairs)
 page_gives bytes place next pairs page =
     let parts = page_lies bytes place pairs next page in (
       (omega (arith, parts.size), parts.within),
       parts.has_check_word,
       page_next bytes place pairs next page,
-      ap pairs_in_front parts.pairs ∙ whole_in_front page.body pairs page.spelled,
+      ap leading_pairs parts.pairs ∙ whole_is_leading page.body pairs page.spelled,
     )
 
 -- a page has a size where it lies in the input

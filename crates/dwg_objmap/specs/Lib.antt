@@ -1,4 +1,4 @@
--- Pairs of the object map: a handle and a place, each told as a step from the pair before.
+-- Pairs of the object map: a handle and a place, each written as a step from the pair before.
 pub mod Pairs
 -- Pages of the object map, and the map.
 pub mod Pages
@@ -10,8 +10,8 @@ pub mod Writing
 pub mod OpenPages
 -- The length of a map, counted pair by pair.
 pub mod MapLength
--- Which handles a list of pairs has, told by the highest while they ascend and by a set from there on.
-pub mod Gathered
+-- Which handles a list of pairs has, reported by the highest while they ascend and by a set from there on.
+pub mod DistinctPairs
 -- What one step of reading does to what is left to try.
 pub mod Reading
 -- Pages of the map as recovery reads them: each by itself, whatever is wrong with its pairs or its check word.

@@ -6,11 +6,11 @@ use Rattle.dwg_base.specs.Bytes.{StandsAt}
 use Rattle.dwg_check.specs.CheckWord.{FRAME_START, check_word}
 use Rattle.dwg_grammar.specs.Combinators.{SpellsChain}
 use Rattle.dwg_objmap.specs.declared.pair.Pair.{Pair}
-use Rattle.dwg_objmap.specs.Pairs.{ORIGIN, pair_behind}
+use Rattle.dwg_objmap.specs.Pairs.{ORIGIN, pair_after}
 
--- the pairs of a page, one behind the other, each told from the one before
+-- the pairs of a page, one after the other, each written from the one before
 abbrev pub PairsSpell : List Pair → List ℕ → Type 0
-PairsSpell pairs body = SpellsChain pair_behind (λ pair. pair) ORIGIN pairs body
+PairsSpell pairs body = SpellsChain pair_after (λ pair. pair) ORIGIN pairs body
 
 -- what the check word of a page is over: its size, which counts its own two bytes and the pairs, the most significant byte first; and the pairs
 abbrev pub sized_pairs : List ℕ → List ℕ
@@ -20,7 +20,7 @@ sized_pairs body = to_be_bytes w16 (2 + length body) ++ body
 abbrev pub page_bytes : List ℕ → List ℕ
 page_bytes body = sized_pairs body ++ to_be_bytes w16 (check_word FRAME_START (sized_pairs body))
 
--- a page of these pairs stands at a place of the input, and the next place is behind it
+-- a page of these pairs stands at a place of the input, and the next place is after it
 pub record PageAt (bytes : List ℕ) (place : ℕ) (pairs : List Pair) (next : ℕ) : Type 0 where
   pub body : List ℕ
   pub spelled : PairsSpell pairs body
@@ -28,10 +28,10 @@ pub record PageAt (bytes : List ℕ) (place : ℕ) (pairs : List Pair) (next : �
   pub stands : StandsAt bytes place (page_bytes body)
   pub ends : next ≡ place + 4 + length body
 
--- pages that have pairs stand one behind the other from a place, and the next place is behind them
+-- pages that have pairs stand one after the other from a place, and the next place is after them
 abbrev pub PagesAt : List ℕ → ℕ → List (List Pair) → ℕ → Type 0
 PagesAt bytes place [] next = next ≡ place
-PagesAt bytes place (pairs ∷ pages) next = (behind : ℕ) × PageAt bytes place pairs behind × (pairs ≢ []) × PagesAt bytes behind pages next
+PagesAt bytes place (pairs ∷ pages) next = (after : ℕ) × PageAt bytes place pairs after × (pairs ≢ []) × PagesAt bytes after pages next
 
 -- the handles of pairs
 abbrev pub handles_of : List Pair → List ℕ
@@ -42,7 +42,7 @@ pub record AreHandles (handles : List ℕ) : Type 0 where
   pub positive : AllByRecursion (λ handle. 0 < handle) handles
   pub distinct : (i j : ℕ) → i < j → j < length handles → slice_index handles i ≢ slice_index handles j
 
--- the map from a place: pages one behind the other, of which just the last has no pairs, and the pairs of all of them
+-- the map from a place: pages one after the other, of which just the last has no pairs, and the pairs of all of them
 pub record MapOf (bytes : List ℕ) (place : ℕ) (pairs : List Pair) : Type 0 where
   pub pages : List (List Pair)
   pub last : ℕ

@@ -6,13 +6,13 @@ use Rattle.dwg_base.specs.declared.refusal.Fault.TheVariants.{NoMemory, Refused}
 use Rattle.dwg_objmap.specs.declared.pair.Pair.{Pair}
 use Rattle.dwg_objmap.specs.declared.page.Page.{Page}
 
--- a step answers what is tried: it goes on from what it read, or its refusal is the one that is tried; want of memory tells nothing
+-- a step answers what is tried: it goes on from what it read, or its refusal is the one that is tried; out of memory reports nothing
 abbrev pub GoesOn : {S V : Type 0} → Result S Fault → Tried V → (S → Tried V) → Type 0
-GoesOn (Ok step) tried behind = tried ≡ behind step
-GoesOn (Err NoMemory) tried behind = ⊤
-GoesOn (Err (Refused refusal)) tried behind = tried ≡ Err refusal
+GoesOn (Ok step) tried after = tried ≡ after step
+GoesOn (Err NoMemory) tried after = ⊤
+GoesOn (Err (Refused refusal)) tried after = tried ≡ Err refusal
 
--- a call answers the page that is tried: its pairs and the place behind it, or its refusal; want of memory tells nothing
+-- a call answers the page that is tried: its pairs and the place after it, or its refusal; out of memory reports nothing
 abbrev pub AnswersPage : Result Page Fault → Tried (List Pair) → ℕ → Type 0
 AnswersPage (Ok page) tried end = (tried ≡ Ok page.pairs) × (page.next ≡ end)
 AnswersPage (Err NoMemory) tried end = ⊤

@@ -4,7 +4,7 @@ ghost use Rattle.std.specs.Prelude.{◌≡◌, ◌+◌, ◌*◌, ◌^◌, ◌<�
 ghost use Rattle.dwg_objmap.specs.declared.pair.Pair.{Pair};
 ghost use Rattle.dwg_objmap.specs.Pairs.{IsPair};
 ghost use Rattle.dwg_objmap.specs.Writing.{MOST_PAGE, Ascend, map_bytes};
-ghost use Rattle.dwg_objmap.specs.MapLength.{size_added, length_behind};
+ghost use Rattle.dwg_objmap.specs.MapLength.{size_added, length_after};
 
 use crate::pair::{Pair, origin};
 use crate::writing::{MOST_PAGE, pair_bytes};
@@ -35,14 +35,14 @@ fn size_added(size: u64, last: &Pair, pair: &Pair) -> u64
 }
 
 /// Counts a pair.
-#[tactic(auto, unfolding(crate::specs::MapLength::length_behind))]
+#[tactic(auto, unfolding(crate::specs::MapLength::length_after))]
 fn count_pair(count: &Count, pair: &Pair) -> Count
     requires last { IsPair count.now.last }
     requires pair { IsPair pair.now }
     requires above { count.now.last.handle < pair.now.handle }
     requires size { 2 + count.now.size ≤ MOST_PAGE }
     requires sent { count.now.sent < 2 ^ 63 }
-    ensures whole { (pairs : List Pair) → result.sent + length_behind result.size result.last pairs ≡ count.now.sent + length_behind count.now.size count.now.last (pair.now ∷ pairs) }
+    ensures whole { (pairs : List Pair) → result.sent + length_after result.size result.last pairs ≡ count.now.sent + length_after count.now.size count.now.last (pair.now ∷ pairs) }
     ensures last { result.last ≡ pair.now }
     ensures size { 2 + result.size ≤ MOST_PAGE }
     ensures few { result.sent + result.size ≤ count.now.sent + count.now.size + 24 }
@@ -63,11 +63,11 @@ fn count_pair(count: &Count, pair: &Pair) -> Count
 }
 
 /// The bytes that are left to count when no pair is.
-#[tactic(auto, unfolding(crate::specs::MapLength::length_behind))]
+#[tactic(auto, unfolding(crate::specs::MapLength::length_after))]
 fn count_end(count: &Count) -> u64
     requires size { 2 + count.now.size ≤ MOST_PAGE }
     requires sent { count.now.sent < 2 ^ 63 }
-    ensures length { result ≡ count.now.sent + length_behind count.now.size count.now.last [] }
+    ensures length { result ≡ count.now.sent + length_after count.now.size count.now.last [] }
     ensures within { result ≤ count.now.sent + count.now.size + 8 }
 {
     if count.size == 0 {

@@ -1,7 +1,7 @@
 //! The object map: where the frame of each object stands (Open Design Specification, "Object map").
 #![tactic(auto)]
 
-mod gathered;
+mod distinct_pairs;
 mod laws;
 mod length;
 mod page;

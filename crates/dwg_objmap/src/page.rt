@@ -5,7 +5,7 @@ ghost use Rattle.dwg_objmap.specs.MapLines.{word_at, sized_at, body_at, HasPage,
 ghost use Rattle.dwg_objmap.specs.Walking.{page_holds_at};
 
 use crate::pair::Pair;
-use dwg_base::{Items, bytes_behind};
+use dwg_base::{Items, bytes_after};
 use dwg_check::{FRAME_START, check};
 
 /// What one page of the map says (Open Design Specification, "Object map").
@@ -13,7 +13,7 @@ use dwg_check::{FRAME_START, check};
 pub struct Page {
     /// Its pairs, in file order; none in the page that ends the map.
     pub pairs: Items<Pair>,
-    /// The place behind its check word.
+    /// The place after its check word.
     pub next: u64,
 }
 
@@ -51,5 +51,5 @@ pub(crate) fn body(bytes: &[u8], place: u64) -> &[u8]
     ensures { result.now ≡ body_at bytes.now place }
 {
     let size = word_at(bytes, place as usize);
-    bytes_behind(sized(bytes, place as usize, size as usize), 2)
+    bytes_after(sized(bytes, place as usize, size as usize), 2)
 }

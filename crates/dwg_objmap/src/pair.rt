@@ -1,9 +1,9 @@
 //! Pairs of the map.
 
 ghost use Rattle.std.specs.Prelude.{◌≡◌, ◌+◌, ◌^◌, ◌<◌, ◌≤◌, Some, None, IfSome, IfNone, drop, length};
-ghost use Rattle.dwg_objmap.specs.Pairs.{ORIGIN, place_at_step, pair_at_steps, pair_behind};
+ghost use Rattle.dwg_objmap.specs.Pairs.{ORIGIN, place_at_step, pair_at_steps, pair_after};
 
-use dwg_base::{Handle, bytes_behind};
+use dwg_base::{Handle, bytes_after};
 use dwg_codes::{read_mc, read_signed_mc};
 
 /// Where the frame of an object stands (Open Design Specification, "Object map").
@@ -15,7 +15,7 @@ pub struct Pair {
     pub place: u64,
 }
 
-/// What the first pair of a page is told from: the null handle and the place 0.
+/// What the first pair of a page is written from: the null handle and the place 0.
 pub(crate) fn origin() -> Pair
     ensures { result ≡ ORIGIN }
 {
@@ -48,23 +48,23 @@ fn pair_at_steps(before: &Pair, step: u64, move_: i64) -> Option<Pair>
     Some(Pair { handle, place })
 }
 
-/// Reads a pair at the front of the bytes, told from the one before: the pair, and how many bytes spell it. None where no
-/// front spells one that is in range.
+/// Reads a pair at the begin of the bytes, written from the one before: the pair, and how many bytes spell it. None where no
+/// prefix spells one that is in range.
 #[tactic(auto, using(crate::proofs::PairReading::no_step))]
 pub(crate) fn read_pair(before: &Pair, bytes: &[u8]) -> Option<(Pair, usize)>
-    ensures found { IfSome result (λ found. (pair_behind before.now).parse bytes.now ≡ Some (found.0, drop found.1 bytes.now)) }
-    ensures none { IfNone result ((pair_behind before.now).parse bytes.now ≡ None) }
+    ensures found { IfSome result (λ found. (pair_after before.now).parse bytes.now ≡ Some (found.0, drop found.1 bytes.now)) }
+    ensures none { IfNone result ((pair_after before.now).parse bytes.now ≡ None) }
     ensures used { IfSome result (λ found. found.1 ≤ length bytes.now) }
 {
-    let Some((step, front)) = read_mc(bytes) else {
+    let Some((step, prefix)) = read_mc(bytes) else {
         return None;
     };
-    let rest = bytes_behind(bytes, front);
+    let rest = bytes_after(bytes, prefix);
     let Some((move_, back)) = read_signed_mc(rest) else {
         return None;
     };
     let Some(pair) = pair_at_steps(before, step, move_) else {
         return None;
     };
-    Some((pair, front + back))
+    Some((pair, prefix + back))
 }

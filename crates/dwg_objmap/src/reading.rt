@@ -1,17 +1,17 @@
-//! Reading the map: its pages one behind the other, and the pairs of each.
+//! Reading the map: its pages one after the other, and the pairs of each.
 
 ghost use Rattle.std.specs.Prelude.{◌≡◌, ℕ, ◌+◌, ◌-◌, ◌^◌, ◌<◌, ◌≤◌, List, [], drop, length, Ok, Err, IfOk, OnOk, IfErr, IfSome, IfNone};
 ghost use Rattle.dwg_base.specs.Refusals.{Answers, IfRefused, IsFaultOfTable};
 ghost use Rattle.dwg_objmap.specs.declared.pair.Pair.{Pair};
 ghost use Rattle.dwg_objmap.specs.Pairs.{ORIGIN};
 ghost use Rattle.dwg_objmap.specs.Pages.{PageAt, AreHandles, handles_of, MapOf};
-ghost use Rattle.dwg_objmap.specs.MapLines.{map_refusal, word_at, page_end, pairs_behind, page_behind, pages_behind, tried_page, tried_map, HasPage, HasPageWord, RefusesPage, RefusesMap};
+ghost use Rattle.dwg_objmap.specs.MapLines.{map_refusal, word_at, page_end, pairs_after, page_after, pages_after, tried_page, tried_map, HasPage, HasPageWord, RefusesPage, RefusesMap};
 ghost use Rattle.dwg_objmap.specs.Reading.{GoesOn, AnswersPage};
 
-use crate::gathered::Gathered;
+use crate::distinct_pairs::DistinctPairs;
 use crate::page::{Page, body, is_right, word_at};
 use crate::pair::{Pair, origin, read_pair};
-use dwg_base::{Fault, Items, NoMemory, Refusal, bytes_behind};
+use dwg_base::{Fault, Items, NoMemory, Refusal, bytes_after};
 use std::alloc::Global;
 
 /// The size of the page that ends the map: no more than its own two bytes.
@@ -40,7 +40,7 @@ fn refusal(line: u8, index: u64, place: u64) -> Refusal
 
 /// Why the page at a place is refused, whatever its pairs: it is short, its size is below 2, or its check word is wrong.
 fn refusal_of_page(bytes: &[u8], place: u64, index: u64) -> Option<Refusal>
-    ensures refused { IfSome result (λ refusal. (seen : List Pair) → page_behind seen place index bytes.now ≡ Err refusal) }
+    ensures refused { IfSome result (λ refusal. (seen : List Pair) → page_after seen place index bytes.now ≡ Err refusal) }
     ensures lies { IfNone result (HasPage bytes.now place) }
     ensures right { IfNone result (HasPageWord bytes.now place) }
 {
@@ -64,21 +64,21 @@ fn refusal_of_page(bytes: &[u8], place: u64, index: u64) -> Option<Refusal>
 /// A pair that was read, the pairs with it, and how many bytes spell it.
 #[derive(Drop)]
 struct Step {
-    gathered: Gathered,
+    gathered: DistinctPairs,
     pair: Pair,
     used: usize,
 }
 
 /// Reads the next pair of a page: no pair begins what is left, its handle is null, or an earlier pair has its handle.
 fn read_next(
-    gathered: Gathered,
+    gathered: DistinctPairs,
     last: &Pair,
     rest: &[u8],
     place: u64,
     index: u64,
 ) -> Result<Step, Fault>
     requires { 0 < length rest.now }
-    ensures step { (fuel : ℕ) → GoesOn result (pairs_behind (fuel + 1) index gathered last.now place rest.now) (λ step. pairs_behind fuel index step.gathered step.pair (place + step.used) (drop step.used rest.now)) }
+    ensures step { (fuel : ℕ) → GoesOn result (pairs_after (fuel + 1) index gathered last.now place rest.now) (λ step. pairs_after fuel index step.gathered step.pair (place + step.used) (drop step.used rest.now)) }
     ensures used { IfOk result (λ step. step.used ≤ length rest.now) }
 {
     let Some((pair, used)) = read_pair(last, rest) else {
@@ -98,16 +98,21 @@ fn read_next(
     }
 }
 
-/// Reads the pairs of a page behind those that were read before. Each takes a byte or more.
-fn read_pairs(gathered: Gathered, body: &[u8], place: u64, index: u64) -> Result<Gathered, Fault>
+/// Reads the pairs of a page after those that were read before. Each takes a byte or more.
+fn read_pairs(
+    gathered: DistinctPairs,
+    body: &[u8],
+    place: u64,
+    index: u64,
+) -> Result<DistinctPairs, Fault>
     requires { place + length body.now < 2 ^ 64 }
-    ensures { Answers result (pairs_behind (length body.now) index gathered ORIGIN place body.now) }
+    ensures { Answers result (pairs_after (length body.now) index gathered ORIGIN place body.now) }
 {
     let mut gathered = gathered;
     let mut last = origin();
     let mut at = 0;
     'along: for _ in 0..body.len() {
-        let rest = bytes_behind(body, at);
+        let rest = bytes_after(body, at);
         if rest.is_empty() {
             return Ok(gathered);
         }
@@ -122,7 +127,7 @@ fn read_pairs(gathered: Gathered, body: &[u8], place: u64, index: u64) -> Result
     Ok(gathered)
 }
 
-/// The place behind the check word of a page.
+/// The place after the check word of a page.
 fn next_place(bytes: &[u8], place: u64) -> u64
     requires { HasPage bytes.now place }
     ensures { result ≡ page_end bytes.now place }
@@ -130,15 +135,15 @@ fn next_place(bytes: &[u8], place: u64) -> u64
     place + word_at(bytes, place as usize) + 2
 }
 
-/// Reads the page at a place behind the pairs that were read before.
+/// Reads the page at a place after the pairs that were read before.
 #[tactic(auto, using(crate::proofs::PageLemmas::page_right, crate::proofs::PagePlaces::length_of_body))]
-fn read_page_behind(
-    gathered: Gathered,
+fn read_page_after(
+    gathered: DistinctPairs,
     bytes: &[u8],
     place: u64,
     index: u64,
-) -> Result<Gathered, Fault>
-    ensures tried { Answers result (page_behind gathered place index bytes.now) }
+) -> Result<DistinctPairs, Fault>
+    ensures tried { Answers result (page_after gathered place index bytes.now) }
     ensures lies { OnOk result (HasPage bytes.now place) }
 {
     if let Some(refusal) = refusal_of_page(bytes, place, index) {
@@ -147,23 +152,23 @@ fn read_page_behind(
     read_pairs(gathered, body(bytes, place), place + 2, index)
 }
 
-/// Reads the page at a place of the input. `index` is the number of the page, counted from 0, which a refusal tells.
+/// Reads the page at a place of the input. `index` is the number of the page, counted from 0, which a refusal reports.
 ///
 /// It is refused where it is short, its size is below 2 or its check word is wrong; and by its first pair that isn't spelled
 /// or leaves its range, has the null handle, or has the handle of an earlier pair of the page (Open Design Specification,
 /// "Object map"). What memory is taken is for the pairs that are there.
 pub fn read_page(alloc: Global, bytes: &[u8], place: u64, index: u64) -> Result<Page, Fault>
-    // The page that stands at the place, and the place behind it.
+    // The page that stands at the place, and the place after it.
     ensures found { IfOk result (λ page. PageAt bytes.now place page.pairs page.next × AreHandles (handles_of page.pairs)) }
 
-    // The first line of the table that fails, or want of memory.
+    // The first line of the table that fails, or out of memory.
     ensures refused { IfErr result (λ fault. IfRefused fault (RefusesPage [] place index bytes.now)) }
     ensures of_table { IfErr result IsFaultOfTable }
 
     // What trying the page gives.
     ensures tried { AnswersPage result (tried_page place index bytes.now) (page_end bytes.now place) }
 {
-    match read_page_behind(Gathered::new(alloc), bytes, place, index) {
+    match read_page_after(DistinctPairs::new(alloc), bytes, place, index) {
         Ok(gathered) => Ok(Page {
             pairs: gathered.into_pairs(),
             next: next_place(bytes, place),
@@ -173,13 +178,13 @@ pub fn read_page(alloc: Global, bytes: &[u8], place: u64, index: u64) -> Result<
 }
 
 /// Reads the pages of the map from a place on. Each takes a byte or more.
-fn read_pages(alloc: Global, bytes: &[u8], place: u64) -> Result<Gathered, Fault>
-    ensures { Answers result (pages_behind (length bytes.now + 1) [] place 0 bytes.now) }
+fn read_pages(alloc: Global, bytes: &[u8], place: u64) -> Result<DistinctPairs, Fault>
+    ensures { Answers result (pages_after (length bytes.now + 1) [] place 0 bytes.now) }
 {
-    let mut gathered = Gathered::new(alloc);
+    let mut gathered = DistinctPairs::new(alloc);
     let mut at = place;
     'along: for index in 0..bytes.len() + 1 {
-        gathered = match read_page_behind(gathered, bytes, at, index as u64) {
+        gathered = match read_page_after(gathered, bytes, at, index as u64) {
             Ok(gathered) => gathered,
             Err(fault) => return Err(fault),
         };
@@ -200,7 +205,7 @@ pub fn read_map(alloc: Global, bytes: &[u8], place: u64) -> Result<Items<Pair>, 
     // The pairs of the map that stands at the place.
     ensures found { IfOk result (λ pairs. MapOf bytes.now place pairs) }
 
-    // The first line of the table that fails, or want of memory.
+    // The first line of the table that fails, or out of memory.
     ensures refused { IfErr result (λ fault. IfRefused fault (RefusesMap place bytes.now)) }
     ensures of_table { IfErr result IsFaultOfTable }
 

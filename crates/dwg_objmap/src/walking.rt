@@ -2,11 +2,11 @@
 
 ghost use Rattle.std.specs.Prelude.{◌≡◌, ◌↔◌, IsTrue, IfOk, IfSome, IfNone};
 ghost use Rattle.dwg_objmap.specs.MapLines.{body_at, HasPage, HasPageWord};
-ghost use Rattle.dwg_objmap.specs.Walking.{AreLongest, pairs_in_front, page_holds_at, size_of_page};
+ghost use Rattle.dwg_objmap.specs.Walking.{AreLongest, leading_pairs, page_holds_at, size_of_page};
 
 use crate::page::{body, is_right, word_at};
 use crate::pair::{Pair, origin, read_pair};
-use dwg_base::{Items, NoMemory, bytes_behind};
+use dwg_base::{Items, NoMemory, bytes_after};
 use std::alloc::Global;
 
 /// The size of the page at a place of the input: its own two bytes and its pairs (Open Design Specification, "Object map").
@@ -41,14 +41,14 @@ pub fn page_holds(bytes: &[u8], place: u64) -> bool
 }
 
 /// Reads pairs up to where no pair in range is spelled. Each takes a byte or more.
-fn read_in_front(alloc: Global, body: &[u8]) -> Result<Items<Pair>, NoMemory>
-    ensures { IfOk result (λ pairs. pairs ≡ pairs_in_front body.now) }
+fn read_leading(alloc: Global, body: &[u8]) -> Result<Items<Pair>, NoMemory>
+    ensures { IfOk result (λ pairs. pairs ≡ leading_pairs body.now) }
 {
     let mut pairs = Items::new(alloc);
     let mut last = origin();
     let mut at = 0;
     'along: for _ in 0..body.len() {
-        let Some((pair, used)) = read_pair(&last, bytes_behind(body, at)) else {
+        let Some((pair, used)) = read_pair(&last, bytes_after(body, at)) else {
             return Ok(pairs);
         };
         last = pair;
@@ -63,8 +63,8 @@ fn read_in_front(alloc: Global, body: &[u8]) -> Result<Items<Pair>, NoMemory>
 /// this is a rule of this project. What memory is taken is for the pairs that are there; the only refusal is want of it.
 pub fn page_pairs(alloc: Global, bytes: &[u8], place: u64) -> Result<Items<Pair>, NoMemory>
     requires { HasPage bytes.now place }
-    ensures pairs { IfOk result (λ pairs. pairs ≡ pairs_in_front (body_at bytes.now place)) }
+    ensures pairs { IfOk result (λ pairs. pairs ≡ leading_pairs (body_at bytes.now place)) }
     ensures longest { IfOk result (λ pairs. AreLongest (body_at bytes.now place) pairs) }
 {
-    read_in_front(alloc, body(bytes, place))
+    read_leading(alloc, body(bytes, place))
 }

@@ -1,17 +1,19 @@
-//! Writing the map: which pairs go into which page, and the pages one behind the other.
+//! Writing the map: which pairs go into which page, and the pages one after the other.
 
 ghost use Rattle.std.specs.Prelude.{◌≡◌, ◌+◌, ◌-◌, ◌*◌, ◌^◌, ◌<◌, ◌≤◌, ◌++◌, [], drop, length, true, false, vec_capacity, IfOk, OnOk, OnErr};
 ghost use Rattle.std.specs.Int.{w16, to_be_bytes};
 ghost use Rattle.dwg_bits.specs.Bits.{bits};
 ghost use Rattle.dwg_bits.specs.Sink.{Extends};
 ghost use Rattle.dwg_base.specs.Devices.{Counts, Sends};
-ghost use Rattle.dwg_objmap.specs.Pairs.{IsPair, move_between, pair_behind};
+ghost use Rattle.dwg_objmap.specs.Pairs.{IsPair, move_between, pair_after};
 ghost use Rattle.dwg_objmap.specs.Pages.{page_bytes};
-ghost use Rattle.dwg_objmap.specs.Writing.{MOST_PAGE, FRESH, told_behind, has_room, given, filled, closing_body, closing};
+ghost use Rattle.dwg_objmap.specs.Writing.{MOST_PAGE, FRESH, reported_after, has_room, given, filled, closing_body, closing};
 ghost use Rattle.dwg_objmap.specs.OpenPages.{page_of, IsPage, HasPairRoom};
 
 use crate::pair::{Pair, origin};
-use dwg_base::{NoMemory, Sink, WriteFault, append_bytes, bounded_bytes, put_all, with_room};
+use dwg_base::{
+    NoMemory, Sink, WriteFault, append_bytes, bytes_with_range, put_all, vec_with_capacity,
+};
 use dwg_bits::BitSink;
 use dwg_check::{FRAME_START, check};
 use dwg_codes::{mc_bytes, signed_mc_bytes, write_mc, write_signed_mc};
@@ -39,13 +41,13 @@ fn move_between(from: u64, to: u64) -> i64
     to as i64 - from as i64
 }
 
-/// How many bytes a pair is written by behind another.
+/// How many bytes a pair is written by after another.
 #[tactic(auto, using(crate::proofs::PairLemmas::move_small, crate::proofs::PairWriting::length_of_pair))]
 pub(crate) fn pair_bytes(before: &Pair, pair: &Pair) -> u64
     requires before { IsPair before.now }
     requires pair { IsPair pair.now }
     requires above { before.now.handle ≤ pair.now.handle }
-    ensures length { result ≡ length ((pair_behind before.now).short pair.now) }
+    ensures length { result ≡ length ((pair_after before.now).short pair.now) }
     ensures few { result ≤ 20 }
 {
     let step = mc_bytes(pair.handle.value() - before.handle.value());
@@ -53,23 +55,23 @@ pub(crate) fn pair_bytes(before: &Pair, pair: &Pair) -> u64
     (step + move_) as u64
 }
 
-/// Writes a pair behind another.
+/// Writes a pair after another.
 #[tactic(auto, using(crate::proofs::PairLemmas::move_small, crate::proofs::PairWriting::length_of_pair, crate::proofs::PairWriting::pair_extends))]
 fn write_pair(before: &Pair, pair: &Pair, sink: &mut BitSink)
     requires before { IsPair before.now }
     requires pair { IsPair pair.now }
     requires above { before.now.handle ≤ pair.now.handle }
-    requires room { 8 * length ((pair_behind before.now).short pair.now) ≤ sink.old.spare }
-    ensures { Extends sink.old sink.new (bits ((pair_behind before.now).short pair.now)) }
+    requires room { 8 * length ((pair_after before.now).short pair.now) ≤ sink.old.spare }
+    ensures { Extends sink.old sink.new (bits ((pair_after before.now).short pair.now)) }
 {
     write_mc(pair.handle.value() - before.handle.value(), sink);
     write_signed_mc(move_between(before.place, pair.place), sink);
 }
 
-/// From which pair the next one of the page is told.
-fn told_from(page: &[u8], last: &Pair) -> Pair
+/// From which pair the next one of the page is written.
+fn reported_from(page: &[u8], last: &Pair) -> Pair
     requires { SIZE_BYTES ≤ length page.now }
-    ensures { result ≡ told_behind (drop SIZE_BYTES page.now) last.now }
+    ensures { result ≡ reported_after (drop SIZE_BYTES page.now) last.now }
 {
     if page.len() == SIZE_BYTES {
         return origin();
@@ -86,30 +88,30 @@ fn has_room(page: &[u8], last: &Pair, pair: &Pair) -> bool
     requires above { last.now.handle < pair.now.handle }
     ensures { result ≡ has_room (page_of page.now last.now true) pair.now }
 {
-    page.len() as u64 + pair_bytes(&told_from(page, last), pair) <= MOST_PAGE
+    page.len() as u64 + pair_bytes(&reported_from(page, last), pair) <= MOST_PAGE
 }
 
-/// Puts a pair behind the bytes of a page that have room for it. It is made in the room of a pair.
+/// Puts a pair after the bytes of a page that have room for it. It is made in the room of a pair.
 fn add(page: &mut Vec<u8>, spelled: &mut BitSink, before: &Pair, pair: &Pair)
     requires before { IsPair before.now }
     requires pair { IsPair pair.now }
     requires above { before.now.handle < pair.now.handle }
     requires room { HasPairRoom spelled.old }
-    requires fits { length page.old.items + length ((pair_behind before.now).short pair.now) ≤ vec_capacity page.old }
-    ensures both { page.new.items ≡ page.old.items ++ (pair_behind before.now).short pair.now }
+    requires fits { length page.old.items + length ((pair_after before.now).short pair.now) ≤ vec_capacity page.old }
+    ensures both { page.new.items ≡ page.old.items ++ (pair_after before.now).short pair.now }
     ensures capacity { vec_capacity page.old ≤ vec_capacity page.new }
     ensures room { HasPairRoom spelled.new }
 {
     spelled.clear();
     write_pair(before, pair, spelled);
-    append_bytes(page, bounded_bytes(spelled.as_bytes()));
+    append_bytes(page, bytes_with_range(spelled.as_bytes()));
 }
 
-/// Tells the size of a page in its first two bytes.
-fn tell_size(page: &mut Vec<u8>)
+/// Reports the size of a page in its first two bytes.
+fn report_size(page: &mut Vec<u8>)
     requires size { SIZE_BYTES ≤ length page.old.items }
     requires few { length page.old.items < 2 ^ 16 }
-    ensures told { page.new.items ≡ to_be_bytes w16 (length page.old.items) ++ drop SIZE_BYTES page.old.items }
+    ensures reported { page.new.items ≡ to_be_bytes w16 (length page.old.items) ++ drop SIZE_BYTES page.old.items }
     ensures capacity { vec_capacity page.new ≡ vec_capacity page.old }
 {
     let size = (page.len() as u16).to_be_bytes();
@@ -117,7 +119,7 @@ fn tell_size(page: &mut Vec<u8>)
     page[1] = size[1];
 }
 
-/// Closes a page: tells its size, and puts its check word behind its pairs.
+/// Closes a page: reports its size, and puts its check word after its pairs.
 fn close(page: &mut Vec<u8>)
     requires size { SIZE_BYTES ≤ length page.old.items }
     requires few { length page.old.items < 2 ^ 16 }
@@ -125,7 +127,7 @@ fn close(page: &mut Vec<u8>)
     ensures closed { page.new.items ≡ page_bytes (drop SIZE_BYTES page.old.items) }
     ensures capacity { vec_capacity page.old ≤ vec_capacity page.new }
 {
-    tell_size(page);
+    report_size(page);
     let word = check(FRAME_START, page.as_slice()).to_be_bytes();
     append_bytes(page, &word);
 }
@@ -160,17 +162,17 @@ fn send_filled<W: Sink>(page: &mut Vec<u8>, sink: &mut W) -> Result<(), WriteFau
     send_page(page, sink)
 }
 
-/// A page without pairs, with room for as many as a page may have and for its check word. The only refusal is want of memory.
+/// A page without pairs, with room for as many as a page may have and for its check word. Err: out of memory.
 fn empty_page(alloc: Global) -> Result<Vec<u8>, NoMemory>
     ensures page { IfOk result (λ page. IsPage page.items (vec_capacity page)) }
     ensures none { IfOk result (λ page. drop SIZE_BYTES page.items ≡ []) }
 {
-    let mut page = with_room(alloc, MOST_PAGE as usize + WORD_BYTES)?;
+    let mut page = vec_with_capacity(alloc, MOST_PAGE as usize + WORD_BYTES)?;
     append_bytes(&mut page, &[0; SIZE_BYTES]);
     Ok(page)
 }
 
-/// Room for the bits of a pair. The only refusal is want of memory.
+/// Room for the bits of a pair. Err: out of memory.
 fn pair_room(alloc: Global) -> Result<BitSink, NoMemory>
     ensures { IfOk result (λ spelled. HasPairRoom spelled) }
 {
@@ -236,7 +238,7 @@ impl PageWriter {
     }
 
     /// Puts the next pair into the map, and sends the page that has no room for it. A fault comes only where the sink's count
-    /// of faults rose; then it took a front of that page, and the writer isn't used before `restart`.
+    /// of faults rose; then it took a prefix of that page, and the writer isn't used before `restart`.
     pub fn put<W: Sink>(&mut self, pair: Pair, sink: &mut W) -> Result<(), WriteFault>
         requires handle { self.old.last.handle < pair.handle }
         requires place { pair.place < 2 ^ 63 }
@@ -249,7 +251,7 @@ impl PageWriter {
         ensures failed { OnErr result (self.new.ended ≡ true) }
     {
         if has_room(self.page.as_slice(), &self.last, &pair) {
-            let before = told_from(self.page.as_slice(), &self.last);
+            let before = reported_from(self.page.as_slice(), &self.last);
             add(&mut self.page, &mut self.spelled, &before, &pair);
             self.last = pair;
             return Ok(());
@@ -267,7 +269,7 @@ impl PageWriter {
     }
 
     /// Ends the map: sends the page that is being filled, if it has pairs, and the page without pairs. A fault comes only
-    /// where the sink's count of faults rose; then it took a front of these bytes. The writer isn't used before `restart`.
+    /// where the sink's count of faults rose; then it took a prefix of these bytes. The writer isn't used before `restart`.
     pub fn end<W: Sink>(&mut self, sink: &mut W) -> Result<(), WriteFault>
         requires { self.old.ended ≡ false }
         ensures bytes { Sends (W.taken sink.old) (W.taken sink.new) (closing self.old) result }

@@ -8,7 +8,7 @@ ghost use Rattle.dwg_common.specs.NonEntities.{object_common};
 ghost use Rattle.dwg_common.specs.contracts.entity.EntityCommonBodyCode.TheImpl as entity;
 ghost use Rattle.dwg_common.specs.contracts.object.ObjectCommonBodyCode.TheImpl as object;
 
-/// The common parts of entities and of other objects are read, told to fit, measured and written by the definition of their layout.
+/// The common parts of entities and of other objects are read, given to fit, measured and written by the definition of their layout.
 #[tactic(auto, using(crate::proofs::AsDefined::by_itself))]
 pub fn commons_as_defined()
     ensures entity { (layout : Layout) (base : ℕ) → IsDefinedBy (entity.ghosts.grammar layout base) (entity_common layout base) }

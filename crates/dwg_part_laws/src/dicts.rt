@@ -15,7 +15,7 @@ ghost use Rattle.dwg_dicts.specs.contracts.ltype_control.LtypeControlBodyCode.Th
 ghost use Rattle.dwg_dicts.specs.contracts.style_control.StyleControlBodyCode.TheImpl as style_control;
 ghost use Rattle.dwg_dicts.specs.contracts.xrecord.XRecordBodyCode.TheImpl as xrecord;
 
-/// These bodies are read, told to fit, measured and written by the definition of the version of their layout, or by the one of both
+/// These bodies are read, given to fit, measured and written by the definition of the version of their layout, or by the one of both
 /// versions.
 #[tactic(auto, using(crate::proofs::AsDefined::by_itself))]
 pub fn dicts_as_defined()

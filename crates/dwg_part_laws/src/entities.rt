@@ -13,13 +13,13 @@ ghost use Rattle.dwg_entities.specs.TextBody.{text_body};
 ghost use Rattle.dwg_entities.specs.contracts.attdef.AttdefBodyCode.TheImpl as attdef;
 ghost use Rattle.dwg_entities.specs.contracts.attrib.AttribBodyCode.TheImpl as attrib;
 ghost use Rattle.dwg_entities.specs.contracts.block.BlockBodyCode.TheImpl as block;
-ghost use Rattle.dwg_entities.specs.contracts.closing.EndBlkBodyCode.TheImpl as endblk;
-ghost use Rattle.dwg_entities.specs.contracts.closing.SeqEndBodyCode.TheImpl as seqend;
+ghost use Rattle.dwg_entities.specs.contracts.block_ends.EndBlkBodyCode.TheImpl as endblk;
+ghost use Rattle.dwg_entities.specs.contracts.block_ends.SeqEndBodyCode.TheImpl as seqend;
 ghost use Rattle.dwg_entities.specs.contracts.insert.InsertBodyCode.TheImpl as insert;
 ghost use Rattle.dwg_entities.specs.contracts.minsert.MInsertBodyCode.TheImpl as minsert;
 ghost use Rattle.dwg_entities.specs.contracts.text.TextBodyCode.TheImpl as text;
 
-/// These bodies are read, told to fit, measured and written by the definition of the version of their layout, or by the one of both
+/// These bodies are read, given to fit, measured and written by the definition of the version of their layout, or by the one of both
 /// versions.
 #[tactic(auto, using(crate::proofs::AsDefined::by_itself))]
 pub fn entities_as_defined()

@@ -19,7 +19,7 @@ ghost use Rattle.dwg_more.specs.contracts.trace.TraceBodyCode.TheImpl as trace;
 ghost use Rattle.dwg_more.specs.contracts.vertex.Vertex3dBodyCode.TheImpl as vertex3d;
 ghost use Rattle.dwg_more.specs.contracts.xline.XLineBodyCode.TheImpl as xline;
 
-/// These bodies are read, told to fit, measured and written by one definition, whatever the layout: AC1014 has none of them.
+/// These bodies are read, given to fit, measured and written by one definition, whatever the layout: AC1014 has none of them.
 #[tactic(auto, using(crate::proofs::AsDefined::by_itself))]
 pub fn more_as_defined()
     ensures ellipse { (layout : Layout) (base : ℕ) → IsDefinedBy (ellipse.ghosts.grammar layout base) (ellipse_body base) }

@@ -14,7 +14,7 @@ ghost use Rattle.dwg_shapes.specs.contracts.line.LineBodyCode.TheImpl as line;
 ghost use Rattle.dwg_shapes.specs.contracts.lwpolyline.LwPolylineBodyCode.TheImpl as lwpolyline;
 ghost use Rattle.dwg_shapes.specs.contracts.point.PointBodyCode.TheImpl as point;
 
-/// These bodies are read, told to fit, measured and written by the definition of the version of their layout, or by the one of both
+/// These bodies are read, given to fit, measured and written by the definition of the version of their layout, or by the one of both
 /// versions.
 #[tactic(auto, using(crate::proofs::AsDefined::by_itself))]
 pub fn shapes_as_defined()

@@ -14,7 +14,7 @@ ghost use Rattle.dwg_tables.specs.contracts.layer.LayerBodyCode.TheImpl as layer
 ghost use Rattle.dwg_tables.specs.contracts.ltype.LtypeBodyCode.TheImpl as ltype;
 ghost use Rattle.dwg_tables.specs.contracts.style.StyleBodyCode.TheImpl as style;
 
-/// These bodies are read, told to fit, measured and written by the definition of the version of their layout, or by the one of both
+/// These bodies are read, given to fit, measured and written by the definition of the version of their layout, or by the one of both
 /// versions.
 #[tactic(auto, using(crate::proofs::AsDefined::by_itself))]
 pub fn tables_as_defined()

@@ -40,8 +40,8 @@ each_by_test from end (suc count) content place test zero inside =
     let here : place ≡ place + 9 * 0 = omega arith in
     subst (λ p. LiesBetween from end (entry_at content p)) here (lies_by_test from end (entry_at content place) (and_parts _ _ test).0)
 each_by_test from end (suc count) content place test (suc i) inside =
-    let behind : place + 9 + 9 * i ≡ place + 9 * suc i = omega arith in
-    subst (λ p. LiesBetween from end (entry_at content p)) behind (each_by_test from end count content (place + 9) (and_parts _ _ test).1 i (omega arith))
+    let after : place + 9 + 9 * i ≡ place + 9 * suc i = omega arith in
+    subst (λ p. LiesBetween from end (entry_at content p)) after (each_by_test from end count content (place + 9) (and_parts _ _ test).1 i (omega arith))
 
 -- where each of so many pictures lies there, their test holds
 test_by_each : (from end count : ℕ) (content : List ℕ) (place : ℕ) → ((i : ℕ) → i < count → LiesBetween from end (entry_at content (place + 9 * i))) → pictures_lie from end count content place ≡ true
@@ -49,15 +49,15 @@ unfolding pictures_lie
 test_by_each from end zero content place each = refl
 test_by_each from end (suc count) content place each =
     let here : place + 9 * 0 ≡ place = omega arith in
-    let behind : (i : ℕ) → place + 9 * suc i ≡ place + 9 + 9 * i = λ i. omega arith in
+    let after : (i : ℕ) → place + 9 * suc i ≡ place + 9 + 9 * i = λ i. omega arith in
     both_true (test_by_lies from end (entry_at content place) (subst (λ p. LiesBetween from end (entry_at content p)) here (each 0 (omega arith))))
-    (test_by_each from end count content (place + 9) (λ i inside. subst (λ p. LiesBetween from end (entry_at content p)) (behind i) (each (suc i) (omega arith))))
+    (test_by_each from end count content (place + 9) (λ i inside. subst (λ p. LiesBetween from end (entry_at content p)) (after i) (each (suc i) (omega arith))))
 
 -- where three tests hold at once, each does
 three_parts : (one two three : Bool) → (one && two && three) ≡ true → (one ≡ true) × (two ≡ true) × (three ≡ true)
 three_parts one two three test =
-    let front = and_parts one two (and_parts (one && two) three test).0 in
-    (front.0, front.1, (and_parts (one && two) three test).1)
+    let prefix = and_parts one two (and_parts (one && two) three test).0 in
+    (prefix.0, prefix.1, (and_parts (one && two) three test).1)
 
 -- where the test of a content holds, it is one
 content_by_test : (place : ℕ) (content : List ℕ) → AreBytes content → length content < 2 ^ 32 → is_content place content ≡ true → IsContent place content
@@ -96,8 +96,8 @@ stands_by_test bytes place content test =
 test_by_stands : (bytes : List ℕ) (place : ℕ) (content : List ℕ) → StandsAt bytes place (preview_bytes content) → is_section bytes place content ≡ true
 unfolding is_section
 test_by_stands bytes place content there =
-    let whole = there.whole ∙ sym (append_assoc there.before (preview_bytes content) there.behind) in
-    (bytes_eq-Decides _ _).1 (piece_at bytes there.before (preview_bytes content) there.behind place (36 + length content) whole there.far (preview_is_counted content))
+    let whole = there.whole ∙ sym (append_assoc there.before (preview_bytes content) there.after) in
+    (bytes_eq-Decides _ _).1 (piece_at bytes there.before (preview_bytes content) there.after place (36 + length content) whole there.far (preview_is_counted content))
 
 -- a content is found where both of its tests hold
 found_by_tests : (stands is : Bool) (there content : List ℕ) → there ≡ content → stands ≡ true → is ≡ true → (if stands && is then Some there else None) ≡ Some content

@@ -4,7 +4,7 @@ use Rattle.std.specs.Prelude.{slice_index, IsTrue, ◌↔◌}
 use Rattle.std.specs.List.{AllByRecursion, flat_map}
 use Rattle.std.proofs.lemmas.List.{drop_more}
 use Rattle.dwg_base.specs.Bytes.{AreBytes}
-use Rattle.dwg_sections.proofs.BytePieces.{byte_at_below, front_more}
+use Rattle.dwg_sections.proofs.BytePieces.{byte_at_below, prefix_more}
 use Rattle.dwg_preview.specs.Previews.{Entry, IsContent, LiesBetween, content_bytes, entry_at, entry_bytes}
 use Rattle.dwg_preview.proofs.Entries.{all_from_each, each_from_all, entries_at, entries_back, entries_in_range, entries_read, length_of_entries, length_of_entries_at}
 
@@ -16,7 +16,7 @@ length_of_content entries further = omega (arith, length-append (flat_map entry_
 pub first_byte : (content : List ℕ) → 0 < length content → take 1 content ≡ slice_index content 0 ∷ []
 first_byte content some = ap (take 1) (drop_more content 0 0 some)
 
--- so many pictures lie behind the entries and in the section
+-- so many pictures lie after the entries and in the section
 abbrev AllLie : ℕ → List ℕ → ℕ → Type 0
 AllLie place content count = (i : ℕ) → i < count → LiesBetween (place + 20 + (1 + 9 * count)) (place + 20 + length content) (entry_at content (1 + 9 * i))
 
@@ -26,11 +26,11 @@ whole_back : (content : List ℕ) (count : ℕ) → AreBytes content → 0 < len
 whole_back content count all some counted within =
     let entries = entries_at count content 1 in
     let many : length entries ≡ count = length_of_entries_at count content 1 in
-    let front : take 1 content ≡ length entries ∷ [] = first_byte content some ∙ ap (λ n. n ∷ []) (sym counted ∙ sym many) in
-    let before = front_more content (length entries ∷ []) (flat_map entry_bytes entries) 1 (9 * count) front (entries_back count content 1 all within) in
+    let prefix : take 1 content ≡ length entries ∷ [] = first_byte content some ∙ ap (λ n. n ∷ []) (sym counted ∙ sym many) in
+    let before = prefix_more content (length entries ∷ []) (flat_map entry_bytes entries) 1 (9 * count) prefix (entries_back count content 1 all within) in
     sym (take-append-drop (1 + 9 * count) content) ∙ ap (λ xs. xs ++ drop (1 + 9 * count) content) before
 
--- bytes whose entries end in them, and whose pictures lie behind the entries and in the section, are a content
+-- bytes whose entries end in them, and whose pictures lie after the entries and in the section, are a content
 pub content_back : (place count : ℕ) (content : List ℕ) → AreBytes content → length content < 2 ^ 32 → 0 < length content → count ≡ slice_index content 0 → 1 + 9 * count ≤ length content → AllLie place content count → IsContent place content
 content_back place count content all small some counted within lie =
     let entries = entries_at count content 1 in
@@ -54,7 +54,7 @@ pub record ContentReads (place count : ℕ) (content : List ℕ) : Type 0 where
   pub within : 1 + 9 * count ≤ length content
   pub lie : AllLie place content count
 
--- a content has its entries in it, and their pictures behind them and in the section
+-- a content has its entries in it, and their pictures after them and in the section
 pub content_reads : (place count : ℕ) (content : List ℕ) → IsContent place content → count ≡ slice_index content 0 → ContentReads place count content
 content_reads place count content is counted =
     let here : slice_index content 0 ≡ length is.entries = ap (λ xs. slice_index xs 0) is.whole in
@@ -75,15 +75,15 @@ content_reads place count content is counted =
 pub entries_cut : (place count : ℕ) (content : List ℕ) → count ≡ slice_index content 0 → length content < 1 + 9 * count → IsTrue false ↔ IsContent place content
 entries_cut place count content counted cut = (λ never. absurd (cc never), λ is. absurd (omega (arith, (content_reads place count content is counted).within)))
 
--- bytes whose entries end in them are a content exactly where the pictures lie behind the entries and in the section
+-- bytes whose entries end in them are a content exactly where the pictures lie after the entries and in the section
 pub content_found : (test : Bool) (place begin count : ℕ) (content : List ℕ) → begin ≡ place → count ≡ slice_index content 0 → AreBytes content → length content < 2 ^ 32 → 0 < length content → 1 + 9 * count ≤ length content
     → (IsTrue test ↔ AllLie begin content count) → IsTrue test ↔ IsContent place content
-content_found test place begin count content same counted all small some within tells = (
-  λ yes. content_back place count content all small some counted within (subst (λ n. AllLie n content count) same (tells.0 yes)),
-  λ is. tells.1 (subst (λ n. AllLie n content count) (sym same) (content_reads place count content is counted).lie),
+content_found test place begin count content same counted all small some within reports = (
+  λ yes. content_back place count content all small some counted within (subst (λ n. AllLie n content count) same (reports.0 yes)),
+  λ is. reports.1 (subst (λ n. AllLie n content count) (sym same) (content_reads place count content is counted).lie),
 )
 
--- the entries that are read of a content lie behind its section's place
+-- the entries that are read of a content lie after its section's place
 pub entries_lie : (place count : ℕ) (content : List ℕ) → ContentReads place count content → (i : ℕ) → i < count → LiesBetween place (place + 20 + length content) (entry_at content (1 + 9 * i))
 entries_lie place count content reads i inside some =
     let there = reads.lie i inside some in

@@ -6,7 +6,7 @@ use Rattle.std.specs.Int.{to_le_bytes}
 use Rattle.std.proofs.lemmas.List.{length-map}
 use Rattle.std.proofs.lemmas.Bool.{lt-ltb}
 use Rattle.dwg_sections.specs.Framed.{complemented}
-use Rattle.dwg_preview.specs.Previews.{Entry, IsContent, IsEntry, LiesBetween, PREVIEW_SENTINEL, WITHOUT_CONTENT, content_bytes, entries_moved, entry_at, entry_bytes, front_bytes, further_bytes, moved, moved_entry}
+use Rattle.dwg_preview.specs.Previews.{Entry, IsContent, IsEntry, LiesBetween, PREVIEW_SENTINEL, WITHOUT_CONTENT, content_bytes, entries_moved, entry_at, entry_bytes, prefix_bytes, further_bytes, moved, moved_entry}
 use Rattle.dwg_preview.specs.PreviewLaws.{EntriesAreMoved, MovedIsContent, MovedStays, MovedTwiceIsMoved, SectionIsPieces}
 use Rattle.dwg_preview.proofs.Contents.{content_reads, first_byte, length_of_content}
 use Rattle.dwg_preview.proofs.Entries.{entries_at, entries_read, length_of_entries, same_entry}
@@ -48,7 +48,7 @@ place_moved from to skip reach low high new_low new_high place (suc size) is_low
     let there = lies (omega arith) in
     let first = there.0 in
     let last = there.1 in
-    let behind = placed (place - from + to) size in
+    let after = placed (place - from + to) size in
     (omega arith, λ some. (omega arith, omega arith))
 
 -- entries whose pictures lay between two places are, once their section stands elsewhere, entries whose pictures lie between the places there
@@ -58,13 +58,13 @@ all_moved : (from to skip reach low high new_low new_high : ℕ) (entries : List
 all_moved from to skip reach low high new_low new_high [] is_low is_high is_new_low is_new_high below are lie = (tt, tt)
 all_moved from to skip reach low high new_low new_high (entry ∷ entries) is_low is_high is_new_low is_new_high below are lie =
     let here = place_moved from to skip reach low high new_low new_high entry.place entry.size is_low is_high is_new_low is_new_high below lie.0 in
-    let behind = all_moved from to skip reach low high new_low new_high entries is_low is_high is_new_low is_new_high below are.1 lie.1 in
+    let after = all_moved from to skip reach low high new_low new_high entries is_low is_high is_new_low is_new_high below are.1 lie.1 in
     let is : IsEntry (moved_entry from to entry) = record {
       code = are.0.code;
       place = here.0;
       size = are.0.size;
     } in
-    ((is, behind.0), (here.1, behind.1))
+    ((is, after.0), (here.1, after.1))
 
 -- the entries of a content that is moved lie in their ranges, and their pictures in the section
 moved_lie : (from to : ℕ) (content : List ℕ) (is : IsContent from content) → to + WITHOUT_CONTENT + length content < 2 ^ 32
@@ -141,23 +141,23 @@ length_of_entries_moved from to zero content place = refl
 length_of_entries_moved from to (suc count) content place = omega (arith, length_of_entries_moved from to count content (place + 9))
 
 -- a section has so many bytes before its further bytes
-pub length_of_front : (from to : ℕ) (content : List ℕ) → 0 < length content → length (front_bytes from to content) ≡ 21 + 9 * slice_index content 0
-length_of_front from to content some =
+pub length_of_prefix : (from to : ℕ) (content : List ℕ) → 0 < length content → length (prefix_bytes from to content) ≡ 21 + 9 * slice_index content 0
+length_of_prefix from to content some =
     let entries = entries_moved from to (slice_index content 0) content 1 in
     omega (arith, length-append (take 1 content) entries, ap length (first_byte content some), length_of_entries_moved from to (slice_index content 0) content 1)
 
 -- with its further bytes these are twenty, and those of its content
-pub pieces_counted : (from to : ℕ) (content : List ℕ) → IsContent from content → length (front_bytes from to content) + length (further_bytes content) ≡ 20 + length content
+pub pieces_counted : (from to : ℕ) (content : List ℕ) → IsContent from content → length (prefix_bytes from to content) + length (further_bytes content) ≡ 20 + length content
 pieces_counted from to content is =
     let reads = content_reads from (slice_index content 0) content is refl in
-    omega (arith, reads.within, length_of_front from to content reads.some, length-drop (1 + 9 * slice_index content 0) content)
+    omega (arith, reads.within, length_of_prefix from to content reads.some, length-drop (1 + 9 * slice_index content 0) content)
 
 -- the section is what stands before its further bytes, these, and the end sentinel
 pub section_is_pieces : SectionIsPieces
 unfolding moved
 section_is_pieces from to content is below =
-    let front = PREVIEW_SENTINEL ++ to_le_bytes w32 (length content) in
+    let prefix = PREVIEW_SENTINEL ++ to_le_bytes w32 (length content) in
     let entries = take 1 content ++ entries_moved from to (slice_index content 0) content 1 in
     let counted = sym (moved_is_content from to content is below).0 in
     ap (λ bytes. bytes ++ complemented PREVIEW_SENTINEL)
-    (append_assoc front entries (further_bytes content) ∙ ap (λ n. PREVIEW_SENTINEL ++ to_le_bytes w32 n ++ moved from to content) counted)
+    (append_assoc prefix entries (further_bytes content) ∙ ap (λ n. PREVIEW_SENTINEL ++ to_le_bytes w32 n ++ moved from to content) counted)

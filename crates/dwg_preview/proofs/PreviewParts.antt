@@ -7,7 +7,7 @@ use Rattle.dwg_base.specs.Bytes.{AreBytes, StandsAt}
 use Rattle.dwg_base.proofs.ByteLists.{are_bytes}
 use Rattle.dwg_sections.specs.Framed.{complemented}
 use Rattle.dwg_sections.specs.HeaderLines.{bytes_at, rl_at}
-use Rattle.dwg_sections.proofs.BytePieces.{front_more, length_at, piece_at, rl_back}
+use Rattle.dwg_sections.proofs.BytePieces.{prefix_more, length_at, piece_at, rl_back}
 use Rattle.dwg_preview.specs.Previews.{PREVIEW_SENTINEL, preview_bytes}
 use Rattle.dwg_preview.specs.PreviewLaws.{PreviewIsCounted, PreviewIsOne}
 
@@ -20,20 +20,20 @@ pub record SectionStands (bytes : List ℕ) (place : ℕ) (content : List ℕ) :
   pub within : place + 36 + length content ≤ length bytes
 
 -- four pieces between others, in their order
-in_order : (before first second third fourth behind : List ℕ) → before ++ ((first ++ second ++ third ++ fourth) ++ behind) ≡ before ++ first ++ second ++ third ++ fourth ++ behind
-in_order before first second third fourth behind =
+in_order : (before first second third fourth after : List ℕ) → before ++ ((first ++ second ++ third ++ fourth) ++ after) ≡ before ++ first ++ second ++ third ++ fourth ++ after
+in_order before first second third fourth after =
     sym (simp append_assoc)
 
--- four pieces that stand joined at a place stand there one behind the other
-pieces_stand : (bytes before begin size content end behind : List ℕ) (place : ℕ)
-    → bytes ≡ before ++ ((begin ++ size ++ content ++ end) ++ behind)
+-- four pieces that stand joined at a place stand there one after the other
+pieces_stand : (bytes before begin size content end after : List ℕ) (place : ℕ)
+    → bytes ≡ before ++ ((begin ++ size ++ content ++ end) ++ after)
     → length before ≡ place → length begin ≡ 16 → length size ≡ 4 → length end ≡ 16
     → (bytes_at bytes place 16 ≡ begin) × (bytes_at bytes (place + 16) 4 ≡ size) × (bytes_at bytes (place + 20) (length content) ≡ content) × (bytes_at bytes (place + 20 + length content) 16 ≡ end) × (place + 36 + length content ≤ length bytes)
-pieces_stand bytes before begin size content end behind place stands far sixteen four other_sixteen =
-    let from_end = stands ∙ in_order before begin size content end behind in
-    let from_content = from_end ∙ append_assoc (before ++ begin ++ size ++ content) end behind in
-    let from_size = from_content ∙ append_assoc (before ++ begin ++ size) content (end ++ behind) in
-    let from_begin = from_size ∙ append_assoc (before ++ begin) size (content ++ (end ++ behind)) in
+pieces_stand bytes before begin size content end after place stands far sixteen four other_sixteen =
+    let from_end = stands ∙ in_order before begin size content end after in
+    let from_content = from_end ∙ append_assoc (before ++ begin ++ size ++ content) end after in
+    let from_size = from_content ∙ append_assoc (before ++ begin ++ size) content (end ++ after) in
+    let from_begin = from_size ∙ append_assoc (before ++ begin) size (content ++ (end ++ after)) in
     let to_size : length (before ++ begin) ≡ place + 16 = omega (arith, length-append before begin) in
     let to_content : length (before ++ begin ++ size) ≡ place + 20 = omega (arith, length-append (before ++ begin) size) in
     let to_end : length (before ++ begin ++ size ++ content) ≡ place + 20 + length content = omega (arith, length-append (before ++ begin ++ size) content) in (
@@ -42,13 +42,13 @@ pieces_stand bytes before begin size content end behind place stands far sixteen
       piece_at bytes (before ++ begin ++ size) content _ (place + 20) (length content) from_content to_content refl,
       piece_at bytes (before ++ begin ++ size ++ content) end _ (place + 20 + length content) 16 from_end to_end other_sixteen,
       subst (λ n. place + 36 + length content ≤ n) (sym (ap length from_end))
-          (omega (arith, length-append (before ++ begin ++ size ++ content ++ end) behind, length-append (before ++ begin ++ size ++ content) end)),
+          (omega (arith, length-append (before ++ begin ++ size ++ content ++ end) after, length-append (before ++ begin ++ size ++ content) end)),
     )
 
 -- the parts of a section that stands at a place
 pub section_stands : (bytes : List ℕ) (place : ℕ) (content : List ℕ) → length content < 2 ^ 32 → StandsAt bytes place (preview_bytes content) → SectionStands bytes place content
 section_stands bytes place content small there =
-    let parts = pieces_stand bytes there.before PREVIEW_SENTINEL (to_le_bytes w32 (length content)) content (complemented PREVIEW_SENTINEL) there.behind place there.whole there.far refl refl refl in
+    let parts = pieces_stand bytes there.before PREVIEW_SENTINEL (to_le_bytes w32 (length content)) content (complemented PREVIEW_SENTINEL) there.after place there.whole there.far refl refl refl in
     record {
       begin_at = parts.0;
       size_at = ap (from_le_bytes w32) parts.1 ∙ from_le_bytes-to_le_bytes_4 (length content) small;
@@ -78,9 +78,9 @@ preview_is_counted content =
     ∙ ap (λ n. n + 16) (length-append (begin ++ size) content)
     ∙ omega arith
 
--- what stands further on behind a place
-behind_place : (bytes : List ℕ) (place skip at count : ℕ) → place + skip ≡ at → bytes_at (drop place bytes) skip count ≡ bytes_at bytes at count
-behind_place bytes place skip at count same = ap (take count) (drop-drop skip place bytes ∙ ap (λ n. drop n bytes) same)
+-- what stands further on after a place
+after_place : (bytes : List ℕ) (place skip at count : ℕ) → place + skip ≡ at → bytes_at (drop place bytes) skip count ≡ bytes_at bytes at count
+after_place bytes place skip at count same = ap (take count) (drop-drop skip place bytes ∙ ap (λ n. drop n bytes) same)
 
 -- four pieces that follow each other from a place stand there joined
 joined_at : (bytes begin size content end : List ℕ) (place count : ℕ)
@@ -88,18 +88,18 @@ joined_at : (bytes begin size content end : List ℕ) (place count : ℕ)
     → bytes_at bytes place (16 + 4 + count + 16) ≡ begin ++ size ++ content ++ end
 joined_at bytes begin size content end place count one two three four =
     let all = drop place bytes in
-    let to_size = front_more all begin size 16 4 one (behind_place bytes place 16 (place + 16) 4 refl ∙ two) in
-    let to_content = front_more all (begin ++ size) content 20 count to_size (behind_place bytes place 20 (place + 20) count refl ∙ three) in
-    front_more all (begin ++ size ++ content) end (20 + count) 16 to_content (behind_place bytes place _ (place + 20 + count) 16 (omega arith) ∙ four)
+    let to_size = prefix_more all begin size 16 4 one (after_place bytes place 16 (place + 16) 4 refl ∙ two) in
+    let to_content = prefix_more all (begin ++ size) content 20 count to_size (after_place bytes place 20 (place + 20) count refl ∙ three) in
+    prefix_more all (begin ++ size ++ content) end (20 + count) 16 to_content (after_place bytes place _ (place + 20 + count) 16 (omega arith) ∙ four)
 
 -- what stands at a place that lies within the bytes
 pub stands_at : (bytes piece : List ℕ) (place count : ℕ) → place ≤ length bytes → bytes_at bytes place count ≡ piece → StandsAt bytes place piece
 stands_at bytes piece place count within there = record {
   before = take place bytes;
-  behind = drop count (drop place bytes);
+  after = drop count (drop place bytes);
   whole =
       sym (take-append-drop place bytes)
-      ∙ ap (λ rest. take place bytes ++ rest) (sym (take-append-drop count (drop place bytes)) ∙ ap (λ front. front ++ drop count (drop place bytes)) there);
+      ∙ ap (λ rest. take place bytes ++ rest) (sym (take-append-drop count (drop place bytes)) ∙ ap (λ prefix. prefix ++ drop count (drop place bytes)) there);
   far = length-take-le place bytes within;
 }
 
@@ -115,7 +115,7 @@ section_back bytes place size all sized within begins ends =
 
 -- where the test of two lists of bytes holds, they are equal
 tested : (test : Bool) (a b : List ℕ) → test ≡ bytes_eq a b → test ≡ true → a ≡ b
-tested test a b told holds = (bytes_eq-Decides a b).0 (sym told ∙ holds)
+tested test a b reported holds = (bytes_eq-Decides a b).0 (sym reported ∙ holds)
 
 -- where the tests of the sentinels hold, a section with the content between them stands there
 pub section_found : (begins ends : Bool) (bytes : List ℕ) (place size : ℕ) (content : List ℕ) → ((i : ℕ) → get_or bytes i 0 < 256) → size ≡ rl_at bytes (place + 16) → place + 36 + size ≤ length bytes
@@ -133,7 +133,7 @@ section_cut bytes place size sized short content small there =
     let stands = section_stands bytes place content small there in
     omega (arith, stands.within, stands.size_at)
 
--- where another end sentinel stands behind as many bytes as the size says, no section stands
+-- where another end sentinel stands after as many bytes as the size says, no section stands
 pub section_ends_otherwise : (ends : Bool) (bytes : List ℕ) (place size : ℕ) → size ≡ rl_at bytes (place + 16)
     → ends ≡ bytes_eq (bytes_at bytes (place + 20 + size) 16) (complemented PREVIEW_SENTINEL) → ends ≡ false
     → (content : List ℕ) → length content < 2 ^ 32 → StandsAt bytes place (preview_bytes content) → ⊥

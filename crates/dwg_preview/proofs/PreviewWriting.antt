@@ -9,7 +9,7 @@ use Rattle.dwg_bits.proofs.SinkLemmas.{extends_by_both}
 use Rattle.dwg_sections.specs.Framed.{complemented}
 use Rattle.dwg_sections.specs.Writing.{Puts}
 use Rattle.dwg_sections.proofs.BytePuts.{puts_none, puts_both}
-use Rattle.dwg_preview.specs.Previews.{Entry, IsContent, PREVIEW_SENTINEL, WITHOUT_CONTENT, entries_moved, entry_at, entry_bytes, front_bytes, further_bytes, moved, moved_entry, preview_bytes}
+use Rattle.dwg_preview.specs.Previews.{Entry, IsContent, PREVIEW_SENTINEL, WITHOUT_CONTENT, entries_moved, entry_at, entry_bytes, prefix_bytes, further_bytes, moved, moved_entry, preview_bytes}
 use Rattle.dwg_preview.proofs.Contents.{first_byte}
 use Rattle.dwg_preview.proofs.Moving.{section_is_pieces}
 
@@ -18,16 +18,16 @@ pub entry_written : (first second third fourth : Written) (entry : Entry) (place
     → Puts first second (entry.code ∷ []) → Puts second third place → Puts third fourth size
     → Puts first fourth (entry_bytes entry)
 entry_written first second third fourth entry place size at_place at_size one two three =
-    let behind = puts_both second third fourth place size two three in
+    let after = puts_both second third fourth place size two three in
     subst (Puts first fourth) (ap (λ bytes. entry.code ∷ bytes) (ap₂ ◌++◌ at_place at_size))
-    (puts_both first second fourth (entry.code ∷ []) (place ++ size) one behind)
+    (puts_both first second fourth (entry.code ∷ []) (place ++ size) one after)
 
 -- before the first entry none is written
 pub no_entry_written : (sink : Written) (from to : ℕ) (content : List ℕ) (place : ℕ) → Puts sink sink (entries_moved from to 0 content place)
 unfolding entries_moved
 no_entry_written sink from to content place = puts_none sink
 
--- one entry more stands behind the others
+-- one entry more stands after the others
 entries_moved_more : (from to count : ℕ) (content : List ℕ) (place : ℕ) → entries_moved from to (count + 1) content place ≡ entries_moved from to count content place ++ entry_bytes (moved_entry from to (entry_at content (place + 9 * count)))
 unfolding entries_moved
 entries_moved_more from to zero content place =
@@ -48,13 +48,13 @@ one_entry_written old mid new from to i content so_far next =
     subst (Puts old new) (sym (entries_moved_more from to i content 1)) (puts_both old mid new (entries_moved from to i content 1) _ so_far next)
 
 -- a sink that grew by the begin sentinel, the size, the count and the entries grew by what stands before the further bytes
-pub front_written : (first second third fourth fifth : Written) (from to count : ℕ) (content begin size : List ℕ) → begin ≡ PREVIEW_SENTINEL → size ≡ to_le_bytes w32 (length content) → count ≡ slice_index content 0 → 0 < length content
+pub prefix_written : (first second third fourth fifth : Written) (from to count : ℕ) (content begin size : List ℕ) → begin ≡ PREVIEW_SENTINEL → size ≡ to_le_bytes w32 (length content) → count ≡ slice_index content 0 → 0 < length content
     → Puts first second begin → Puts second third size → Puts third fourth (count ∷ []) → Puts fourth fifth (entries_moved from to count content 1)
-    → Extends first fifth (bits (front_bytes from to content))
-front_written first second third fourth fifth from to count content begin size begins sized counted some one two three four =
+    → Extends first fifth (bits (prefix_bytes from to content))
+prefix_written first second third fourth fifth from to count content begin size begins sized counted some one two three four =
     let to_count = puts_both first second third begin size one two in
-    let behind = puts_both third fourth fifth (count ∷ []) (entries_moved from to count content 1) three four in
-    let all = puts_both first third fifth (begin ++ size) (count ∷ [] ++ entries_moved from to count content 1) to_count behind in
+    let after = puts_both third fourth fifth (count ∷ []) (entries_moved from to count content 1) three four in
+    let all = puts_both first third fifth (begin ++ size) (count ∷ [] ++ entries_moved from to count content 1) to_count after in
     let head : count ∷ [] ≡ take 1 content = ap (λ n. n ∷ []) counted ∙ sym (first_byte content some) in
     let entries = ap (λ n. entries_moved from to n content 1) counted in
     subst (λ bytes. Extends first fifth (bits bytes)) (ap₂ ◌++◌ (ap₂ ◌++◌ begins sized) (ap₂ ◌++◌ head entries)) all.written
@@ -62,12 +62,12 @@ front_written first second third fourth fifth from to count content begin size b
 -- a sink that grew by the pieces of a section grew by the section
 pub preview_written : (first second third fourth : Written) (from to : ℕ) (content further end : List ℕ) → IsContent from content → to + WITHOUT_CONTENT + length content < 2 ^ 32
     → further ≡ further_bytes content → end ≡ complemented PREVIEW_SENTINEL
-    → Extends first second (bits (front_bytes from to content)) → Puts second third further → Puts third fourth end
+    → Extends first second (bits (prefix_bytes from to content)) → Puts second third further → Puts third fourth end
     → Extends first fourth (bits (preview_bytes (moved from to content)))
-preview_written first second third fourth from to content further end is below behind ends one two three =
-    let front = front_bytes from to content in
-    let to_end = extends_by_both first second third (bits front) (bits further) one two.written in
-    let all = extends_by_both first third fourth (bits front ++ bits further) (bits end) to_end three.written in
-    let joined = ap (λ some. some ++ bits end) (sym (bits_joined front further)) ∙ sym (bits_joined (front ++ further) end) in
-    let pieces = ap₂ (λ further end. front ++ further ++ end) behind ends ∙ section_is_pieces from to content is below in
+preview_written first second third fourth from to content further end is below after ends one two three =
+    let prefix = prefix_bytes from to content in
+    let to_end = extends_by_both first second third (bits prefix) (bits further) one two.written in
+    let all = extends_by_both first third fourth (bits prefix ++ bits further) (bits end) to_end three.written in
+    let joined = ap (λ some. some ++ bits end) (sym (bits_joined prefix further)) ∙ sym (bits_joined (prefix ++ further) end) in
+    let pieces = ap₂ (λ further end. prefix ++ further ++ end) after ends ∙ section_is_pieces from to content is below in
     subst (Extends first fourth) (joined ∙ ap bits pieces) all

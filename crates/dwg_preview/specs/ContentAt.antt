@@ -13,7 +13,7 @@ unfoldable pub pictures_lie : ℕ → ℕ → ℕ → List ℕ → ℕ → Bool
 pictures_lie from end zero content place = true
 pictures_lie from end (suc count) content place = picture_lies from end (entry_at content place) && pictures_lie from end count content (place + 9)
 
--- whether bytes are the content of a section at a place: a count, so many entries, and the pictures of these behind them and in it
+-- whether bytes are the content of a section at a place: a count, so many entries, and the pictures of these after them and in it
 unfoldable pub is_content : ℕ → List ℕ → Bool
 is_content place content =
     nat_lt 0 (length content) && nat_le (1 + 9 * slice_index content 0) (length content)
@@ -23,7 +23,7 @@ is_content place content =
 unfoldable pub is_section : List ℕ → ℕ → List ℕ → Bool
 is_section bytes place content = bytes_eq (bytes_at bytes place (WITHOUT_CONTENT + length content)) (preview_bytes content)
 
--- the bytes behind the size of a section at a place of the input, as many as the size says
+-- the bytes after the size of a section at a place of the input, as many as the size says
 abbrev pub bytes_within : List ℕ → ℕ → List ℕ
 bytes_within bytes place = bytes_at bytes (place + 20) (rl_at bytes (place + 16))
 

@@ -3,7 +3,7 @@ use Rattle.std.specs.Prelude.{◌≡◌, ℕ, ◌+◌, ◌^◌, ◌<◌, List, �
 use Rattle.dwg_base.specs.Bytes.{AreBytes}
 use Rattle.dwg_sections.specs.Framed.{complemented}
 use Rattle.dwg_preview.specs.ContentAt.{content_at}
-use Rattle.dwg_preview.specs.Previews.{IsContent, PREVIEW_SENTINEL, PreviewAt, WITHOUT_CONTENT, content_bytes, front_bytes, further_bytes, moved, moved_entry, preview_bytes}
+use Rattle.dwg_preview.specs.Previews.{IsContent, PREVIEW_SENTINEL, PreviewAt, WITHOUT_CONTENT, content_bytes, prefix_bytes, further_bytes, moved, moved_entry, preview_bytes}
 
 -- at a place of an input stands a section of one content at the most
 abbrev pub PreviewIsOne : Type 0
@@ -39,7 +39,7 @@ MovedStays =
 abbrev pub SectionIsPieces : Type 0
 SectionIsPieces =
     (from to : ℕ) (content : List ℕ) → IsContent from content → to + WITHOUT_CONTENT + length content < 2 ^ 32
-    → front_bytes from to content ++ further_bytes content ++ complemented PREVIEW_SENTINEL ≡ preview_bytes (moved from to content)
+    → prefix_bytes from to content ++ further_bytes content ++ complemented PREVIEW_SENTINEL ≡ preview_bytes (moved from to content)
 
 -- the function finds exactly what stands there
 abbrev pub ContentIsFound : Type 0

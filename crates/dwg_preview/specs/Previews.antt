@@ -42,7 +42,7 @@ content_bytes entries further = length entries ∷ (flat_map entry_bytes entries
 abbrev pub LiesBetween : ℕ → ℕ → Entry → Type 0
 LiesBetween from end entry = 0 < entry.size → (from ≤ entry.place) × (entry.place + entry.size ≤ end)
 
--- a content of a preview section that stands at a place: its pictures lie behind its entries and in it
+-- a content of a preview section that stands at a place: its pictures lie after its entries and in it
 pub record IsContent (place : ℕ) (content : List ℕ) : Type 0 where
   pub size : length content < 2 ^ 32
   pub entries : List Entry
@@ -74,11 +74,11 @@ entries_moved from to (suc count) content place = entry_bytes (moved_entry from 
 unfoldable pub moved : ℕ → ℕ → List ℕ → List ℕ
 moved from to content = take 1 content ++ entries_moved from to (slice_index content 0) content 1 ++ drop (1 + 9 * slice_index content 0) content
 
--- the further bytes of a content, behind its entries
+-- the further bytes of a content, after its entries
 abbrev pub further_bytes : List ℕ → List ℕ
 further_bytes content = drop (1 + 9 * slice_index content 0) content
 
 -- a section that stood at one place as it is at another, up to its further bytes
-abbrev pub front_bytes : ℕ → ℕ → List ℕ → List ℕ
-front_bytes from to content =
+abbrev pub prefix_bytes : ℕ → ℕ → List ℕ → List ℕ
+prefix_bytes from to content =
     PREVIEW_SENTINEL ++ to_le_bytes w32 (length content) ++ (take 1 content ++ entries_moved from to (slice_index content 0) content 1)

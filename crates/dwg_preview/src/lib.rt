@@ -10,8 +10,8 @@ mod sentinels;
 mod writing;
 
 pub use laws::preview_laws;
-pub use pieces::{front_length, further};
+pub use pieces::{further, prefix_length};
 pub use preview::{Preview, preview_length};
 pub use reading::read_preview;
 pub use sentinels::end_sentinel;
-pub use writing::{write_front, write_preview};
+pub use writing::{write_prefix, write_preview};

@@ -11,13 +11,13 @@ pub const CONTENT_PLACE: usize = 20;
 /// The bytes of a section without content.
 pub const SECTION_SIZE: usize = 36;
 
-/// Where the entries stand in a content: behind their count.
+/// Where the entries stand in a content: after their count.
 pub const ENTRIES_PLACE: usize = 1;
 
 /// The bytes of an entry.
 pub const ENTRY_SIZE: usize = 9;
 
-/// Where in an entry the place of its picture stands: behind the code.
+/// Where in an entry the place of its picture stands: after the code.
 pub const PICTURE_PLACE: usize = 1;
 
 /// Where in an entry the size of its picture stands.
@@ -31,7 +31,7 @@ pub fn entry_count(content: &[u8]) -> u8
     content[0]
 }
 
-/// Where the further bytes stand in a content: behind its entries.
+/// Where the further bytes stand in a content: after its entries.
 pub fn further_place(content: &[u8]) -> usize
     requires { 0 < length content.now }
     ensures { result ≡ 1 + 9 * slice_index content.now 0 }

@@ -12,7 +12,7 @@ use crate::preview::Preview;
 use crate::sentinels::{has_begin, has_end};
 use dwg_sections::{piece, rl};
 
-/// What stands between the sentinels of the section at a place, behind its size. None exactly where no such section stands there.
+/// What stands between the sentinels of the section at a place, after its size. None exactly where no such section stands there.
 fn framed_content(bytes: &[u8], place: usize) -> Option<&[u8]>
     requires { place < 2 ^ 32 }
     ensures size { IfSome result (λ content. length content.now < 2 ^ 32) }
@@ -65,7 +65,7 @@ fn all_lie_between(content: &[u8], count: u8, from: u64, end: u64) -> bool
 }
 
 /// Whether this is the content of a preview section at the place: it has a count, the entries end in it, and their pictures lie
-/// behind them and in it.
+/// after them and in it.
 fn is_content(content: &[u8], place: u32) -> bool
     requires { length content.now < 2 ^ 32 }
     ensures { IsTrue result ↔ IsContent place content.now }
@@ -89,7 +89,7 @@ fn is_content(content: &[u8], place: u32) -> bool
 
 /// The preview section at a place of the input. None exactly where none stands there: its sentinels or its size are another, it
 /// passes the end of the input, it has no byte for the count of entries, its entries pass its end, or one of them names a picture
-/// that doesn't lie behind the entries and in the section.
+/// that doesn't lie after the entries and in the section.
 pub fn read_preview<'a>(bytes: &'a [u8], place: u32) -> Option<Preview<'a>>
     ensures some { IfSome result (λ preview. (preview.place ≡ place) × PreviewAt bytes.now place preview.content.now) }
     ensures none { IfNone result ((content : List ℕ) → PreviewAt bytes.now place content → ⊥) }

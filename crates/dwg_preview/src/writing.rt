@@ -4,7 +4,7 @@ ghost use Rattle.std.specs.Prelude.{◌≡◌, ℕ, ◌+◌, ◌-◌, ◌*◌, �
 ghost use Rattle.dwg_bits.specs.Bits.{bits};
 ghost use Rattle.dwg_bits.specs.Sink.{Extends};
 ghost use Rattle.dwg_sections.specs.Writing.{Puts};
-ghost use Rattle.dwg_preview.specs.Previews.{IsContent, LiesBetween, WITHOUT_CONTENT, entries_moved, entry_at, entry_bytes, front_bytes, moved, moved_entry, preview_bytes};
+ghost use Rattle.dwg_preview.specs.Previews.{IsContent, LiesBetween, WITHOUT_CONTENT, entries_moved, entry_at, entry_bytes, prefix_bytes, moved, moved_entry, preview_bytes};
 
 use crate::pieces::further;
 use crate::places::{ENTRIES_PLACE, ENTRY_SIZE, PICTURE_PLACE, PICTURE_SIZE_PLACE, entry_count};
@@ -23,7 +23,7 @@ fn put(bytes: &[u8], sink: &mut BitSink)
 
 /// The place of a picture of so many bytes, once the section that stood at one place stands at another; 0 where it has no byte.
 fn moved_place(picture: u32, size: u32, from: u32, to: u32) -> u32
-    requires behind { 0 < size → from ≤ picture }
+    requires after { 0 < size → from ≤ picture }
     requires within { 0 < size → picture + to < from + 2 ^ 32 }
     ensures { result ≡ (if nat_lt 0 size then picture - from + to else 0) }
 {
@@ -73,12 +73,12 @@ fn write_entries(content: &[u8], count: u8, from: u32, to: u32, sink: &mut BitSi
 /// and the entries, the place of each that names a picture counted from the begin of the file that is written, and that of each
 /// other entry 0. The caller sees to it that the preview was read, that the section ends below 2^32 at that place, that the sink
 /// holds whole bytes, and that it has the spare.
-pub fn write_front(preview: &Preview<'_>, place: u32, sink: &mut BitSink)
+pub fn write_prefix(preview: &Preview<'_>, place: u32, sink: &mut BitSink)
     requires read { IsContent preview.now.place preview.now.content.now }
     requires within { place + WITHOUT_CONTENT + length preview.now.content.now < 2 ^ 32 }
     requires aligned { length sink.old.written % 8 ≡ 0 }
-    requires room { 8 * length (front_bytes preview.now.place place preview.now.content.now) ≤ sink.old.spare }
-    ensures { Extends sink.old sink.new (bits (front_bytes preview.now.place place preview.now.content.now)) }
+    requires room { 8 * length (prefix_bytes preview.now.place place preview.now.content.now) ≤ sink.old.spare }
+    ensures { Extends sink.old sink.new (bits (prefix_bytes preview.now.place place preview.now.content.now)) }
 {
     let length = preview.content.len() as u32;
     let count = entry_count(preview.content);
@@ -98,7 +98,7 @@ pub fn write_preview(preview: &Preview<'_>, place: u32, sink: &mut BitSink)
     requires room { 8 * (WITHOUT_CONTENT + length preview.now.content.now) ≤ sink.old.spare }
     ensures { Extends sink.old sink.new (bits (preview_bytes (moved preview.now.place place preview.now.content.now))) }
 {
-    write_front(preview, place, sink);
+    write_prefix(preview, place, sink);
     put(further(preview), sink);
     put(&end_sentinel(), sink);
 }

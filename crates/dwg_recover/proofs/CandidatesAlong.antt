@@ -62,7 +62,7 @@ candidates_on bytes index pairs pair none frame put more whole within is found a
     part_put put more (cons_option frame []) rest _ whole added
     (ap (candidates bytes index) (left_of pairs index pair none within is) ∙ ap (λ (one : Option Frame). cons_option one rest) (sym found) ∙ option_first frame rest)
 
--- behind the last pair, those so far are all
+-- after the last pair, those so far are all
 pub candidates_over : (bytes : List ℕ) (index : ℕ) (pairs : List Pair) (put whole : List Frame) → length pairs ≤ index → put ++ candidates bytes index (drop index pairs) ≡ whole → put ≡ whole
 unfolding candidates
 candidates_over bytes index pairs put whole past = nothing_left put _ whole (ap (candidates bytes index) (drop_all index pairs past))
@@ -87,11 +87,11 @@ unfolding mapped_frames
 ordered_mapped bytes pairs found ordered is gives =
     ap mapped_of (gives (length bytes) (candidates_placed bytes pairs found is) ∙ ap (in_place_order (length bytes)) is)
 
--- behind the end of every frame it is free
+-- after the end of every frame it is free
 pub follows_free : (frames : List Frame) (from end : ℕ) → follows frames from ≡ true → is_free frames from end ≡ true
-follows_free [] from end behind = refl
-follows_free (frame ∷ frames) from end behind =
-    let both = parted (nat_le frame.end from) (follows frames from) behind in
+follows_free [] from end after = refl
+follows_free (frame ∷ frames) from end after =
+    let both = parted (nat_le frame.end from) (follows frames from) after in
     let out : overlaps from end frame ≡ false = grind (arith, nat_tests, both.0) in
     ap (λ test. not (test || list_any (overlaps from end) frames)) out ∙ follows_free frames from end both.1
   where

@@ -13,7 +13,7 @@ use Rattle.dwg_object.specs.declared.span.Span.{Span}
 use Rattle.dwg_object.proofs.FormLaws.{form_at, form_is_at, forms_same}
 use Rattle.dwg_object.specs.Forms.{FormOf}
 use Rattle.dwg_object.specs.Heads.{BeginsWithHead, HasHead}
-use Rattle.dwg_object.specs.FrameLaws.{FramesAreHeld, FramesAreTold}
+use Rattle.dwg_object.specs.FrameLaws.{FramesAreHeld, FramesAreReported}
 use Rattle.dwg_object.proofs.FrameLaws.{span_of_frame}
 use Rattle.dwg_object.specs.FrameLines.{frame_checked, frame_refusal, has_check_word, head_at, head_tried, span_body, tried_frame, tried_span}
 use Rattle.dwg_object.specs.Frames.{FrameAt, FrameHolds}
@@ -87,14 +87,14 @@ candidate_tried bytes number pair end (Ok span) is = of_test (has_check_word byt
     of_test : (right : Bool) → has_check_word bytes span ≡ right → (head : Option HeadParts) → head_at (version_at bytes) bytes span ≡ head
         → option_and_then (candidate_of number pair span) (if right then option_map (λ (parts : HeadParts). parts.own) head else None) ≡ Some (frame_of number pair end)
         → (0 < pair.handle) × IsTried pair.place end pair.handle bytes (Ok span)
-    of_test false right head told same = absurd cc
-    of_test true right None told same = absurd cc
-    of_test true right (Some parts) told same =
+    of_test false right head reported same = absurd cc
+    of_test true right None reported same = absurd cc
+    of_test true right (Some parts) reported same =
         let passed = of_pass parts (nat_lt 0 pair.handle && (parts.own == pair.handle)) refl same in (
           passed.0,
           record {
             found = (span, parts);
-            is = ap (λ test. if not test then Err (frame_refusal 30 0 pair.place) else head_tried pair.place 0 span (head_at (version_at bytes) bytes span)) right ∙ ap (head_tried pair.place 0 span) told;
+            is = ap (λ test. if not test then Err (frame_refusal 30 0 pair.place) else head_tried pair.place 0 span (head_at (version_at bytes) bytes span)) right ∙ ap (head_tried pair.place 0 span) reported;
             ends = passed.1;
             has = passed.2;
           },
@@ -161,14 +161,14 @@ scanned_tried classes bytes place end own (Ok span) is = of_test (has_check_word
     of_test : (right : Bool) → has_check_word bytes span ≡ right → (head : Option HeadParts) → head_at (version_at bytes) bytes span ≡ head
         → option_and_then (scanned_of classes bytes place span) (if right then option_map (λ (parts : HeadParts). parts.own) head else None) ≡ Some (scanned_frame place end own)
         → IsScanned classes bytes place end own (Ok span)
-    of_test false right head told same = absurd cc
-    of_test true right None told same = absurd cc
-    of_test true right (Some parts) told same =
+    of_test false right head reported same = absurd cc
+    of_test true right None reported same = absurd cc
+    of_test true right (Some parts) reported same =
         let passed = of_pass parts (has_common_part (form_at (version_at bytes) classes (span_body bytes span))) same in
         record {
           is = record {
             found = (span, parts);
-            is = ap (λ test. if not test then Err (frame_refusal 30 0 place) else head_tried place 0 span (head_at (version_at bytes) bytes span)) right ∙ ap (head_tried place 0 span) told;
+            is = ap (λ test. if not test then Err (frame_refusal 30 0 place) else head_tried place 0 span (head_at (version_at bytes) bytes span)) right ∙ ap (head_tried place 0 span) reported;
             ends = passed.1;
             has = passed.2;
           };
@@ -176,9 +176,9 @@ scanned_tried classes bytes place end own (Ok span) is = of_test (has_check_word
         }
 
 -- so the scan finds exactly the frames that are read with their common part
-pub scanned_are_read : FramesAreTold → ScannedAreRead
+pub scanned_are_read : FramesAreReported → ScannedAreRead
 unfolding span_found tried_frame
-scanned_are_read told classes bytes place end own are = (to, from)
+scanned_are_read reported classes bytes place end own are = (to, from)
   where
     to : IsReadAt classes bytes place end own → scanned classes bytes place ≡ Some (scanned_frame place end own)
     to read =
@@ -188,7 +188,7 @@ scanned_are_read told classes bytes place end own are = (to, from)
         let form : FormOf (version_at bytes) classes (span_body bytes standing.span) read.object = subst (λ (b : List ℕ). FormOf (version_at bytes) classes b read.object) (sym standing.same_body) read.form in
         let one : form_at (version_at bytes) classes (span_body bytes standing.span) ≡ read.object = forms_same (version_at bytes) classes (span_body bytes standing.span) _ _ (form_is_at (version_at bytes) classes (span_body bytes standing.span) parts has) form in
         tried_scanned classes bytes place end own (tried_span place 0 bytes)
-        (record { found = (standing.span, parts); is = (told (version_at bytes) bytes place 0 (Ok (standing.span, parts)) are).1 (standing.framed, has); ends = standing.same_end; has = refl })
+        (record { found = (standing.span, parts); is = (reported (version_at bytes) bytes place 0 (Ok (standing.span, parts)) are).1 (standing.framed, has); ends = standing.same_end; has = refl })
         (ap has_common_part one ∙ read.common)
 
     from : scanned classes bytes place ≡ Some (scanned_frame place end own) → IsReadAt classes bytes place end own
@@ -196,13 +196,13 @@ scanned_are_read told classes bytes place end own are = (to, from)
         let scan = scanned_tried classes bytes place end own (tried_span place 0 bytes) is in
         let span : Span = scan.is.found.0 in
         let parts : HeadParts = scan.is.found.1 in
-        let tells = (told (version_at bytes) bytes place 0 (Ok (span, parts)) are).0 scan.is.is in
+        let reports = (reported (version_at bytes) bytes place 0 (Ok (span, parts)) are).0 scan.is.is in
         record {
           body = span_body bytes span;
           number = parts.number;
           object = form_at (version_at bytes) classes (span_body bytes span);
-          frame = subst (FrameAt bytes place (span_body bytes span)) scan.is.ends tells.0.frame;
-          head = subst (BeginsWithHead (version_at bytes) (bits (span_body bytes span)) parts.number) scan.is.has (begins_head (bits (span_body bytes span)) parts tells.1);
-          form = form_is_at (version_at bytes) classes (span_body bytes span) parts tells.1;
+          frame = subst (FrameAt bytes place (span_body bytes span)) scan.is.ends reports.0.frame;
+          head = subst (BeginsWithHead (version_at bytes) (bits (span_body bytes span)) parts.number) scan.is.has (begins_head (bits (span_body bytes span)) parts reports.1);
+          form = form_is_at (version_at bytes) classes (span_body bytes span) parts reports.1;
           common = scan.common;
         }

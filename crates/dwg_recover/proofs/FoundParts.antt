@@ -18,8 +18,8 @@ use Rattle.dwg_file.specs.Spelled.{AreSectionsOf}
 use Rattle.dwg_objmap.specs.declared.pair.Pair.{Pair}
 use Rattle.dwg_objmap.specs.MapLines.{HasPageWord, body_at}
 use Rattle.dwg_objmap.proofs.PagePlaces.{body_is_bytes}
-use Rattle.dwg_objmap.specs.Walking.{AreLongest, page_holds_at, pairs_in_front}
-use Rattle.dwg_objmap.proofs.WalkingLemmas.{longest_in_front, size_is}
+use Rattle.dwg_objmap.specs.Walking.{AreLongest, page_holds_at, leading_pairs}
+use Rattle.dwg_objmap.proofs.WalkingLemmas.{longest_leading, size_is}
 use Rattle.dwg_sections.specs.declared.framed.Framed.{Framed}
 use Rattle.dwg_sections.specs.declared.framed.Framed.TheVariants as framed
 use Rattle.dwg_sections.specs.declared.header.FileHeader.{FileHeader}
@@ -32,7 +32,7 @@ use Rattle.dwg_sections.specs.HeaderLines.{HEADER_LINES, header_at, place_of}
 use Rattle.dwg_recover.specs.Recovering.{classes_found, code_page_of, drawing_recovered, lead_of, mark_of, walk_located, walk_of}
 use Rattle.dwg_recover.proofs.FoundSections.{classes_cut, whole_parts}
 use Rattle.dwg_recover.specs.Sections.{header_of, is_whole, locators_of}
-use Rattle.dwg_recover.proofs.WalkStanding.{right_told, walk_stands}
+use Rattle.dwg_recover.proofs.WalkStanding.{right_reported, walk_stands}
 use Rattle.dwg_recover.specs.Walks.{IsWalk, Walk, pairs_at}
 use Rattle.dwg_recover.specs.FoundParts.{ContentIsTaken, HeaderIsFound, IsContent, PagesGivePairs, PartsAreKept, SectionIsWhole, WalkIsLocated}
 
@@ -100,14 +100,14 @@ pub pages_give_pairs : PagesGivePairs
 pages_give_pairs bytes page are = (λ right. of_right right, λ wrong. of_wrong (page_holds_at bytes page) refl wrong)
   where
     given : Bool → List Pair
-    given = λ holds. if holds then pairs_in_front (body_at bytes page) else []
+    given = λ holds. if holds then leading_pairs (body_at bytes page) else []
 
     of_right : HasPageWord bytes page → AreLongest (body_at bytes page) (pairs_at bytes page)
     of_right right =
-        subst (λ (test : Bool). AreLongest (body_at bytes page) (given test)) (sym ((right_told bytes page).1 right)) (longest_in_front (body_at bytes page) (body_is_bytes bytes page are))
+        subst (λ (test : Bool). AreLongest (body_at bytes page) (given test)) (sym ((right_reported bytes page).1 right)) (longest_leading (body_at bytes page) (body_is_bytes bytes page are))
 
     of_wrong : (test : Bool) → page_holds_at bytes page ≡ test → (HasPageWord bytes page → ⊥) → given test ≡ []
-    of_wrong true passed wrong = absurd (wrong ((right_told bytes page).0 passed))
+    of_wrong true passed wrong = absurd (wrong ((right_reported bytes page).0 passed))
     of_wrong false failed wrong = refl
 
 -- of locators that don't pass the end none does

@@ -73,10 +73,10 @@ first_of_places test low zero place is = absurd cc
 first_of_places test low (suc count) place is = of_test (test low) refl is (first_of_places test (low + 1) count place)
   where
     of_place : (other : ℕ) (same : Bool) → (other == low) ≡ same → low ≤ other → test low ≡ false → (low + 1 ≤ other → test other ≡ false) → test other ≡ false
-    of_place other true known from failed behind =
+    of_place other true known from failed after =
         let is_low : low ≡ other = grind (arith, nat_tests, known) in
         subst (λ n. test n ≡ false) is_low failed
-    of_place other false known from failed behind = behind (grind (arith, nat_tests, known, from))
+    of_place other false known from failed after = after (grind (arith, nat_tests, known, from))
 
     of_test : (passes : Bool) → test low ≡ passes → cond passes (Some low) (find test (range_with_len (low + 1) count)) ≡ Some place
         → (find test (range_with_len (low + 1) count) ≡ Some place → (place < low + 1 + count) × ((other : ℕ) → low + 1 ≤ other → other < place → test other ≡ false))
@@ -85,8 +85,8 @@ first_of_places test low (suc count) place is = of_test (test low) refl is (firs
         let at : low ≡ place = same_Some _ _ same in
         (omega (arith, at), λ other from before. absurd (omega (arith, at, from, before)))
     of_test false failed same others =
-        let behind = others same in
-        (omega (arith, behind.0), λ other from before. of_place other (other == low) refl from failed (λ later. behind.1 other later before))
+        let after = others same in
+        (omega (arith, after.0), λ other from before. of_place other (other == low) refl from failed (λ later. after.1 other later before))
 
 -- one that finds none finds that none passes
 none_of_places : (test : ℕ → Bool) (low count : ℕ) → find test (range_with_len low count) ≡ None → (other : ℕ) → low ≤ other → other < low + count → test other ≡ false
@@ -94,10 +94,10 @@ none_of_places test low zero is other from within = absurd (omega (arith, from, 
 none_of_places test low (suc count) is other from within = of_test (test low) refl is (λ none later. none_of_places test (low + 1) count none other later (omega (arith, within)))
   where
     of_place : (same : Bool) → (other == low) ≡ same → test low ≡ false → (low + 1 ≤ other → test other ≡ false) → test other ≡ false
-    of_place true known failed behind =
+    of_place true known failed after =
         let is_low : low ≡ other = grind (arith, nat_tests, known) in
         subst (λ n. test n ≡ false) is_low failed
-    of_place false known failed behind = behind (grind (arith, nat_tests, known, from))
+    of_place false known failed after = after (grind (arith, nat_tests, known, from))
 
     of_test : (passes : Bool) → test low ≡ passes → cond passes (Some low) (find test (range_with_len (low + 1) count)) ≡ None
         → (find test (range_with_len (low + 1) count) ≡ None → low + 1 ≤ other → test other ≡ false) → test other ≡ false

@@ -54,9 +54,9 @@ read_at classes bytes body span value same some form =
 -- and it is read as something
 pub is_read : (version : Version) (bytes body : List ℕ) (span : Span) → body ≡ span_body bytes span → IsSome (own_of_span bytes span) → version ≡ version_at bytes
     → ((number own : ℕ) → BeginsWithHead version (bits body) number own → ⊥) → ⊥
-is_read version bytes body span same some told none =
+is_read version bytes body span same some reported none =
     let has = head_of_own bytes span some in
-    none has.0.number has.0.own (subst (λ (v : Version). BeginsWithHead v (bits body) has.0.number has.0.own) (sym told) (subst (λ (b : List ℕ). BeginsWithHead (version_at bytes) (bits b) has.0.number has.0.own) (sym same) (begins_head (bits (span_body bytes span)) has.0 has.1)))
+    none has.0.number has.0.own (subst (λ (v : Version). BeginsWithHead v (bits body) has.0.number has.0.own) (sym reported) (subst (λ (b : List ℕ). BeginsWithHead (version_at bytes) (bits b) has.0.number has.0.own) (sym same) (begins_head (bits (span_body bytes span)) has.0 has.1)))
 
 -- where a span is tried without a refusal, it is found
 pub span_there : (bytes : List ℕ) (place : ℕ) (span : Span) → Ok span ≡ tried_span place 0 bytes → span_found bytes place ≡ Some span

@@ -24,7 +24,7 @@ use Rattle.dwg_recover.proofs.ListMembers.{filtered_one, in_first, one_mapped, o
 use Rattle.dwg_recover.specs.OrderOfPlace.{AreUp, at_place}
 use Rattle.dwg_recover.proofs.OrderOfPlace.{places_are_in_order}
 use Rattle.dwg_recover.specs.Placing.{IsFound}
-use Rattle.dwg_recover.specs.Told.{named}
+use Rattle.dwg_recover.specs.Reported.{named}
 
 -- the frame of a pair holds, or none holds at its place
 abbrev pub HoldsOrNone : List ℕ → PairFrame → Type 0
@@ -51,7 +51,7 @@ candidates_named held bytes (frame ∷ frames) number are some each one is =
 
     of_first : IsOneOf one (frame_of number frame.pair frame.end ∷ rest) → (IsOneOf one rest → IsOneOf one (named (number + 1) frames)) → IsOneOf one (named number (frame ∷ frames))
     of_first (inl same) others = inl same
-    of_first (inr behind) others = inr (others behind)
+    of_first (inr after) others = inr (others after)
 
     of_case : HoldsOrNone bytes frame → IsOneOf one (cons_option (candidate bytes number frame.pair) rest) → (IsOneOf one rest → IsOneOf one (named (number + 1) frames)) → IsOneOf one (named number (frame ∷ frames))
     of_case (inl holds) has others =
@@ -75,46 +75,46 @@ holds_candidate held bytes frames frame are some holds is =
           (number, frame.pair, record { split = split; far = refl }, (held bytes number frame.pair frame.end are).0 (some, holds));
     }
 
--- frames of objects one behind the other begin at the first place or behind it
-named_behind : (version : Version) (objects : List ObjectValue) (number place : ℕ) (one : Frame) → IsOneOf one (named number (frames_from version place objects)) → place ≤ one.from
-named_behind version [] number place one is = absurd is
-named_behind version (object ∷ objects) number place one (inl same) = omega (arith, ap (λ (frame : Frame). frame.from) same)
-named_behind version (object ∷ objects) number place one (inr behind) = omega (arith, named_behind version objects (number + 1) (place + length (frame_bytes version object)) one behind)
+-- frames of objects one after the other begin at the first place or after it
+named_after : (version : Version) (objects : List ObjectValue) (number place : ℕ) (one : Frame) → IsOneOf one (named number (frames_from version place objects)) → place ≤ one.from
+named_after version [] number place one is = absurd is
+named_after version (object ∷ objects) number place one (inl same) = omega (arith, ap (λ (frame : Frame). frame.from) same)
+named_after version (object ∷ objects) number place one (inr after) = omega (arith, named_after version objects (number + 1) (place + length (frame_bytes version object)) one after)
 
 -- and have handles above one that is below those of the objects
 named_above : (version : Version) (objects : List ObjectValue) (number place low : ℕ) (one : Frame) → AllByRecursion (λ (object : ObjectValue). low < handle_of object) objects
     → IsOneOf one (named number (frames_from version place objects)) → low < one.handle
 named_above version [] number place low one above is = absurd is
 named_above version (object ∷ objects) number place low one above (inl same) = omega (arith, above.0, ap (λ (frame : Frame). frame.handle) same)
-named_above version (object ∷ objects) number place low one above (inr behind) = named_above version objects (number + 1) (place + length (frame_bytes version object)) low one above.1 behind
+named_above version (object ∷ objects) number place low one above (inr after) = named_above version objects (number + 1) (place + length (frame_bytes version object)) low one above.1 after
 
--- so the first shares no byte and no handle with those behind it
+-- so the first shares no byte and no handle with those after it
 first_other : (version : Version) (object : ObjectValue) (objects : List ObjectValue) (number place : ℕ) (first one : Frame) → AreAscending (object ∷ objects)
     → first ≡ frame_of number (record { handle = handle_of object; place = place }) (place + length (frame_bytes version object))
     → IsOneOf one (named (number + 1) (frames_from version (place + length (frame_bytes version object)) objects)) → (first.end ≤ one.from) × (first.handle < one.handle)
-first_other version object objects number place first one ascending same behind = (
-  omega (arith, ap (λ (frame : Frame). frame.end) same, named_behind version objects (number + 1) (place + length (frame_bytes version object)) one behind),
+first_other version object objects number place first one ascending same after = (
+  omega (arith, ap (λ (frame : Frame). frame.end) same, named_after version objects (number + 1) (place + length (frame_bytes version object)) one after),
   omega (
     arith,
     ap (λ (frame : Frame). frame.handle) same,
     named_above version objects (number + 1) (place + length (frame_bytes version object)) (handle_of object) one
-        (pairs_head (λ one other. handle_of one < handle_of other) object objects ascending) behind,
+        (pairs_head (λ one other. handle_of one < handle_of other) object objects ascending) after,
   ),
 )
 
--- two frames of ascending objects that stand one behind the other are one, or share no byte and no handle
+-- two frames of ascending objects that stand one after the other are one, or share no byte and no handle
 named_other : (version : Version) (objects : List ObjectValue) (number place : ℕ) (one other : Frame) → AreAscending objects → IsOneOf one (named number (frames_from version place objects))
     → IsOneOf other (named number (frames_from version place objects)) → (one ≡ other) ⊎ AreOther one other
 named_other version [] number place one other ascending is was = absurd is
 named_other version (object ∷ objects) number place one other ascending (inl same) (inl also) = inl (same ∙ sym also)
-named_other version (object ∷ objects) number place one other ascending (inl same) (inr behind) =
-    let before = first_other version object objects number place one other ascending same behind in
+named_other version (object ∷ objects) number place one other ascending (inl same) (inr after) =
+    let before = first_other version object objects number place one other ascending same after in
     inr (record { apart = inl before.0; handles = λ both. absurd (omega (arith, before.1, both)) })
-named_other version (object ∷ objects) number place one other ascending (inr behind) (inl same) =
-    let before = first_other version object objects number place other one ascending same behind in
+named_other version (object ∷ objects) number place one other ascending (inr after) (inl same) =
+    let before = first_other version object objects number place other one ascending same after in
     inr (record { apart = inr before.0; handles = λ both. absurd (omega (arith, before.1, both)) })
-named_other version (object ∷ objects) number place one other ascending (inr behind) (inr also) =
-    named_other version objects (number + 1) (place + length (frame_bytes version object)) one other (pairs_tail (λ one other. handle_of one < handle_of other) object objects ascending) behind also
+named_other version (object ∷ objects) number place one other ascending (inr after) (inr also) =
+    named_other version objects (number + 1) (place + length (frame_bytes version object)) one other (pairs_tail (λ one other. handle_of one < handle_of other) object objects ascending) after also
 
 -- what begins in the input is one of its frames in order of place
 pub one_ordered : (most : ℕ) (frames : List Frame) (frame : Frame) → frame.from < most → IsOneOf frame frames → IsOneOf frame (in_place_order most frames)
@@ -127,24 +127,24 @@ one_ordered most frames frame within is =
     same_number : (n : ℕ) → (n == n) ≡ true
     same_number n = grind (arith, nat_tests)
 
--- frames in front of one in order of place begin no later
-front_begins : (before : List Frame) (frame : Frame) (behind : List Frame) (other : Frame) → AreUp (before ++ frame ∷ behind) → IsOneOf other before → other.from ≤ frame.from
-front_begins [] frame behind other up is = absurd is
-front_begins (first ∷ before) frame behind other up (inl same) =
-    let no_later : first.from ≤ frame.from = one_of_all (λ (one : Frame). first.from ≤ one.from) (before ++ frame ∷ behind) frame up.0 (in_middle before) in
+-- frames before one in order of place begin no later
+prefix_begins : (before : List Frame) (frame : Frame) (after : List Frame) (other : Frame) → AreUp (before ++ frame ∷ after) → IsOneOf other before → other.from ≤ frame.from
+prefix_begins [] frame after other up is = absurd is
+prefix_begins (first ∷ before) frame after other up (inl same) =
+    let no_later : first.from ≤ frame.from = one_of_all (λ (one : Frame). first.from ≤ one.from) (before ++ frame ∷ after) frame up.0 (in_middle before) in
     omega (arith, no_later, ap (λ (one : Frame). one.from) same)
   where
-    in_middle : (front : List Frame) → IsOneOf frame (front ++ frame ∷ behind)
+    in_middle : (prefix : List Frame) → IsOneOf frame (prefix ++ frame ∷ after)
     in_middle [] = inl refl
-    in_middle (one ∷ front) = inr (in_middle front)
-front_begins (first ∷ before) frame behind other up (inr later) = front_begins before frame behind other up.1 later
+    in_middle (one ∷ prefix) = inr (in_middle prefix)
+prefix_begins (first ∷ before) frame after other up (inr later) = prefix_begins before frame after other up.1 later
 
--- candidates that are frames of ascending objects, one behind the other, are all kept
+-- candidates that are frames of ascending objects, one after the other, are all kept
 all_are_kept : (bytes : List ℕ) (pairs : List Pair) (version : Version) (objects : List ObjectValue) (place : ℕ) → AreAscending objects
     → ((one : Frame) → IsOneOf one (candidates bytes 0 pairs) → IsOneOf one (named 0 (frames_from version place objects)))
     → (frame : Frame) → IsOneOf frame (candidates bytes 0 pairs) → IsOneOf frame (mapped_frames bytes pairs)
 all_are_kept bytes pairs version objects place ascending among frame is =
-    (map_keeps_exactly bytes pairs split.before frame split.behind split.whole).1 (λ other earlier kept. follows other earlier)
+    (map_keeps_exactly bytes pairs split.before frame split.after split.whole).1 (λ other earlier kept. follows other earlier)
   where
     placed : (frame.from < frame.end) × (frame.end ≤ length bytes)
     placed = let one = found_placed bytes frame (one_of_all (IsFound bytes) (candidates bytes 0 pairs) frame (candidates_found bytes 0 pairs) is) in (one.some, one.within)
@@ -157,14 +157,14 @@ all_are_kept bytes pairs version objects place ascending among frame is =
     follows other earlier =
         of_case
         (named_other version objects 0 place other frame ascending
-        (among other (ordered_is_one (length bytes) (candidates bytes 0 pairs) other (subst (IsOneOf other) (sym split.whole) (in_first other split.before (frame ∷ split.behind) earlier))))
+        (among other (ordered_is_one (length bytes) (candidates bytes 0 pairs) other (subst (IsOneOf other) (sym split.whole) (in_first other split.before (frame ∷ split.after) earlier))))
         (among frame is))
       where
         no_later : other.from ≤ frame.from
-        no_later = front_begins split.before frame split.behind other (subst AreUp split.whole (places_are_in_order (length bytes) (candidates bytes 0 pairs)).up) earlier
+        no_later = prefix_begins split.before frame split.after other (subst AreUp split.whole (places_are_in_order (length bytes) (candidates bytes 0 pairs)).up) earlier
 
         of_case : (other ≡ frame) ⊎ AreOther other frame → (other.end ≤ frame.from) × (other.handle ≢ frame.handle)
-        of_case (inl same) = absurd (before_differ bytes pairs split.before frame split.behind other split.whole earlier (sym (ap (λ (one : Frame). one.pair) same)))
+        of_case (inl same) = absurd (before_differ bytes pairs split.before frame split.after other split.whole earlier (sym (ap (λ (one : Frame). one.pair) same)))
         of_case (inr differ) = (of_sides differ.apart, differ.handles)
           where
             of_sides : (other.end ≤ frame.from) ⊎ (frame.end ≤ other.from) → other.end ≤ frame.from

@@ -53,7 +53,7 @@ use Rattle.dwg_recover.specs.ListMembers.{IsOneOf}
 use Rattle.dwg_recover.proofs.ListMembers.{all_of_each, mapped_from, one_mapped, one_of_all, one_permuted}
 use Rattle.dwg_recover.proofs.FoundParts.{header_is_found}
 use Rattle.dwg_recover.specs.Placing.{IsFound}
-use Rattle.dwg_recover.specs.Recovering.{RecoveredValue, classes_found, drawing_recovered, frame_body, frames_found, frames_kept, frames_mapped, object_of, pairs_read, recovered, recovered_damaged, recovered_whole, told}
+use Rattle.dwg_recover.specs.Recovering.{RecoveredValue, classes_found, drawing_recovered, frame_body, frames_found, frames_kept, frames_mapped, object_of, pairs_read, recovered, recovered_damaged, recovered_whole, reported}
 use Rattle.dwg_recover.specs.Sections.{header_of}
 use Rattle.dwg_recover.proofs.WholeLemmas.{candidates_are_found}
 
@@ -93,11 +93,11 @@ frame_is_kept laws drawing bytes frame is small are intact one same =
           (intact_holds drawing bytes frame (intact_version drawing bytes parts) intact written same);
     }
 
--- a candidate that is among frames is told with them
-told_one : (bytes : List ℕ) (pairs : List Pair) (frames : List Frame) (number : ℕ) (frame : PairFrame) → IsOneOf (frame_of number frame.pair frame.end) (candidates bytes 0 pairs)
-    → IsOneOf (frame_of number frame.pair frame.end) frames → IsOneOf (kept_frame frame) (told bytes frames)
-unfolding told
-told_one bytes pairs frames number frame candidate one =
+-- a candidate that is among frames is reported with them
+reported_one : (bytes : List ℕ) (pairs : List Pair) (frames : List Frame) (number : ℕ) (frame : PairFrame) → IsOneOf (frame_of number frame.pair frame.end) (candidates bytes 0 pairs)
+    → IsOneOf (frame_of number frame.pair frame.end) frames → IsOneOf (kept_frame frame) (reported bytes frames)
+unfolding reported
+reported_one bytes pairs frames number frame candidate one =
     let is : Frame = frame_of number frame.pair frame.end in
     let placed = found_placed bytes is (one_of_all (IsFound bytes) (candidates bytes 0 pairs) is (candidates_found bytes 0 pairs) candidate) in
     one_mapped kept_of is _ (one_ordered (length bytes) frames is (omega (arith, placed.some, placed.within)) one)
@@ -117,7 +117,7 @@ record IsRecovered (drawing : Contents) (frame : PairFrame) (value : RecoveredVa
 damaged_recovers : (drawing : Contents) (bytes : List ℕ) (frame : PairFrame) → AreBytes bytes → IsIntact drawing bytes frame
     → IsRecovered drawing frame (recovered_damaged bytes) (classes_found bytes ≡ drawing.classes)
 unfolding recovered_damaged frames_kept frames_mapped drawing_recovered
-damaged_recovers drawing bytes frame are intact = record { kept = told_one bytes pairs (frames_kept bytes) intact.kept.at frame intact.kept.candidate among; object = object }
+damaged_recovers drawing bytes frame are intact = record { kept = reported_one bytes pairs (frames_kept bytes) intact.kept.at frame intact.kept.candidate among; object = object }
   where
     pairs : List Pair
     pairs = pairs_framed (canonical_frames drawing)
@@ -189,7 +189,7 @@ whole_recovers : SectionLaws → (drawing : Contents) (bytes : List ℕ) (frame 
 unfolding recovered_whole
 whole_recovers laws drawing bytes frame is are none one intact = record {
   kept =
-      told_one bytes pairs (frames_found 0 (result_unwrap_or (frames_tried bytes) [])) intact.kept.at frame intact.kept.candidate
+      reported_one bytes pairs (frames_found 0 (result_unwrap_or (frames_tried bytes) [])) intact.kept.at frame intact.kept.candidate
       (subst (IsOneOf (frame_of intact.kept.at frame.pair frame.end)) (candidates_are_found laws bytes (canonical_header drawing) (map_place drawing) pairs are none intact.parts.begins refl intact.parts.mapped) intact.kept.candidate);
   object = object;
 }

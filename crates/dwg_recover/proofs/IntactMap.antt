@@ -7,22 +7,22 @@ use Rattle.dwg_objmap.specs.Pairs.{ORIGIN}
 use Rattle.dwg_objmap.specs.Pages.{MapOf, PageAt, PagesAt, PairsSpell}
 use Rattle.dwg_objmap.proofs.PairChains.{pair_has_bytes}
 use Rattle.dwg_objmap.specs.MapLines.{body_at, word_at}
-use Rattle.dwg_objmap.specs.Walking.{page_holds_at, pairs_in_front, size_of_page}
+use Rattle.dwg_objmap.specs.Walking.{page_holds_at, leading_pairs, size_of_page}
 use Rattle.dwg_objmap.proofs.WalkingLemmas.{page_gives, size_is}
 use Rattle.dwg_sections.specs.declared.header.FileHeader.{FileHeader}
 use Rattle.dwg_sections.specs.HeaderLines.{place_of}
 use Rattle.dwg_recover.specs.declared.loss.Loss.TheVariants.{Page}
 use Rattle.dwg_recover.specs.Recovering.{pairs_read, walk_located, walk_of}
 use Rattle.dwg_recover.specs.Sections.{header_of, locators_of}
-use Rattle.dwg_recover.proofs.WalkStanding.{right_told, walk_once, walk_stands}
+use Rattle.dwg_recover.proofs.WalkStanding.{right_reported, walk_once, walk_stands}
 use Rattle.dwg_recover.specs.Walks.{IsWalk, Walk, lost_pages, pairs_at, pairs_of, walk_from}
 
--- a page of the walk: its size is there, it gives its pairs, and the next place is behind it
+-- a page of the walk: its size is there, it gives its pairs, and the next place is after it
 record IsPage (bytes : List ℕ) (place : ℕ) (pairs : List Pair) (next : ℕ) : Type 0 where
   sized : size_of_page bytes place ≡ Some (word_at bytes place)
   holds : page_holds_at bytes place ≡ true
   gives : pairs_at bytes place ≡ pairs
-  behind : next ≡ place + word_at bytes place + 2
+  after : next ≡ place + word_at bytes place + 2
 
 -- a page that stands is one
 page_is : (bytes : List ℕ) (place next : ℕ) (pairs : List Pair) → PageAt bytes place pairs next → IsPage bytes place pairs next
@@ -30,15 +30,15 @@ page_is bytes place next pairs page =
     let parts = page_gives bytes place next pairs page in
     record {
       sized = (size_is bytes place (word_at bytes place)).1 (parts.0, refl);
-      holds = (right_told bytes place).1 parts.1;
-      gives = ap (λ (right : Bool). if right then pairs_in_front (body_at bytes place) else []) ((right_told bytes place).1 parts.1) ∙ parts.3;
-      behind = parts.2;
+      holds = (right_reported bytes place).1 parts.1;
+      gives = ap (λ (right : Bool). if right then leading_pairs (body_at bytes place) else []) ((right_reported bytes place).1 parts.1) ∙ parts.3;
+      after = parts.2;
     }
 
 -- pairs have bytes
 pairs_have_bytes : (pairs : List Pair) (body : List ℕ) → PairsSpell pairs body → pairs ≢ [] → 0 < length body
 pairs_have_bytes [] body spelled some = absurd (some refl)
-pairs_have_bytes (pair ∷ pairs) body (front, back, one, others, same) some = omega (arith, pair_has_bytes ORIGIN pair front one, ap length same, length-append front back)
+pairs_have_bytes (pair ∷ pairs) body (prefix, back, one, others, same) some = omega (arith, pair_has_bytes ORIGIN pair prefix one, ap length same, length-append prefix back)
 
 -- the walk over the pages of a map, each with a right check word
 record IsWalked (bytes : List ℕ) (place : ℕ) (pairs : List Pair) : Type 0 where
@@ -51,20 +51,20 @@ record IsWalked (bytes : List ℕ) (place : ℕ) (pairs : List Pair) : Type 0 wh
 ends_walk : (bytes : List ℕ) (place next : ℕ) → PageAt bytes place [] next → IsWalked bytes place []
 ends_walk bytes place next page =
     let is = page_is bytes place next [] page in
-    let two : word_at bytes place ≡ 2 = omega (arith, is.behind, page.ends, ap length page.spelled) in
+    let two : word_at bytes place ≡ 2 = omega (arith, is.after, page.ends, ap length page.spelled) in
     record { pages = place ∷ []; walk = (refl, word_at bytes place, is.sized, inl (two, refl, refl)); held = (is.holds, tt); all = ap (λ (pairs : List Pair). pairs ++ []) is.gives }
 
--- pages that stand one behind the other are walked
+-- pages that stand one after the other are walked
 pages_walked : (bytes : List ℕ) (pages : List (List Pair)) (place last next : ℕ) → PagesAt bytes place pages last → PageAt bytes last [] next
     → IsWalked bytes place (flat_map (λ (page : List Pair). page) pages)
 pages_walked bytes [] place last next stand end = subst (λ at. IsWalked bytes at []) stand (ends_walk bytes last next end)
-pages_walked bytes (pairs ∷ pages) place last next (behind, page, some, others) end =
-    let is = page_is bytes place behind pairs page in
-    let rest = pages_walked bytes pages behind last next others end in
-    let more : word_at bytes place ≢ 2 = λ two. absurd (omega (arith, two, is.behind, page.ends, pairs_have_bytes pairs page.body page.spelled some)) in
+pages_walked bytes (pairs ∷ pages) place last next (after, page, some, others) end =
+    let is = page_is bytes place after pairs page in
+    let rest = pages_walked bytes pages after last next others end in
+    let more : word_at bytes place ≢ 2 = λ two. absurd (omega (arith, two, is.after, page.ends, pairs_have_bytes pairs page.body page.spelled some)) in
     record {
       pages = place ∷ rest.pages;
-      walk = (refl, word_at bytes place, is.sized, inr (more, subst (λ at. IsWalk bytes at rest.pages None) is.behind rest.walk));
+      walk = (refl, word_at bytes place, is.sized, inr (more, subst (λ at. IsWalk bytes at rest.pages None) is.after rest.walk));
       held = (is.holds, rest.held);
       all = ap₂ (λ (ones others : List Pair). ones ++ others) is.gives rest.all;
     }

@@ -44,7 +44,7 @@ use Rattle.dwg_sections.specs.declared.framed.Framed.TheVariants as framed
 use Rattle.dwg_sections.specs.declared.header.FileHeader.{FileHeader}
 use Rattle.dwg_sections.specs.FileHeader.{BeginsWithHeader, header_bytes}
 use Rattle.dwg_sections.specs.Framed.{FramedAt, framed_bytes}
-use Rattle.dwg_sections.proofs.HeaderComplete.{header_tells_version}
+use Rattle.dwg_sections.proofs.HeaderComplete.{header_gives_version}
 use Rattle.dwg_sections.specs.HeaderLines.{place_of}
 use Rattle.dwg_recover.specs.Frames.{span_found}
 use Rattle.dwg_recover.specs.Intact.{CanonicalPartsStand, IsPartlyIntact, pairs_framed}
@@ -59,7 +59,7 @@ stands_also bytes others piece from to long stands reaches same =
     let count : length piece ≡ to - from = omega (arith, reaches) in
     let here : take (to - from) (drop from bytes) ≡ piece = same ∙ take_stands others from piece (to - from) stands count in
     stands_drop bytes from piece (drop (to - from) (drop from bytes)) (omega (arith, long, stands_within others from piece stands))
-    (sym (take-append-drop (to - from) (drop from bytes)) ∙ ap (λ (front : List ℕ). front ++ drop (to - from) (drop from bytes)) here)
+    (sym (take-append-drop (to - from) (drop from bytes)) ∙ ap (λ (prefix : List ℕ). prefix ++ drop (to - from) (drop from bytes)) here)
 
 -- the canonical file has its parts at their places
 pub canonical_parts_stand : CanonicalPartsStand
@@ -89,13 +89,13 @@ parts_are_intact drawing bytes is small intact =
     let fits = header_fits NO_PICTURE drawing is small in
     let stand = parts_stand NO_PICTURE drawing no_picture small fits in
     let header : List ℕ = header_bytes (canonical_header drawing) in
-    let first : StandsAt (canonical drawing) 0 header = record { before = []; behind = stand.begins.0; whole = stand.begins.1; far = refl } in
+    let first : StandsAt (canonical drawing) 0 header = record { before = []; after = stand.begins.0; whole = stand.begins.1; far = refl } in
     let reaches : variables_place drawing ≡ 0 + length header = omega (arith, header_reaches NO_PICTURE drawing fits) in
-    let front : StandsAt bytes 0 header = stands_also bytes (canonical drawing) header 0 (variables_place drawing) intact.long first reaches intact.header in
+    let prefix : StandsAt bytes 0 header = stands_also bytes (canonical drawing) header 0 (variables_place drawing) intact.long first reaches intact.header in
     let pages : StandsAt bytes (map_place drawing) (map_of drawing) =
     stands_also bytes (canonical drawing) (map_of drawing) (map_place drawing) (others_place drawing) intact.long stand.mapped refl intact.mapped in
     record {
-      begins = record { in_range = fits; stands = (front.behind, drop_stands bytes 0 header front) };
+      begins = record { in_range = fits; stands = (prefix.after, drop_stands bytes 0 header prefix) };
       mapped =
           subst (MapOf bytes (map_place drawing)) (placed_pairs drawing.version drawing.objects (objects_place drawing))
           (map_is_written (map_place drawing) bytes (placed drawing.version (objects_place drawing) drawing.objects) (canonical_ascends NO_PICTURE drawing no_picture is) pages);
@@ -103,7 +103,7 @@ parts_are_intact drawing bytes is small intact =
 
 -- so it is read by the version of the drawing
 pub intact_version : (drawing : Contents) (bytes : List ℕ) → IntactParts drawing bytes → drawing.version ≡ version_at bytes
-intact_version drawing bytes parts = header_tells_version bytes (canonical_header drawing) parts.begins
+intact_version drawing bytes parts = header_gives_version bytes (canonical_header drawing) parts.begins
 
 -- the classes of an input that has that part
 pub classes_are_intact : (drawing : Contents) (bytes : List ℕ) → IsValid drawing → size_of drawing ≤ MOST_BYTES → IsPartlyIntact drawing bytes

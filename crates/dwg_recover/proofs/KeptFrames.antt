@@ -30,13 +30,13 @@ pairs_more : {X : Type 0} (Relates : X → X → Type 0) (xs : List X) (x : X) �
 pairs_more Relates [] x all others = λ i j d before within. absurd (omega arith)
 pairs_more Relates (first ∷ rest) x all others =
     AllPairs-cons Relates first (rest ++ x ∷ [])
-    (All-from_recursion (Relates first) (rest ++ x ∷ []) (all_more (Relates first) rest x (behind_first Relates first rest all) others.0))
+    (All-from_recursion (Relates first) (rest ++ x ∷ []) (all_more (Relates first) rest x (after_first Relates first rest all) others.0))
     (pairs_more Relates rest x (λ i j d before within. all (suc i) (suc j) d (omega arith) (omega arith)) others.1)
   where
-    behind_first : {X : Type 0} (Relates : X → X → Type 0) (first : X) (rest : List X) → AllPairs Relates (first ∷ rest) → AllByRecursion (Relates first) rest
-    behind_first Relates first [] all = tt
-    behind_first Relates first (next ∷ rest) all =
-        (all 0 1 first (omega arith) (omega arith), behind_first Relates first rest (λ i j d before within. without Relates first next rest all i j d before within))
+    after_first : {X : Type 0} (Relates : X → X → Type 0) (first : X) (rest : List X) → AllPairs Relates (first ∷ rest) → AllByRecursion (Relates first) rest
+    after_first Relates first [] all = tt
+    after_first Relates first (next ∷ rest) all =
+        (all 0 1 first (omega arith) (omega arith), after_first Relates first rest (λ i j d before within. without Relates first next rest all i j d before within))
       where
         without : {X : Type 0} (Relates : X → X → Type 0) (first next : X) (rest : List X) → AllPairs Relates (first ∷ next ∷ rest) → AllPairs Relates (first ∷ rest)
         without Relates first next rest all zero zero d before within = absurd (omega arith)
@@ -44,7 +44,7 @@ pairs_more Relates (first ∷ rest) x all others =
         without Relates first next rest all (suc i) zero d before within = absurd (omega arith)
         without Relates first next rest all (suc i) (suc j) d before within = all (suc (suc i)) (suc (suc j)) d (omega arith) (omega arith)
 
--- a property that each step keeps holds behind a fold
+-- a property that each step keeps holds after a fold
 fold_keeps : {A B : Type 0} (Holds : B → Type 0) (Fits : A → Type 0) (step : B → A → B) → ((b : B) (a : A) → Fits a → Holds b → Holds (step b a))
     → (b : B) (items : List A) → AllByRecursion Fits items → Holds b → Holds (fold step b items)
 fold_keeps Holds Fits step keeps b [] fit holds = holds
@@ -65,7 +65,7 @@ fails : (test : Bool) → not test ≡ true → test ≡ false
 fails true is = absurd cc
 fails false is = refl
 
--- behind a place that follows frames, each ends
+-- after a place that follows frames, each ends
 pub all_end : (frames : List Frame) (from : ℕ) → follows frames from ≡ true → AllByRecursion (λ (frame : Frame). frame.end ≤ from) frames
 all_end [] from is = tt
 all_end (frame ∷ frames) from is =
@@ -102,7 +102,7 @@ all_other frames handle is = of_any frames (fails (list_any (λ (frame : Frame).
         let tests = neither_holds (frame.handle == handle) (list_any (λ (frame : Frame). frame.handle == handle) frames) none in
         ((λ same. grind (arith, nat_tests, tests.0, same)), of_any frames tests.1)
 
--- frames that end before another, or begin behind it, and have other handles
+-- frames that end before another, or begin after it, and have other handles
 pub others_of : (frames : List Frame) (frame : Frame) → AllByRecursion (λ (kept : Frame). (kept.end ≤ frame.from) ⊎ (frame.end ≤ kept.from)) frames
     → AllByRecursion (λ (kept : Frame). kept.handle ≢ frame.handle) frames → AllByRecursion (λ (kept : Frame). AreOther kept frame) frames
 others_of [] frame apart differ = tt
@@ -203,10 +203,10 @@ mapped_few : (bytes : List ℕ) (kept : List Frame) (frame : Frame) → IsPlaced
 mapped_few bytes kept frame placed few = of_test (follows kept frame.from && is_new kept frame.handle) refl
   where
     of_test : (test : Bool) → (follows kept frame.from && is_new kept frame.handle) ≡ test → FewBefore (if test then kept ++ frame ∷ [] else kept)
-    of_test true is place behind =
+    of_test true is place after =
         let tests = both_hold (follows kept frame.from) (is_new kept frame.handle) is in
-        omega (arith, few frame.from tests.0, (follows_more kept frame place behind).1, placed.some, length-append kept (frame ∷ []))
-    of_test false is place behind = few place behind
+        omega (arith, few frame.from tests.0, (follows_more kept frame place after).1, placed.some, length-append kept (frame ∷ []))
+    of_test false is place after = few place after
 
 -- the ends of frames that were found lie in the input
 ends_within : (bytes : List ℕ) (frames : List Frame) → AllByRecursion (IsFound bytes) frames → AllByRecursion (λ (frame : Frame). frame.end ≤ length bytes) frames
@@ -219,7 +219,7 @@ unfolding mapped_frames
 mapped_are_few bytes pairs =
     let ordered : List Frame = in_place_order (length bytes) (candidates bytes 0 pairs) in
     let found : AllByRecursion (IsFound bytes) ordered = all_in_order (IsFound bytes) (length bytes) (candidates bytes 0 pairs) (candidates_found bytes 0 pairs) in
-    fold_keeps FewBefore (IsPlaced (length bytes)) keep_mapped (mapped_few bytes) [] ordered (all_placed bytes ordered found) (λ place behind. omega arith) (length bytes)
+    fold_keeps FewBefore (IsPlaced (length bytes)) keep_mapped (mapped_few bytes) [] ordered (all_placed bytes ordered found) (λ place after. omega arith) (length bytes)
     (ends_follow (mapped_of ordered) (length bytes) (ends_within bytes (mapped_of ordered) (mapped_are_kept bytes pairs).found))
 
 -- a place adds one frame at the most

@@ -23,7 +23,7 @@ use Rattle.dwg_object.specs.Forms.{FormOf}
 use Rattle.dwg_object.specs.Heads.{HasHead}
 use Rattle.dwg_object.proofs.FormLaws.{form_at, form_is_at, head_of_form}
 use Rattle.dwg_object.specs.FrameLines.{has_check_word, head_at, span_body}
-use Rattle.dwg_object.proofs.HeadLemmas.{TellsHead, head_fits, head_told, heads_same}
+use Rattle.dwg_object.proofs.HeadLemmas.{ReportsHead, head_fits, head_reported, heads_same}
 use Rattle.dwg_object.specs.Objects.{HeadParts, ObjectValue, handle_of}
 use Rattle.dwg_objmap.specs.Pages.{AreHandles}
 use Rattle.dwg_recover.specs.declared.frame.Frame.{Frame}
@@ -43,12 +43,12 @@ own_of_head : (bytes : List ℕ) (span : Span) (own : ℕ) → own_of_span bytes
 unfolding own_of_span
 own_of_head bytes span own is = of_test (has_check_word bytes span) is
   where
-    of_head : (told : Option HeadParts) → TellsHead (version_at bytes) (bits (span_body bytes span)) told → option_map (λ (parts : HeadParts). parts.own) told ≡ Some own → HasOwn (version_at bytes) (span_body bytes span) own
-    of_head None tells same = absurd cc
-    of_head (Some parts) tells same = record { parts = parts; has = tells; same = same_Some _ _ same }
+    of_head : (reported : Option HeadParts) → ReportsHead (version_at bytes) (bits (span_body bytes span)) reported → option_map (λ (parts : HeadParts). parts.own) reported ≡ Some own → HasOwn (version_at bytes) (span_body bytes span) own
+    of_head None reports same = absurd cc
+    of_head (Some parts) reports same = record { parts = parts; has = reports; same = same_Some _ _ same }
 
     of_test : (right : Bool) → (if right then option_map (λ (parts : HeadParts). parts.own) (head_at (version_at bytes) bytes span) else None) ≡ Some own → HasOwn (version_at bytes) (span_body bytes span) own
-    of_test true same = of_head (head_at (version_at bytes) bytes span) (head_told (version_at bytes) (bits (span_body bytes span))) same
+    of_test true same = of_head (head_at (version_at bytes) bytes span) (head_reported (version_at bytes) (bits (span_body bytes span))) same
     of_test false same = absurd cc
 
 -- a body with a head is read so
@@ -56,9 +56,9 @@ read_of_head : (version : Version) (classes : List Class) (body : List ℕ) (own
     → FormOf version classes body (form_at version classes body) × (handle_of (form_at version classes body) ≡ own) × (0 < own)
 read_of_head version classes body own head =
     let form = form_is_at version classes body head.parts head.has in
-    let told = head_of_form version classes body (form_at version classes body) form in
-    let same : told.0 ≡ head.parts = heads_same (bits body) told.0 head.parts told.1 head.has in
-    (form, told.3 ∙ ap (λ (parts : HeadParts). parts.own) same ∙ head.same, omega (arith, (head_fits (bits body) head.parts head.has).positive, head.same))
+    let reported = head_of_form version classes body (form_at version classes body) form in
+    let same : reported.0 ≡ head.parts = heads_same (bits body) reported.0 head.parts reported.1 head.has in
+    (form, reported.3 ∙ ap (λ (parts : HeadParts). parts.own) same ∙ head.same, omega (arith, (head_fits (bits body) head.parts head.has).positive, head.same))
 
 -- the body of a frame that was found is that of its span
 body_found : (bytes : List ℕ) (frame : Frame) (found : IsFound bytes frame) → frame_body bytes frame.from ≡ span_body bytes found.span

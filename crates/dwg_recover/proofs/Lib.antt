@@ -26,8 +26,8 @@ pub mod ScanKeeping
 pub mod ScanReading
 pub mod SectionFinding
 pub mod ShortDamage
-pub mod ToldLemmas
-pub mod ToldLosses
+pub mod ReportedLemmas
+pub mod ReportedLosses
 pub mod WalkAlong
 pub mod WalkStanding
 pub mod WholeLemmas

@@ -1,4 +1,4 @@
--- Which frames are kept for pairs of the map, said of each by itself: one is kept exactly where it lies behind those that are kept before it, and has a new handle.
+-- Which frames are kept for pairs of the map, said of each by itself: one is kept exactly where it lies after those that are kept before it, and has a new handle.
 use Rattle.std.proofs.Common.{◌≡◌, refl, sym, ◌∙◌, ap, subst, ℕ, zero, suc, ◌+◌, ◌≤◌, Bool, true, false, List, [], ◌∷◌, ◌++◌, length, append_assoc, Option, Some, None, inl, inr, arith}
 use Rattle.std.specs.Prelude.{◌≢◌, ◌⊎◌, ◌↔◌, ◌&&◌, ◌||◌, ◌==◌, ⊤, cond, not, fold, if◌then◌else◌}
 use Rattle.std.specs.List.{AllByRecursion, cons_option, filter, list_any}
@@ -28,9 +28,9 @@ parts_differ : (ones others : List Frame) (one other : Frame) → AreDistinct (o
 parts_differ [] others one other distinct is was = absurd is
 parts_differ (first ∷ ones) others one other distinct (inl same) was =
     subst (λ (frame : Frame). other.pair ≢ frame.pair) (sym same) (distinct.0 other (in_second other ones others was))
-parts_differ (first ∷ ones) others one other distinct (inr behind) was = parts_differ ones others one other distinct.1 behind was
+parts_differ (first ∷ ones) others one other distinct (inr after) was = parts_differ ones others one other distinct.1 after was
 
--- the part behind the first is distinct
+-- the part after the first is distinct
 second_distinct : (ones others : List Frame) → AreDistinct (ones ++ others) → AreDistinct others
 second_distinct [] others distinct = distinct
 second_distinct (first ∷ ones) others distinct = second_distinct ones others distinct.1
@@ -56,14 +56,14 @@ grows_by kept (first ∷ frames) = of_test (follows kept first.from && is_new ke
       where
         among_taken : (frame : Frame) → IsOneOf frame (first ∷ taken.more) → IsOneOf frame (first ∷ frames)
         among_taken frame (inl same) = inl same
-        among_taken frame (inr behind) = inr (taken.among frame behind)
+        among_taken frame (inr after) = inr (taken.among frame after)
     of_test false failed taken left = record { more = left.more; whole = left.whole; among = λ frame is. inr (left.among frame is) }
 
 -- so it is of any distinct candidates
-exact_of : (before : List Frame) (frame : Frame) (behind : List Frame) → AreDistinct (before ++ frame ∷ behind)
-    → IsOneOf frame (mapped_of (before ++ frame ∷ behind))
-    ↔ ((other : Frame) → IsOneOf other before → IsOneOf other (mapped_of (before ++ frame ∷ behind)) → (other.end ≤ frame.from) × (other.handle ≢ frame.handle))
-exact_of before frame behind distinct = (kept_follows, following_kept)
+exact_of : (before : List Frame) (frame : Frame) (after : List Frame) → AreDistinct (before ++ frame ∷ after)
+    → IsOneOf frame (mapped_of (before ++ frame ∷ after))
+    ↔ ((other : Frame) → IsOneOf other before → IsOneOf other (mapped_of (before ++ frame ∷ after)) → (other.end ≤ frame.from) × (other.handle ≢ frame.handle))
+exact_of before frame after distinct = (kept_follows, following_kept)
   where
     kept : List Frame
     kept = mapped_of before
@@ -71,14 +71,14 @@ exact_of before frame behind distinct = (kept_follows, following_kept)
     lesser : GrowsBy [] before kept
     lesser = grows_by [] before
 
-    later : GrowsBy (keep_mapped kept frame) behind (fold keep_mapped (keep_mapped kept frame) behind)
-    later = grows_by (keep_mapped kept frame) behind
+    later : GrowsBy (keep_mapped kept frame) after (fold keep_mapped (keep_mapped kept frame) after)
+    later = grows_by (keep_mapped kept frame) after
 
     all : List Frame
-    all = mapped_of (before ++ frame ∷ behind)
+    all = mapped_of (before ++ frame ∷ after)
 
     whole : all ≡ keep_mapped kept frame ++ later.more
-    whole = fold-append keep_mapped [] before (frame ∷ behind) ∙ later.whole
+    whole = fold-append keep_mapped [] before (frame ∷ after) ∙ later.whole
 
     with_test : (test : Bool) → (follows kept frame.from && is_new kept frame.handle) ≡ test → all ≡ (if test then kept ++ frame ∷ [] else kept) ++ later.more
     with_test test is = whole ∙ ap (λ (t : Bool). (if t then kept ++ frame ∷ [] else kept) ++ later.more) is
@@ -87,10 +87,10 @@ exact_of before frame behind distinct = (kept_follows, following_kept)
     among_before other is = lesser.among other (subst (IsOneOf other) lesser.whole is)
 
     not_before : IsOneOf frame before → ⊥
-    not_before is = parts_differ before (frame ∷ behind) frame frame distinct is (inl refl) refl
+    not_before is = parts_differ before (frame ∷ after) frame frame distinct is (inl refl) refl
 
-    not_behind : IsOneOf frame behind → ⊥
-    not_behind is = (second_distinct before (frame ∷ behind) distinct).0 frame is refl
+    not_after : IsOneOf frame after → ⊥
+    not_after is = (second_distinct before (frame ∷ after) distinct).0 frame is refl
 
     kept_follows : IsOneOf frame all → (other : Frame) → IsOneOf other before → IsOneOf other all → (other.end ≤ frame.from) × (other.handle ≢ frame.handle)
     kept_follows is other earlier also = of_test (follows kept frame.from && is_new kept frame.handle) refl
@@ -98,14 +98,14 @@ exact_of before frame behind distinct = (kept_follows, following_kept)
         is_kept : IsOneOf other ((kept ++ frame ∷ []) ++ later.more) → IsOneOf other kept
         is_kept has = of_parts (of_joined other (kept ++ frame ∷ []) later.more has)
           where
-            of_front : IsOneOf other kept ⊎ IsOneOf other (frame ∷ []) → IsOneOf other kept
-            of_front (inl one) = one
-            of_front (inr (inl same)) = absurd (not_before (subst (λ (f : Frame). IsOneOf f before) same earlier))
-            of_front (inr (inr none)) = absurd none
+            of_prefix : IsOneOf other kept ⊎ IsOneOf other (frame ∷ []) → IsOneOf other kept
+            of_prefix (inl one) = one
+            of_prefix (inr (inl same)) = absurd (not_before (subst (λ (f : Frame). IsOneOf f before) same earlier))
+            of_prefix (inr (inr none)) = absurd none
 
             of_parts : IsOneOf other (kept ++ frame ∷ []) ⊎ IsOneOf other later.more → IsOneOf other kept
-            of_parts (inl front) = of_front (of_joined other kept (frame ∷ []) front)
-            of_parts (inr more) = absurd (parts_differ before (frame ∷ behind) other other distinct earlier (inr (later.among other more)) refl)
+            of_parts (inl prefix) = of_prefix (of_joined other kept (frame ∷ []) prefix)
+            of_parts (inr more) = absurd (parts_differ before (frame ∷ after) other other distinct earlier (inr (later.among other more)) refl)
 
         of_test : (test : Bool) → (follows kept frame.from && is_new kept frame.handle) ≡ test → (other.end ≤ frame.from) × (other.handle ≢ frame.handle)
         of_test true passed =
@@ -118,7 +118,7 @@ exact_of before frame behind distinct = (kept_follows, following_kept)
           where
             of_parts : IsOneOf frame kept ⊎ IsOneOf frame later.more → ⊥
             of_parts (inl one) = not_before (among_before frame one)
-            of_parts (inr more) = not_behind (later.among frame more)
+            of_parts (inr more) = not_after (later.among frame more)
 
     following_kept : ((other : Frame) → IsOneOf other before → IsOneOf other all → (other.end ≤ frame.from) × (other.handle ≢ frame.handle)) → IsOneOf frame all
     following_kept others =
@@ -136,7 +136,7 @@ exact_of before frame behind distinct = (kept_follows, following_kept)
         of_kept other one = others other (among_before other one) (in_all other one)
 
         both : follows kept frame.from ≡ true → list_any (λ (other : Frame). other.handle == frame.handle) kept ≡ false → (follows kept frame.from && is_new kept frame.handle) ≡ true
-        both behind new = ap (λ test. test && is_new kept frame.handle) behind ∙ ap not new
+        both after new = ap (λ test. test && is_new kept frame.handle) after ∙ ap not new
 
         all_follow : (frames : List Frame) → ((other : Frame) → IsOneOf other frames → other.end ≤ frame.from) → AllByRecursion (λ (other : Frame). other.end ≤ frame.from) frames
         all_follow [] each = tt
@@ -164,8 +164,8 @@ candidates_of_pairs bytes first (pair ∷ pairs) frame = of_found (candidate byt
     later (index, one, at, is) =
         let count : first + (index + 1) ≡ first + 1 + index = omega arith in (index + 1, one, at_next index one pair pairs at, ap (λ n. candidate bytes n one) count ∙ is)
 
-    behind : (index next : ℕ) (one : Pair) → index ≡ next + 1 → IsAt next one pairs → candidate bytes (first + index) one ≡ Some frame → IsOfPair bytes (first + 1) pairs frame
-    behind index next one same at is =
+    after : (index next : ℕ) (one : Pair) → index ≡ next + 1 → IsAt next one pairs → candidate bytes (first + index) one ≡ Some frame → IsOfPair bytes (first + 1) pairs frame
+    after index next one same at is =
         let count : first + 1 + next ≡ first + index = omega (arith, same) in (next, one, at, ap (λ n. candidate bytes n one) count ∙ is)
 
     here : (index : ℕ) (one : Pair) → index ≡ 0 → one ≡ pair → candidate bytes (first + index) one ≡ Some frame → candidate bytes first pair ≡ Some frame
@@ -182,7 +182,7 @@ candidates_of_pairs bytes first (pair ∷ pairs) frame = of_found (candidate byt
         of_place : (index : ℕ) (one : Pair) → candidate bytes (first + index) one ≡ Some frame → ((index ≡ 0) × (one ≡ pair)) ⊎ ((next : ℕ) × (index ≡ next + 1) × IsAt next one pairs)
             → IsOneOf frame (candidates bytes (first + 1) pairs)
         of_place index one is (inl (zero_index, same)) = absurd (never (sym known ∙ here index one zero_index same is))
-        of_place index one is (inr (next, same, at)) = others.1 (behind index next one same at is)
+        of_place index one is (inr (next, same, at)) = others.1 (after index next one same at is)
     of_found (Some other) known others = (to, λ is. of_place is.0 is.1 is.3 (at_cases is.0 is.1 pair pairs is.2))
       where
         to : IsOneOf frame (other ∷ candidates bytes (first + 1) pairs) → IsOfPair bytes first (pair ∷ pairs) frame
@@ -193,7 +193,7 @@ candidates_of_pairs bytes first (pair ∷ pairs) frame = of_found (candidate byt
         of_place : (index : ℕ) (one : Pair) → candidate bytes (first + index) one ≡ Some frame → ((index ≡ 0) × (one ≡ pair)) ⊎ ((next : ℕ) × (index ≡ next + 1) × IsAt next one pairs)
             → IsOneOf frame (other ∷ candidates bytes (first + 1) pairs)
         of_place index one is (inl (zero_index, same)) = inl (sym (same_Some _ _ (sym known ∙ here index one zero_index same is)))
-        of_place index one is (inr (next, same, at)) = inr (others.1 (behind index next one same at is))
+        of_place index one is (inr (next, same, at)) = inr (others.1 (after index next one same at is))
 
 pub candidates_are_of_pairs : CandidatesAreOfPairs
 unfolding IsOfPair
@@ -218,7 +218,7 @@ pub record IsNumbered (low : ℕ) (frame : Frame) : Type 0 where
 candidate_numbered : (bytes : List ℕ) (number : ℕ) (pair : Pair) (frame : Frame) → candidate bytes number pair ≡ Some frame → frame.pair ≡ Some number
 candidate_numbered bytes number pair frame is = ap (λ (frame : Frame). frame.pair) (candidate_is bytes number pair frame is)
 
--- those behind have greater numbers
+-- those after have greater numbers
 candidates_numbered : (bytes : List ℕ) (number : ℕ) (pairs : List Pair) (frame : Frame) → IsOneOf frame (candidates bytes number pairs) → IsNumbered number frame
 unfolding IsOfPair
 candidates_numbered bytes number pairs frame is =
@@ -255,9 +255,9 @@ filtered_distinct test (first ∷ frames) distinct = of_test (test first) (filte
 places_differ : (frames : List Frame) (one other : Frame) → AreDistinct frames → IsOneOf one frames → IsOneOf other frames → one.from ≢ other.from → other.pair ≢ one.pair
 places_differ [] one other distinct is was apart = absurd is
 places_differ (first ∷ frames) one other distinct (inl same) (inl also) apart = absurd (apart (ap (λ (f : Frame). f.from) (same ∙ sym also)))
-places_differ (first ∷ frames) one other distinct (inl same) (inr behind) apart = subst (λ (f : Frame). other.pair ≢ f.pair) (sym same) (distinct.0 other behind)
-places_differ (first ∷ frames) one other distinct (inr behind) (inl same) apart = λ both. distinct.0 one behind (sym both ∙ ap (λ (f : Frame). f.pair) same)
-places_differ (first ∷ frames) one other distinct (inr behind) (inr also) apart = places_differ frames one other distinct.1 behind also apart
+places_differ (first ∷ frames) one other distinct (inl same) (inr after) apart = subst (λ (f : Frame). other.pair ≢ f.pair) (sym same) (distinct.0 other after)
+places_differ (first ∷ frames) one other distinct (inr after) (inl same) apart = λ both. distinct.0 one after (sym both ∙ ap (λ (f : Frame). f.pair) same)
+places_differ (first ∷ frames) one other distinct (inr after) (inr also) apart = places_differ frames one other distinct.1 after also apart
 
 -- two lists whose members differ are distinct together
 joined_distinct : (ones others : List Frame) → AreDistinct ones → AreDistinct others → ((one other : Frame) → IsOneOf one ones → IsOneOf other others → other.pair ≢ one.pair) → AreDistinct (ones ++ others)
@@ -284,7 +284,7 @@ ordered_one frames low (suc count) frame is =
         → (IsOneOf frame (at_places frames (low + 1) count) → IsOneOf frame frames × (low + 1 ≤ frame.from))
         → IsOneOf frame frames × (low ≤ frame.from)
     of_parts (inl one) others = let both = filtered_one (λ (frame : Frame). frame.from == low) frames frame one in (both.0, here frame.from both.1)
-    of_parts (inr behind) others = let both = others behind in (both.0, omega (arith, both.1))
+    of_parts (inr after) others = let both = others after in (both.0, omega (arith, both.1))
 
 -- so they are distinct in order of place
 ordered_distinct : (frames : List Frame) (low count : ℕ) → AreDistinct frames → AreDistinct (at_places frames low count)
@@ -306,19 +306,19 @@ unfolding in_place_order
 ordered_is_one most frames frame is = (ordered_one frames 0 most frame is).0
 
 -- and no two of them are of one pair: those before one are of others
-pub before_differ : (bytes : List ℕ) (pairs : List Pair) (before : List Frame) (frame : Frame) (behind : List Frame) (other : Frame)
-    → in_place_order (length bytes) (candidates bytes 0 pairs) ≡ before ++ frame ∷ behind → IsOneOf other before → frame.pair ≢ other.pair
+pub before_differ : (bytes : List ℕ) (pairs : List Pair) (before : List Frame) (frame : Frame) (after : List Frame) (other : Frame)
+    → in_place_order (length bytes) (candidates bytes 0 pairs) ≡ before ++ frame ∷ after → IsOneOf other before → frame.pair ≢ other.pair
 unfolding in_place_order
-before_differ bytes pairs before frame behind other is earlier =
-    parts_differ before (frame ∷ behind) other frame (subst AreDistinct is (ordered_distinct (candidates bytes 0 pairs) 0 (length bytes) (candidates_distinct bytes 0 pairs))) earlier (inl refl)
+before_differ bytes pairs before frame after other is earlier =
+    parts_differ before (frame ∷ after) other frame (subst AreDistinct is (ordered_distinct (candidates bytes 0 pairs) 0 (length bytes) (candidates_distinct bytes 0 pairs))) earlier (inl refl)
 
--- so a frame is kept for a pair exactly where it lies behind those that are kept before it, and has a new handle
+-- so a frame is kept for a pair exactly where it lies after those that are kept before it, and has a new handle
 pub map_keeps_exactly : MapKeepsExactly
 unfolding mapped_frames in_place_order
-map_keeps_exactly bytes pairs before frame behind is =
+map_keeps_exactly bytes pairs before frame after is =
     subst
     (λ (all : List Frame). IsOneOf frame (mapped_of all) ↔ ((other : Frame) → IsOneOf other before → IsOneOf other (mapped_of all) → (other.end ≤ frame.from) × (other.handle ≢ frame.handle))) (sym is)
-    (exact_of before frame behind (subst AreDistinct is (ordered_distinct (candidates bytes 0 pairs) 0 (length bytes) (candidates_distinct bytes 0 pairs))))
+    (exact_of before frame after (subst AreDistinct is (ordered_distinct (candidates bytes 0 pairs) 0 (length bytes) (candidates_distinct bytes 0 pairs))))
 
 -- and keeps none but candidates
 pub mapped_are_candidates : (bytes : List ℕ) (pairs : List Pair) (frame : Frame) → IsOneOf frame (mapped_frames bytes pairs) → IsOneOf frame (in_place_order (length bytes) (candidates bytes 0 pairs))

@@ -7,7 +7,7 @@ use Rattle.std.specs.BTreeSet as set
 use Rattle.std.proofs.Math.Bool.{or-false, and-true, or_comm}
 use Rattle.std.proofs.lemmas.Bool.Decides.{nat_tests}
 use Rattle.std.proofs.lemmas.List.Folds.{list_any-append, list_all-append}
-use Rattle.dwg_file.specs.Taken.{Run, meets, shares}
+use Rattle.dwg_file.specs.ByteRanges.{Run, meets, shares}
 use Rattle.dwg_recover.specs.declared.frame.Frame.{Frame}
 use Rattle.dwg_recover.specs.Frames.{overlaps, is_kept_pair, is_number}
 use Rattle.dwg_recover.specs.Keeping.{AreNoted}

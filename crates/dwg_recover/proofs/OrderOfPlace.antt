@@ -9,7 +9,7 @@ use Rattle.dwg_recover.specs.declared.frame.Frame.{Frame}
 use Rattle.dwg_recover.specs.Frames.{in_place_order}
 use Rattle.dwg_recover.specs.OrderOfPlace.{AreUp, PlacesAreInOrder, at_place}
 
--- the frames at places in a row, one behind the other
+-- the frames at places in a row, one after the other
 abbrev pub at_places : List Frame → ℕ → ℕ → List Frame
 at_places frames low count = flat_map (at_place frames) (range_with_len low count)
 
@@ -51,7 +51,7 @@ places_same : (frames : List Frame) (low count place : ℕ) → low ≤ place �
 places_same frames low zero place from within = absurd (omega (arith, from, within))
 places_same frames low (suc count) place from within =
     place_joined (at_place frames low) (at_places frames (low + 1) count) place
-    ∙ of_test (low == place) refl (λ behind. places_same frames (low + 1) count place behind (omega (arith, within)))
+    ∙ of_test (low == place) refl (λ after. places_same frames (low + 1) count place after (omega (arith, within)))
   where
     of_test : (here : Bool) → (low == place) ≡ here → (low + 1 ≤ place → at_place (at_places frames (low + 1) count) place ≡ at_place frames place)
         → at_place (at_place frames low) place ++ at_place (at_places frames (low + 1) count) place ≡ at_place frames place
@@ -73,28 +73,28 @@ at_its_place (frame ∷ frames) place = of_test (frame.from == place) refl (at_i
     of_test true known all = (grind (arith, nat_tests, known), all)
     of_test false known all = all
 
--- frames of a place and of places behind it
-front_up : (place high : ℕ) (ones others : List Frame) → AllByRecursion (λ (one : Frame). one.from ≡ place) ones → AllByRecursion (λ (other : Frame). (place < other.from) × (other.from < high)) others → AreUp others
+-- frames of a place and of places after it
+prefix_up : (place high : ℕ) (ones others : List Frame) → AllByRecursion (λ (one : Frame). one.from ≡ place) ones → AllByRecursion (λ (other : Frame). (place < other.from) × (other.from < high)) others → AreUp others
     → place < high → AreUp (ones ++ others) × AllByRecursion (λ (one : Frame). (place ≤ one.from) × (one.from < high)) (ones ++ others)
-front_up place high [] others here behind up below = (up, weaker others behind)
+prefix_up place high [] others here after up below = (up, weaker others after)
   where
     weaker : (frames : List Frame) → AllByRecursion (λ (other : Frame). (place < other.from) × (other.from < high)) frames → AllByRecursion (λ (other : Frame). (place ≤ other.from) × (other.from < high)) frames
     weaker [] all = tt
     weaker (frame ∷ frames) all = ((omega (arith, all.0.0), all.0.1), weaker frames all.1)
-front_up place high (one ∷ ones) others here behind up below =
-    let rest = front_up place high ones others here.1 behind up below in
+prefix_up place high (one ∷ ones) others here after up below =
+    let rest = prefix_up place high ones others here.1 after up below in
     ((first_of (ones ++ others) rest.1, rest.0), ((omega (arith, here.0), omega (arith, here.0, below)), rest.1))
   where
     first_of : (frames : List Frame) → AllByRecursion (λ (other : Frame). (place ≤ other.from) × (other.from < high)) frames → AllByRecursion (λ (other : Frame). one.from ≤ other.from) frames
     first_of [] all = tt
     first_of (frame ∷ frames) all = (omega (arith, here.0, all.0.0), first_of frames all.1)
 
--- frames at places in a row begin there, no later than those behind them
+-- frames at places in a row begin there, no later than those after them
 places_up : (frames : List Frame) (low count : ℕ) → AreUp (at_places frames low count) × AllByRecursion (λ (frame : Frame). (low ≤ frame.from) × (frame.from < low + count)) (at_places frames low count)
 places_up frames low zero = (tt, tt)
 places_up frames low (suc count) =
     let rest = places_up frames (low + 1) count in
-    front_up low (low + suc count) (at_place frames low) (at_places frames (low + 1) count) (at_its_place frames low) (later (at_places frames (low + 1) count) rest.1) rest.0 (omega arith)
+    prefix_up low (low + suc count) (at_place frames low) (at_places frames (low + 1) count) (at_its_place frames low) (later (at_places frames (low + 1) count) rest.1) rest.0 (omega arith)
   where
     later : (others : List Frame) → AllByRecursion (λ (frame : Frame). (low + 1 ≤ frame.from) × (frame.from < low + 1 + count)) others → AllByRecursion (λ (frame : Frame). (low < frame.from) × (frame.from < low + suc count)) others
     later [] all = tt

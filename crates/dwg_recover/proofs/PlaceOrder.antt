@@ -12,7 +12,7 @@ use Rattle.dwg_recover.proofs.FoundLemmas.{all_weaker}
 use Rattle.dwg_recover.specs.OrderOfPlace.{AreUp, at_place}
 use Rattle.dwg_recover.specs.Placing.{IsPlaced}
 
--- the frames at places one behind the other
+-- the frames at places one after the other
 abbrev at_places : List Frame → ℕ → ℕ → List Frame
 at_places frames low count = flat_map (at_place frames) (range_with_len low count)
 
@@ -21,8 +21,8 @@ none_at_places : (low count : ℕ) → [] ≡ at_places [] low count
 none_at_places low zero = refl
 none_at_places low (suc count) = none_at_places (low + 1) count
 
--- of frames behind a place none begins there
-none_at : (place from : ℕ) (frames : List Frame) → place < from → AllByRecursion (λ (behind : Frame). from ≤ behind.from) frames → at_place frames place ≡ []
+-- of frames after a place none begins there
+none_at : (place from : ℕ) (frames : List Frame) → place < from → AllByRecursion (λ (after : Frame). from ≤ after.from) frames → at_place frames place ≡ []
 none_at place from [] before all = refl
 none_at place from (frame ∷ frames) before all =
     let out : frame.from == place ≡ false = grind (arith, nat_tests, all.0) in
@@ -36,11 +36,11 @@ frame_before frame frames low (suc count) before =
     ap₂ (λ (test : Bool) (rest : List Frame). cond test (frame ∷ at_place frames low) (at_place frames low) ++ rest) out (frame_before frame frames (low + 1) count (omega arith))
 
 -- a frame that begins no later than the others is the first of all
-frame_first : (frame : Frame) (frames : List Frame) (low count : ℕ) → low ≤ frame.from → frame.from < low + count → AllByRecursion (λ (behind : Frame). frame.from ≤ behind.from) frames
+frame_first : (frame : Frame) (frames : List Frame) (low count : ℕ) → low ≤ frame.from → frame.from < low + count → AllByRecursion (λ (after : Frame). frame.from ≤ after.from) frames
     → frame ∷ at_places frames low count ≡ at_places (frame ∷ frames) low count
 frame_first frame frames low zero from before up = absurd (omega arith)
 frame_first frame frames low (suc count) from before up =
-    by_test (frame.from == low) refl (λ behind. frame_first frame frames (low + 1) count (omega (arith, behind)) (omega arith) up)
+    by_test (frame.from == low) refl (λ after. frame_first frame frames (low + 1) count (omega (arith, after)) (omega arith) up)
   where
     by_test : (here : Bool) → frame.from == low ≡ here → (low < frame.from → frame ∷ at_places frames (low + 1) count ≡ at_places (frame ∷ frames) (low + 1) count)
         → frame ∷ (at_place frames low ++ at_places frames (low + 1) count) ≡ cond here (frame ∷ at_place frames low) (at_place frames low) ++ at_places (frame ∷ frames) (low + 1) count
@@ -48,10 +48,10 @@ frame_first frame frames low (suc count) from before up =
         let same : frame.from < low + 1 = grind (arith, nat_tests, known) in
         ap (λ (rest : List Frame). frame ∷ (at_place frames low ++ rest)) (sym (frame_before frame frames (low + 1) count same))
     by_test false known others =
-        let behind : low < frame.from = grind (arith, nat_tests, known) in
-        let none : at_place frames low ≡ [] = none_at low frame.from frames behind up in
+        let after : low < frame.from = grind (arith, nat_tests, known) in
+        let none : at_place frames low ≡ [] = none_at low frame.from frames after up in
         ap (λ (here : List Frame). frame ∷ (here ++ at_places frames (low + 1) count)) none
-        ∙ others behind
+        ∙ others after
         ∙ ap (λ (here : List Frame). here ++ at_places (frame ∷ frames) (low + 1) count) (sym none)
 
 -- frames in order of place are those at each place
@@ -64,11 +64,11 @@ up_by_place most (frame ∷ frames) up all =
 up_of : (frames : List Frame) → IsNonDecreasingBy (λ (frame : Frame). frame.from) frames → AreUp frames
 up_of [] rises = tt
 up_of (frame ∷ frames) rises =
-    (behind frames (λ k within. rises 0 (suc k) frame (omega arith) (omega (arith, within))), up_of frames (λ i j d before within. rises (suc i) (suc j) d (omega (arith, before)) (omega (arith, within))))
+    (after frames (λ k within. rises 0 (suc k) frame (omega arith) (omega (arith, within))), up_of frames (λ i j d before within. rises (suc i) (suc j) d (omega (arith, before)) (omega (arith, within))))
   where
-    behind : (others : List Frame) → ((k : ℕ) → k < length others → frame.from ≤ (get_or others k frame).from) → AllByRecursion (λ (other : Frame). frame.from ≤ other.from) others
-    behind [] each = tt
-    behind (other ∷ others) each = (each 0 (omega arith), behind others (λ k within. each (suc k) (omega (arith, within))))
+    after : (others : List Frame) → ((k : ℕ) → k < length others → frame.from ≤ (get_or others k frame).from) → AllByRecursion (λ (other : Frame). frame.from ≤ other.from) others
+    after [] each = tt
+    after (other ∷ others) each = (each 0 (omega arith), after others (λ k within. each (suc k) (omega (arith, within))))
 
 -- a frame ties with those at its place
 tie_place : (place : ℕ) (frame : Frame)

@@ -65,8 +65,8 @@ header_fits sound bytes header are is = of_fault (first_fault HEADER_LINES bytes
     of_fault None none same = subst IsFileHeader (same_Some _ _ same) (sound bytes are none).in_range
     of_fault (Some refusal) none same = absurd cc
 
--- what the header tells, with its unknown sections that are whole
-record IsFront (bytes : List ℕ) (header : Option FileHeader) : Type 0 where
+-- what the header reports, with its unknown sections that are whole
+record IsPrefix (bytes : List ℕ) (header : Option FileHeader) : Type 0 where
   lead : (length (lead_of header) ≡ 7) × AreBytes (lead_of header)
   mark : (length (mark_of header) ≡ 2) × AreBytes (mark_of header)
   code_page : code_page_of header < 2 ^ 16
@@ -79,10 +79,10 @@ none_differ : AllPairs Differ []
 none_differ i j d before within = absurd (omega arith)
 
 -- so it does
-front_is : PassingBytesBeginWithHeader → WholeSectionsAreRead → (bytes : List ℕ) → AreBytes bytes → length bytes ≤ MOST_BYTES → IsFront bytes (header_of bytes)
-front_is sound whole bytes are few = of_header (header_of bytes) refl
+prefix_is : PassingBytesBeginWithHeader → WholeSectionsAreRead → (bytes : List ℕ) → AreBytes bytes → length bytes ≤ MOST_BYTES → IsPrefix bytes (header_of bytes)
+prefix_is sound whole bytes are few = of_header (header_of bytes) refl
   where
-    of_header : (header : Option FileHeader) → header_of bytes ≡ header → IsFront bytes header
+    of_header : (header : Option FileHeader) → header_of bytes ≡ header → IsPrefix bytes header
     of_header None is = record {
       lead = (refl, (omega arith, (omega arith, (omega arith, (omega arith, (omega arith, (omega arith, (omega arith, tt))))))));
       mark = (refl, (omega arith, (omega arith, tt)));
@@ -112,7 +112,7 @@ record AreCut (bytes : List ℕ) (classes : List Class) : Type 0 where
 none_cut : (bytes : List ℕ) → AreCut bytes []
 none_cut bytes = record {
   content = [];
-  cut = (bits [], record { front = []; spelled = refl; whole = refl; short = omega (arith, length_of_bits []) });
+  cut = (bits [], record { prefix = []; spelled = refl; whole = refl; short = omega (arith, length_of_bits []) });
   few = omega arith;
 }
 
@@ -133,21 +133,21 @@ classes_are read bytes = of_found (section_found framed.Classes bytes) refl
 pub parts_are_read : PassingBytesBeginWithHeader → WholeSectionsAreRead → ClassesAreRead → RecoveredPartsAreRead
 unfolding drawing_recovered
 parts_are_read sound whole read bytes are few =
-    let front = front_is sound whole bytes are few in
+    let prefix = prefix_is sound whole bytes are few in
     let variables = variables_are bytes (section_found framed.Variables bytes) are in
     let classes = classes_are read bytes in
     let objects = objects_kept (classes_found bytes) bytes (frames_kept bytes) are few (frames_are_kept bytes) in
     record {
-      lead = front.lead;
-      mark = front.mark;
-      code_page = front.code_page;
+      lead = prefix.lead;
+      mark = prefix.mark;
+      code_page = prefix.code_page;
       variables = (variables.0, omega (arith, few, variables.1));
       content = classes.content;
       classes = classes.cut;
       content_few = omega (arith, few, classes.few);
-      few = front.few;
-      others = front.others;
-      distinct = front.distinct;
+      few = prefix.few;
+      others = prefix.others;
+      distinct = prefix.distinct;
       objects = objects.read;
       count = omega (arith, few, objects.count, frames_are_few bytes);
       ascending = objects.ascending;

@@ -1,4 +1,4 @@
--- The parts of a recovery: the walk, the losses, the objects, and what is told of frames.
+-- The parts of a recovery: the walk, the losses, the objects, and what is reported of frames.
 use Rattle.std.proofs.Common.{◌≡◌, refl, sym, ◌∙◌, ap, ap₂, subst, ℕ, Bool, true, false, List, [], ◌++◌, append_assoc, map, Option, Some, None}
 use Rattle.dwg_base.specs.declared.version.Version.{Version}
 use Rattle.dwg_base.specs.Versions.{version_at}
@@ -42,7 +42,7 @@ unfolding walk_of
 walk_nowhere bytes header is located =
     ap (λ (h : Option FileHeader). walk_located bytes (place_of 2 (locators_of h))) (sym is) ∙ sym (ap (walk_located bytes) located)
 
--- losses that are put one behind the other
+-- losses that are put one after the other
 pub losses_joined : (header variables classes sections pages end pairs walked one two three four five all : List Loss) → one ≡ [] ++ header → two ≡ one ++ variables → three ≡ two ++ classes
     → four ≡ three ++ sections → five ≡ four ++ walked → walked ≡ pages ++ end → all ≡ five ++ pairs → all ≡ header ++ variables ++ classes ++ sections ++ pages ++ end ++ pairs
 losses_joined header variables classes sections pages end pairs walked one two three four five all a b c d e w p =
@@ -52,11 +52,11 @@ losses_joined header variables classes sections pages end pairs walked one two t
     ∙ sym (append_assoc (header ++ variables ++ classes ++ sections) pages end))
 
 -- what says whether something is there says whether nothing is
-pub none_told : {V : Type 0} (found : Option V) (none : Bool) → is_some found ≡ not none → none ≡ is_none found
-none_told {V} None true same = refl
-none_told {V} None false same = absurd cc
-none_told {V} (Some value) true same = absurd cc
-none_told {V} (Some value) false same = refl
+pub none_reported : {V : Type 0} (found : Option V) (none : Bool) → is_some found ≡ not none → none ≡ is_none found
+none_reported {V} None true same = refl
+none_reported {V} None false same = absurd cc
+none_reported {V} (Some value) true same = absurd cc
+none_reported {V} (Some value) false same = refl
 
 -- the span of a frame that was found isn't refused
 pub found_unrefused : (bytes : List ℕ) (frame : Frame) (refusal : Refusal) → IsFound bytes frame → Err refusal ≡ tried_span frame.from 0 bytes → ⊥
@@ -75,11 +75,11 @@ own_found bytes frame span found tried = ap (own_of_span bytes) (same_span bytes
 pub object_read : (version : Version) (classes : List Class) (bytes : List ℕ) (frame : Frame) (span : Span) (body : List ℕ) (value : ObjectValue) → IsFound bytes frame → Ok span ≡ tried_span frame.from 0 bytes
     → body ≡ span_body bytes span → version ≡ version_at bytes → FormOf version classes body value → value ≡ object_of classes bytes frame
 unfolding frame_body
-object_read version classes bytes frame span body value found tried same told form =
+object_read version classes bytes frame span body value found tried same reported form =
     let is : body ≡ frame_body bytes frame.from = same ∙ sym (ap (body_tried bytes) (span_there bytes frame.from span tried)) in
-    forms_same (version_at bytes) classes (frame_body bytes frame.from) value (object_of classes bytes frame) (subst (λ (b : List ℕ). FormOf (version_at bytes) classes b value) is (subst (λ (v : Version). FormOf v classes body value) told form)) (found_is_read classes bytes frame found).form
+    forms_same (version_at bytes) classes (frame_body bytes frame.from) value (object_of classes bytes frame) (subst (λ (b : List ℕ). FormOf (version_at bytes) classes b value) is (subst (λ (v : Version). FormOf v classes body value) reported form)) (found_is_read classes bytes frame found).form
 
--- a drawing is told by its parts
+-- a drawing is reported by its parts
 contents_same : (version other_version : Version) (lead other_lead mark other_mark : List ℕ) (code_page other_page : ℕ) (variables other_variables : List ℕ) (classes other_classes : List Class)
     (others other_others : List OtherValue) (objects other_objects : List ObjectValue)
     → version ≡ other_version → lead ≡ other_lead → mark ≡ other_mark → code_page ≡ other_page → variables ≡ other_variables → classes ≡ other_classes → others ≡ other_others → objects ≡ other_objects

@@ -35,7 +35,7 @@ use Rattle.dwg_recover.specs.Frames.{candidates, kept_of, scanned}
 use Rattle.dwg_recover.specs.FoundFrames.{frame_of}
 use Rattle.dwg_recover.proofs.FoundFrames.{candidates_hold}
 use Rattle.dwg_recover.specs.Intact.{pairs_framed}
-use Rattle.dwg_recover.specs.Told.{DamagedIsAnswered, IsValidAnswer, MappedAreTold, RecoveredIsValid, SpelledIsAnswered, named}
+use Rattle.dwg_recover.specs.Reported.{DamagedIsAnswered, IsValidAnswer, MappedAreReported, RecoveredIsValid, SpelledIsAnswered, named}
 use Rattle.dwg_recover.proofs.IntactParts.{body_is_found, form_holds}
 use Rattle.dwg_recover.specs.KeptFrames.{AreKept, AreOther}
 use Rattle.dwg_recover.proofs.MapKeeping.{mapped_are_numbered}
@@ -43,8 +43,8 @@ use Rattle.dwg_recover.specs.ListMembers.{IsOneOf}
 use Rattle.dwg_recover.specs.Placing.{IsFound}
 use Rattle.dwg_recover.proofs.KeptObjects.{same_objects}
 use Rattle.dwg_recover.proofs.RecoveredLaws.{frames_are_kept, parts_are_read}
-use Rattle.dwg_recover.specs.Recovering.{RecoveredValue, classes_found, drawing_recovered, frame_body, frames_found, frames_kept, frames_mapped, object_of, pairs_read, recovered, recovered_damaged, recovered_whole, told}
-use Rattle.dwg_recover.proofs.ToldLemmas.{AreTold, kept_are_told}
+use Rattle.dwg_recover.specs.Recovering.{RecoveredValue, classes_found, drawing_recovered, frame_body, frames_found, frames_kept, frames_mapped, object_of, pairs_read, recovered, recovered_damaged, recovered_whole, reported}
+use Rattle.dwg_recover.proofs.ReportedLemmas.{AreReported, kept_are_reported}
 use Rattle.dwg_recover.proofs.WholeLemmas.{candidates_are_found}
 
 -- of a damaged input the answer is sound
@@ -53,7 +53,7 @@ unfolding recovered_damaged drawing_recovered
 damaged_is_valid laws bytes are =
     let classes : List Class = classes_found bytes in
     let frames : List Frame = frames_kept bytes in
-    let all = kept_are_told classes bytes frames are (frames_are_kept bytes) in
+    let all = kept_are_reported classes bytes frames are (frames_are_kept bytes) in
     record {
       apart = all.apart;
       stand = all.stand;
@@ -89,7 +89,7 @@ named_differ number first one (frame ∷ frames) from end handle apart differ =
     of_sides (inl before) = inl (omega (arith, end, before))
     of_sides (inr after) = inr (omega (arith, from, after))
 
--- the handles behind the first are others
+-- the handles after the first are others
 handles_differ : (first : ℕ) (frames : List PairFrame)
     → ((j : ℕ) → j < length (handles_of (pairs_framed frames)) → first ≢ slice_index (handles_of (pairs_framed frames)) j)
     → AllByRecursion (λ (other : PairFrame). first ≢ other.pair.handle) frames
@@ -167,8 +167,8 @@ whole_is_valid laws bytes are none = record {
       other = spelled_other 0 spelled.frames spelled.apart handles.distinct;
     }
 
-    all : AreTold drawing.classes bytes frames
-    all = kept_are_told drawing.classes bytes frames are (subst (AreKept bytes) (sym same) kept)
+    all : AreReported drawing.classes bytes frames
+    all = kept_are_reported drawing.classes bytes frames are (subst (AreKept bytes) (sym same) kept)
 
     objects : map (object_of drawing.classes bytes) frames ≡ map (λ (frame : PairFrame). frame.object) spelled.frames
     objects = ap (map (object_of drawing.classes bytes)) same ∙ spelled_objects drawing.classes bytes spelled.frames 0 are spelled.stand
@@ -182,7 +182,7 @@ recovered_is_valid laws bytes are = of_fault (first_fault ALL_LINES bytes) refl
     of_fault None none = whole_is_valid laws bytes are none
     of_fault (Some refusal) refused = damaged_is_valid laws bytes are
 
--- what is recovered of an input that spells a drawing is that drawing, and the frames that it is spelled with are told
+-- what is recovered of an input that spells a drawing is that drawing, and the frames that it is spelled with are reported
 pub spelled_is_answered : SectionLaws → SpelledIsAnswered
 unfolding recovered recovered_whole
 spelled_is_answered laws drawing bytes spelled are = of_fault (first_fault ALL_LINES bytes) none ∙ same (drawing_at bytes) (frames_found 0 (result_unwrap_or (frames_tried bytes) [])) is frames
@@ -201,30 +201,30 @@ spelled_is_answered laws drawing bytes spelled are = of_fault (first_fault ALL_L
     of_fault (Some refusal) holds = absurd cc
 
     answer : Contents → List Frame → RecoveredValue
-    answer = λ one ones. record { drawing = one; refusal = None; losses = []; kept = told bytes ones }
+    answer = λ one ones. record { drawing = one; refusal = None; losses = []; kept = reported bytes ones }
 
     same : (one : Contents) (ones : List Frame) → one ≡ drawing → ones ≡ named 0 spelled.frames → answer one ones ≡ answer drawing (named 0 spelled.frames)
     same one ones drawings lists = ap (λ (d : Contents). answer d ones) drawings ∙ ap (answer drawing) lists
 
--- and of an input that is refused the refusal is told, with what is recovered of a damaged input
+-- and of an input that is refused the refusal is reported, with what is recovered of a damaged input
 pub damaged_is_answered : DamagedIsAnswered
 unfolding recovered recovered_damaged
 damaged_is_answered bytes refusal refused =
     (ap (λ (fault : Option Refusal). if is_none fault then recovered_whole bytes else recovered_damaged bytes) refused, refused)
 
--- frames of the map are told as mapped, and no others
-pub mapped_are_told : MappedAreTold
+-- frames of the map are reported as mapped, and no others
+pub mapped_are_reported : MappedAreReported
 unfolding frames_kept frames_mapped
-mapped_are_told bytes frame kept = (of_told, of_mapped)
+mapped_are_reported bytes frame kept = (of_reported, of_mapped)
   where
     of_part : (kept_of frame).mapped ≡ true → IsOneOf frame (frames_mapped bytes) ⊎ ((frame.from < length bytes) × (scanned (classes_found bytes) bytes frame.from ≡ Some frame)) → IsOneOf frame (frames_mapped bytes)
-    of_part told (inl mapped) = mapped
-    of_part told (inr (within, found)) =
+    of_part reported (inl mapped) = mapped
+    of_part reported (inr (within, found)) =
         let none : frame.pair ≡ None = (scanned_at (classes_found bytes) bytes frame.from frame found).1 in
-        let both : true ≡ false = sym told ∙ ap is_some none in absurd cc
+        let both : true ≡ false = sym reported ∙ ap is_some none in absurd cc
 
-    of_told : (kept_of frame).mapped ≡ true → IsOneOf frame (frames_mapped bytes)
-    of_told told = of_part told (scan_adds (classes_found bytes) bytes (frames_mapped bytes) frame kept)
+    of_reported : (kept_of frame).mapped ≡ true → IsOneOf frame (frames_mapped bytes)
+    of_reported reported = of_part reported (scan_adds (classes_found bytes) bytes (frames_mapped bytes) frame kept)
 
     of_mapped : IsOneOf frame (frames_mapped bytes) → (kept_of frame).mapped ≡ true
     of_mapped mapped = let numbered = mapped_are_numbered bytes (pairs_read bytes) frame mapped in ap is_some numbered.is

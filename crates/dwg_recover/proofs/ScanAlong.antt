@@ -10,7 +10,7 @@ use Rattle.dwg_object.specs.FrameLines.{tried_span}
 use Rattle.dwg_recover.specs.declared.frame.Frame.{Frame}
 use Rattle.dwg_recover.specs.declared.objects.FrameObject.{FrameObject}
 use Rattle.dwg_recover.specs.Frames.{is_free, keep_free, overlaps, scanned, scanned_over, with_scanned}
-use Rattle.dwg_recover.specs.KeptObjects.{IsKeptAt, IsNext, IsScanned, TellsNext, scanned_from}
+use Rattle.dwg_recover.specs.KeptObjects.{IsKeptAt, IsNext, IsScanned, ReportsNext, scanned_from}
 use Rattle.dwg_recover.proofs.FrameScanning.{no_span, not_free, span_there}
 use Rattle.dwg_recover.proofs.FoundLemmas.{span_inside}
 
@@ -43,7 +43,7 @@ taken_stays classes bytes kept place (Ok span) is taken =
     let inside = span_inside bytes place span (span_there bytes place span is) in
     not_free classes bytes kept place span is (ap not (any_wider place span.end kept inside.some (was_met (list_any (overlaps place (place + 1)) kept) taken)))
 
--- what is left at a place is what is left behind it, of the frames that are kept there
+-- what is left at a place is what is left after it, of the frames that are kept there
 one_more : (classes : List Class) (bytes : List ℕ) (kept more : List Frame) (place : ℕ) → place < length bytes → more ≡ keep_free kept (scanned classes bytes place)
     → scanned_from classes bytes more (place + 1) ≡ scanned_from classes bytes kept place
 one_more classes bytes kept more place inside same =
@@ -51,7 +51,7 @@ one_more classes bytes kept more place inside same =
     ap (λ (frames : List Frame). scanned_over classes bytes frames (range_with_len (place + 1) (length bytes - (place + 1)))) same
     ∙ sym (ap (λ (n : ℕ). scanned_over classes bytes kept (range_with_len place n)) one)
 
--- behind the end nothing is left
+-- after the end nothing is left
 none_left : (classes : List Class) (bytes : List ℕ) (kept : List Frame) (place : ℕ) → length bytes ≤ place → scanned_from classes bytes kept place ≡ kept
 none_left classes bytes kept place past =
     let none : length bytes - place ≡ 0 = omega arith in ap (λ (n : ℕ). scanned_over classes bytes kept (range_with_len place n)) none
@@ -88,11 +88,11 @@ scan_goes_on classes bytes entry from kept more place begun steps spent is insid
 }
 
 -- it goes on past places that lie in frames
-pub scan_passes : (classes : List Class) (bytes : List ℕ) (entry : List Frame) (from : ℕ) (kept : List Frame) (place behind begun steps : ℕ) → IsScanned classes bytes entry from kept place begun steps → place ≤ behind
-    → ((other : ℕ) → place ≤ other → other < behind → is_free kept other (other + 1) ≡ false) → IsScanned classes bytes entry from kept behind begun steps
-scan_passes classes bytes entry from kept place behind begun steps is before taken =
-    let count : ℕ = behind - place in
-    let there : behind ≡ place + count = omega arith in record {
+pub scan_passes : (classes : List Class) (bytes : List ℕ) (entry : List Frame) (from : ℕ) (kept : List Frame) (place next begun steps : ℕ) → IsScanned classes bytes entry from kept place begun steps → place ≤ next
+    → ((other : ℕ) → place ≤ other → other < next → is_free kept other (other + 1) ≡ false) → IsScanned classes bytes entry from kept next begun steps
+scan_passes classes bytes entry from kept place next begun steps is before taken =
+    let count : ℕ = next - place in
+    let there : next ≡ place + count = omega arith in record {
       left =
           ap (scanned_from classes bytes kept) there
           ∙ passed classes bytes kept count place (λ other at within. taken other at (omega (arith, within, there))) ∙ is.left;
@@ -114,14 +114,14 @@ next_found classes bytes kept from place begun steps spent found is inside at fe
       scanned = subst (λ (p : ℕ). IsScanned classes bytes kept from more (p + 1) begun spent) same next;
     }
 
--- what is told of it where one is found, and where none is
-pub next_told : (classes : List Class) (bytes : List ℕ) (kept : List Frame) (from begun steps : ℕ) (told : Option FrameObject) (found : FrameObject) → told ≡ Some found
-    → TellsNext classes bytes kept from begun steps told → IsNext classes bytes kept from begun steps found
-next_told classes bytes kept from begun steps told found is tells = subst (TellsNext classes bytes kept from begun steps) is tells
+-- what is reported of it where one is found, and where none is
+pub next_reported : (classes : List Class) (bytes : List ℕ) (kept : List Frame) (from begun steps : ℕ) (reported : Option FrameObject) (found : FrameObject) → reported ≡ Some found
+    → ReportsNext classes bytes kept from begun steps reported → IsNext classes bytes kept from begun steps found
+next_reported classes bytes kept from begun steps reported found is reports = subst (ReportsNext classes bytes kept from begun steps) is reports
 
-pub none_told : (classes : List Class) (bytes : List ℕ) (kept : List Frame) (from begun steps : ℕ) (told : Option FrameObject) → told ≡ None
-    → TellsNext classes bytes kept from begun steps told → scanned_from classes bytes kept from ≡ kept
-none_told classes bytes kept from begun steps told is tells = subst (TellsNext classes bytes kept from begun steps) is tells
+pub none_reported : (classes : List Class) (bytes : List ℕ) (kept : List Frame) (from begun steps : ℕ) (reported : Option FrameObject) → reported ≡ None
+    → ReportsNext classes bytes kept from begun steps reported → scanned_from classes bytes kept from ≡ kept
+none_reported classes bytes kept from begun steps reported is reports = subst (ReportsNext classes bytes kept from begun steps) is reports
 
 -- what is left of the whole input is what is kept at any place of it
 pub scan_whole : (classes : List Class) (bytes : List ℕ) (kept : List Frame) → scanned_from classes bytes kept 0 ≡ with_scanned classes bytes kept

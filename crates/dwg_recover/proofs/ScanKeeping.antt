@@ -107,18 +107,18 @@ grows_over classes bytes (suc count) place kept =
     let here = grows_here classes bytes place (place + suc count) kept (omega arith) in
     let next : List Frame = keep_free kept (scanned classes bytes place) in
     let same : place + 1 + count ≡ place + suc count = omega arith in
-    let behind = grows_over classes bytes count (place + 1) next in
+    let after = grows_over classes bytes count (place + 1) next in
     record {
-      more = here.more ++ behind.more;
-      whole = behind.whole ∙ ap (λ (front : List Frame). front ++ behind.more) here.whole ∙ append_assoc kept here.more behind.more;
-      are = both here.more behind.more here.are (from_earlier classes bytes place (place + suc count) behind.more (subst (λ high. AreFrom classes bytes (place + 1) high behind.more) same behind.are));
+      more = here.more ++ after.more;
+      whole = after.whole ∙ ap (λ (prefix : List Frame). prefix ++ after.more) here.whole ∙ append_assoc kept here.more after.more;
+      are = both here.more after.more here.are (from_earlier classes bytes place (place + suc count) after.more (subst (λ high. AreFrom classes bytes (place + 1) high after.more) same after.are));
     }
   where
     both : (ones others : List Frame) → AreFrom classes bytes place (place + suc count) ones → AreFrom classes bytes place (place + suc count) others → AreFrom classes bytes place (place + suc count) (ones ++ others)
     both [] others are more = more
     both (one ∷ ones) others are more = (are.0, both ones others are.1 more)
 
--- places in a row, and those behind them
+-- places in a row, and those after them
 ranges_joined : (at low count : ℕ) → range_with_len at (low + count) ≡ range_with_len at low ++ range_with_len (at + low) count
 ranges_joined at zero count =
     let none : 0 + count ≡ count = omega arith in
@@ -140,10 +140,10 @@ split_range low count = ranges_joined 0 low count ∙ ap (λ n. range_with_len 0
 -- what the scan keeps, by a place
 record IsSplitAt (classes : List Class) (bytes : List ℕ) (mapped : List Frame) (place : ℕ) : Type 0 where
   lesser : List Frame
-  behind : List Frame
-  whole : with_scanned classes bytes mapped ≡ keep_free (mapped ++ lesser) (scanned classes bytes place) ++ behind
+  after : List Frame
+  whole : with_scanned classes bytes mapped ≡ keep_free (mapped ++ lesser) (scanned classes bytes place) ++ after
   lesser_are : AreFrom classes bytes 0 place lesser
-  behind_are : AreFrom classes bytes (place + 1) (length bytes) behind
+  after_are : AreFrom classes bytes (place + 1) (length bytes) after
 
 -- so every place splits it
 splits : (classes : List Class) (bytes : List ℕ) (mapped : List Frame) (place : ℕ) → place < length bytes → IsSplitAt classes bytes mapped place
@@ -159,17 +159,17 @@ splits classes bytes mapped place inside =
     let ends : place + 1 + left ≡ length bytes = omega arith in
     record {
       lesser = before.more;
-      behind = after.more;
+      after = after.more;
       whole = ap (λ n. scanned_over classes bytes mapped (range_with_len 0 n)) all
           ∙ ap (scanned_over classes bytes mapped) (split_range place (suc left))
           ∙ fold-append step mapped (range_with_len 0 place) (range_with_len place (suc left))
           ∙ ap (λ (frames : List Frame). scanned_over classes bytes frames (range_with_len place (suc left))) before.whole
           ∙ after.whole;
       lesser_are = subst (λ high. AreFrom classes bytes 0 high before.more) from_begin before.are;
-      behind_are = subst (λ high. AreFrom classes bytes (place + 1) high after.more) ends after.are;
+      after_are = subst (λ high. AreFrom classes bytes (place + 1) high after.more) ends after.are;
     }
 
--- a frame of a lesser place isn't at the place, nor is one of a place behind
+-- a frame of a lesser place isn't at the place, nor is one of a place after
 at_another : (classes : List Class) (bytes : List ℕ) (low high : ℕ) (frames : List Frame) (frame : Frame) → AreFrom classes bytes low high frames → IsOneOf frame frames
     → (low ≤ frame.from) × (frame.from < high) × (frame.pair ≡ None)
 at_another classes bytes low high frames frame are is =
@@ -183,69 +183,69 @@ scan_keeps_exactly classes bytes mapped place frame named inside is = (kept_diff
     split : IsSplitAt classes bytes mapped place
     split = splits classes bytes mapped place inside
 
-    front : List Frame
-    front = mapped ++ split.lesser
+    prefix : List Frame
+    prefix = mapped ++ split.lesser
 
     kept : List Frame
     kept = with_scanned classes bytes mapped
 
-    whole : kept ≡ keep_free front (Some frame) ++ split.behind
-    whole = split.whole ∙ ap (λ (found : Option Frame). keep_free front found ++ split.behind) is
+    whole : kept ≡ keep_free prefix (Some frame) ++ split.after
+    whole = split.whole ∙ ap (λ (found : Option Frame). keep_free prefix found ++ split.after) is
 
     at : (frame.from ≡ place) × (frame.pair ≡ None)
     at = scanned_at classes bytes place frame is
 
-    -- of the frames at any place, those before this are in front
-    in_front : (frames : List Frame) (other : Frame) → kept ≡ frames ++ split.behind → (IsOneOf other frames → other.from < place → IsOneOf other front) → AreBefore mapped kept place other → IsOneOf other front
-    in_front frames other same leads (inl mapped_one) = in_first other mapped split.lesser mapped_one
-    in_front frames other same leads (inr (one, by_scan, less)) = of_parts (of_joined other frames split.behind (subst (IsOneOf other) same one))
+    -- of the frames at any place, those before this are before
+    lies_before : (frames : List Frame) (other : Frame) → kept ≡ frames ++ split.after → (IsOneOf other frames → other.from < place → IsOneOf other prefix) → AreBefore mapped kept place other → IsOneOf other prefix
+    lies_before frames other same leads (inl mapped_one) = in_first other mapped split.lesser mapped_one
+    lies_before frames other same leads (inr (one, by_scan, less)) = of_parts (of_joined other frames split.after (subst (IsOneOf other) same one))
       where
-        of_parts : IsOneOf other frames ⊎ IsOneOf other split.behind → IsOneOf other front
+        of_parts : IsOneOf other frames ⊎ IsOneOf other split.after → IsOneOf other prefix
         of_parts (inl first) = leads first less
-        of_parts (inr later) = absurd (omega (arith, less, (at_another classes bytes (place + 1) (length bytes) split.behind other split.behind_are later).0))
+        of_parts (inr later) = absurd (omega (arith, less, (at_another classes bytes (place + 1) (length bytes) split.after other split.after_are later).0))
 
-    -- it isn't kept before its place, nor behind
-    not_in_front : IsOneOf frame front → ⊥
-    not_in_front one = of_parts (of_joined frame mapped split.lesser one)
+    -- it isn't kept before its place, nor after
+    not_lying_before : IsOneOf frame prefix → ⊥
+    not_lying_before one = of_parts (of_joined frame mapped split.lesser one)
       where
         of_parts : IsOneOf frame mapped ⊎ IsOneOf frame split.lesser → ⊥
         of_parts (inl mapped_one) = one_of_all (λ (other : Frame). other.pair ≢ None) mapped frame named mapped_one at.1
         of_parts (inr lesser_one) = absurd (omega (arith, at.0, (at_another classes bytes 0 place split.lesser frame split.lesser_are lesser_one).1))
 
     kept_differs : IsOneOf frame kept → (other : Frame) → AreBefore mapped kept place other → AreOther other frame
-    kept_differs one other before = of_test (is_free front frame.from frame.end && is_new front frame.handle) refl
+    kept_differs one other before = of_test (is_free prefix frame.from frame.end && is_new prefix frame.handle) refl
       where
-        with_frame : IsOneOf other (front ++ frame ∷ []) → other.from < place → IsOneOf other front
-        with_frame has less = of_parts (of_joined other front (frame ∷ []) has)
+        with_frame : IsOneOf other (prefix ++ frame ∷ []) → other.from < place → IsOneOf other prefix
+        with_frame has less = of_parts (of_joined other prefix (frame ∷ []) has)
           where
-            of_parts : IsOneOf other front ⊎ IsOneOf other (frame ∷ []) → IsOneOf other front
+            of_parts : IsOneOf other prefix ⊎ IsOneOf other (frame ∷ []) → IsOneOf other prefix
             of_parts (inl first) = first
             of_parts (inr (inl same)) = absurd (omega (arith, less, at.0, ap (λ (f : Frame). f.from) same))
             of_parts (inr (inr none)) = absurd none
 
-        of_test : (test : Bool) → (is_free front frame.from frame.end && is_new front frame.handle) ≡ test → AreOther other frame
+        of_test : (test : Bool) → (is_free prefix frame.from frame.end && is_new prefix frame.handle) ≡ test → AreOther other frame
         of_test true passed =
-            let same : kept ≡ (front ++ frame ∷ []) ++ split.behind = whole ∙ ap (λ (t : Bool). (if t then front ++ frame ∷ [] else front) ++ split.behind) passed in
-            others_differ front frame passed other (in_front (front ++ frame ∷ []) other same with_frame before)
+            let same : kept ≡ (prefix ++ frame ∷ []) ++ split.after = whole ∙ ap (λ (t : Bool). (if t then prefix ++ frame ∷ [] else prefix) ++ split.after) passed in
+            others_differ prefix frame passed other (lies_before (prefix ++ frame ∷ []) other same with_frame before)
         of_test false failed =
-            let same : kept ≡ front ++ split.behind = whole ∙ ap (λ (t : Bool). (if t then front ++ frame ∷ [] else front) ++ split.behind) failed in
-            absurd (of_parts (of_joined frame front split.behind (subst (IsOneOf frame) same one)))
+            let same : kept ≡ prefix ++ split.after = whole ∙ ap (λ (t : Bool). (if t then prefix ++ frame ∷ [] else prefix) ++ split.after) failed in
+            absurd (of_parts (of_joined frame prefix split.after (subst (IsOneOf frame) same one)))
           where
-            of_parts : IsOneOf frame front ⊎ IsOneOf frame split.behind → ⊥
-            of_parts (inl first) = not_in_front first
-            of_parts (inr later) = absurd (omega (arith, at.0, (at_another classes bytes (place + 1) (length bytes) split.behind frame split.behind_are later).0))
+            of_parts : IsOneOf frame prefix ⊎ IsOneOf frame split.after → ⊥
+            of_parts (inl first) = not_lying_before first
+            of_parts (inr later) = absurd (omega (arith, at.0, (at_another classes bytes (place + 1) (length bytes) split.after frame split.after_are later).0))
 
     differing_kept : ((other : Frame) → AreBefore mapped kept place other → AreOther other frame) → IsOneOf frame kept
     differing_kept all =
-        let passed = tests_hold front frame (λ other one. all other (before_it other (of_joined other mapped split.lesser one))) in
-        let same : kept ≡ (front ++ frame ∷ []) ++ split.behind = whole ∙ ap (λ (t : Bool). (if t then front ++ frame ∷ [] else front) ++ split.behind) passed in
-        subst (IsOneOf frame) (sym same) (in_first frame (front ++ frame ∷ []) split.behind (in_second frame front (frame ∷ []) (inl refl)))
+        let passed = tests_hold prefix frame (λ other one. all other (before_it other (of_joined other mapped split.lesser one))) in
+        let same : kept ≡ (prefix ++ frame ∷ []) ++ split.after = whole ∙ ap (λ (t : Bool). (if t then prefix ++ frame ∷ [] else prefix) ++ split.after) passed in
+        subst (IsOneOf frame) (sym same) (in_first frame (prefix ++ frame ∷ []) split.after (in_second frame prefix (frame ∷ []) (inl refl)))
       where
-        in_kept : (other : Frame) → IsOneOf other front → IsOneOf other kept
-        in_kept other one = subst (IsOneOf other) (sym whole) (in_first other (keep_free front (Some frame)) split.behind (of_test (is_free front frame.from frame.end && is_new front frame.handle)))
+        in_kept : (other : Frame) → IsOneOf other prefix → IsOneOf other kept
+        in_kept other one = subst (IsOneOf other) (sym whole) (in_first other (keep_free prefix (Some frame)) split.after (of_test (is_free prefix frame.from frame.end && is_new prefix frame.handle)))
           where
-            of_test : (test : Bool) → IsOneOf other (if test then front ++ frame ∷ [] else front)
-            of_test true = in_first other front (frame ∷ []) one
+            of_test : (test : Bool) → IsOneOf other (if test then prefix ++ frame ∷ [] else prefix)
+            of_test true = in_first other prefix (frame ∷ []) one
             of_test false = one
 
         before_it : (other : Frame) → IsOneOf other mapped ⊎ IsOneOf other split.lesser → AreBefore mapped kept place other

@@ -18,7 +18,7 @@ use Rattle.dwg_recover.specs.declared.objects.FrameObject.{FrameObject}
 use Rattle.dwg_recover.proofs.FoundLemmas.{span_inside}
 use Rattle.dwg_recover.proofs.FrameScanning.{is_kept, not_common, read_at, span_there}
 use Rattle.dwg_recover.specs.Frames.{has_common_part, is_free, is_new, keep_free, own_of_span, scanned}
-use Rattle.dwg_recover.specs.KeptObjects.{IsKeptAt, TellsPlace, common_at}
+use Rattle.dwg_recover.specs.KeptObjects.{IsKeptAt, ReportsPlace, common_at}
 use Rattle.dwg_recover.specs.Recovering.{body_tried, frame_body}
 
 -- an object that is taken where a test holds, as a value
@@ -30,9 +30,9 @@ value_taken false object = refl
 pub common_read : (version : Version) (classes : List Class) (bytes body : List ℕ) (span : Span) (object : Object) (taken : Option Object) → taken ≡ then_some (has_common_part (value_of object)) object
     → body ≡ span_body bytes span → IsSome (own_of_span bytes span) → version ≡ version_at bytes → FormOf version classes body (value_of object)
     → option_map value_of taken ≡ common_at classes bytes span
-common_read version classes bytes body span object taken is same some told form =
+common_read version classes bytes body span object taken is same some reported form =
     ap (option_map value_of) is ∙ value_taken (has_common_part (value_of object)) object
-    ∙ ap (λ (value : ObjectValue). then_some (has_common_part value) value) (read_at classes bytes body span (value_of object) same some (subst (λ (v : Version). FormOf v classes body (value_of object)) told form))
+    ∙ ap (λ (value : ObjectValue). then_some (has_common_part value) value) (read_at classes bytes body span (value_of object) same some (subst (λ (v : Version). FormOf v classes body (value_of object)) reported form))
 
 -- what is taken where a test holds, and what the test is where nothing is
 was_taken : (test : Bool) (value other : ObjectValue) → Some value ≡ then_some test other → (test ≡ true) × (value ≡ other)
@@ -69,11 +69,11 @@ pub common_missing : (classes : List Class) (bytes : List ℕ) (kept : List Fram
 common_missing classes bytes kept place span own tried is none =
     let form : ObjectValue = form_at (version_at bytes) classes (span_body bytes span) in not_common classes bytes kept place span own tried is (was_left (has_common_part form) form none)
 
--- what is told of a place where a frame is kept, and where none is
-pub kept_at : (classes : List Class) (bytes : List ℕ) (kept : List Frame) (place : ℕ) (told : Option FrameObject) (found : FrameObject) → told ≡ Some found → TellsPlace classes bytes kept place told
+-- what is reported of a place where a frame is kept, and where none is
+pub kept_at : (classes : List Class) (bytes : List ℕ) (kept : List Frame) (place : ℕ) (reported : Option FrameObject) (found : FrameObject) → reported ≡ Some found → ReportsPlace classes bytes kept place reported
     → IsKeptAt classes bytes kept place found
-kept_at classes bytes kept place told found is tells = subst (TellsPlace classes bytes kept place) is tells
+kept_at classes bytes kept place reported found is reports = subst (ReportsPlace classes bytes kept place) is reports
 
-pub none_at : (classes : List Class) (bytes : List ℕ) (kept : List Frame) (place : ℕ) (told : Option FrameObject) → told ≡ None → TellsPlace classes bytes kept place told
+pub none_at : (classes : List Class) (bytes : List ℕ) (kept : List Frame) (place : ℕ) (reported : Option FrameObject) → reported ≡ None → ReportsPlace classes bytes kept place reported
     → kept ≡ keep_free kept (scanned classes bytes place)
-none_at classes bytes kept place told is tells = subst (TellsPlace classes bytes kept place) is tells
+none_at classes bytes kept place reported is reports = subst (ReportsPlace classes bytes kept place) is reports

@@ -55,9 +55,9 @@ sixteen : (which : Framed) → length (begin_sentinel which) ≡ 16
 sixteen framed.Variables = refl
 sixteen framed.Classes = refl
 
--- what stands at a place stands so far behind an earlier one
-behind : (bytes sentinel : List ℕ) (at place : ℕ) → length sentinel ≡ 16 → at ≤ place → place + 16 ≤ length bytes → bytes_at bytes place 16 ≡ sentinel → OccursAt (drop at bytes) sentinel (place - at)
-behind bytes sentinel at place long after within stands = record {
+-- what stands at a place stands so far after an earlier one
+occurs_later : (bytes sentinel : List ℕ) (at place : ℕ) → length sentinel ≡ 16 → at ≤ place → place + 16 ≤ length bytes → bytes_at bytes place 16 ≡ sentinel → OccursAt (drop at bytes) sentinel (place - at)
+occurs_later bytes sentinel at place long after within stands = record {
   fits = omega (arith, length-drop at bytes);
   reads = λ j below.
       get_or-drop at bytes (place - at + j) 0
@@ -67,13 +67,13 @@ behind bytes sentinel at place long after within stands = record {
       ∙ ap (λ (xs : List ℕ). get_or xs j 0) stands;
 }
 
--- where the sentinel of a section isn't found behind a place, the section isn't whole
+-- where the sentinel of a section isn't found after a place, the section isn't whole
 not_whole : (which : Framed) (bytes left sentinel : List ℕ) (at place : ℕ) → left ≡ drop at bytes → sentinel ≡ begin_sentinel which → at ≤ place → (OccursAt left sentinel (place - at) → ⊥)
     → is_whole which bytes place ≡ false
 not_whole which bytes left sentinel at place there is after nowhere = false_from_ne_true _ (λ whole.
     let section = whole_section which bytes place whole in
     nowhere (subst (λ (xs : List ℕ). OccursAt xs sentinel (place - at)) (sym there)
-    (behind bytes sentinel at place (ap length is ∙ sixteen which) after (omega (arith, section.within)) (section.begins ∙ sym is))))
+    (occurs_later bytes sentinel at place (ap length is ∙ sixteen which) after (omega (arith, section.within)) (section.begins ∙ sym is))))
 
 -- before the next sentinel no section is whole
 pub found_next : (which : Framed) (bytes left sentinel : List ℕ) (at found : ℕ) → left ≡ drop at bytes → sentinel ≡ begin_sentinel which
@@ -85,7 +85,7 @@ found_next which bytes left sentinel at found there is first = (
   λ other after before. not_whole which bytes left sentinel at other there is after (first.0.before (other - at) (omega arith) (omega arith)),
 )
 
--- what occurs behind a place occurs so far behind it in the input
+-- what occurs after a place occurs so far after it in the input
 pub occurs_there : (which : Framed) (bytes left sentinel : List ℕ) (at found : ℕ) → left ≡ drop at bytes → sentinel ≡ begin_sentinel which → OccursAt left sentinel found → OccursAt bytes (begin_sentinel which) (at + found)
 occurs_there which bytes left sentinel at found there is occurs =
     subst (λ (needle : List ℕ). OccursAt bytes needle (at + found)) is (record {
@@ -117,13 +117,13 @@ find_skips test from (suc count) next least most fails =
           ∙ ap (λ (n : ℕ). find test (range_with_len next n)) on
     ]
 
--- of what is left from a number on: that number and what is behind it
-front_of : (test : ℕ → Bool) (all place : ℕ) → place < all → find test (range_with_len place (all - place)) ≡ cond (test place) (Some place) (find test (range_with_len (place + 1) (all - (place + 1))))
-front_of test all place below =
+-- of what is left from a number on: that number and what is after it
+header_fields_of : (test : ℕ → Bool) (all place : ℕ) → place < all → find test (range_with_len place (all - place)) ≡ cond (test place) (Some place) (find test (range_with_len (place + 1) (all - (place + 1))))
+header_fields_of test all place below =
     let more : all - place ≡ suc (all - (place + 1)) = omega arith in
     ap (λ (n : ℕ). find test (range_with_len place n)) more
 
--- what is found behind a number is found behind a later one, if none between passes
+-- what is found after a number is found after a later one, if none between passes
 skipped : (test : ℕ → Bool) (all at place : ℕ) → at ≤ place → place ≤ all → ((k : ℕ) → at ≤ k → k < place → test k ≡ false)
     → find test (range_with_len at (all - at)) ≡ find test (range_with_len place (all - place))
 skipped test all at place after below fails =
@@ -134,13 +134,13 @@ skipped test all at place after below fails =
 pub found_at : (test : ℕ → Bool) (all at place : ℕ) (whole : Option ℕ) → at ≤ place → place < all → ((k : ℕ) → at ≤ k → k < place → test k ≡ false) → test place ≡ true
     → find test (range_with_len at (all - at)) ≡ whole → Some place ≡ whole
 found_at test all at place whole after below fails passes left =
-    sym (cond-true (test place) (Some place) _ passes) ∙ sym (front_of test all place below) ∙ sym (skipped test all at place after (omega arith) fails) ∙ left
+    sym (cond-true (test place) (Some place) _ passes) ∙ sym (header_fields_of test all place below) ∙ sym (skipped test all at place after (omega arith) fails) ∙ left
 
--- behind a number that doesn't, what is left gives the whole
+-- after a number that doesn't, what is left gives the whole
 pub found_later : (test : ℕ → Bool) (all at place : ℕ) (whole : Option ℕ) → at ≤ place → place < all → ((k : ℕ) → at ≤ k → k < place → test k ≡ false) → test place ≡ false
     → find test (range_with_len at (all - at)) ≡ whole → find test (range_with_len (place + 1) (all - (place + 1))) ≡ whole
 found_later test all at place whole after below fails failed left =
-    sym (cond-false (test place) (Some place) _ failed) ∙ sym (front_of test all place below) ∙ sym (skipped test all at place after (omega arith) fails) ∙ left
+    sym (cond-false (test place) (Some place) _ failed) ∙ sym (header_fields_of test all place below) ∙ sym (skipped test all at place after (omega arith) fails) ∙ left
 
 -- where none that is left passes, none is found
 pub found_nowhere : (test : ℕ → Bool) (all at : ℕ) (whole : Option ℕ) → at ≤ all → ((k : ℕ) → at ≤ k → k < all → test k ≡ false) → find test (range_with_len at (all - at)) ≡ whole → None ≡ whole
@@ -188,7 +188,7 @@ pub record IsAlong (which : Framed) (bytes : List ℕ) (tried at begun steps : �
   pub left : find (is_whole which bytes) (range_with_len at (length bytes - at)) ≡ first_whole which bytes
   pub spent : steps ≤ begun + 15 * tried
 
--- it begins at the front
+-- it begins at the begin
 pub begins : (which : Framed) (bytes : List ℕ) (begun : ℕ) → IsAlong which bytes 0 0 begun begun
 unfolding first_whole
 begins which bytes begun =
@@ -200,7 +200,7 @@ begins which bytes begun =
       spent = omega arith;
     }
 
--- it goes on behind a place where no section is whole
+-- it goes on after a place where no section is whole
 pub goes_on : (which : Framed) (bytes : List ℕ) (tried at place begun steps more : ℕ) → IsAlong which bytes tried at begun steps
     → (at ≤ place) × (place < length bytes) × ((other : ℕ) → at ≤ other → other < place → is_whole which bytes other ≡ false) → is_whole which bytes place ≡ false → more ≤ steps + 15
     → IsAlong which bytes (tried + 1) (place + 1) begun more
@@ -216,7 +216,7 @@ pub ends_there : (which : Framed) (bytes : List ℕ) (tried at place begun steps
     → (at ≤ place) × (place < length bytes) × ((other : ℕ) → at ≤ other → other < place → is_whole which bytes other ≡ false) → is_whole which bytes place ≡ true → Some place ≡ first_whole which bytes
 ends_there which bytes tried at place begun steps is next whole = found_at (is_whole which bytes) (length bytes) at place _ next.0 next.1 next.2 whole is.left
 
--- and where none is behind the place
+-- and where none is after the place
 pub ends_nowhere : (which : Framed) (bytes : List ℕ) (tried at begun steps : ℕ) → IsAlong which bytes tried at begun steps
     → ((other : ℕ) → at ≤ other → other < length bytes → is_whole which bytes other ≡ false) → None ≡ first_whole which bytes
 ends_nowhere which bytes tried at begun steps is none = found_nowhere (is_whole which bytes) (length bytes) at _ is.within none is.left

@@ -39,13 +39,13 @@ use Rattle.dwg_recover.proofs.IntactMap.{IsWholeWalk, map_is_walked}
 use Rattle.dwg_file.proofs.WrittenFrames.{IsWritten, canonical_written}
 use Rattle.dwg_recover.proofs.IntactParts.{IntactParts, class_section_is_found, classes_are_intact, intact_holds, intact_version, parts_are_intact, variables_are_found, variables_are_intact, written_positive}
 use Rattle.dwg_recover.specs.ListMembers.{IsAt, IsOneOf}
-use Rattle.dwg_recover.proofs.ListMembers.{at_back, at_front, at_next, in_first, in_second, mapped_from, of_joined, one_at, one_of_all, same_at}
-use Rattle.dwg_recover.proofs.LostPairs.{AllKept, kept_told, one_lost}
+use Rattle.dwg_recover.proofs.ListMembers.{at_back, at_prefix, at_next, in_first, in_second, mapped_from, of_joined, one_at, one_of_all, same_at}
+use Rattle.dwg_recover.proofs.LostPairs.{AllKept, kept_reported, one_lost}
 use Rattle.dwg_recover.proofs.MapKeeping.{candidates_are_of_pairs, mapped_are_candidates, ordered_is_one}
 use Rattle.dwg_recover.specs.Recovering.{RecoveredValue, frames_mapped, losses_of, pairs_read, recovered, recovered_damaged, walk_of}
 use Rattle.dwg_recover.specs.Sections.{header_of, locators_of, lost_if, lost_sections, section_found}
 use Rattle.dwg_recover.specs.ShortDamage.{ShortDamageCostsOneObject}
-use Rattle.dwg_recover.proofs.ToldLosses.{free_told}
+use Rattle.dwg_recover.proofs.ReportedLosses.{free_reported}
 use Rattle.dwg_recover.specs.Walks.{lost_end, lost_pages}
 use Rattle.dwg_recover.proofs.WholeRecovery.{recovered_of_damaged}
 
@@ -71,7 +71,7 @@ other_frame drawing bytes earlier frame later but one (inl is) = record {
 }
 other_frame drawing bytes earlier frame later but one (inr is) = record {
   among = subst (IsOneOf one) (sym but.whole) (in_second one earlier (frame ∷ later) (inr is));
-  has = one_of_all (λ (one : PairFrame). HasPart drawing bytes one.pair.place one.end) later one but.same.behind is;
+  has = one_of_all (λ (one : PairFrame). HasPart drawing bytes one.pair.place one.end) later one but.same.after is;
 }
 
 -- so such an input is partly intact
@@ -106,7 +106,7 @@ other_is_kept drawing bytes earlier frame later number one but is at =
     let positive = written_positive drawing.version drawing.classes (canonical drawing) (canonical_frames drawing) all in
     let holds =
     intact_holds drawing bytes one (intact_version drawing bytes (parts_are_intact drawing bytes but.valid but.small intact)) intact (one_of_all (IsWritten drawing.version drawing.classes (canonical drawing)) (canonical_frames drawing) one all other.among) other.has in
-    kept_told (mapped_frames bytes (pairs_framed (canonical_frames drawing))) number (frame_of number one.pair one.end)
+    kept_reported (mapped_frames bytes (pairs_framed (canonical_frames drawing))) number (frame_of number one.pair one.end)
     (numbered_is_kept (candidates_hold held_frame) bytes drawing.version drawing.objects (objects_place drawing) number one but.are but.valid.ascending positive
     (each_holds_or_none drawing bytes but.valid but.small intact) at
     (one_of_all (λ (one : PairFrame). 0 < one.pair.handle) (canonical_frames drawing) one positive other.among) holds)
@@ -115,7 +115,7 @@ other_is_kept drawing bytes earlier frame later number one but is at =
 -- and none for that of a pair at whose place no frame with its handle holds
 fails_is_free : (bytes : List ℕ) (pairs : List Pair) (number : ℕ) (pair : Pair) → AreBytes bytes → IsAt number pair pairs → ((end : ℕ) → FrameHolds bytes pair.place pair.handle end → ⊥)
     → is_kept_pair (mapped_frames bytes pairs) number ≡ false
-fails_is_free bytes pairs number pair are at fails = (free_told (mapped_frames bytes pairs) number).1 (λ one is its. never one is its)
+fails_is_free bytes pairs number pair are at fails = (free_reported (mapped_frames bytes pairs) number).1 (λ one is its. never one is its)
   where
     of_candidate : (one : Frame) (other : ℕ) (named : Pair) → one.pair ≡ Some number → IsAt other named pairs → candidate bytes other named ≡ Some one → ⊥
     of_candidate one other named its there found =
@@ -134,7 +134,7 @@ fails_is_free bytes pairs number pair are at fails = (free_told (mapped_frames b
 one_pair_lost : (drawing : Contents) (bytes : List ℕ) (earlier : List PairFrame) (frame : PairFrame) (later : List PairFrame) → IsButOneFrame drawing bytes earlier frame later
     → lost_pairs (mapped_frames bytes (pairs_framed (canonical_frames drawing))) 0 (pairs_framed (canonical_frames drawing)) ≡ Object frame.pair.handle frame.pair.place ∷ []
 one_pair_lost drawing bytes earlier frame later but =
-    ap (lost_pairs kept 0) split ∙ one_lost kept 0 (pairs_framed earlier) frame.pair (pairs_framed later) before free behind
+    ap (lost_pairs kept 0) split ∙ one_lost kept 0 (pairs_framed earlier) frame.pair (pairs_framed later) before free after
   where
     pairs : List Pair
     pairs = pairs_framed (canonical_frames drawing)
@@ -158,23 +158,23 @@ one_pair_lost drawing bytes earlier frame later but =
     before index pair at =
         let from = mapped_from (λ (frame : PairFrame). frame.pair) pair earlier (one_at index pair (pairs_framed earlier) at) in
         ap (is_kept_pair kept) (from_zero index)
-        ∙ named index pair from.one (inl from.is) from.same (at_front index pair (pairs_framed earlier) (frame.pair ∷ pairs_framed later) at)
+        ∙ named index pair from.one (inl from.is) from.same (at_prefix index pair (pairs_framed earlier) (frame.pair ∷ pairs_framed later) at)
 
     here : IsAt (length (pairs_framed earlier)) frame.pair pairs
-    here = record { split = record { before = pairs_framed earlier; behind = pairs_framed later; whole = split }; far = refl }
+    here = record { split = record { before = pairs_framed earlier; after = pairs_framed later; whole = split }; far = refl }
 
     free : is_kept_pair kept (0 + length (pairs_framed earlier)) ≡ false
     free = ap (is_kept_pair kept) (from_zero (length (pairs_framed earlier))) ∙ fails_is_free bytes pairs (length (pairs_framed earlier)) frame.pair but.are here but.fails
 
-    behind : AllKept kept (0 + length (pairs_framed earlier) + 1) (pairs_framed later)
-    behind index pair at =
+    after : AllKept kept (0 + length (pairs_framed earlier) + 1) (pairs_framed later)
+    after index pair at =
         let from = mapped_from (λ (frame : PairFrame). frame.pair) pair later (one_at index pair (pairs_framed later) at) in
         let count : 0 + length (pairs_framed earlier) + 1 + index ≡ length (pairs_framed earlier) + (index + 1) = omega arith in
         ap (is_kept_pair kept) count
         ∙ named (length (pairs_framed earlier) + (index + 1)) pair from.one (inr from.is) from.same
         (at_back (index + 1) pair (pairs_framed earlier) (frame.pair ∷ pairs_framed later) (at_next index pair frame.pair (pairs_framed later) at))
 
--- unknown sections that stand one behind the other in an input don't pass its end
+-- unknown sections that stand one after the other in an input don't pass its end
 none_cut : (bytes : List ℕ) (others : List OtherValue) (place : ℕ) → place + length (others_bytes others) ≤ length bytes → lost_sections bytes (others_located place others) ≡ []
 none_cut bytes [] place fits = refl
 none_cut bytes (other ∷ others) place fits =

@@ -30,7 +30,7 @@ none_walked bytes place left pairs losses is no_pairs no_losses =
       losses_left = ap₂ (λ (ls : List Loss) (w : Walk). ls ++ (lost_pages bytes 0 w.pages ++ lost_end w.lost)) no_losses same;
     }
 
--- the losses of the first page, and those behind
+-- the losses of the first page, and those after
 page_first : (test : Bool) (loss : Loss) (rest end : List Loss) → (if test then rest else loss ∷ rest) ++ end ≡ (if test then [] else loss ∷ []) ++ (rest ++ end)
 page_first true loss rest end = refl
 page_first false loss rest end = refl
@@ -78,7 +78,7 @@ last_walked bytes index at left less size pairs more_pairs losses more_losses wh
     subst (λ (w : Walk). IsLeft bytes index pairs losses w whole) (walked_by_size less left bytes at (Some 2) is (found ∙ ap Some two)) rest in
     none_left bytes (index + 1) more_pairs more_losses whole (page_walked bytes index at pairs more_pairs losses more_losses _ whole here added lost)
 
--- behind another page stands the next
+-- after another page stands the next
 pub walked_on : (bytes : List ℕ) (index at left less size next : ℕ) (pairs more_pairs : List Pair) (losses more_losses : List Loss) (whole : Walk) → left ≡ less + 1
     → IsLeft bytes index pairs losses (walk_over left bytes at) whole → size_of_page bytes at ≡ Some size → size ≢ 2 → more_pairs ≡ pairs ++ pairs_at bytes at
     → more_losses ≡ losses ++ lost_pages bytes index (at ∷ []) → next ≡ at + size + 2 → IsLeft bytes (index + 1) more_pairs more_losses (walk_over less bytes next) whole

@@ -4,17 +4,17 @@ use Rattle.std.specs.Prelude.{◌≢◌, ◌⊎◌, ◌↔◌, ◌==◌, if◌th
 use Rattle.std.proofs.lemmas.Bool.Decides.{nat_tests}
 use Rattle.std.proofs.lemmas.Option.{same_Some}
 use Rattle.dwg_objmap.specs.declared.pair.Pair.{Pair}
-use Rattle.dwg_objmap.specs.Pairs.{ORIGIN, pair_behind}
+use Rattle.dwg_objmap.specs.Pairs.{ORIGIN, pair_after}
 use Rattle.dwg_objmap.specs.MapLines.{body_at, word_at, HasPageWord, HasPage}
 use Rattle.dwg_objmap.proofs.PagePlaces.{length_of_body}
-use Rattle.dwg_objmap.specs.Walking.{SizeIsThere, page_holds_at, pairs_from, pairs_in_front, size_of_page, with_next}
+use Rattle.dwg_objmap.specs.Walking.{SizeIsThere, page_holds_at, pairs_from, leading_pairs, size_of_page, with_next}
 use Rattle.dwg_recover.specs.Walks.{IsWalk, Walk, pairs_at, pairs_of, walk_from, walk_of_size, walk_over, with_page}
 
 -- no more pairs follow than the fuel
 from_few : (fuel : ℕ) (seen : List Pair) (last : Pair) (bytes : List ℕ) → length (pairs_from fuel seen last bytes) ≤ length seen + fuel
 unfolding pairs_from
 from_few zero seen last bytes = omega arith
-from_few (suc fuel) seen last bytes = of_parsed ((pair_behind last).parse bytes) (λ pair rest. from_few fuel (seen ++ pair ∷ []) pair rest)
+from_few (suc fuel) seen last bytes = of_parsed ((pair_after last).parse bytes) (λ pair rest. from_few fuel (seen ++ pair ∷ []) pair rest)
   where
     of_parsed : (parsed : Option (Pair × List ℕ)) → ((pair : Pair) (rest : List ℕ) → length (pairs_from fuel (seen ++ pair ∷ []) pair rest) ≤ length (seen ++ pair ∷ []) + fuel)
         → length (with_next seen (λ pair rest. pairs_from fuel (seen ++ pair ∷ []) pair rest) parsed) ≤ length seen + suc fuel
@@ -23,10 +23,10 @@ from_few (suc fuel) seen last bytes = of_parsed ((pair_behind last).parse bytes)
 
 -- a page has no more pairs than bytes
 page_few : (bytes : List ℕ) (place : ℕ) → HasPage bytes place → length (pairs_at bytes place) + 2 ≤ word_at bytes place
-unfolding pairs_in_front
+unfolding leading_pairs
 page_few bytes place has = of_test (page_holds_at bytes place)
   where
-    of_test : (holds : Bool) → length (if holds then pairs_in_front (body_at bytes place) else []) + 2 ≤ word_at bytes place
+    of_test : (holds : Bool) → length (if holds then leading_pairs (body_at bytes place) else []) + 2 ≤ word_at bytes place
     of_test true = omega (arith, from_few (length (body_at bytes place)) [] ORIGIN (body_at bytes place), length_of_body bytes place has)
     of_test false = omega (arith, has.0)
 
@@ -69,15 +69,15 @@ walk_is there (suc fuel) bytes place some enough = of_size (size_of_page bytes p
 
     of_test : (size : ℕ) → size_of_page bytes place ≡ Some size → ((size ≢ 2) → IsWalk bytes (place + size + 2) (others (place + size + 2)).pages (others (place + size + 2)).lost) → (last : Bool) → (size == 2) ≡ last
         → IsWalkOf (if last then record { pages = place ∷ []; lost = None } else with_page place (others (place + size + 2)))
-    of_test size is behind true two = (refl, size, is, inl (grind (arith, nat_tests, two), refl, refl))
-    of_test size is behind false other = let differs : size ≢ 2 = λ same. grind (arith, nat_tests, other, same) in (refl, size, is, inr (differs, behind differs))
+    of_test size is after true two = (refl, size, is, inl (grind (arith, nat_tests, two), refl, refl))
+    of_test size is after false other = let differs : size ≢ 2 = λ same. grind (arith, nat_tests, other, same) in (refl, size, is, inr (differs, after differs))
 
     of_size : (size : Option ℕ) → size_of_page bytes place ≡ size → ((next : ℕ) → 0 < fuel → length bytes < next + fuel → IsWalk bytes next (others next).pages (others next).lost)
         → IsWalkOf (walk_of_size place others size)
-    of_size None is behind = (is, refl)
-    of_size (Some size) is behind =
+    of_size None is after = (is, refl)
+    of_size (Some size) is after =
         let has = (there bytes place size).0 is in
-        of_test size is (λ differs. behind (place + size + 2) (omega (arith, enough, has.0.0, has.0.1, has.1)) (omega (arith, enough, has.0.0, has.0.1, has.1))) (size == 2) refl
+        of_test size is (λ differs. after (place + size + 2) (omega (arith, enough, has.0.0, has.0.1, has.1)) (omega (arith, enough, has.0.0, has.0.1, has.1))) (size == 2) refl
 
 -- the walk from a place stands in the input
 pub walk_stands : SizeIsThere → (bytes : List ℕ) (place : ℕ) → IsWalk bytes place (walk_from bytes place).pages (walk_from bytes place).lost
@@ -97,19 +97,19 @@ pub walk_once : (bytes : List ℕ) (place : ℕ) (pages others : List ℕ) (lost
 walk_once bytes place [] [] lost other is was = (refl, is.1 ∙ sym was.1)
 walk_once bytes place [] (page ∷ others) lost other is was = absurd (size_or_none bytes place was.1 is.0 was.2)
 walk_once bytes place (page ∷ pages) [] lost other is was = absurd (size_or_none bytes place is.1 was.0 is.2)
-walk_once bytes place (page ∷ pages) (next ∷ others) lost other (from, size, sized, behind) (start, long, also, more) =
-    let same : size ≡ long = sizes_same bytes place size long sized also in of_ends same behind more (λ one two. walk_once bytes (place + size + 2) pages others lost other one two)
+walk_once bytes place (page ∷ pages) (next ∷ others) lost other (from, size, sized, after) (start, long, also, more) =
+    let same : size ≡ long = sizes_same bytes place size long sized also in of_ends same after more (λ one two. walk_once bytes (place + size + 2) pages others lost other one two)
   where
     of_ends : size ≡ long → ((size ≡ 2) × (pages ≡ []) × (lost ≡ None)) ⊎ ((size ≢ 2) × IsWalk bytes (place + size + 2) pages lost)
         → ((long ≡ 2) × (others ≡ []) × (other ≡ None)) ⊎ ((long ≢ 2) × IsWalk bytes (place + long + 2) others other)
         → (IsWalk bytes (place + size + 2) pages lost → IsWalk bytes (place + size + 2) others other → (pages ≡ others) × (lost ≡ other)) → (page ∷ pages ≡ next ∷ others) × (lost ≡ other)
-    of_ends same (inl one) (inl two) behind = (ap₂ (λ (p : ℕ) (ps : List ℕ). p ∷ ps) (from ∙ sym start) (one.1 ∙ sym two.1), one.2 ∙ sym two.2)
-    of_ends same (inl one) (inr two) behind = absurd (two.0 (sym same ∙ one.0))
-    of_ends same (inr one) (inl two) behind = absurd (one.0 (same ∙ two.0))
-    of_ends same (inr one) (inr two) behind =
-        let others_same = behind one.1 (subst (λ n. IsWalk bytes (place + n + 2) others other) (sym same) two.1) in
+    of_ends same (inl one) (inl two) after = (ap₂ (λ (p : ℕ) (ps : List ℕ). p ∷ ps) (from ∙ sym start) (one.1 ∙ sym two.1), one.2 ∙ sym two.2)
+    of_ends same (inl one) (inr two) after = absurd (two.0 (sym same ∙ one.0))
+    of_ends same (inr one) (inl two) after = absurd (one.0 (same ∙ two.0))
+    of_ends same (inr one) (inr two) after =
+        let others_same = after one.1 (subst (λ n. IsWalk bytes (place + n + 2) others other) (sym same) two.1) in
         (ap₂ (λ (p : ℕ) (ps : List ℕ). p ∷ ps) (from ∙ sym start) others_same.0, others_same.1)
 
 -- a check word is right exactly where its test passes
-pub right_told : (bytes : List ℕ) (place : ℕ) → (page_holds_at bytes place ≡ true) ↔ HasPageWord bytes place
-right_told bytes place = ((λ passed. grind (arith, nat_tests, passed)), λ right. grind (arith, nat_tests, right))
+pub right_reported : (bytes : List ℕ) (place : ℕ) → (page_holds_at bytes place ≡ true) ↔ HasPageWord bytes place
+right_reported bytes place = ((λ passed. grind (arith, nat_tests, passed)), λ right. grind (arith, nat_tests, right))

@@ -10,7 +10,7 @@ use Rattle.std.proofs.lemmas.List.{append-nil}
 use Rattle.dwg_base.specs.Bytes.{AreBytes}
 use Rattle.dwg_base.specs.Refusals.{Tried, first_fault}
 use Rattle.dwg_grammar.specs.ModularCodes.{ms}
-use Rattle.dwg_file.specs.FileLines.{ALL_LINES, FoundFrame, frames_behind, frames_tried, map_tried, section_place, touches, tried_pair, with_found, with_handle, with_span}
+use Rattle.dwg_file.specs.FileLines.{ALL_LINES, FoundFrame, frames_after, frames_tried, map_tried, section_place, touches, tried_pair, with_found, with_handle, with_span}
 use Rattle.dwg_file.proofs.PassingLines.{each_holds, ok_of_fault}
 use Rattle.dwg_file.proofs.ReadingLemmas.{SectionLaws, located_same}
 use Rattle.dwg_object.specs.declared.span.Span.{Span}
@@ -60,13 +60,13 @@ frame_stands : (bytes : List ℕ) (place index : ℕ) (found : FoundFrame) → t
 unfolding tried_frame own_of_span
 frame_stands bytes place index (span, parts) is = of_span (tried_span place index bytes) refl is
   where
-    of_head : (stood : Span) → tried_span place index bytes ≡ Ok stood → has_check_word bytes stood ≡ true → (told : Option HeadParts) → head_at (version_at bytes) bytes stood ≡ told
-        → ◌≡◌ {A = Tried FoundFrame} (head_tried place index stood told) (Ok (span, parts)) → StandsFound bytes place (span, parts)
-    of_head stood at right None told same = absurd cc
-    of_head stood at right (Some others) told same =
+    of_head : (stood : Span) → tried_span place index bytes ≡ Ok stood → has_check_word bytes stood ≡ true → (reported : Option HeadParts) → head_at (version_at bytes) bytes stood ≡ reported
+        → ◌≡◌ {A = Tried FoundFrame} (head_tried place index stood reported) (Ok (span, parts)) → StandsFound bytes place (span, parts)
+    of_head stood at right None reported same = absurd cc
+    of_head stood at right (Some others) reported same =
         subst (StandsFound bytes place) (same_found stood others span parts same) (record {
           stands = same_span bytes place index stood at;
-          own = ap (λ (test : Bool). if test then option_map (λ (parts : HeadParts). parts.own) (head_at (version_at bytes) bytes stood) else None) right ∙ ap (option_map (λ (parts : HeadParts). parts.own)) told;
+          own = ap (λ (test : Bool). if test then option_map (λ (parts : HeadParts). parts.own) (head_at (version_at bytes) bytes stood) else None) right ∙ ap (option_map (λ (parts : HeadParts). parts.own)) reported;
         })
       where
         same_found : (stood : Span) (others : HeadParts) (span : Span) (parts : HeadParts) → ◌≡◌ {A = Tried FoundFrame} (Ok (stood, others)) (Ok (span, parts)) → ◌≡◌ {A = FoundFrame} (stood, others) (span, parts)
@@ -138,73 +138,73 @@ pair_is_found bytes number pair found is = record {
   ends = refl;
 }
 
--- the frames behind earlier ones stand in the input
+-- the frames after earlier ones stand in the input
 record AreStanding (bytes : List ℕ) (index : ℕ) (earlier founds : List FoundFrame) : Type 0 where
   rest : List FoundFrame
   whole : founds ≡ earlier ++ rest
   stand : AllByRecursion (IsFound bytes) (frames_found index rest)
 
 -- so they do
-frames_are_standing : (bytes : List ℕ) (pairs : List Pair) (index : ℕ) (earlier founds : List FoundFrame) → frames_behind bytes index earlier pairs ≡ Ok founds → AreStanding bytes index earlier founds
-unfolding frames_behind found_frame
+frames_are_standing : (bytes : List ℕ) (pairs : List Pair) (index : ℕ) (earlier founds : List FoundFrame) → frames_after bytes index earlier pairs ≡ Ok founds → AreStanding bytes index earlier founds
+unfolding frames_after found_frame
 frames_are_standing bytes [] index earlier founds is = let same : earlier ≡ founds = cc in record { rest = []; whole = sym same ∙ sym (append-nil earlier); stand = tt }
 frames_are_standing bytes (pair ∷ pairs) index earlier founds is =
-    of_found (tried_pair bytes earlier index pair) refl is (λ found behind. frames_are_standing bytes pairs (index + 1) (earlier ++ found ∷ []) founds behind)
+    of_found (tried_pair bytes earlier index pair) refl is (λ found after. frames_are_standing bytes pairs (index + 1) (earlier ++ found ∷ []) founds after)
   where
-    of_found : (tried : Tried FoundFrame) → tried_pair bytes earlier index pair ≡ tried → with_found (λ found. frames_behind bytes (index + 1) (earlier ++ found ∷ []) pairs) tried ≡ Ok founds
-        → ((found : FoundFrame) → frames_behind bytes (index + 1) (earlier ++ found ∷ []) pairs ≡ Ok founds → AreStanding bytes (index + 1) (earlier ++ found ∷ []) founds) → AreStanding bytes index earlier founds
+    of_found : (tried : Tried FoundFrame) → tried_pair bytes earlier index pair ≡ tried → with_found (λ found. frames_after bytes (index + 1) (earlier ++ found ∷ []) pairs) tried ≡ Ok founds
+        → ((found : FoundFrame) → frames_after bytes (index + 1) (earlier ++ found ∷ []) pairs ≡ Ok founds → AreStanding bytes (index + 1) (earlier ++ found ∷ []) founds) → AreStanding bytes index earlier founds
     of_found (Err refusal) tried same others = absurd cc
     of_found (Ok found) tried same others =
-        let behind = others found same in
+        let after = others found same in
         record {
-          rest = found ∷ behind.rest;
-          whole = behind.whole ∙ append_assoc earlier (found ∷ []) behind.rest;
-          stand = (pair_is_found bytes index pair found (pair_stands bytes earlier index pair found tried), behind.stand);
+          rest = found ∷ after.rest;
+          whole = after.whole ∙ append_assoc earlier (found ∷ []) after.rest;
+          stand = (pair_is_found bytes index pair found (pair_stands bytes earlier index pair found tried), after.stand);
         }
 
 -- the frames of the map stand in the input
 pub map_stands : (bytes : List ℕ) → AllByRecursion (IsFound bytes) (frames_found 0 (result_unwrap_or (frames_tried bytes) []))
 unfolding frames_tried
-map_stands bytes = of_tried (frames_behind bytes 0 [] (result_unwrap_or (map_tried bytes) [])) refl
+map_stands bytes = of_tried (frames_after bytes 0 [] (result_unwrap_or (map_tried bytes) [])) refl
   where
-    of_tried : (tried : Tried (List FoundFrame)) → frames_behind bytes 0 [] (result_unwrap_or (map_tried bytes) []) ≡ tried
+    of_tried : (tried : Tried (List FoundFrame)) → frames_after bytes 0 [] (result_unwrap_or (map_tried bytes) []) ≡ tried
         → AllByRecursion (IsFound bytes) (frames_found 0 (result_unwrap_or tried []))
     of_tried (Err refusal) is = tt
     of_tried (Ok founds) is =
         let all = frames_are_standing bytes (result_unwrap_or (map_tried bytes) []) 0 [] founds is in
         subst (λ (some : List FoundFrame). AllByRecursion (IsFound bytes) (frames_found 0 some)) (sym all.whole) all.stand
 
--- the frames behind earlier ones are those of the pairs
-record AreBehind (bytes : List ℕ) (index : ℕ) (earlier founds : List FoundFrame) (pairs : List Pair) : Type 0 where
+-- the frames after earlier ones are those of the pairs
+record AreAfter (bytes : List ℕ) (index : ℕ) (earlier founds : List FoundFrame) (pairs : List Pair) : Type 0 where
   rest : List FoundFrame
   whole : founds ≡ earlier ++ rest
   same : candidates bytes index pairs ≡ frames_found index rest
 
 -- so they are
-frames_are_behind : (bytes : List ℕ) (pairs : List Pair) (index : ℕ) (earlier founds : List FoundFrame) → AllByRecursion (λ handle. 0 < handle) (map (λ (pair : Pair). pair.handle) pairs)
-    → frames_behind bytes index earlier pairs ≡ Ok founds → AreBehind bytes index earlier founds pairs
-unfolding frames_behind candidates found_frame
-frames_are_behind bytes [] index earlier founds positive is = let same : earlier ≡ founds = cc in record { rest = []; whole = sym same ∙ sym (append-nil earlier); same = refl }
-frames_are_behind bytes (pair ∷ pairs) index earlier founds positive is =
-    of_found (tried_pair bytes earlier index pair) refl is (λ found behind. frames_are_behind bytes pairs (index + 1) (earlier ++ found ∷ []) founds positive.1 behind)
+frames_are_after : (bytes : List ℕ) (pairs : List Pair) (index : ℕ) (earlier founds : List FoundFrame) → AllByRecursion (λ handle. 0 < handle) (map (λ (pair : Pair). pair.handle) pairs)
+    → frames_after bytes index earlier pairs ≡ Ok founds → AreAfter bytes index earlier founds pairs
+unfolding frames_after candidates found_frame
+frames_are_after bytes [] index earlier founds positive is = let same : earlier ≡ founds = cc in record { rest = []; whole = sym same ∙ sym (append-nil earlier); same = refl }
+frames_are_after bytes (pair ∷ pairs) index earlier founds positive is =
+    of_found (tried_pair bytes earlier index pair) refl is (λ found after. frames_are_after bytes pairs (index + 1) (earlier ++ found ∷ []) founds positive.1 after)
   where
-    of_found : (tried : Tried FoundFrame) → tried_pair bytes earlier index pair ≡ tried → with_found (λ found. frames_behind bytes (index + 1) (earlier ++ found ∷ []) pairs) tried ≡ Ok founds
-        → ((found : FoundFrame) → frames_behind bytes (index + 1) (earlier ++ found ∷ []) pairs ≡ Ok founds → AreBehind bytes (index + 1) (earlier ++ found ∷ []) founds pairs)
-        → AreBehind bytes index earlier founds (pair ∷ pairs)
+    of_found : (tried : Tried FoundFrame) → tried_pair bytes earlier index pair ≡ tried → with_found (λ found. frames_after bytes (index + 1) (earlier ++ found ∷ []) pairs) tried ≡ Ok founds
+        → ((found : FoundFrame) → frames_after bytes (index + 1) (earlier ++ found ∷ []) pairs ≡ Ok founds → AreAfter bytes (index + 1) (earlier ++ found ∷ []) founds pairs)
+        → AreAfter bytes index earlier founds (pair ∷ pairs)
     of_found (Err refusal) tried same others = absurd cc
     of_found (Ok found) tried same others =
-        let behind = others found same in
+        let after = others found same in
         record {
-          rest = found ∷ behind.rest;
-          whole = behind.whole ∙ append_assoc earlier (found ∷ []) behind.rest;
-          same = ap₂ cons_option (pair_is_candidate bytes index pair found positive.0 (pair_stands bytes earlier index pair found tried)) behind.same;
+          rest = found ∷ after.rest;
+          whole = after.whole ∙ append_assoc earlier (found ∷ []) after.rest;
+          same = ap₂ cons_option (pair_is_candidate bytes index pair found positive.0 (pair_stands bytes earlier index pair found tried)) after.same;
         }
 
 -- where the lines on frames hold of pairs with positive handles, the frames that they name are the frames that were found
 pub map_is_found : (bytes : List ℕ) (pairs : List Pair) (founds : List FoundFrame) → AllByRecursion (λ handle. 0 < handle) (map (λ (pair : Pair). pair.handle) pairs)
-    → frames_behind bytes 0 [] pairs ≡ Ok founds → candidates bytes 0 pairs ≡ frames_found 0 founds
+    → frames_after bytes 0 [] pairs ≡ Ok founds → candidates bytes 0 pairs ≡ frames_found 0 founds
 map_is_found bytes pairs founds positive is =
-    let behind = frames_are_behind bytes pairs 0 [] founds positive is in behind.same ∙ ap (frames_found 0) (sym behind.whole)
+    let after = frames_are_after bytes pairs 0 [] founds positive is in after.same ∙ ap (frames_found 0) (sym after.whole)
 
 -- so of an input in which no line fails, whose header locates a map, the frames that were found are the candidates of its pairs
 pub candidates_are_found : SectionLaws → (bytes : List ℕ) (header : FileHeader) (place : ℕ) (pairs : List Pair) → AreBytes bytes → first_fault ALL_LINES bytes ≡ None → BeginsWithHeader bytes header
@@ -214,5 +214,5 @@ candidates_are_found laws bytes header place pairs are none begins located map =
     let same : place ≡ section_place 2 bytes = located_same bytes header 2 place (laws.header_complete bytes header begins).1 located in
     let tried : map_tried bytes ≡ Ok pairs = (map_is_tried (section_place 2 bytes) bytes pairs are).1 (subst (λ at. MapOf bytes at pairs) same map) in
     let founds = ok_of_fault (frames_tried bytes) (each_holds bytes none).frames in
-    let behind : frames_behind bytes 0 [] pairs ≡ Ok founds.0 = sym (ap (λ (tried : Tried (List Pair)). frames_behind bytes 0 [] (result_unwrap_or tried [])) tried) ∙ founds.1 in
-    map_is_found bytes pairs founds.0 map.handles.positive behind ∙ ap (λ (tried : Tried (List FoundFrame)). frames_found 0 (result_unwrap_or tried [])) (sym founds.1)
+    let after : frames_after bytes 0 [] pairs ≡ Ok founds.0 = sym (ap (λ (tried : Tried (List Pair)). frames_after bytes 0 [] (result_unwrap_or tried [])) tried) ∙ founds.1 in
+    map_is_found bytes pairs founds.0 map.handles.positive after ∙ ap (λ (tried : Tried (List FoundFrame)). frames_found 0 (result_unwrap_or tried [])) (sym founds.1)

@@ -25,7 +25,7 @@ use Rattle.dwg_recover.specs.MapFrames.{all_numbered, numbered}
 use Rattle.dwg_recover.proofs.LossesAlong.{left_of, nothing_left, part_put}
 use Rattle.dwg_recover.specs.Placing.{IsFound, IsPlaced}
 use Rattle.dwg_recover.proofs.RecoveredLaws.{frames_are_kept}
-use Rattle.dwg_recover.specs.Recovering.{classes_found, drawing_recovered, frames_found, frames_kept, frames_mapped, losses_of, pairs_read, recovered, recovered_damaged, recovered_whole, told}
+use Rattle.dwg_recover.specs.Recovering.{classes_found, drawing_recovered, frames_found, frames_kept, frames_mapped, losses_of, pairs_read, recovered, recovered_damaged, recovered_whole, reported}
 use Rattle.dwg_recover.specs.Sections.{classes_of, section_found}
 use Rattle.dwg_recover.proofs.WholeLemmas.{map_stands}
 
@@ -51,7 +51,7 @@ pub numbered_on : (index : ℕ) (frames : List ObjectFrame) (frame none : Object
 numbered_on index frames frame none put more whole within is added =
     part_put put more (numbered index frame ∷ []) (all_numbered (index + 1) (drop (index + 1) frames)) _ whole added (ap (all_numbered index) (left_of frames index frame none within is))
 
--- behind the last frame, what was put is the whole
+-- after the last frame, what was put is the whole
 pub numbered_over : (index : ℕ) (frames : List ObjectFrame) (put whole : List Frame) → length frames ≤ index → put ++ all_numbered index (drop index frames) ≡ whole → put ≡ whole
 numbered_over index frames put whole past = nothing_left put _ whole (ap (all_numbered index) (drop_all index frames past))
 
@@ -66,7 +66,7 @@ recovered_of_damaged bytes refusal some = sym (ap (λ (fault : Option Refusal). 
 
 -- the value that is recovered of a whole input
 pub whole_value : (bytes : List ℕ) (drawing : Contents) (losses : List Loss) (kept : List Kept) → drawing ≡ drawing_at bytes → losses ≡ []
-    → kept ≡ told bytes (frames_found 0 (result_unwrap_or (frames_tried bytes) [])) → record { drawing = drawing; refusal = None; losses = losses; kept = kept } ≡ recovered_whole bytes
+    → kept ≡ reported bytes (frames_found 0 (result_unwrap_or (frames_tried bytes) [])) → record { drawing = drawing; refusal = None; losses = losses; kept = kept } ≡ recovered_whole bytes
 unfolding recovered_whole
 whole_value bytes drawing losses kept a b c =
     ap (λ (d : Contents). record { drawing = d; refusal = None; losses = losses; kept = kept }) a
@@ -75,7 +75,7 @@ whole_value bytes drawing losses kept a b c =
 
 -- and of a damaged one
 pub damaged_value : (bytes : List ℕ) (drawing : Contents) (refusal : Refusal) (losses : List Loss) (kept : List Kept) → first_fault ALL_LINES bytes ≡ Some refusal → drawing ≡ drawing_recovered bytes
-    → losses ≡ losses_of bytes → kept ≡ told bytes (frames_kept bytes) → record { drawing = drawing; refusal = Some refusal; losses = losses; kept = kept } ≡ recovered_damaged bytes
+    → losses ≡ losses_of bytes → kept ≡ reported bytes (frames_kept bytes) → record { drawing = drawing; refusal = Some refusal; losses = losses; kept = kept } ≡ recovered_damaged bytes
 unfolding recovered_damaged
 damaged_value bytes drawing refusal losses kept first a b c =
     ap (λ (r : Option Refusal). record { drawing = drawing; refusal = r; losses = losses; kept = kept }) (sym first)

@@ -48,7 +48,7 @@ WalkIsLocated =
     → (header_of bytes ≡ None → walk_of bytes ≡ record { pages = []; lost = None })
     × ((header : FileHeader) (place : ℕ) → header_of bytes ≡ Some header → place_of 2 header.locators ≡ Some place → IsWalk bytes place (walk_of bytes).pages (walk_of bytes).lost)
 
--- a page with a right check word gives the longest list of pairs in front of its bytes, and one with a wrong check word gives none
+-- a page with a right check word gives the longest list of leading pairs of its bytes, and one with a wrong check word gives none
 abbrev pub PagesGivePairs : Type 0
 PagesGivePairs =
     (bytes : List ℕ) (page : ℕ) → AreBytes bytes

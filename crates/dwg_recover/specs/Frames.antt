@@ -23,7 +23,7 @@ overlaps from end frame = nat_lt from frame.end && nat_lt frame.from end
 abbrev pub is_free : List Frame → ℕ → ℕ → Bool
 is_free frames from end = not (list_any (overlaps from end) frames)
 
--- whether a place is at or behind the end of every frame
+-- whether a place is at or after the end of every frame
 abbrev pub follows : List Frame → ℕ → Bool
 follows frames from = list_all (λ (frame : Frame). nat_le frame.end from) frames
 
@@ -108,7 +108,7 @@ scanned_over classes bytes kept places = fold (λ (frames : List Frame) (place :
 unfoldable pub with_scanned : List Class → List ℕ → List Frame → List Frame
 with_scanned classes bytes kept = scanned_over classes bytes kept (range_with_len 0 (length bytes))
 
--- a frame as it is told
+-- a frame as it is reported
 abbrev pub kept_of : Frame → Kept
 kept_of frame = record { handle = frame.handle; from = frame.from; end = frame.end; mapped = is_some frame.pair }
 

@@ -44,7 +44,7 @@ pub record IsPartlyIntact (drawing : Contents) (bytes : List ℕ) : Type 0 where
   pub frames : (frame : PairFrame) → IsOneOf frame (canonical_frames drawing)
       → HasPart drawing bytes frame.pair.place frame.end ⊎ ((end : ℕ) → FrameHolds bytes frame.pair.place frame.pair.handle end → ⊥)
 
--- a frame of the map as it is told where it is kept
+-- a frame of the map as it is reported where it is kept
 abbrev pub kept_frame : PairFrame → Kept
 kept_frame frame = record { handle = frame.pair.handle; from = frame.pair.place; end = frame.end; mapped = true }
 

@@ -24,10 +24,10 @@ pub record AreKept (bytes : List ℕ) (frames : List Frame) : Type 0 where
   pub found : AllByRecursion (IsFound bytes) frames
   pub other : AllPairs AreOther frames
 
--- a candidate in order of place is kept exactly where it begins at or behind the end of every candidate before it that is kept, and has another handle than each
+-- a candidate in order of place is kept exactly where it begins at or after the end of every candidate before it that is kept, and has another handle than each
 abbrev pub MapKeepsExactly : Type 0
 MapKeepsExactly =
-    (bytes : List ℕ) (pairs : List Pair) (before : List Frame) (frame : Frame) (behind : List Frame) → in_place_order (length bytes) (candidates bytes 0 pairs) ≡ before ++ frame ∷ behind
+    (bytes : List ℕ) (pairs : List Pair) (before : List Frame) (frame : Frame) (after : List Frame) → in_place_order (length bytes) (candidates bytes 0 pairs) ≡ before ++ frame ∷ after
     → IsOneOf frame (mapped_frames bytes pairs)
     ↔ ((other : Frame) → IsOneOf other before → IsOneOf other (mapped_frames bytes pairs) → (other.end ≤ frame.from) × (other.handle ≢ frame.handle))
 

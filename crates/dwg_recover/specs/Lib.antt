@@ -3,9 +3,9 @@ pub mod Recovering
 -- What recovery answers, as a plain value.
 pub mod Results
 -- What holds of every answer of recovery: its frames stand in the input and share nothing, and its objects are those of its frames; and what it is where the input spells a drawing, and where it is damaged.
-pub mod Told
--- Which losses are told of a damaged input: each of what is lost, and no other.
-pub mod ToldLosses
+pub mod Reported
+-- Which losses are reported of a damaged input: each of what is lost, and no other.
+pub mod ReportedLosses
 -- What is asked of an input so that the intact objects of a drawing are recovered of it: its header and its map are those of the drawing's canonical file, and each frame either is that file's or doesn't hold.
 pub mod Intact
 -- Canonical files in which one byte, or two neighbouring ones, of one object's frame are changed: that object alone is lost.
@@ -20,7 +20,7 @@ pub mod FoundSections
 pub mod FoundFrames
 -- Which frames are kept, said of each by itself, that no others are, and what the frames that are kept and their objects are: found in the input, without a byte or a handle in common.
 pub mod KeptFrames
--- The order of place: each frame begins no later than those behind it, and those of one place are what they were.
+-- The order of place: each frame begins no later than those after it, and those of one place are what they were.
 pub mod OrderOfPlace
 -- Where the header variables and the classes are found: at the place of their locator, or else where the first whole section stands.
 pub mod Sections
@@ -34,7 +34,7 @@ pub mod Finding
 pub mod Placing
 -- The frames of a map of which none is lost, each kept for its pair.
 pub mod MapFrames
--- The objects of the frames that are kept, and what the scan tells of a place.
+-- The objects of the frames that are kept, and what the scan reports of a place.
 pub mod KeptObjects
 -- What runs, sets and an end note of frames: their bytes, their handles, the numbers of their pairs, and where the last ends.
 pub mod Keeping

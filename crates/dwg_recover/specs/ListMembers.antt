@@ -10,8 +10,8 @@ IsOneOf {A} one (first ∷ others) = (one ≡ first) ⊎ IsOneOf one others
 -- the list in two, the second of which begins with the one
 pub record IsSplit {A : Type 0} (one : A) (all : List A) : Type 0 where
   pub before : List A
-  pub behind : List A
-  pub whole : all ≡ before ++ one ∷ behind
+  pub after : List A
+  pub whole : all ≡ before ++ one ∷ after
 
 -- a member of a list at a place, counted from 0
 pub record IsAt {A : Type 0} (place : ℕ) (one : A) (all : List A) : Type 0 where

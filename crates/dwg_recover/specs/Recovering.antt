@@ -2,9 +2,9 @@
 -- The order in which recovery goes: an input in which no line of the table fails is that of its drawing, with the frames of its map (`recovered_whole`). Of any
 -- other (`recovered_damaged`) the file header is taken (`header_of`), where no line on it fails; the header variables and the classes, where their sections are found
 -- (`section_found`, `classes_found`); and the pairs (`pairs_read`) of the pages that the walk over the map goes over (`walk_of`). Of the frames that the pairs lead to,
--- in order of place, each is kept that lies behind those kept before it and has a new handle (`frames_mapped`); and then at each place of the input, from the first
+-- in order of place, each is kept that lies after those kept before it and has a new handle (`frames_mapped`); and then at each place of the input, from the first
 -- on, the frame that shares no byte and no handle with those kept and whose object is Typed or Plain (`frames_kept`). Their objects in order of handle (`objects_of`) and those parts are the drawing
--- (`drawing_recovered`). Losses are told in the order of `losses_of`, and frames in order of place (`told`).
+-- (`drawing_recovered`). Losses are reported in the order of `losses_of`, and frames in order of place (`reported`).
 use Rattle.std.specs.Prelude.{ℕ, ◌+◌, List, [], ◌∷◌, ◌++◌, length, map, replicate, Option, Some, None, if◌then◌else◌}
 use Rattle.dwg_base.specs.Versions.{version_at}
 use Rattle.std.specs.Option.{is_none}
@@ -80,7 +80,7 @@ object_of classes bytes frame = form_at (version_at bytes) classes (frame_body b
 abbrev pub objects_of : List Class → List ℕ → List Frame → List ObjectValue
 objects_of classes bytes frames = sorted (map (object_of classes bytes) frames)
 
--- what the header tells of a drawing; without one these are zeros
+-- what the header reports of a drawing; without one these are zeros
 abbrev pub lead_of : Option FileHeader → List ℕ
 lead_of None = replicate 7 0
 lead_of (Some header) = header.lead
@@ -117,9 +117,9 @@ losses_of bytes =
     ++ lost_end (walk_of bytes).lost
     ++ lost_pairs (frames_mapped bytes) 0 (pairs_read bytes)
 
--- frames as they are told, in order of place
-unfoldable pub told : List ℕ → List Frame → List Kept
-told bytes frames = map kept_of (in_place_order (length bytes) frames)
+-- frames as they are reported, in order of place
+unfoldable pub reported : List ℕ → List Frame → List Kept
+reported bytes frames = map kept_of (in_place_order (length bytes) frames)
 
 -- what is recovered of a damaged input
 unfoldable pub recovered_damaged : List ℕ → RecoveredValue
@@ -127,7 +127,7 @@ recovered_damaged bytes = record {
   drawing = drawing_recovered bytes;
   refusal = first_fault ALL_LINES bytes;
   losses = losses_of bytes;
-  kept = told bytes (frames_kept bytes);
+  kept = reported bytes (frames_kept bytes);
 }
 
 -- the frames that were found of pairs, of which the first has this number
@@ -141,7 +141,7 @@ recovered_whole bytes = record {
   drawing = drawing_at bytes;
   refusal = None;
   losses = [];
-  kept = told bytes (frames_found 0 (result_unwrap_or (frames_tried bytes) []));
+  kept = reported bytes (frames_found 0 (result_unwrap_or (frames_tried bytes) []));
 }
 
 -- what is recovered of an input; it spells a drawing exactly where no line of the table fails

@@ -14,11 +14,11 @@ use Rattle.dwg_recover.specs.declared.loss.Loss.TheVariants.{Object}
 use Rattle.dwg_recover.specs.ListMembers.{IsOneOf}
 use Rattle.dwg_recover.specs.Recovering.{recovered}
 
--- the refusal of the object of a frame behind others for its check word
+-- the refusal of the object of a frame after others for its check word
 abbrev pub word_refusal : List PairFrame → PairFrame → Refusal
 word_refusal earlier frame = frame_refusal 30 (length earlier) frame.pair.place
 
--- recovery of an input tells the refusal of the object of a frame for its check word, loses that object and nothing else, and has every other one
+-- recovery of an input reports the refusal of the object of a frame for its check word, loses that object and nothing else, and has every other one
 pub record CostsOneObject (bytes : List ℕ) (earlier : List PairFrame) (frame : PairFrame) (later : List PairFrame) : Type 0 where
   pub refusal : (recovered bytes).refusal ≡ Some (word_refusal earlier frame)
   pub losses : (recovered bytes).losses ≡ Object frame.pair.handle frame.pair.place ∷ []

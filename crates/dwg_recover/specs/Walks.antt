@@ -2,7 +2,7 @@
 use Rattle.std.specs.Prelude.{◌≡◌, ◌≢◌, ◌⊎◌, ℕ, zero, suc, ◌+◌, List, [], ◌∷◌, length, flat_map, ◌==◌, Option, Some, None, if◌then◌else◌}
 use Rattle.dwg_objmap.specs.declared.pair.Pair.{Pair}
 use Rattle.dwg_objmap.specs.MapLines.{body_at}
-use Rattle.dwg_objmap.specs.Walking.{page_holds_at, pairs_in_front, size_of_page}
+use Rattle.dwg_objmap.specs.Walking.{page_holds_at, leading_pairs, size_of_page}
 use Rattle.dwg_recover.specs.declared.loss.Loss.{Loss}
 use Rattle.dwg_recover.specs.declared.loss.Loss.TheVariants.{Page, MapEnd}
 
@@ -11,7 +11,7 @@ pub record Walk : Type 0 where
   pub pages : List ℕ
   pub lost : Option ℕ
 
--- pages stand one behind the other from a place, up to the first of size 2, or up to a place where none stands
+-- pages stand one after the other from a place, up to the first of size 2, or up to a place where none stands
 abbrev pub IsWalk : List ℕ → ℕ → List ℕ → Option ℕ → Type 0
 IsWalk bytes place [] lost = (size_of_page bytes place ≡ None) × (lost ≡ Some place)
 IsWalk bytes place (page ∷ pages) lost =
@@ -22,7 +22,7 @@ IsWalk bytes place (page ∷ pages) lost =
 abbrev pub with_page : ℕ → Walk → Walk
 with_page page walk = record { pages = page ∷ walk.pages; lost = walk.lost }
 
--- the walk from a place, by the size of the page there; others is the walk from the place behind it
+-- the walk from a place, by the size of the page there; others is the walk from the place after it
 abbrev pub walk_of_size : ℕ → (ℕ → Walk) → Option ℕ → Walk
 walk_of_size place others None = record { pages = []; lost = Some place }
 walk_of_size place others (Some size) = if size == 2 then record { pages = place ∷ []; lost = None } else with_page place (others (place + size + 2))
@@ -38,7 +38,7 @@ walk_from bytes place = walk_over (suc (length bytes)) bytes place
 
 -- the pairs of a page whose check word is right; of another none are taken
 abbrev pub pairs_at : List ℕ → ℕ → List Pair
-pairs_at bytes page = if page_holds_at bytes page then pairs_in_front (body_at bytes page) else []
+pairs_at bytes page = if page_holds_at bytes page then leading_pairs (body_at bytes page) else []
 
 -- the pairs of the pages of a walk, in map order
 abbrev pub pairs_of : List ℕ → List ℕ → List Pair

@@ -49,7 +49,7 @@ fn candidate<L: Ledger>(
     })
 }
 
-/// Frames and one more, where there is one. The only refusal is want of memory.
+/// Frames and one more, where there is one. Err: out of memory.
 fn with_candidate(frames: Vec<Frame>, frame: Option<Frame>) -> Result<Vec<Frame>, NoMemory>
     ensures { IfOk result (λ more. more.items ≡ frames.items ++ cons_option frame []) }
 {
@@ -59,7 +59,7 @@ fn with_candidate(frames: Vec<Frame>, frame: Option<Frame>) -> Result<Vec<Frame>
     }
 }
 
-/// The frames of pairs, in map order. The only refusal is want of memory.
+/// The frames of pairs, in map order. Err: out of memory.
 fn candidates<L: Ledger>(
     alloc: Global,
     bytes: &[u8],
@@ -81,7 +81,7 @@ fn candidates<L: Ledger>(
     Ok(frames)
 }
 
-/// Frames in order of place, and at one place as they came. The only refusal is want of memory.
+/// Frames in order of place, and at one place as they came. Err: out of memory.
 pub(crate) fn in_place_order(alloc: Global, frames: Vec<Frame>) -> Result<Vec<Frame>, NoMemory>
     ensures { IfOk result (λ ordered. (most : ℕ) → AllByRecursion (IsPlaced most) frames.items → ordered.items ≡ in_place_order most frames.items) }
 {
@@ -92,7 +92,7 @@ pub(crate) fn in_place_order(alloc: Global, frames: Vec<Frame>) -> Result<Vec<Fr
     }
 }
 
-/// The frames kept, and the next in order of place where it is kept. The only refusal is want of memory.
+/// The frames kept, and the next in order of place where it is kept. Err: out of memory.
 #[tactic(auto, using(crate::proofs::CandidatesAlong::follows_free))]
 fn keep_mapped(kept: KeptFrames, frame: Frame) -> Result<KeptFrames, NoMemory>
     requires { frame.from < frame.end }
@@ -107,7 +107,7 @@ fn keep_mapped(kept: KeptFrames, frame: Frame) -> Result<KeptFrames, NoMemory>
     kept.keep(frame)
 }
 
-/// The frames that are kept of those that pairs name, in order of place. The only refusal is want of memory.
+/// The frames that are kept of those that pairs name, in order of place. Err: out of memory.
 fn keep_all(alloc: Global, ordered: Vec<Frame>) -> Result<KeptFrames, NoMemory>
     requires { AllByRecursion (λ (frame : Frame). frame.from < frame.end) ordered.items }
     ensures { IfOk result (λ kept. kept ≡ mapped_of ordered.items) }
@@ -119,7 +119,7 @@ fn keep_all(alloc: Global, ordered: Vec<Frame>) -> Result<KeptFrames, NoMemory>
     Ok(kept)
 }
 
-/// The frames that are kept for the pairs of the map. The only refusal is want of memory.
+/// The frames that are kept for the pairs of the map. Err: out of memory.
 pub(crate) fn mapped_frames<L: Ledger>(
     alloc: Global,
     bytes: &[u8],

@@ -20,11 +20,11 @@ pub(crate) struct Frame {
     pub(crate) handle: Handle,
     /// Its place, in bytes.
     pub(crate) from: u64,
-    /// The place behind its check word.
+    /// The place after its check word.
     pub(crate) end: u64,
 }
 
-/// Whether the check word of a span that lies in the input is that of its length and its body, as `checks` tells it.
+/// Whether the check word of a span that lies in the input is that of its length and its body, as `checks` reports it.
 fn is_checked_span<L: Ledger>(
     bytes: &[u8],
     checks: &SpanChecks<'_>,

@@ -1,4 +1,4 @@
-//! The frames that recovery keeps, with what tells at once whether a further one can be kept.
+//! The frames that recovery keeps, with what reports at once whether a further one can be kept.
 
 ghost use Rattle.std.specs.Prelude.{◌≡◌, ◌+◌, ◌<◌, ◌≤◌, ℕ, [], ◌∷◌, ◌++◌, ◌&&◌, ◌||◌, true, false, nat_eq, nat_le, IfOk};
 ghost use Rattle.std.specs.Ordering.{nat_cmp};
@@ -7,7 +7,7 @@ ghost use Rattle.dwg_recover.specs.Frames.{is_number};
 
 use crate::frame::Frame;
 use dwg_base::{Handle, NoMemory, with_item};
-use dwg_file::Taken;
+use dwg_file::ByteRanges;
 use std::alloc::Global;
 use std::collections::BTreeSet;
 use std::marker::Model;
@@ -17,7 +17,7 @@ use std::marker::Model;
 pub(crate) struct KeptFrames {
     frames: Vec<Frame>,
     // The bytes of the frames.
-    taken: Taken,
+    taken: ByteRanges,
     // Their handles.
     handles: BTreeSet<u64>,
     // The numbers of the pairs that they were kept for.
@@ -38,7 +38,7 @@ impl Model for KeptFrames {
     ghost invariant = { λ kept. AreNoted kept.frames.items kept.taken kept.handles kept.pairs kept.end };
 }
 
-/// A set and one number more. The only refusal is want of memory.
+/// A set and one number more. Err: out of memory.
 fn with_number(numbers: BTreeSet<u64>, number: u64) -> Result<BTreeSet<u64>, NoMemory>
     ensures { IfOk result (λ more. (other : ℕ) → set.contains nat_cmp more other ≡ (nat_eq number other || set.contains nat_cmp numbers other)) }
 {
@@ -49,7 +49,7 @@ fn with_number(numbers: BTreeSet<u64>, number: u64) -> Result<BTreeSet<u64>, NoM
     }
 }
 
-/// A set and the number of a pair, where there is one. The only refusal is want of memory.
+/// A set and the number of a pair, where there is one. Err: out of memory.
 fn with_pair(numbers: BTreeSet<u64>, pair: Option<u64>) -> Result<BTreeSet<u64>, NoMemory>
     ensures { IfOk result (λ more. (other : ℕ) → set.contains nat_cmp more other ≡ (is_number other pair || set.contains nat_cmp numbers other)) }
 {
@@ -75,14 +75,14 @@ impl KeptFrames {
     {
         KeptFrames {
             frames: Vec::new(alloc),
-            taken: Taken::new(alloc),
+            taken: ByteRanges::new(alloc),
             handles: BTreeSet::new(alloc),
             pairs: BTreeSet::new(alloc),
             end: 0,
         }
     }
 
-    /// Whether a place is at or behind the end of every frame.
+    /// Whether a place is at or after the end of every frame.
     pub(crate) fn follows(&self, from: u64) -> bool
         ensures { result ≡ follows self.now from }
     {
@@ -96,13 +96,13 @@ impl KeptFrames {
         !self.taken.shares(from, end)
     }
 
-    /// The place behind the frame that a byte lies in; the place of the byte itself where it lies in none.
-    pub(crate) fn behind(&self, place: u64) -> u64
+    /// The place after the frame that a byte lies in; the place of the byte itself where it lies in none.
+    pub(crate) fn after(&self, place: u64) -> u64
         ensures after { place ≤ result }
         ensures taken { (other : ℕ) → place ≤ other → other < result → is_free self.now other (other + 1) ≡ false }
         ensures free { result ≡ place → is_free self.now place (place + 1) ≡ true }
     {
-        self.taken.behind(place)
+        self.taken.after(place)
     }
 
     /// Whether no frame has the handle.
@@ -119,7 +119,7 @@ impl KeptFrames {
         self.pairs.contains(&number)
     }
 
-    /// The frames and one more, which shares no byte with them. The only refusal is want of memory.
+    /// The frames and one more, which shares no byte with them. Err: out of memory.
     pub(crate) fn keep(self, frame: Frame) -> Result<KeptFrames, NoMemory>
         requires some { frame.from < frame.end }
         requires free { is_free self frame.from frame.end ≡ true }

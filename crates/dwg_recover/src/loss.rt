@@ -1,4 +1,4 @@
-//! What recovery tells of a damaged file: what is lost, and which frames are kept.
+//! What recovery reports of a damaged file: what is lost, and which frames are kept.
 
 use dwg_base::Handle;
 
@@ -26,7 +26,7 @@ pub enum Loss {
         /// Its place, in bytes.
         place: u64,
     },
-    /// The end of the map: no page stands behind the last.
+    /// The end of the map: no page stands after the last.
     MapEnd {
         /// Where one should, in bytes.
         place: u64,
@@ -47,7 +47,7 @@ pub struct Kept {
     pub handle: Handle,
     /// The frame's place, in bytes.
     pub from: u64,
-    /// The place behind the frame's check word.
+    /// The place after the frame's check word.
     pub end: u64,
     /// Whether it was kept for a pair of the map. Another was found without one.
     pub mapped: bool,

@@ -11,7 +11,7 @@ use dwg_file::is_cut;
 use dwg_objmap::Pair;
 use dwg_sections::Locator;
 
-/// Losses and one more, if it is one. The only refusal is want of memory.
+/// Losses and one more, if it is one. Err: out of memory.
 pub(crate) fn with_loss_if(
     losses: Items<Loss>,
     lost: bool,
@@ -25,7 +25,7 @@ pub(crate) fn with_loss_if(
     losses.with(loss)
 }
 
-/// Losses and others behind them. The only refusal is want of memory.
+/// Losses and others after them. Err: out of memory.
 pub(crate) fn with_losses(losses: Items<Loss>, others: &[Loss]) -> Result<Items<Loss>, NoMemory>
     ensures { IfOk result (λ more. more ≡ losses ++ others.now) }
 {
@@ -36,7 +36,7 @@ pub(crate) fn with_losses(losses: Items<Loss>, others: &[Loss]) -> Result<Items<
     Ok(losses)
 }
 
-/// Losses and the unknown section of a locator, where it passes the end of the input. The only refusal is want of memory.
+/// Losses and the unknown section of a locator, where it passes the end of the input. Err: out of memory.
 fn with_lost_section(
     losses: Items<Loss>,
     bytes: &[u8],
@@ -53,7 +53,7 @@ fn with_lost_section(
     })
 }
 
-/// Losses and the unknown sections of locators that pass the end of the input. The only refusal is want of memory.
+/// Losses and the unknown sections of locators that pass the end of the input. Err: out of memory.
 pub(crate) fn with_lost_sections(
     losses: Items<Loss>,
     bytes: &[u8],
@@ -68,7 +68,7 @@ pub(crate) fn with_lost_sections(
     Ok(losses)
 }
 
-/// Losses and the pair of a number, where no frame was kept for it. The only refusal is want of memory.
+/// Losses and the pair of a number, where no frame was kept for it. Err: out of memory.
 #[tactic(auto, unfolding(crate::specs::Frames::lost_pairs))]
 fn with_lost_pair(
     losses: Items<Loss>,
@@ -87,7 +87,7 @@ fn with_lost_pair(
     })
 }
 
-/// Losses and the pairs that no frame was kept for, in map order. The only refusal is want of memory.
+/// Losses and the pairs that no frame was kept for, in map order. Err: out of memory.
 pub(crate) fn with_lost_pairs(
     losses: Items<Loss>,
     kept: &KeptFrames,

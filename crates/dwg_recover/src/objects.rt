@@ -10,7 +10,7 @@ ghost use Rattle.dwg_recover.specs.Recovering.{object_of};
 
 use crate::frame::Frame;
 use crate::kept::KeptFrames;
-use dwg_base::{NoMemory, Version, with_item, with_room};
+use dwg_base::{NoMemory, Version, vec_with_capacity, with_item};
 use dwg_classes::Hints;
 use dwg_object::{Object, read_body_hinted, span_at, span_body};
 use std::alloc::Global;
@@ -29,7 +29,7 @@ pub(crate) struct KeptObjects<'a> {
     pub(crate) objects: Vec<Object<'a>>,
 }
 
-/// The object that the body of a frame that was found is read as. The only refusal is want of memory.
+/// The object that the body of a frame that was found is read as. Err: out of memory.
 fn object_of<'a>(
     alloc: Global,
     bytes: &'a [u8],
@@ -53,7 +53,7 @@ fn object_of<'a>(
     }
 }
 
-/// The objects that the bodies of frames are read as, in the order of the frames. The only refusal is want of memory.
+/// The objects that the bodies of frames are read as, in the order of the frames. Err: out of memory.
 fn read_objects<'a>(
     alloc: Global,
     bytes: &'a [u8],
@@ -63,14 +63,14 @@ fn read_objects<'a>(
     requires { AllByRecursion (IsFound bytes.now) frames.now }
     ensures { IfOk result (λ objects. map value_of objects.items ≡ map (object_of hints.now bytes.now) frames.now) }
 {
-    let mut objects = with_room(alloc, frames.len())?;
+    let mut objects = vec_with_capacity(alloc, frames.len())?;
     'along: for index in 0..frames.len() {
         objects = with_item(objects, object_of(alloc, bytes, hints, &frames[index])?)?;
     }
     Ok(objects)
 }
 
-/// Frames that were found, with their objects. The only refusal is want of memory.
+/// Frames that were found, with their objects. Err: out of memory.
 pub(crate) fn with_objects<'a>(
     alloc: Global,
     bytes: &'a [u8],
@@ -85,7 +85,7 @@ pub(crate) fn with_objects<'a>(
     Ok(KeptObjects { frames, objects })
 }
 
-/// Frames that are kept with their objects, and one more, which shares no byte with them. The only refusal is want of memory.
+/// Frames that are kept with their objects, and one more, which shares no byte with them. Err: out of memory.
 pub(crate) fn with_frame<'a>(
     kept: KeptObjects<'a>,
     found: FrameObject<'a>,

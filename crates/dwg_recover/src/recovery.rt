@@ -15,7 +15,7 @@ ghost use Rattle.dwg_recover.specs.Frames.{kept_of, in_place_order};
 ghost use Rattle.dwg_recover.specs.KeptObjects.{HoldsObjects};
 ghost use Rattle.dwg_recover.specs.MapFrames.{all_numbered, numbered};
 ghost use Rattle.dwg_recover.specs.Placing.{IsPlaced};
-ghost use Rattle.dwg_recover.specs.Recovering.{classes_found, code_page_of, drawing_recovered, frames_found, frames_kept, frames_mapped, lead_of, losses_of, mark_of, object_of, pairs_read, recovered, recovered_damaged, recovered_whole, told, walk_of};
+ghost use Rattle.dwg_recover.specs.Recovering.{classes_found, code_page_of, drawing_recovered, frames_found, frames_kept, frames_mapped, lead_of, losses_of, mark_of, object_of, pairs_read, recovered, recovered_damaged, recovered_whole, reported, walk_of};
 ghost use Rattle.dwg_recover.specs.Results.{recovered_value};
 ghost use Rattle.dwg_recover.specs.Sections.{header_of, locators_of, section_found};
 ghost use Rattle.dwg_recover.specs.Walks.{lost_end, lost_pages};
@@ -57,7 +57,7 @@ pub struct Recovered<'a> {
     pub kept: Items<Kept>,
 }
 
-/// A frame as it is told.
+/// A frame as it is reported.
 fn kept_of(frame: &Frame) -> Kept
     ensures { result ≡ kept_of frame.now }
 {
@@ -69,7 +69,7 @@ fn kept_of(frame: &Frame) -> Kept
     }
 }
 
-/// Frames as they are told, in their order. The only refusal is want of memory.
+/// Frames as they are reported, in their order. Err: out of memory.
 fn all_kept(alloc: Global, frames: &[Frame]) -> Result<Items<Kept>, NoMemory>
     ensures { IfOk result (λ kept. kept ≡ map kept_of frames.now) }
 {
@@ -80,11 +80,11 @@ fn all_kept(alloc: Global, frames: &[Frame]) -> Result<Items<Kept>, NoMemory>
     Ok(kept)
 }
 
-/// Frames as they are told, in order of place. The only refusal is want of memory.
-#[tactic(auto, unfolding(crate::specs::Recovering::told))]
-fn told(alloc: Global, bytes: &[u8], frames: Vec<Frame>) -> Result<Items<Kept>, NoMemory>
+/// Frames as they are reported, in order of place. Err: out of memory.
+#[tactic(auto, unfolding(crate::specs::Recovering::reported))]
+fn reported(alloc: Global, bytes: &[u8], frames: Vec<Frame>) -> Result<Items<Kept>, NoMemory>
     requires { AllByRecursion (IsPlaced (length bytes.now)) frames.items }
-    ensures { IfOk result (λ kept. kept ≡ told bytes.now frames.items) }
+    ensures { IfOk result (λ kept. kept ≡ reported bytes.now frames.items) }
 {
     let ordered = in_place_order(alloc, frames)?;
     all_kept(alloc, ordered.as_slice())
@@ -116,7 +116,7 @@ struct Places {
     classes: Option<usize>,
 }
 
-/// Where the two framed sections are found. The only refusal is want of memory.
+/// Where the two framed sections are found. Err: out of memory.
 fn find_sections<L: Ledger>(
     alloc: Global,
     bytes: &[u8],
@@ -146,7 +146,7 @@ fn locators_of(header: &Option<FileHeader>) -> &[Locator]
     }
 }
 
-/// All losses, in their order. The only refusal is want of memory.
+/// All losses, in their order. Err: out of memory.
 #[tactic(auto, unfolding(crate::specs::Recovering::losses_of))]
 fn losses_of(
     alloc: Global,
@@ -175,27 +175,27 @@ fn losses_of(
     }
 }
 
-/// What a header tells of a drawing beside its sections.
+/// What a header reports of a drawing beside its sections.
 #[derive(Clone, Copy)]
-struct Front {
+struct HeaderFields {
     lead: [u8; 7],
     mark: [u8; 2],
     code_page: u16,
 }
 
-/// What a header tells of a drawing beside its sections; where it is lost these are zeros.
-fn front_of(header: &Option<FileHeader>) -> Front
+/// What a header reports of a drawing beside its sections; where it is lost these are zeros.
+fn header_fields_of(header: &Option<FileHeader>) -> HeaderFields
     ensures lead { result.lead ≡ lead_of header.now }
     ensures mark { result.mark ≡ mark_of header.now }
     ensures code_page { result.code_page ≡ code_page_of header.now }
 {
     match header {
-        Some(header) => Front {
+        Some(header) => HeaderFields {
             lead: header.lead,
             mark: header.mark,
             code_page: header.code_page,
         },
-        None => Front {
+        None => HeaderFields {
             lead: [0; 7],
             mark: [0; 2],
             code_page: 0,
@@ -204,7 +204,7 @@ fn front_of(header: &Option<FileHeader>) -> Front
 }
 
 /// The parts of the drawing of what is found: the header, the sections, the classes and the objects of the frames that are kept. The
-/// only refusal is want of memory.
+/// only refusal is out of memory.
 fn parts_recovered<'a>(
     alloc: Global,
     bytes: &'a [u8],
@@ -219,8 +219,8 @@ fn parts_recovered<'a>(
     requires objects { map value_of objects.items ≡ map (object_of (classes_found bytes.now) bytes.now) (frames_kept bytes.now) }
     ensures { IfOk result (λ parts. contents_of parts ≡ drawing_recovered bytes.now) }
 {
-    let front = front_of(header);
-    let (lead, mark) = (front.lead, front.mark);
+    let prefix = header_fields_of(header);
+    let (lead, mark) = (prefix.lead, prefix.mark);
     let variables = variables_at(bytes, places.variables);
     let others = whole_others(alloc, bytes, locators_of(header))?;
     let objects = in_handle_order(objects);
@@ -228,7 +228,7 @@ fn parts_recovered<'a>(
         version: Version::of_input(bytes),
         lead,
         mark,
-        code_page: front.code_page,
+        code_page: prefix.code_page,
         variables,
         classes,
         others,
@@ -254,7 +254,7 @@ struct Mapped {
     kept: KeptFrames,
 }
 
-/// Walks over the map and keeps the frames of its pairs. The only refusal is want of memory.
+/// Walks over the map and keeps the frames of its pairs. Err: out of memory.
 #[tactic(auto, unfolding(crate::specs::Recovering::frames_mapped))]
 fn read_mapped<L: Ledger>(
     alloc: Global,
@@ -278,20 +278,20 @@ fn read_mapped<L: Ledger>(
 
 /// What is found of an input beside its frames: the header, where the two framed sections stand, and the classes.
 #[derive(Drop)]
-struct Found {
+struct PartsFound {
     header: Option<FileHeader>,
     places: Places,
     classes: Items<Class>,
 }
 
-/// What is found of an input beside its frames. The only refusal is want of memory.
+/// What is found of an input beside its frames. Err: out of memory.
 #[tactic(auto, unfolding(crate::specs::Recovering::classes_found))]
 fn find_parts<L: Ledger>(
     alloc: Global,
     bytes: &[u8],
     checks: &SpanChecks<'_>,
     steps: &mut Steps<L>,
-) -> Result<Found, NoMemory>
+) -> Result<PartsFound, NoMemory>
     requires limit { length bytes.now ≤ MOST_BYTES }
     requires same { checks.now ≡ bytes.now }
     ensures found { IfOk result (AreFound bytes.now) }
@@ -300,7 +300,7 @@ fn find_parts<L: Ledger>(
     let header = header_of(alloc, bytes)?;
     let places = find_sections(alloc, bytes, checks, &header, steps)?;
     let classes = classes_at(alloc, bytes, places.classes)?;
-    Ok(Found {
+    Ok(PartsFound {
         header,
         places,
         classes,
@@ -309,19 +309,19 @@ fn find_parts<L: Ledger>(
 
 /// What is lost of an input, and the frames that are kept with their objects.
 #[derive(Drop)]
-struct Gathered<'a> {
+struct Salvage<'a> {
     losses: Items<Loss>,
     kept: KeptObjects<'a>,
 }
 
-/// What is lost of an input, and the frames that are kept with their objects. The only refusal is want of memory.
+/// What is lost of an input, and the frames that are kept with their objects. Err: out of memory.
 fn gather_frames<'a, L: Ledger>(
     alloc: Global,
     bytes: &'a [u8],
     checks: &SpanChecks<'_>,
-    found: &Found,
+    found: &PartsFound,
     steps: &mut Steps<L>,
-) -> Result<Gathered<'a>, NoMemory>
+) -> Result<Salvage<'a>, NoMemory>
     requires same { checks.now ≡ bytes.now }
     requires found { AreFound bytes.now found.now }
     ensures losses { IfOk result (λ gathered. gathered.losses ≡ losses_of bytes.now) }
@@ -332,17 +332,17 @@ fn gather_frames<'a, L: Ledger>(
     let Mapped { walked, kept } = read_mapped(alloc, bytes, checks, &found.header, steps)?;
     let losses = losses_of(alloc, bytes, &found.header, &found.places, &walked, &kept)?;
     let kept = scan(alloc, bytes, checks, found.classes.as_slice(), kept, steps)?;
-    Ok(Gathered { losses, kept })
+    Ok(Salvage { losses, kept })
 }
 
 /// What is recovered of an input that spells no drawing, by what is found of it, what is lost, and the frames that are kept with their
-/// objects. The only refusal is want of memory.
+/// objects. Err: out of memory.
 fn recovered_of<'a>(
     alloc: Global,
     bytes: &'a [u8],
     refusal: Refusal,
-    found: Found,
-    gathered: Gathered<'a>,
+    found: PartsFound,
+    gathered: Salvage<'a>,
 ) -> Result<Recovered<'a>, NoMemory>
     requires limit { length bytes.now ≤ MOST_BYTES }
     requires refusal { first_fault ALL_LINES bytes.now ≡ Some refusal }
@@ -354,16 +354,16 @@ fn recovered_of<'a>(
     ensures recovered { IfOk result (λ value. recovered_value value ≡ recovered_damaged bytes.now) }
     ensures of_table { IfOk result (λ value. IfSome value.refusal IsOfTable) }
 {
-    let Found {
+    let PartsFound {
         header,
         places,
         classes,
     } = found;
-    let Gathered { losses, kept } = gathered;
+    let Salvage { losses, kept } = gathered;
     let KeptObjects { frames, objects } = kept;
     let frames = frames.into_frames();
     let parts = parts_recovered(alloc, bytes, &header, &places, classes, objects)?;
-    let kept = told(alloc, bytes, frames)?;
+    let kept = reported(alloc, bytes, frames)?;
     Ok(Recovered {
         drawing: drawing_of(bytes, parts),
         refusal: Some(refusal),
@@ -372,7 +372,7 @@ fn recovered_of<'a>(
     })
 }
 
-/// What is recovered of an input that spells no drawing, for which it is refused so. The only refusal is want of memory.
+/// What is recovered of an input that spells no drawing, for which it is refused so. Err: out of memory.
 fn recover_damaged<'a, L: Ledger>(
     alloc: Global,
     bytes: &'a [u8],
@@ -404,7 +404,7 @@ fn numbered(number: u64, frame: &ObjectFrame) -> Frame
     }
 }
 
-/// The frames of a map, in its order, each for its pair. The only refusal is want of memory.
+/// The frames of a map, in its order, each for its pair. Err: out of memory.
 fn all_numbered(alloc: Global, frames: &[ObjectFrame]) -> Result<Vec<Frame>, NoMemory>
     ensures { IfOk result (λ all. all.items ≡ all_numbered 0 frames.now) }
 {
@@ -415,13 +415,17 @@ fn all_numbered(alloc: Global, frames: &[ObjectFrame]) -> Result<Vec<Frame>, NoM
     Ok(all)
 }
 
-/// The frames of the map of an input that spells a drawing, as they are told. The only refusal is want of memory.
-fn map_told(alloc: Global, bytes: &[u8], frames: &[ObjectFrame]) -> Result<Items<Kept>, NoMemory>
+/// The frames of the map of an input that spells a drawing, as they are reported. Err: out of memory.
+fn map_reported(
+    alloc: Global,
+    bytes: &[u8],
+    frames: &[ObjectFrame],
+) -> Result<Items<Kept>, NoMemory>
     requires { frames.now ≡ map frame_of (result_unwrap_or (frames_tried bytes.now) []) }
-    ensures { IfOk result (λ kept. kept ≡ told bytes.now (frames_found 0 (result_unwrap_or (frames_tried bytes.now) []))) }
+    ensures { IfOk result (λ kept. kept ≡ reported bytes.now (frames_found 0 (result_unwrap_or (frames_tried bytes.now) []))) }
 {
     let all = all_numbered(alloc, frames)?;
-    told(alloc, bytes, all)
+    reported(alloc, bytes, all)
 }
 
 /// What is recovered of an input that spells a drawing: that drawing, and the frames of its map. The only refusal is want of
@@ -436,7 +440,7 @@ fn recover_whole<'a>(
     ensures recovered { IfOk result (λ value. recovered_value value ≡ recovered_whole bytes.now) }
     ensures of_table { IfOk result (λ value. IfSome value.refusal IsOfTable) }
 {
-    let kept = map_told(alloc, bytes, read.frames.as_slice())?;
+    let kept = map_reported(alloc, bytes, read.frames.as_slice())?;
     Ok(Recovered {
         drawing: read.drawing,
         refusal: None,
@@ -448,13 +452,13 @@ fn recover_whole<'a>(
 /// Recovers what an input of at most 32 MiB holds. A rule of this project.
 ///
 /// Where the input spells a drawing, it is that drawing, nothing is lost, and the frames of all its pairs are kept. Otherwise the
-/// first line of the table that refuses it is told, and what can be shown to be whole is kept: the file header; the header
+/// first line of the table that refuses it is reported, and what can be shown to be whole is kept: the file header; the header
 /// variables and the classes at the places of their locators, or else the first whole ones that stand in the input; the unknown
 /// sections that it holds; of the pairs of the map pages with right check words, in order of place, each whose frame stands at
 /// its place with its handle, shares no byte with the frames before and has a new handle; and then every frame that stands
 /// elsewhere, shares no byte with these, has a new handle, and is read with its common part.
 ///
-/// A step is one application of a power of a zero byte to a check word. The only refusal is want of memory, which is taken for
+/// A step is one application of a power of a zero byte to a check word. Err: out of memory, which is taken for
 /// what the input holds.
 pub fn recover<'a, L: Ledger>(
     alloc: Global,

@@ -7,7 +7,7 @@ ghost use Rattle.std.specs.Option.{IsSome};
 ghost use Rattle.dwg_object.specs.Frames.{SpanAt};
 ghost use Rattle.dwg_object.specs.Objects.{value_of};
 ghost use Rattle.dwg_recover.specs.Frames.{has_common_part, own_of_span, with_scanned};
-ghost use Rattle.dwg_recover.specs.KeptObjects.{HoldsObjects, TellsNext, TellsPlace, common_at};
+ghost use Rattle.dwg_recover.specs.KeptObjects.{HoldsObjects, ReportsNext, ReportsPlace, common_at};
 ghost use Rattle.dwg_recover.specs.Placing.{IsFound};
 
 use crate::frame::{Frame, own_of_span};
@@ -63,7 +63,7 @@ fn read_with_common_part<'a>(
 }
 
 /// The frame at a place with its object, where it is kept beside others: its check word is right, it shares no byte with any of
-/// them, its handle is new, and its body is read with its common part. The only refusal is want of memory.
+/// them, its handle is new, and its body is read with its common part. Err: out of memory.
 fn scan_place<'a, L: Ledger>(
     alloc: Global,
     bytes: &'a [u8],
@@ -74,7 +74,7 @@ fn scan_place<'a, L: Ledger>(
     steps: &mut Steps<L>,
 ) -> Result<Option<FrameObject<'a>>, NoMemory>
     requires same { checks.now ≡ bytes.now }
-    ensures found { IfOk result (TellsPlace hints.now bytes.now kept.now place) }
+    ensures found { IfOk result (ReportsPlace hints.now bytes.now kept.now place) }
     ensures steps { steps.new ≤ steps.old + 15 }
 {
     let Ok(span) = span_at(bytes, place, 0) else {
@@ -103,8 +103,8 @@ fn scan_place<'a, L: Ledger>(
     }
 }
 
-/// The next frame that is kept beside others, at a place or behind it, with its object; none where none is. The only refusal is
-/// want of memory.
+/// The next frame that is kept beside others, at a place or after it, with its object; none where none is. The only refusal is
+/// out of memory.
 fn next_scanned<'a, L: Ledger>(
     alloc: Global,
     bytes: &'a [u8],
@@ -115,16 +115,16 @@ fn next_scanned<'a, L: Ledger>(
     steps: &mut Steps<L>,
 ) -> Result<Option<FrameObject<'a>>, NoMemory>
     requires same { checks.now ≡ bytes.now }
-    ensures next { IfOk result (TellsNext hints.now bytes.now kept.now from steps.old steps.new) }
+    ensures next { IfOk result (ReportsNext hints.now bytes.now kept.now from steps.old steps.new) }
     ensures steps { steps.new ≤ steps.old + 15 * (length bytes.now - from) }
 {
     let length = bytes.len() as u64;
     let mut place = from;
     'along: while place < length {
         // What begins inside a kept frame shares a byte with it.
-        let behind = kept.behind(place);
-        if place < behind {
-            place = behind;
+        let after = kept.after(place);
+        if place < after {
+            place = after;
             continue;
         }
         match scan_place(alloc, bytes, checks, hints, kept, place, steps)? {
@@ -136,7 +136,7 @@ fn next_scanned<'a, L: Ledger>(
 }
 
 /// The frames kept with their objects, and those that are kept at any place of the input, in ascending order of place. The only
-/// refusal is want of memory.
+/// refusal is out of memory.
 fn with_scanned<'a, L: Ledger>(
     alloc: Global,
     bytes: &'a [u8],
@@ -165,7 +165,7 @@ fn with_scanned<'a, L: Ledger>(
 }
 
 /// The frames that are kept for pairs of the map, and those that are kept at any place of the input, all with their objects. The
-/// only refusal is want of memory.
+/// only refusal is out of memory.
 pub(crate) fn scan<'a, L: Ledger>(
     alloc: Global,
     bytes: &'a [u8],

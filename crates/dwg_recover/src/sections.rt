@@ -14,7 +14,7 @@ ghost use Rattle.dwg_sections.specs.Framed.{begin_sentinel};
 ghost use Rattle.dwg_sections.specs.FramedLines.{BEFORE_CONTENT, content_at, framed_lines, size_at};
 ghost use Rattle.dwg_sections.specs.HeaderLines.{bytes_at, place_of, rs_at};
 
-use dwg_base::{Fault, Items, NoMemory, bytes_behind};
+use dwg_base::{Fault, Items, NoMemory, bytes_after};
 use dwg_check::{FRAME_START, SpanChecks};
 use dwg_classes::{Class, read_classes};
 use dwg_codes::BytePart;
@@ -27,7 +27,7 @@ use memchr::memmem;
 use std::alloc::Global;
 use std::sync::ledger::Ledger;
 
-/// The file header, where no line on it fails. The only refusal is want of memory.
+/// The file header, where no line on it fails. Err: out of memory.
 #[tactic(auto, unfolding(crate::specs::Sections::header_of))]
 pub(crate) fn header_of(alloc: Global, bytes: &[u8]) -> Result<Option<FileHeader>, NoMemory>
     ensures { IfOk result (λ header. header ≡ header_of bytes.now) }
@@ -49,7 +49,7 @@ pub(crate) fn place_located(header: &Option<FileHeader>, number: u8) -> Option<u
     }
 }
 
-/// Whether the check word behind so many bytes of content is that of the size and the content, as `checks` tells it.
+/// Whether the check word after so many bytes of content is that of the size and the content, as `checks` reports it.
 fn is_checked_section<L: Ledger>(
     bytes: &[u8],
     checks: &SpanChecks<'_>,
@@ -107,7 +107,7 @@ fn content(bytes: &[u8], place: usize) -> &[u8]
     piece(bytes, place + CONTENT_PLACE, size)
 }
 
-/// Whether the content of a section that lies in the input is cut into classes. The only refusal is want of memory.
+/// Whether the content of a section that lies in the input is cut into classes. Err: out of memory.
 fn has_classes(alloc: Global, bytes: &[u8], place: usize) -> Result<bool, NoMemory>
     requires limit { length bytes.now ≤ MOST_BYTES }
     requires within { place + 38 + size_at bytes.now place ≤ length bytes.now }
@@ -121,7 +121,7 @@ fn has_classes(alloc: Global, bytes: &[u8], place: usize) -> Result<bool, NoMemo
 }
 
 /// Whether a section is whole at a place: no line on it fails there, and the content of the classes is cut into classes. The only
-/// refusal is want of memory.
+/// refusal is out of memory.
 #[tactic(auto, unfolding(crate::specs::Sections::is_whole))]
 fn is_whole<L: Ledger>(
     alloc: Global,
@@ -147,7 +147,7 @@ fn is_whole<L: Ledger>(
 }
 
 /// The next place, from one on, at which the begin sentinel of a section stands. At those before it no section is whole, and
-/// where there is none, at none behind.
+/// where there is none, at none after.
 fn next_sentinel(bytes: &[u8], at: usize, which: Framed) -> Option<usize>
     requires { at ≤ length bytes.now }
     ensures found { IfSome result (λ place. (at ≤ place) × (place < length bytes.now) × ((other : ℕ) → at ≤ other → other < place → is_whole which bytes.now other ≡ false)) }
@@ -155,13 +155,13 @@ fn next_sentinel(bytes: &[u8], at: usize, which: Framed) -> Option<usize>
     ensures none { IfNone result ((other : ℕ) → at ≤ other → is_whole which bytes.now other ≡ false) }
 {
     let sentinel = begin_sentinel(which);
-    match memmem::find(bytes_behind(bytes, at), sentinel.as_slice()) {
+    match memmem::find(bytes_after(bytes, at), sentinel.as_slice()) {
         Some(found) => Some(at + found),
         None => None,
     }
 }
 
-/// The first place at which a section is whole. The only refusal is want of memory.
+/// The first place at which a section is whole. Err: out of memory.
 fn first_whole<L: Ledger>(
     alloc: Global,
     bytes: &[u8],
@@ -198,7 +198,7 @@ fn number_of_section(which: Framed) -> u8
 }
 
 /// Where a section is found: at the place of its locator, where it is whole there, or else at the first place where it is whole.
-/// The only refusal is want of memory.
+/// Err: out of memory.
 #[tactic(auto, unfolding(crate::specs::Sections::section_found))]
 pub(crate) fn section_found<L: Ledger>(
     alloc: Global,
@@ -235,7 +235,7 @@ pub(crate) fn variables_at<'a>(bytes: &'a [u8], found: Option<usize>) -> BytePar
     BytePart::Lent(content)
 }
 
-/// The classes that were found; without their section there are none. The only refusal is want of memory.
+/// The classes that were found; without their section there are none. Err: out of memory.
 pub(crate) fn classes_at(
     alloc: Global,
     bytes: &[u8],

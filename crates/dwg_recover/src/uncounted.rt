@@ -13,7 +13,7 @@ use std::alloc::Global;
 use std::marker::Brand;
 use std::sync::ledger::{Blank, Ledger};
 
-/// What an input holds, with a counter of the ledger that the blank opens. The only refusal is want of memory.
+/// What an input holds, with a counter of the ledger that the blank opens. Err: out of memory.
 fn recover_counted<'a, L: Ledger>(
     alloc: Global,
     bytes: &'a [u8],
@@ -31,7 +31,7 @@ fn recover_counted<'a, L: Ledger>(
 }
 
 /// What an input of at most 32 MiB holds: the drawing that it spells, or all that is left of one, with the losses and the frames that
-/// are kept. A rule of this project. The only refusal is want of memory.
+/// are kept. A rule of this project. Err: out of memory.
 pub fn recover_input<'a>(alloc: Global, bytes: &'a [u8]) -> Result<Recovered<'a>, NoMemory>
     requires { length bytes.now ≤ MOST_BYTES }
     ensures recovered { IfOk result (λ value. recovered_value value ≡ recovered bytes.now) }

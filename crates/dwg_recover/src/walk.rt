@@ -21,7 +21,7 @@ pub(crate) struct Walked {
 /// The size of the page that ends the map: no more than its own two bytes.
 const END_SIZE: u16 = 2;
 
-/// Pairs and others behind them. The only refusal is want of memory.
+/// Pairs and others after them. Err: out of memory.
 fn with_pairs(pairs: Items<Pair>, others: &[Pair]) -> Result<Items<Pair>, NoMemory>
     ensures { IfOk result (λ more. more ≡ pairs ++ others.now) }
 {
@@ -33,7 +33,7 @@ fn with_pairs(pairs: Items<Pair>, others: &[Pair]) -> Result<Items<Pair>, NoMemo
 }
 
 /// What a walk came by, and the page at a place, of which so many stand before it: its pairs, or the page as a loss where its
-/// check word is wrong. The only refusal is want of memory.
+/// check word is wrong. Err: out of memory.
 fn with_page(
     alloc: Global,
     walked: Walked,
@@ -55,7 +55,7 @@ fn with_page(
     Ok(Walked { pairs, losses })
 }
 
-/// What a walk came by, and the end of the map, which is lost at a place. The only refusal is want of memory.
+/// What a walk came by, and the end of the map, which is lost at a place. Err: out of memory.
 fn with_end(walked: Walked, place: u64) -> Result<Walked, NoMemory>
     ensures pairs { IfOk result (λ more. more.pairs ≡ walked.pairs) }
     ensures losses { IfOk result (λ more. more.losses ≡ walked.losses ++ MapEnd place ∷ []) }
@@ -65,8 +65,8 @@ fn with_end(walked: Walked, place: u64) -> Result<Walked, NoMemory>
     Ok(Walked { pairs, losses })
 }
 
-/// Walks over the pages of the map from a place on, each directly behind the one before, up to the first of size 2 or up to
-/// where no page stands. The only refusal is want of memory.
+/// Walks over the pages of the map from a place on, each directly after the one before, up to the first of size 2 or up to
+/// where no page stands. Err: out of memory.
 pub(crate) fn walk(alloc: Global, bytes: &[u8], place: u64) -> Result<Walked, NoMemory>
     ensures pairs { IfOk result (λ walked. walked.pairs ≡ pairs_of bytes.now (walk_from bytes.now place).pages) }
     ensures losses { IfOk result (λ walked. walked.losses ≡ lost_pages bytes.now 0 (walk_from bytes.now place).pages ++ lost_end (walk_from bytes.now place).lost) }

@@ -7,16 +7,16 @@ use Rattle.dwg_base.specs.Bytes.{AreBytes}
 use Rattle.dwg_base.proofs.ByteLists.{byte_below}
 use Rattle.dwg_sections.specs.HeaderLines.{bytes_at, rs_at, rl_at}
 
--- a known front, and the known piece behind it, are a longer known front
-pub front_more : (bytes front piece : List ℕ) (place count : ℕ) → take place bytes ≡ front → bytes_at bytes place count ≡ piece → take (place + count) bytes ≡ front ++ piece
-front_more bytes front piece place count known behind =
-    take-add place count bytes ∙ ap (λ xs. xs ++ bytes_at bytes place count) known ∙ ap (λ ys. front ++ ys) behind
+-- a known prefix, and the known piece after it, are a longer known prefix
+pub prefix_more : (bytes prefix piece : List ℕ) (place count : ℕ) → take place bytes ≡ prefix → bytes_at bytes place count ≡ piece → take (place + count) bytes ≡ prefix ++ piece
+prefix_more bytes prefix piece place count known after =
+    take-add place count bytes ∙ ap (λ xs. xs ++ bytes_at bytes place count) known ∙ ap (λ ys. prefix ++ ys) after
 
--- the piece behind a front of known length is what stands there
-pub piece_at : (bytes front piece rest : List ℕ) (place count : ℕ) → bytes ≡ front ++ piece ++ rest → length front ≡ place → length piece ≡ count → bytes_at bytes place count ≡ piece
-piece_at bytes front piece rest place count whole long wide =
-    ap (λ xs. bytes_at xs place count) (whole ∙ append_assoc front piece rest)
-    ∙ ap (take count) (drop_at front (piece ++ rest) place long)
+-- the piece after a prefix of known length is what stands there
+pub piece_at : (bytes prefix piece rest : List ℕ) (place count : ℕ) → bytes ≡ prefix ++ piece ++ rest → length prefix ≡ place → length piece ≡ count → bytes_at bytes place count ≡ piece
+piece_at bytes prefix piece rest place count whole long wide =
+    ap (λ xs. bytes_at xs place count) (whole ∙ append_assoc prefix piece rest)
+    ∙ ap (take count) (drop_at prefix (piece ++ rest) place long)
     ∙ take_at piece rest count wide
 
 -- so many bytes stand at a place that lies so far before the end

@@ -36,10 +36,10 @@ puts_both first second third some others by_some by_others = record {
 -- a sink that was empty holds whole bytes
 pub whole_bytes : (old new : Written) (bytes : List ℕ) → old.written ≡ [] → Puts old new bytes → length new.written % 8 ≡ 0
 whole_bytes old new bytes empty puts =
-    let all : new.written ≡ bits bytes = puts.written.bits ∙ ap (λ front. front ++ bits bytes) empty in
+    let all : new.written ≡ bits bytes = puts.written.bits ∙ ap (λ prefix. prefix ++ bits bytes) empty in
     omega (arith, ap length all, length_of_bits bytes)
 
 -- and these are the bytes that it grew by
 pub held_bytes : (old new : Written) (bytes held : List ℕ) → old.written ≡ [] → Puts old new bytes → AreBytes held → bits held ≡ new.written → held ≡ bytes
 held_bytes old new bytes held empty puts small same =
-    bits_same held bytes small puts.small (same ∙ puts.written.bits ∙ ap (λ front. front ++ bits bytes) empty)
+    bits_same held bytes small puts.small (same ∙ puts.written.bits ∙ ap (λ prefix. prefix ++ bits bytes) empty)

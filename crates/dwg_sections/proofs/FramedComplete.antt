@@ -24,23 +24,23 @@ record PartsStand (bytes begin size content check end : List ℕ) (place count :
   within : place + 38 + count ≤ length bytes
 
 -- four pieces between others, in their order
-in_order : (before first second third fourth behind : List ℕ) → before ++ ((first ++ second ++ third ++ fourth) ++ behind) ≡ before ++ first ++ second ++ third ++ fourth ++ behind
-in_order before first second third fourth behind =
+in_order : (before first second third fourth after : List ℕ) → before ++ ((first ++ second ++ third ++ fourth) ++ after) ≡ before ++ first ++ second ++ third ++ fourth ++ after
+in_order before first second third fourth after =
     sym (simp append_assoc)
 
 -- the parts of a section stand at their places
-parts_stand : (bytes before begin size content check end behind : List ℕ) (place count : ℕ)
-    → bytes ≡ before ++ ((begin ++ (size ++ content) ++ check ++ end) ++ behind)
+parts_stand : (bytes before begin size content check end after : List ℕ) (place count : ℕ)
+    → bytes ≡ before ++ ((begin ++ (size ++ content) ++ check ++ end) ++ after)
     → length before ≡ place → length begin ≡ 16 → length size ≡ 4 → length content ≡ count → length check ≡ 2 → length end ≡ 16
     → PartsStand bytes begin size content check end place count
-parts_stand bytes before begin size content check end behind place count stands far sixteen four long two other_sixteen =
+parts_stand bytes before begin size content check end after place count stands far sixteen four long two other_sixteen =
     let sized = size ++ content in
-    let from_end = stands ∙ in_order before begin sized check end behind in
-    let from_check = from_end ∙ append_assoc (before ++ begin ++ sized ++ check) end behind in
-    let from_sized = from_check ∙ append_assoc (before ++ begin ++ sized) check (end ++ behind) in
-    let from_begin = from_sized ∙ append_assoc (before ++ begin) sized (check ++ (end ++ behind)) in
-    let rest = check ++ (end ++ behind) in
-    let from_inner = from_sized ∙ ap (λ front. front ++ rest) (sym (append_assoc (before ++ begin) size content)) in
+    let from_end = stands ∙ in_order before begin sized check end after in
+    let from_check = from_end ∙ append_assoc (before ++ begin ++ sized ++ check) end after in
+    let from_sized = from_check ∙ append_assoc (before ++ begin ++ sized) check (end ++ after) in
+    let from_begin = from_sized ∙ append_assoc (before ++ begin) sized (check ++ (end ++ after)) in
+    let rest = check ++ (end ++ after) in
+    let from_inner = from_sized ∙ ap (λ prefix. prefix ++ rest) (sym (append_assoc (before ++ begin) size content)) in
     let from_size = from_inner ∙ append_assoc (before ++ begin ++ size) content rest in
     let to_size : length (before ++ begin) ≡ place + 16 = omega (arith, length-append before begin) in
     let to_inner : length (before ++ begin ++ size) ≡ place + 20 = omega (arith, length-append (before ++ begin) size) in
@@ -56,7 +56,7 @@ parts_stand bytes before begin size content check end behind place count stands 
       end_at = piece_at bytes (before ++ begin ++ sized ++ check) end _ (place + 22 + count) 16 from_end to_end other_sixteen;
       within =
           subst (λ n. place + 38 + count ≤ n) (sym (ap length from_end))
-          (omega (arith, length-append (before ++ begin ++ sized ++ check ++ end) behind, length-append (before ++ begin ++ sized ++ check) end));
+          (omega (arith, length-append (before ++ begin ++ sized ++ check ++ end) after, length-append (before ++ begin ++ sized ++ check) end));
     }
 
 -- a section begins with sixteen bytes
@@ -78,7 +78,7 @@ SectionStands bytes place which content =
 section_parts : (bytes : List ℕ) (place : ℕ) (which : Framed) (content : List ℕ) → FramedAt bytes place which content → SectionStands bytes place which content
 section_parts bytes place which content there =
     parts_stand bytes there.stands.before (begin_sentinel which) (to_le_bytes w32 (length content)) content (to_le_bytes w16 (check_word FRAME_START (sized_content content))) (end_sentinel which)
-    there.stands.behind place (length content) there.stands.whole there.stands.far (length_of_begin which) refl refl refl (length_of_end which)
+    there.stands.after place (length content) there.stands.whole there.stands.far (length_of_begin which) refl refl refl (length_of_end which)
 
 -- the size is read where it stands
 size_read : (bytes : List ℕ) (place : ℕ) (which : Framed) (content : List ℕ) → FramedAt bytes place which content → SectionStands bytes place which content → size_at bytes place ≡ length content
@@ -98,13 +98,13 @@ passes_with_size bytes place which content size same parts =
 passes_from_section : (bytes : List ℕ) (place : ℕ) (which : Framed) (content : List ℕ) → size_at bytes place ≡ length content → SectionStands bytes place which content → FramedPasses bytes place which
 passes_from_section bytes place which content sized parts =
     let within = parts.within in
-    let behind = passes_with_size bytes place which content (size_at bytes place) (sym sized) parts in
+    let after = passes_with_size bytes place which content (size_at bytes place) (sym sized) parts in
     record {
       long = omega arith;
       begins = parts.begin_at;
       whole = omega arith;
-      check = behind.0;
-      ends = behind.1;
+      check = after.0;
+      ends = after.1;
     }
 
 -- where a section stands at a place, no line on it fails, and its content is the one that is read

@@ -22,37 +22,37 @@ FirstOfFive a b c d e one two three four five refusal =
     ⊎ ((refusal ≡ four) × (a ≡ false) × (b ≡ false) × (c ≡ false) × (d ≡ true))
     ⊎ ((refusal ≡ five) × (a ≡ false) × (b ≡ false) × (c ≡ false) × (d ≡ false) × (e ≡ true))
 
--- what five lines tell
-abbrev told_of_five : Bool → Bool → Bool → Bool → Bool → Refusal → Refusal → Refusal → Refusal → Refusal → Option Refusal
-told_of_five a b c d e one two three four five =
+-- what five lines report
+abbrev reported_of_five : Bool → Bool → Bool → Bool → Bool → Refusal → Refusal → Refusal → Refusal → Refusal → Option Refusal
+reported_of_five a b c d e one two three four five =
     option_or (if a then Some one else None)
     (option_or (if b then Some two else None)
     (option_or (if c then Some three else None)
     (option_or (if d then Some four else None)
     (option_or (if e then Some five else None) None))))
 
--- what is told is one
-same_told : (one refusal : Refusal) → Some one ≡ Some refusal → refusal ≡ one
-same_told one refusal same = cc
+-- what is reported is one
+same_reported : (one refusal : Refusal) → Some one ≡ Some refusal → refusal ≡ one
+same_reported one refusal same = cc
 
--- what five lines tell is the refusal of the first that fails
-first_of_told : (a b c d e : Bool) (one two three four five refusal : Refusal) → told_of_five a b c d e one two three four five ≡ Some refusal
+-- what five lines report is the refusal of the first that fails
+first_of_reported : (a b c d e : Bool) (one two three four five refusal : Refusal) → reported_of_five a b c d e one two three four five ≡ Some refusal
     → FirstOfFive a b c d e one two three four five refusal
-first_of_told true b c d e one two three four five refusal told = inl (same_told one refusal told, refl)
-first_of_told false true c d e one two three four five refusal told = inr (inl (same_told two refusal told, refl, refl))
-first_of_told false false true d e one two three four five refusal told = inr (inr (inl (same_told three refusal told, refl, refl, refl)))
-first_of_told false false false true e one two three four five refusal told = inr (inr (inr (inl (same_told four refusal told, refl, refl, refl, refl))))
-first_of_told false false false false true one two three four five refusal told = inr (inr (inr (inr (same_told five refusal told, refl, refl, refl, refl, refl))))
-first_of_told false false false false false one two three four five refusal told = absurd cc
+first_of_reported true b c d e one two three four five refusal reported = inl (same_reported one refusal reported, refl)
+first_of_reported false true c d e one two three four five refusal reported = inr (inl (same_reported two refusal reported, refl, refl))
+first_of_reported false false true d e one two three four five refusal reported = inr (inr (inl (same_reported three refusal reported, refl, refl, refl)))
+first_of_reported false false false true e one two three four five refusal reported = inr (inr (inr (inl (same_reported four refusal reported, refl, refl, refl, refl))))
+first_of_reported false false false false true one two three four five refusal reported = inr (inr (inr (inr (same_reported five refusal reported, refl, refl, refl, refl, refl))))
+first_of_reported false false false false false one two three four five refusal reported = absurd cc
 
--- the first that fails is told
-told_of_first : (a b c d e : Bool) (one two three four five refusal : Refusal) → FirstOfFive a b c d e one two three four five refusal
-    → told_of_five a b c d e one two three four five ≡ Some refusal
-told_of_first a b c d e one two three four five refusal (inl (same, fails)) = rw fails (ap Some (sym same))
-told_of_first a b c d e one two three four five refusal (inr (inl (same, first, fails))) = rw (first, fails) (ap Some (sym same))
-told_of_first a b c d e one two three four five refusal (inr (inr (inl (same, first, second, fails)))) = rw (first, second, fails) (ap Some (sym same))
-told_of_first a b c d e one two three four five refusal (inr (inr (inr (inl (same, first, second, third, fails))))) = rw (first, second, third, fails) (ap Some (sym same))
-told_of_first a b c d e one two three four five refusal (inr (inr (inr (inr (same, first, second, third, fourth, fails))))) =
+-- the first that fails is reported
+reported_of_first : (a b c d e : Bool) (one two three four five refusal : Refusal) → FirstOfFive a b c d e one two three four five refusal
+    → reported_of_five a b c d e one two three four five ≡ Some refusal
+reported_of_first a b c d e one two three four five refusal (inl (same, fails)) = rw fails (ap Some (sym same))
+reported_of_first a b c d e one two three four five refusal (inr (inl (same, first, fails))) = rw (first, fails) (ap Some (sym same))
+reported_of_first a b c d e one two three four five refusal (inr (inr (inl (same, first, second, fails)))) = rw (first, second, fails) (ap Some (sym same))
+reported_of_first a b c d e one two three four five refusal (inr (inr (inr (inl (same, first, second, third, fails))))) = rw (first, second, third, fails) (ap Some (sym same))
+reported_of_first a b c d e one two three four five refusal (inr (inr (inr (inr (same, first, second, third, fourth, fails))))) =
     rw (first, second, third, fourth, fails) (ap Some (sym same))
 
 -- bytes that fail a test are others
@@ -79,7 +79,7 @@ test_of_other some wanted other = of_test (not (some == wanted)) refl
     of_test true fails = fails
     of_test false holds = absurd (other (eqb-true some wanted (not-false _ holds)))
 
--- the first line that fails tells how the section is refused
+-- the first line that fails reports how the section is refused
 refused_of_first : (which : Framed) (place : ℕ) (bytes : List ℕ) (refusal : Refusal)
     → FirstOfFive (nat_lt (length bytes) (place + 20)) (not (bytes_eq (bytes_at bytes place 16) (begin_sentinel which)))
     (nat_lt (length bytes) (place + 38 + size_at bytes place))
@@ -106,7 +106,7 @@ refused_of_first which place bytes refusal (inr (inr (inr (inr (same, long, begi
       others_of_test _ _ other,
     ))))
 
--- how the section is refused tells the first line that fails
+-- how the section is refused reports the first line that fails
 first_of_refused : (which : Framed) (place : ℕ) (bytes : List ℕ) (refusal : Refusal) → RefusesFramed which place bytes refusal
     → FirstOfFive (nat_lt (length bytes) (place + 20)) (not (bytes_eq (bytes_at bytes place 16) (begin_sentinel which)))
     (nat_lt (length bytes) (place + 38 + size_at bytes place))
@@ -134,6 +134,6 @@ first_of_refused which place bytes refusal (inr (inr (inr (inr (same, room, righ
 pub section_is_refused : SectionIsRefused
 unfolding framed_short_line begin_line length_line framed_check_line end_line
 section_is_refused which place bytes refusal = (
-  λ told. refused_of_first which place bytes refusal (first_of_told _ _ _ _ _ _ _ _ _ _ refusal told),
-  λ refused. told_of_first _ _ _ _ _ _ _ _ _ _ refusal (first_of_refused which place bytes refusal refused),
+  λ reported. refused_of_first which place bytes refusal (first_of_reported _ _ _ _ _ _ _ _ _ _ refusal reported),
+  λ refused. reported_of_first _ _ _ _ _ _ _ _ _ _ refusal (first_of_refused which place bytes refusal refused),
 )

@@ -10,12 +10,12 @@ use Rattle.dwg_sections.specs.Framed.{begin_sentinel, end_sentinel, sized_conten
 use Rattle.dwg_sections.specs.HeaderLines.{bytes_at}
 use Rattle.dwg_sections.specs.FramedLines.{size_at, content_at, framed_lines}
 use Rattle.dwg_sections.specs.FramedLaws.{PassingBytesHaveSection}
-use Rattle.dwg_sections.proofs.BytePieces.{front_more, length_at, rs_back, rl_back, rl_below}
+use Rattle.dwg_sections.proofs.BytePieces.{prefix_more, length_at, rs_back, rl_back, rl_below}
 use Rattle.dwg_sections.proofs.FramedPasses.{FramedPasses, framed_passes_from_none}
 
--- what stands further on behind a place
-behind_place : (bytes : List ℕ) (place skip at count : ℕ) → place + skip ≡ at → bytes_at (drop place bytes) skip count ≡ bytes_at bytes at count
-behind_place bytes place skip at count same = ap (take count) (drop-drop skip place bytes ∙ ap (λ n. drop n bytes) same)
+-- what stands further on after a place
+after_place : (bytes : List ℕ) (place skip at count : ℕ) → place + skip ≡ at → bytes_at (drop place bytes) skip count ≡ bytes_at bytes at count
+after_place bytes place skip at count same = ap (take count) (drop-drop skip place bytes ∙ ap (λ n. drop n bytes) same)
 
 -- four pieces that follow each other from a place stand there joined
 joined_at : (bytes first second third fourth : List ℕ) (place count : ℕ)
@@ -23,18 +23,18 @@ joined_at : (bytes first second third fourth : List ℕ) (place count : ℕ)
     → bytes_at bytes place (16 + (4 + count) + 2 + 16) ≡ first ++ second ++ third ++ fourth
 joined_at bytes first second third fourth place count one two three four =
     let all = drop place bytes in
-    let to_second = front_more all first second 16 (4 + count) one (behind_place bytes place 16 (place + 16) (4 + count) refl ∙ two) in
-    let to_third = front_more all (first ++ second) third (16 + (4 + count)) 2 to_second (behind_place bytes place _ (place + 20 + count) 2 (omega arith) ∙ three) in
-    front_more all (first ++ second ++ third) fourth (16 + (4 + count) + 2) 16 to_third (behind_place bytes place _ (place + 22 + count) 16 (omega arith) ∙ four)
+    let to_second = prefix_more all first second 16 (4 + count) one (after_place bytes place 16 (place + 16) (4 + count) refl ∙ two) in
+    let to_third = prefix_more all (first ++ second) third (16 + (4 + count)) 2 to_second (after_place bytes place _ (place + 20 + count) 2 (omega arith) ∙ three) in
+    prefix_more all (first ++ second ++ third) fourth (16 + (4 + count) + 2) 16 to_third (after_place bytes place _ (place + 22 + count) 16 (omega arith) ∙ four)
 
 -- what stands at a place that lies within the bytes
 stands_at : (bytes piece : List ℕ) (place count : ℕ) → place ≤ length bytes → bytes_at bytes place count ≡ piece → StandsAt bytes place piece
 stands_at bytes piece place count within there = record {
   before = take place bytes;
-  behind = drop count (drop place bytes);
+  after = drop count (drop place bytes);
   whole =
       sym (take-append-drop place bytes)
-      ∙ ap (λ rest. take place bytes ++ rest) (sym (take-append-drop count (drop place bytes)) ∙ ap (λ front. front ++ drop count (drop place bytes)) there);
+      ∙ ap (λ rest. take place bytes ++ rest) (sym (take-append-drop count (drop place bytes)) ∙ ap (λ prefix. prefix ++ drop count (drop place bytes)) there);
   far = length-take-le place bytes within;
 }
 
@@ -42,9 +42,9 @@ stands_at bytes piece place count within there = record {
 sized_back : (bytes : List ℕ) (place : ℕ) → AreBytes bytes → place + 20 + size_at bytes place ≤ length bytes → bytes_at bytes (place + 16) (4 + size_at bytes place) ≡ sized_content (content_at bytes place)
 sized_back bytes place all within =
     let long : length (content_at bytes place) ≡ size_at bytes place = length_at bytes (place + 20) (size_at bytes place) within in
-    front_more (drop (place + 16) bytes) (to_le_bytes w32 (length (content_at bytes place))) (content_at bytes place) 4 (size_at bytes place)
+    prefix_more (drop (place + 16) bytes) (to_le_bytes w32 (length (content_at bytes place))) (content_at bytes place) 4 (size_at bytes place)
     (rl_back bytes (place + 16) all (omega arith) ∙ ap (to_le_bytes w32) (sym long))
-    (behind_place bytes (place + 16) 4 (place + 20) (size_at bytes place) (omega arith))
+    (after_place bytes (place + 16) 4 (place + 20) (size_at bytes place) (omega arith))
 
 -- bytes that are as each line asks have the section there
 section_back : (bytes : List ℕ) (place : ℕ) (which : Framed) → AreBytes bytes → FramedPasses bytes place which → FramedAt bytes place which (content_at bytes place)

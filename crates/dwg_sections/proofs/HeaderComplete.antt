@@ -10,9 +10,9 @@ use Rattle.dwg_check.specs.CheckWord.{header_check_word}
 use Rattle.dwg_check.proofs.CheckWordLaws.{header_check_word_fits}
 use Rattle.dwg_sections.specs.declared.header.Locator.{Locator}
 use Rattle.dwg_sections.specs.declared.header.FileHeader.{FileHeader}
-use Rattle.dwg_sections.specs.FileHeader.{HEADER_SENTINEL, IsLocator, LocateSections, IsFileHeader, locator_bytes, locator_numbers, header_front}
+use Rattle.dwg_sections.specs.FileHeader.{HEADER_SENTINEL, IsLocator, LocateSections, IsFileHeader, locator_bytes, locator_numbers, header_prefix}
 use Rattle.dwg_sections.specs.HeaderLines.{bytes_at, rs_at, rl_at, count_at, locators_end, locator_at, locators_at, numbers_at, header_at}
-use Rattle.dwg_sections.specs.HeaderLaws.{HeaderIsRead, HeaderIsCounted, HeaderTellsVersion}
+use Rattle.dwg_sections.specs.HeaderLaws.{HeaderIsRead, HeaderIsCounted, HeaderGivesVersion}
 use Rattle.dwg_sections.proofs.BytePieces.{piece_at}
 use Rattle.dwg_sections.proofs.LocatorNumbers.{AreDistinct, AreLocated}
 use Rattle.dwg_sections.proofs.HeaderPasses.{Passes, none_from_passes}
@@ -47,35 +47,35 @@ same_header a b version lead preview mark code_page locators =
     ∙ ap (λ part. header_of b.version b.lead b.preview b.mark part a.locators) code_page
     ∙ ap (λ part. header_of b.version b.lead b.preview b.mark b.code_page part) locators
 
--- what stands further on behind a front of known length
-behind_front : (bytes front behind : List ℕ) (place skip count : ℕ) → bytes ≡ front ++ behind → length front ≡ place → bytes_at bytes (place + skip) count ≡ bytes_at behind skip count
-behind_front bytes front behind place skip count whole long =
-    ap (take count) (sym (drop-drop skip place bytes) ∙ ap (drop skip) (ap (drop place) whole ∙ drop_at front behind place long))
+-- what stands further on after a prefix of known length
+after_prefix : (bytes prefix after : List ℕ) (place skip count : ℕ) → bytes ≡ prefix ++ after → length prefix ≡ place → bytes_at bytes (place + skip) count ≡ bytes_at after skip count
+after_prefix bytes prefix after place skip count whole long =
+    ap (take count) (sym (drop-drop skip place bytes) ∙ ap (drop skip) (ap (drop place) whole ∙ drop_at prefix after place long))
 
 -- a locator is read where it stands
-locator_read : (locator : Locator) (bytes front rest : List ℕ) (place : ℕ) → bytes ≡ front ++ (locator_bytes locator ++ rest) → length front ≡ place → IsLocator locator → locator ≡ locator_at bytes place
-locator_read locator bytes front rest place whole long in_range =
-    let behind = to_le_bytes w32 locator.place ++ to_le_bytes w32 locator.size ++ rest in
-    let number : get_or bytes place 0 ≡ locator.number = ap (λ xs. get_or xs place 0) whole ∙ get_or_at front locator.number behind 0 place long in
+locator_read : (locator : Locator) (bytes prefix rest : List ℕ) (place : ℕ) → bytes ≡ prefix ++ (locator_bytes locator ++ rest) → length prefix ≡ place → IsLocator locator → locator ≡ locator_at bytes place
+locator_read locator bytes prefix rest place whole long in_range =
+    let after = to_le_bytes w32 locator.place ++ to_le_bytes w32 locator.size ++ rest in
+    let number : get_or bytes place 0 ≡ locator.number = ap (λ xs. get_or xs place 0) whole ∙ get_or_at prefix locator.number after 0 place long in
     let at_place : rl_at bytes (place + 1) ≡ locator.place =
-    ap (from_le_bytes w32) (behind_front bytes front (locator_bytes locator ++ rest) place 1 4 whole long) ∙ from_le_bytes-to_le_bytes_4 locator.place in_range.place in
+    ap (from_le_bytes w32) (after_prefix bytes prefix (locator_bytes locator ++ rest) place 1 4 whole long) ∙ from_le_bytes-to_le_bytes_4 locator.place in_range.place in
     let at_size : rl_at bytes (place + 5) ≡ locator.size =
-    ap (from_le_bytes w32) (behind_front bytes front (locator_bytes locator ++ rest) place 5 4 whole long) ∙ from_le_bytes-to_le_bytes_4 locator.size in_range.size in
+    ap (from_le_bytes w32) (after_prefix bytes prefix (locator_bytes locator ++ rest) place 5 4 whole long) ∙ from_le_bytes-to_le_bytes_4 locator.size in_range.size in
     same_locator locator (locator_at bytes place) (sym number) (sym at_place) (sym at_size)
 
 -- locators are read where they stand
-locators_read : (locators : List Locator) (bytes front rest : List ℕ) (place : ℕ) → bytes ≡ front ++ (flat_map locator_bytes locators ++ rest) → length front ≡ place → AllByRecursion IsLocator locators
+locators_read : (locators : List Locator) (bytes prefix rest : List ℕ) (place : ℕ) → bytes ≡ prefix ++ (flat_map locator_bytes locators ++ rest) → length prefix ≡ place → AllByRecursion IsLocator locators
     → locators ≡ locators_at (length locators) bytes place
 unfolding locators_at
-locators_read [] bytes front rest place whole long in_range = refl
-locators_read (locator ∷ locators) bytes front rest place whole long in_range =
+locators_read [] bytes prefix rest place whole long in_range = refl
+locators_read (locator ∷ locators) bytes prefix rest place whole long in_range =
     let here = locator_bytes locator in
     let further = flat_map locator_bytes locators in
-    let first : bytes ≡ front ++ (here ++ (further ++ rest)) = whole ∙ ap (λ behind. front ++ behind) (append_assoc here further rest) in
-    let other : bytes ≡ front ++ here ++ (further ++ rest) = first ∙ sym (append_assoc front here (further ++ rest)) in
-    let long_more : length (front ++ here) ≡ place + 9 = length-append front here ∙ ap (λ n. n + 9) long in
-    ap₂ ◌∷◌ (locator_read locator bytes front (further ++ rest) place first long in_range.0)
-    (locators_read locators bytes (front ++ here) rest (place + 9) other long_more in_range.1)
+    let first : bytes ≡ prefix ++ (here ++ (further ++ rest)) = whole ∙ ap (λ after. prefix ++ after) (append_assoc here further rest) in
+    let other : bytes ≡ prefix ++ here ++ (further ++ rest) = first ∙ sym (append_assoc prefix here (further ++ rest)) in
+    let long_more : length (prefix ++ here) ≡ place + 9 = length-append prefix here ∙ ap (λ n. n + 9) long in
+    ap₂ ◌∷◌ (locator_read locator bytes prefix (further ++ rest) place first long in_range.0)
+    (locators_read locators bytes (prefix ++ here) rest (place + 9) other long_more in_range.1)
 
 -- where the fields before the locators stand
 record FieldsStand (bytes version lead preview mark code_page count : List ℕ) : Type 0 where
@@ -113,24 +113,24 @@ fields_stand bytes version lead preview mark code_page count rest whole six seve
     }
 
 -- where the check word and the sentinel stand
-record EndStands (bytes front check sentinel : List ℕ) (place : ℕ) : Type 0 where
-  front_at : take place bytes ≡ front
+record EndStands (bytes prefix check sentinel : List ℕ) (place : ℕ) : Type 0 where
+  prefix_at : take place bytes ≡ prefix
   check_at : bytes_at bytes place 2 ≡ check
   sentinel_at : bytes_at bytes (2 + place) 16 ≡ sentinel
   within : 18 + place ≤ length bytes
 
--- the check word and the sentinel stand behind the front
-end_stands : (bytes front check sentinel rest : List ℕ) (place : ℕ) → bytes ≡ front ++ check ++ sentinel ++ rest → length front ≡ place → length check ≡ 2 → length sentinel ≡ 16
-    → EndStands bytes front check sentinel place
-end_stands bytes front check sentinel rest place whole long two sixteen =
-    let from_check : bytes ≡ front ++ check ++ (sentinel ++ rest) = whole ∙ append_assoc (front ++ check) sentinel rest in
-    let to_sentinel : length (front ++ check) ≡ 2 + place = omega (arith, length-append front check) in
-    let size : length bytes ≡ length front + 18 + length rest =
-    ap length whole ∙ omega (arith, length-append (front ++ check ++ sentinel) rest, length-append (front ++ check) sentinel, length-append front check) in
+-- the check word and the sentinel stand after the prefix
+end_stands : (bytes prefix check sentinel rest : List ℕ) (place : ℕ) → bytes ≡ prefix ++ check ++ sentinel ++ rest → length prefix ≡ place → length check ≡ 2 → length sentinel ≡ 16
+    → EndStands bytes prefix check sentinel place
+end_stands bytes prefix check sentinel rest place whole long two sixteen =
+    let from_check : bytes ≡ prefix ++ check ++ (sentinel ++ rest) = whole ∙ append_assoc (prefix ++ check) sentinel rest in
+    let to_sentinel : length (prefix ++ check) ≡ 2 + place = omega (arith, length-append prefix check) in
+    let size : length bytes ≡ length prefix + 18 + length rest =
+    ap length whole ∙ omega (arith, length-append (prefix ++ check ++ sentinel) rest, length-append (prefix ++ check) sentinel, length-append prefix check) in
     record {
-      front_at = ap (take place) (from_check ∙ append_assoc front check (sentinel ++ rest)) ∙ take_at front _ place long;
-      check_at = piece_at bytes front check (sentinel ++ rest) place 2 from_check long two;
-      sentinel_at = piece_at bytes (front ++ check) sentinel rest (2 + place) 16 whole to_sentinel sixteen;
+      prefix_at = ap (take place) (from_check ∙ append_assoc prefix check (sentinel ++ rest)) ∙ take_at prefix _ place long;
+      check_at = piece_at bytes prefix check (sentinel ++ rest) place 2 from_check long two;
+      sentinel_at = piece_at bytes (prefix ++ check) sentinel rest (2 + place) 16 whole to_sentinel sixteen;
       within = omega arith;
     }
 
@@ -140,43 +140,43 @@ before_locators header =
     version_bytes header.version ++ header.lead ++ to_le_bytes w32 header.preview ++ header.mark ++ to_le_bytes w16 header.code_page ++ to_le_bytes w32 (length header.locators)
 
 -- the fields before the locators stand at their places in bytes
-abbrev FrontStands : List ℕ → FileHeader → Type 0
-FrontStands bytes header =
+abbrev PrefixStands : List ℕ → FileHeader → Type 0
+PrefixStands bytes header =
     FieldsStand bytes (version_bytes header.version) header.lead (to_le_bytes w32 header.preview) header.mark (to_le_bytes w16 header.code_page) (to_le_bytes w32 (length header.locators))
 
 -- the fields of a header stand at their places
-front_stands : (bytes : List ℕ) (header : FileHeader) (rest : List ℕ) → IsFileHeader header → bytes ≡ header_front header ++ rest → FrontStands bytes header
-front_stands bytes header rest in_range whole =
+prefix_stands : (bytes : List ℕ) (header : FileHeader) (rest : List ℕ) → IsFileHeader header → bytes ≡ header_prefix header ++ rest → PrefixStands bytes header
+prefix_stands bytes header rest in_range whole =
     let locators = flat_map locator_bytes header.locators in
     fields_stand bytes (version_bytes header.version) header.lead (to_le_bytes w32 header.preview) header.mark (to_le_bytes w16 header.code_page) (to_le_bytes w32 (length header.locators)) (locators ++ rest)
     (whole ∙ append_assoc (before_locators header) locators rest) (six header.version) in_range.lead.0 refl in_range.mark.0 refl refl
 
 -- the count of locators is read where it stands
-count_read : (bytes : List ℕ) (header : FileHeader) → IsFileHeader header → FrontStands bytes header → count_at bytes ≡ length header.locators
+count_read : (bytes : List ℕ) (header : FileHeader) → IsFileHeader header → PrefixStands bytes header → count_at bytes ≡ length header.locators
 unfolding count_at
 count_read bytes header in_range fields =
     let most : length header.locators ≤ 6 = in_range.sections.count.1 in
     ap (from_le_bytes w32) fields.count_stands ∙ from_le_bytes-to_le_bytes_4 (length header.locators) (omega arith)
 
--- the locators end where the front of the header ends
-end_read : (bytes : List ℕ) (header : FileHeader) → FrontStands bytes header → count_at bytes ≡ length header.locators → length (header_front header) ≡ locators_end bytes
+-- the locators end where the prefix of the header ends
+end_read : (bytes : List ℕ) (header : FileHeader) → PrefixStands bytes header → count_at bytes ≡ length header.locators → length (header_prefix header) ≡ locators_end bytes
 unfolding locators_end
 end_read bytes header fields counted =
     let locators = flat_map locator_bytes header.locators in
     length-append (before_locators header) locators ∙ ap₂ ◌+◌ fields.long (length_of_locators header.locators ∙ ap (λ n. 9 * n) (sym counted))
 
 -- each part of the header is read where it stands
-parts_read : (bytes : List ℕ) (header : FileHeader) (rest : List ℕ) → IsFileHeader header → bytes ≡ header_front header ++ rest → FrontStands bytes header → count_at bytes ≡ length header.locators → header ≡ header_at bytes
+parts_read : (bytes : List ℕ) (header : FileHeader) (rest : List ℕ) → IsFileHeader header → bytes ≡ header_prefix header ++ rest → PrefixStands bytes header → count_at bytes ≡ length header.locators → header ≡ header_at bytes
 unfolding header_at
 parts_read bytes header rest in_range whole fields counted =
-    let behind = whole ∙ append_assoc (before_locators header) (flat_map locator_bytes header.locators) rest in
+    let after = whole ∙ append_assoc (before_locators header) (flat_map locator_bytes header.locators) rest in
     same_header header (header_at bytes)
     (read_as_begins bytes header.version fields.version_stands)
     (sym fields.lead_at)
     (sym (ap (from_le_bytes w32) fields.preview_at ∙ from_le_bytes-to_le_bytes_4 header.preview in_range.preview))
     (sym fields.mark_at)
     (sym (ap (from_le_bytes w16) fields.code_page_at ∙ from_le_bytes-to_le_bytes_2 header.code_page in_range.code_page))
-    (locators_read header.locators bytes (before_locators header) rest 25 behind fields.long in_range.locators ∙ ap (λ count. locators_at count bytes 25) (sym counted))
+    (locators_read header.locators bytes (before_locators header) rest 25 after fields.long in_range.locators ∙ ap (λ count. locators_at count bytes 25) (sym counted))
 
 -- the numbers of locators that are read are those of the header
 numbers_read : (bytes : List ℕ) (header : FileHeader) → header ≡ header_at bytes → numbers_at bytes ≡ locator_numbers header.locators
@@ -190,14 +190,14 @@ distinct_numbers locators sections i j before inside =
     sections.distinct i j before (omega arith)
 
 -- bytes that begin with a header are as each line asks
-passes_from_header : (bytes : List ℕ) (header : FileHeader) → IsFileHeader header → FrontStands bytes header → count_at bytes ≡ length header.locators
-    → EndStands bytes (header_front header) (to_le_bytes w16 (header_check_word (length header.locators) (header_front header))) HEADER_SENTINEL (locators_end bytes)
+passes_from_header : (bytes : List ℕ) (header : FileHeader) → IsFileHeader header → PrefixStands bytes header → count_at bytes ≡ length header.locators
+    → EndStands bytes (header_prefix header) (to_le_bytes w16 (header_check_word (length header.locators) (header_prefix header))) HEADER_SENTINEL (locators_end bytes)
     → numbers_at bytes ≡ locator_numbers header.locators
     → Passes bytes
 unfolding locators_end
 passes_from_header bytes header in_range fields counted end numbered =
-    let word : rs_at bytes (locators_end bytes) ≡ header_check_word (length header.locators) (header_front header) =
-    ap (from_le_bytes w16) end.check_at ∙ from_le_bytes-to_le_bytes_2 _ (header_check_word_fits (length header.locators) (header_front header)) in
+    let word : rs_at bytes (locators_end bytes) ≡ header_check_word (length header.locators) (header_prefix header) =
+    ap (from_le_bytes w16) end.check_at ∙ from_le_bytes-to_le_bytes_2 _ (header_check_word_fits (length header.locators) (header_prefix header)) in
     let within : 18 + locators_end bytes ≤ length bytes = end.within in
     record {
       long = omega arith;
@@ -205,7 +205,7 @@ passes_from_header bytes header in_range fields counted end numbered =
       least = subst (λ count. 3 ≤ count) (sym counted) in_range.sections.count.0;
       most = subst (λ count. count ≤ 6) (sym counted) in_range.sections.count.1;
       whole = end.within;
-      check = word ∙ ap₂ header_check_word (sym counted) (sym end.front_at);
+      check = word ∙ ap₂ header_check_word (sym counted) (sym end.prefix_at);
       sentinel = end.sentinel_at;
       distinct = subst AreDistinct (sym numbered) (distinct_numbers header.locators in_range.sections);
       located = subst AreLocated (sym numbered) in_range.sections.located;
@@ -215,30 +215,30 @@ passes_from_header bytes header in_range fields counted end numbered =
 pub header_is_read : HeaderIsRead
 header_is_read bytes header begins =
     let rest = begins.stands.0 in
-    let check = to_le_bytes w16 (header_check_word (length header.locators) (header_front header)) in
-    let behind : bytes ≡ header_front header ++ (check ++ (HEADER_SENTINEL ++ rest)) =
-    begins.stands.1 ∙ append_assoc (header_front header ++ check) HEADER_SENTINEL rest ∙ append_assoc (header_front header) check (HEADER_SENTINEL ++ rest) in
-    let fields = front_stands bytes header _ begins.in_range behind in
+    let check = to_le_bytes w16 (header_check_word (length header.locators) (header_prefix header)) in
+    let after : bytes ≡ header_prefix header ++ (check ++ (HEADER_SENTINEL ++ rest)) =
+    begins.stands.1 ∙ append_assoc (header_prefix header ++ check) HEADER_SENTINEL rest ∙ append_assoc (header_prefix header) check (HEADER_SENTINEL ++ rest) in
+    let fields = prefix_stands bytes header _ begins.in_range after in
     let counted = count_read bytes header begins.in_range fields in
-    let end = end_stands bytes (header_front header) check HEADER_SENTINEL rest (locators_end bytes) begins.stands.1 (end_read bytes header fields counted) refl refl in
-    let same : header ≡ header_at bytes = parts_read bytes header _ begins.in_range behind fields counted in
+    let end = end_stands bytes (header_prefix header) check HEADER_SENTINEL rest (locators_end bytes) begins.stands.1 (end_read bytes header fields counted) refl refl in
+    let same : header ≡ header_at bytes = parts_read bytes header _ begins.in_range after fields counted in
     (none_from_passes bytes (passes_from_header bytes header begins.in_range fields counted end (numbers_read bytes header same)), same)
 
 -- the version of the header that bytes begin with is the one by which they are read
-pub header_tells_version : HeaderTellsVersion
+pub header_gives_version : HeaderGivesVersion
 unfolding header_at
-header_tells_version bytes header begins = ap (λ (read : FileHeader). read.version) (header_is_read bytes header begins).1
+header_gives_version bytes header begins = ap (λ (read : FileHeader). read.version) (header_is_read bytes header begins).1
 
 -- what stands before the check word has 25 bytes, and nine for each locator
-front_is_counted : (header : FileHeader) → IsFileHeader header → length (header_front header) ≡ 25 + 9 * length header.locators
-front_is_counted header in_range =
-    let fields = front_stands (header_front header ++ []) header [] in_range refl in
+prefix_is_counted : (header : FileHeader) → IsFileHeader header → length (header_prefix header) ≡ 25 + 9 * length header.locators
+prefix_is_counted header in_range =
+    let fields = prefix_stands (header_prefix header ++ []) header [] in_range refl in
     length-append (before_locators header) (flat_map locator_bytes header.locators) ∙ ap₂ ◌+◌ fields.long (length_of_locators header.locators)
 
 -- a header has 43 bytes, and nine for each locator
 pub header_is_counted : HeaderIsCounted
 header_is_counted header in_range =
-    let check = to_le_bytes w16 (header_check_word (length header.locators) (header_front header)) in
-    length-append (header_front header ++ check) HEADER_SENTINEL
-    ∙ ap (λ n. n + 16) (length-append (header_front header) check ∙ ap (λ n. n + 2) (front_is_counted header in_range))
+    let check = to_le_bytes w16 (header_check_word (length header.locators) (header_prefix header)) in
+    length-append (header_prefix header ++ check) HEADER_SENTINEL
+    ∙ ap (λ n. n + 16) (length-append (header_prefix header) check ∙ ap (λ n. n + 2) (prefix_is_counted header in_range))
     ∙ omega arith

@@ -10,7 +10,7 @@ use Rattle.dwg_bits.specs.Sink.{Written, Extends}
 use Rattle.dwg_check.specs.CheckWord.{header_check_word}
 use Rattle.dwg_sections.specs.declared.header.Locator.{Locator}
 use Rattle.dwg_sections.specs.declared.header.FileHeader.{FileHeader}
-use Rattle.dwg_sections.specs.FileHeader.{HEADER_SENTINEL, locator_bytes, header_front, header_bytes}
+use Rattle.dwg_sections.specs.FileHeader.{HEADER_SENTINEL, locator_bytes, header_prefix, header_bytes}
 use Rattle.dwg_sections.specs.Writing.{Puts}
 use Rattle.dwg_sections.proofs.BytePuts.{puts_none, puts_both}
 
@@ -19,9 +19,9 @@ pub locator_written : (first second third fourth : Written) (locator : Locator) 
     → Puts first second (locator.number ∷ []) → Puts second third place → Puts third fourth size
     → Puts first fourth (locator_bytes locator)
 locator_written first second third fourth locator place size at_place at_size one two three =
-    let behind = puts_both second third fourth place size two three in
+    let after = puts_both second third fourth place size two three in
     subst (Puts first fourth) (ap (λ bytes. locator.number ∷ bytes) (ap₂ ◌++◌ at_place at_size))
-    (puts_both first second fourth (locator.number ∷ []) (place ++ size) one behind)
+    (puts_both first second fourth (locator.number ∷ []) (place ++ size) one after)
 
 -- before the first locator none is written
 pub no_locator_written : (sink : Written) (locators : List Locator) → Puts sink sink (flat_map locator_bytes (take 0 locators))
@@ -37,12 +37,12 @@ one_locator_written old mid new locators i locator d inside here so_far next =
     ap (flat_map locator_bytes) more ∙ flat_map-append locator_bytes (take i locators) (locator ∷ []) ∙ ap (λ last. flat_map locator_bytes (take i locators) ++ last) one in
     subst (Puts old new) (sym all) (puts_both old mid new (flat_map locator_bytes (take i locators)) (locator_bytes locator) so_far next)
 
--- a sink that grew by one field after the other grew by the front
-pub front_written : (s0 s1 s2 s3 s4 s5 s6 s7 : Written) (header : FileHeader) (version preview code_page count : List ℕ) (locators : List Locator)
+-- a sink that grew by one field after the other grew by the prefix
+pub prefix_written : (s0 s1 s2 s3 s4 s5 s6 s7 : Written) (header : FileHeader) (version preview code_page count : List ℕ) (locators : List Locator)
     → version ≡ version_bytes header.version → locators ≡ header.locators → preview ≡ to_le_bytes w32 header.preview → code_page ≡ to_le_bytes w16 header.code_page → count ≡ to_le_bytes w32 (length locators)
     → Puts s0 s1 version → Puts s1 s2 header.lead → Puts s2 s3 preview → Puts s3 s4 header.mark → Puts s4 s5 code_page → Puts s5 s6 count → Puts s6 s7 (flat_map locator_bytes locators)
-    → Puts s0 s7 (header_front header)
-front_written s0 s1 s2 s3 s4 s5 s6 s7 header version preview code_page count locators versioned listed previewed paged counted one two three four five six seven =
+    → Puts s0 s7 (header_prefix header)
+prefix_written s0 s1 s2 s3 s4 s5 s6 s7 header version preview code_page count locators versioned listed previewed paged counted one two three four five six seven =
     let to_lead = puts_both s0 s1 s2 version header.lead one two in
     let to_preview = puts_both s0 s2 s3 (version ++ header.lead) preview to_lead three in
     let to_mark = puts_both s0 s3 s4 (version ++ header.lead ++ preview) header.mark to_preview four in
@@ -50,18 +50,18 @@ front_written s0 s1 s2 s3 s4 s5 s6 s7 header version preview code_page count loc
     let to_count = puts_both s0 s5 s6 (version ++ header.lead ++ preview ++ header.mark ++ code_page) count to_code_page six in
     let all = puts_both s0 s6 s7 (version ++ header.lead ++ preview ++ header.mark ++ code_page ++ count) (flat_map locator_bytes locators) to_count seven in
     let to_13 = ap₂ (λ begin field. begin ++ header.lead ++ field) versioned previewed in
-    let to_21 = ap₂ (λ front field. front ++ header.mark ++ field) to_13 paged in
+    let to_21 = ap₂ (λ prefix field. prefix ++ header.mark ++ field) to_13 paged in
     let to_25 = ap₂ ◌++◌ to_21 (counted ∙ ap (λ list. to_le_bytes w32 (length list)) listed) in
     subst (Puts s0 s7) (ap₂ ◌++◌ to_25 (ap (flat_map locator_bytes) listed)) all
 
--- a sink that grew by the front, the check word and the sentinel grew by the header
+-- a sink that grew by the prefix, the check word and the sentinel grew by the header
 pub header_written : (first second third fourth : Written) (header : FileHeader) (held check : List ℕ) (locators : List Locator) (word : ℕ)
-    → locators ≡ header.locators → held ≡ header_front header → word ≡ header_check_word (length locators) held → check ≡ to_le_bytes w16 word
-    → Puts first second (header_front header) → Puts second third check → Puts third fourth HEADER_SENTINEL
+    → locators ≡ header.locators → held ≡ header_prefix header → word ≡ header_check_word (length locators) held → check ≡ to_le_bytes w16 word
+    → Puts first second (header_prefix header) → Puts second third check → Puts third fourth HEADER_SENTINEL
     → Extends first fourth (bits (header_bytes header))
 header_written first second third fourth header held check locators word listed same checked spelled one two three =
-    let to_check = puts_both first second third (header_front header) check one two in
-    let all = puts_both first third fourth (header_front header ++ check) HEADER_SENTINEL to_check three in
-    let right : check ≡ to_le_bytes w16 (header_check_word (length header.locators) (header_front header)) =
+    let to_check = puts_both first second third (header_prefix header) check one two in
+    let all = puts_both first third fourth (header_prefix header ++ check) HEADER_SENTINEL to_check three in
+    let right : check ≡ to_le_bytes w16 (header_check_word (length header.locators) (header_prefix header)) =
     spelled ∙ ap (to_le_bytes w16) (checked ∙ ap₂ header_check_word (ap length listed) same) in
-    subst (λ bytes. Extends first fourth (bits bytes)) (ap (λ piece. header_front header ++ piece ++ HEADER_SENTINEL) right) all.written
+    subst (λ bytes. Extends first fourth (bits bytes)) (ap (λ piece. header_prefix header ++ piece ++ HEADER_SENTINEL) right) all.written

@@ -5,7 +5,7 @@ use Rattle.std.proofs.lemmas.Bool.Decides.{Decides-eqb}
 use Rattle.std.proofs.lemmas.List.{length-map}
 use Rattle.std.proofs.lemmas.List.Elements.{Contains-append_right}
 use Rattle.dwg_base.specs.FirstItem.{HaveOther, IsFirstOf}
-use Rattle.dwg_base.proofs.FirstItem.{other_number, first_in_front, first_behind}
+use Rattle.dwg_base.proofs.FirstItem.{other_number, first_before, first_after}
 use Rattle.dwg_sections.specs.declared.header.Locator.{Locator}
 use Rattle.dwg_sections.specs.FileHeader.{locator_numbers}
 use Rattle.dwg_sections.specs.HeaderLines.{place_of}
@@ -21,19 +21,19 @@ abbrev IsFound : List Locator → ℕ → Option Locator → Type 0
 IsFound locators number (Some locator) = (before : List Locator) × IsFirstOf number_of locators number locator before
 IsFound locators number None = HaveOther number_of number locators
 
--- one locator more in front, by what its test says
-one_in_front : (locator : Locator) (locators : List Locator) (number : ℕ) (test : Bool) (others : Option Locator) → (locator.number == number) ≡ test → IsFound locators number others
+-- one locator more before, by what its test says
+one_before : (locator : Locator) (locators : List Locator) (number : ℕ) (test : Bool) (others : Option Locator) → (locator.number == number) ≡ test → IsFound locators number others
     → IsFound (locator ∷ locators) number (cond test (Some locator) others)
-one_in_front locator locators number true others passed behind = ([], first_in_front number_of locator locators number ((Decides-eqb locator.number number).0 passed))
-one_in_front locator locators number false (Some found) failed (before, is) =
-    (locator ∷ before, first_behind number_of locator found locators before number (other_number locator.number number failed) is)
-one_in_front locator locators number false None failed behind = (other_number locator.number number failed, behind)
+one_before locator locators number true others passed after = ([], first_before number_of locator locators number ((Decides-eqb locator.number number).0 passed))
+one_before locator locators number false (Some found) failed (before, is) =
+    (locator ∷ before, first_after number_of locator found locators before number (other_number locator.number number failed) is)
+one_before locator locators number false None failed after = (other_number locator.number number failed, after)
 
 -- what is found
 found_first : (locators : List Locator) (number : ℕ) → IsFound locators number (find (has_number number) locators)
 found_first [] number = tt
 found_first (locator ∷ locators) number =
-    one_in_front locator locators number (locator.number == number) (find (has_number number) locators) refl (found_first locators number)
+    one_before locator locators number (locator.number == number) (find (has_number number) locators) refl (found_first locators number)
 
 -- the place in what is found
 place_in : (locators : List Locator) (number : ℕ) (found : Option Locator) → IsFound locators number found
@@ -72,7 +72,7 @@ not_among (locator ∷ locators) number (suc i) others inside = not_among locato
 stands : (locators before : List Locator) (number : ℕ) (locator : Locator) → IsFirstOf number_of locators number locator before → Contains locators locator
 stands locators before number locator is =
     subst (λ (all : List Locator). Contains all locator) (sym is.whole)
-    (Contains-append_right before (locator ∷ is.behind) locator (0, omega arith, refl))
+    (Contains-append_right before (locator ∷ is.after) locator (0, omega arith, refl))
 
 -- where a number is among those of the locators, what is found locates it
 located_by : (locators : List Locator) (number : ℕ) (found : Option Locator) → find (has_number number) locators ≡ found → IsFound locators number found → Contains (locator_numbers locators) number

@@ -1,4 +1,4 @@
--- The lines on the numbers of locators tell the first number that fails.
+-- The lines on the numbers of locators report the first number that fails.
 use Rattle.std.proofs.Common.{◌≡◌, ◌∙◌, refl, sym, ap, ℕ, ◌<◌, true, List, Option, Some, None, arith}
 use Rattle.std.specs.Prelude.{find, option_map}
 use Rattle.std.specs.List.{range_with_len}
@@ -12,40 +12,40 @@ use Rattle.dwg_sections.proofs.LocatorStep.{numbers_counted}
 use Rattle.dwg_sections.proofs.LocatorNumbers.{is_earlier, has_earlier, stands_there, is_there}
 
 -- where there is a refusal of what was found, something was
-found_some : (tell : ℕ → Refusal) (found : Option ℕ) (refusal : Refusal) → option_map tell found ≡ Some refusal → (number : ℕ) × (found ≡ Some number) × (refusal ≡ tell number)
-found_some tell None refusal told = absurd cc
-found_some tell (Some number) refusal told = (number, refl, sym (same_Some _ _ told))
+found_some : (report : ℕ → Refusal) (found : Option ℕ) (refusal : Refusal) → option_map report found ≡ Some refusal → (number : ℕ) × (found ≡ Some number) × (refusal ≡ report number)
+found_some report None refusal reported = absurd cc
+found_some report (Some number) refusal reported = (number, refl, sym (same_Some _ _ reported))
 
--- and what is told of it is its refusal
-told_some : (tell : ℕ → Refusal) (found : Option ℕ) (refusal : Refusal) (number : ℕ) → found ≡ Some number → refusal ≡ tell number → option_map tell found ≡ Some refusal
-told_some tell found refusal number same tells = ap (option_map tell) same ∙ ap (λ (one : Refusal). Some one) (sym tells)
+-- and what is reported of it is its refusal
+reported_some : (report : ℕ → Refusal) (found : Option ℕ) (refusal : Refusal) (number : ℕ) → found ≡ Some number → refusal ≡ report number → option_map report found ≡ Some refusal
+reported_some report found refusal number same reports = ap (option_map report) same ∙ ap (λ (one : Refusal). Some one) (sym reports)
 
--- a locator that is told has the number of an earlier one, and none before it has
+-- a locator that is reported has the number of an earlier one, and none before it has
 first_repeated : (bytes : List ℕ) (refusal : Refusal) → repeated_line bytes ≡ Some refusal → IsFirstRepeated bytes refusal
 unfolding repeated_line
-first_repeated bytes refusal told =
+first_repeated bytes refusal reported =
     let numbers = numbers_at bytes in
-    let found = found_some repeated_refusal (find (stands_earlier numbers) (range_with_len 0 (count_at bytes))) refusal told in
+    let found = found_some repeated_refusal (find (stands_earlier numbers) (range_with_len 0 (count_at bytes))) refusal reported in
     let is = first_from_found (stands_earlier numbers) 0 (count_at bytes) found.0 found.1 in
     let within : found.0 < count_at bytes = omega (arith, is.inside) in
     let counted = numbers_counted bytes in
     record {
       index = found.0;
       inside = within;
-      tells = found.2;
+      reports = found.2;
       repeats = has_earlier numbers found.0 (omega arith) is.passes;
       first = λ earlier before twice.
           both_ways (stands_earlier numbers earlier) (is.before earlier (omega arith) before) (is_earlier numbers twice.0 earlier twice.1 (omega arith) twice.2);
     }
 
--- the first locator that has the number of an earlier one is told
-repeated_told : (bytes : List ℕ) (refusal : Refusal) → IsFirstRepeated bytes refusal → repeated_line bytes ≡ Some refusal
+-- the first locator that has the number of an earlier one is reported
+repeated_reported : (bytes : List ℕ) (refusal : Refusal) → IsFirstRepeated bytes refusal → repeated_line bytes ≡ Some refusal
 unfolding repeated_line
-repeated_told bytes refusal is =
+repeated_reported bytes refusal is =
     let numbers = numbers_at bytes in
     let counted = numbers_counted bytes in
     let inside : is.index < count_at bytes = is.inside in
-    told_some repeated_refusal (find (stands_earlier numbers) (range_with_len 0 (count_at bytes))) refusal is.index
+    reported_some repeated_refusal (find (stands_earlier numbers) (range_with_len 0 (count_at bytes))) refusal is.index
     (found_from_first (stands_earlier numbers) 0 (count_at bytes) is.index (record {
       least = omega arith;
       inside = omega arith;
@@ -53,42 +53,42 @@ repeated_told bytes refusal is =
       before = λ k over below. false_from_ne_true (stands_earlier numbers k) (λ (stands : stands_earlier numbers k ≡ true).
           is.first k below (has_earlier numbers k (omega arith) stands));
     }))
-    is.tells
+    is.reports
 
--- the line on repeated numbers tells the first such locator
+-- the line on repeated numbers reports the first such locator
 pub repeated_is_first : RepeatedIsFirst
-repeated_is_first bytes refusal = (first_repeated bytes refusal, repeated_told bytes refusal)
+repeated_is_first bytes refusal = (first_repeated bytes refusal, repeated_reported bytes refusal)
 
--- a number that is told is no locator's, and each lesser one is
+-- a number that is reported is no locator's, and each lesser one is
 least_missing : (bytes : List ℕ) (refusal : Refusal) → missing_line bytes ≡ Some refusal → IsLeastMissing bytes refusal
 unfolding missing_line
-least_missing bytes refusal told =
+least_missing bytes refusal reported =
     let numbers = numbers_at bytes in
-    let found = found_some missing_refusal (find (is_missing numbers) (range_with_len 0 3)) refusal told in
+    let found = found_some missing_refusal (find (is_missing numbers) (range_with_len 0 3)) refusal reported in
     let is = first_from_found (is_missing numbers) 0 3 found.0 found.1 in
     record {
       number = found.0;
       wanted = omega (arith, is.inside);
-      tells = found.2;
+      reports = found.2;
       missing = λ there. both_ways (is_missing numbers found.0) (not_from_true _ (is_there numbers found.0 there)) is.passes;
       least = λ lesser below. stands_there numbers lesser (not-false _ (is.before lesser (omega arith) below));
     }
 
--- the least number that is no locator's is told
-missing_told : (bytes : List ℕ) (refusal : Refusal) → IsLeastMissing bytes refusal → missing_line bytes ≡ Some refusal
+-- the least number that is no locator's is reported
+missing_reported : (bytes : List ℕ) (refusal : Refusal) → IsLeastMissing bytes refusal → missing_line bytes ≡ Some refusal
 unfolding missing_line
-missing_told bytes refusal is =
+missing_reported bytes refusal is =
     let numbers = numbers_at bytes in
     let wanted : is.number < 3 = is.wanted in
-    told_some missing_refusal (find (is_missing numbers) (range_with_len 0 3)) refusal is.number
+    reported_some missing_refusal (find (is_missing numbers) (range_with_len 0 3)) refusal is.number
     (found_from_first (is_missing numbers) 0 3 is.number (record {
       least = omega arith;
       inside = omega arith;
       passes = not_from_false _ (false_from_ne_true _ (λ found. is.missing (stands_there numbers is.number found)));
       before = λ k over below. not_from_true _ (is_there numbers k (is.least k below));
     }))
-    is.tells
+    is.reports
 
--- the line on missing numbers tells the least such number
+-- the line on missing numbers reports the least such number
 pub missing_is_least : MissingIsLeast
-missing_is_least bytes refusal = (least_missing bytes refusal, missing_told bytes refusal)
+missing_is_least bytes refusal = (least_missing bytes refusal, missing_reported bytes refusal)

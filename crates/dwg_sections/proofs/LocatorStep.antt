@@ -5,12 +5,12 @@ use Rattle.dwg_sections.specs.declared.header.Locator.{Locator}
 use Rattle.dwg_sections.specs.FileHeader.{locator_numbers}
 use Rattle.dwg_sections.specs.HeaderLines.{count_at, locator_at, locators_at, numbers_at}
 
--- of one locator or more, the first stands at the place and the others behind it
+-- of one locator or more, the first stands at the place and the others after it
 first_locator : (left more place next : ℕ) (bytes : List ℕ) → left ≡ suc more → next ≡ place + 9
     → locators_at left bytes place ≡ locator_at bytes place ∷ locators_at more bytes next
 unfolding locators_at
-first_locator left more place next bytes one behind =
-    ap (λ n. locators_at n bytes place) one ∙ ap (λ p. locator_at bytes place ∷ locators_at more bytes p) (sym behind)
+first_locator left more place next bytes one after =
+    ap (λ n. locators_at n bytes place) one ∙ ap (λ p. locator_at bytes place ∷ locators_at more bytes p) (sym after)
 
 -- with one locator more read, one fewer is left
 pub one_locator_less : (read : List Locator) (count i : ℕ) (bytes : List ℕ) → i < count
@@ -39,7 +39,7 @@ pub numbers_counted : (bytes : List ℕ) → length (numbers_at bytes) ≡ count
 unfolding numbers_at
 numbers_counted bytes = length-map (locators_at (count_at bytes) bytes 25) _ ∙ length_of_locators_at (count_at bytes) bytes 25
 
--- the number of each locator stands nine bytes behind that of the one before
+-- the number of each locator stands nine bytes after that of the one before
 number_of_locator : (count : ℕ) (bytes : List ℕ) (place i : ℕ) → i < count → get_or (locator_numbers (locators_at count bytes place)) i 0 ≡ get_or bytes (place + 9 * i) 0
 unfolding locators_at
 number_of_locator zero bytes place i inside = absurd (omega arith)

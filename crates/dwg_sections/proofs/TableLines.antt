@@ -22,8 +22,8 @@ both_none (Some refusal) second none = absurd cc
 
 -- none of either is no refusal of two
 pub none_of_both : {T : Type 0} (first second : Option T) → first ≡ None → second ≡ None → option_or first second ≡ None
-none_of_both None second here behind = behind
-none_of_both (Some refusal) second here behind = absurd cc
+none_of_both None second here after = after
+none_of_both (Some refusal) second here after = absurd cc
 
 -- two lists of bytes that compare as equal are equal
 pub same_bytes : (a b : List ℕ) → not (bytes_eq a b) ≡ false → a ≡ b

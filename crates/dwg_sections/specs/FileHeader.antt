@@ -8,7 +8,7 @@ use Rattle.dwg_check.specs.CheckWord.{header_check_word}
 use Rattle.dwg_sections.specs.declared.header.Locator.{Locator}
 use Rattle.dwg_sections.specs.declared.header.FileHeader.{FileHeader}
 
--- the sixteen bytes behind the header's check word
+-- the sixteen bytes after the header's check word
 abbrev pub HEADER_SENTINEL : List ℕ
 HEADER_SENTINEL = 0x95 ∷ 0xA0 ∷ 0x4E ∷ 0x28 ∷ 0x99 ∷ 0x82 ∷ 0x1A ∷ 0xE5 ∷ 0x5E ∷ 0x41 ∷ 0xE0 ∷ 0x5F ∷ 0x9D ∷ 0x3A ∷ 0x4D ∷ 0x00 ∷ []
 
@@ -17,15 +17,15 @@ abbrev pub locator_bytes : Locator → List ℕ
 locator_bytes locator = locator.number ∷ (to_le_bytes w32 locator.place ++ to_le_bytes w32 locator.size)
 
 -- what stands before the check word: the version, seven bytes, RL place of the preview, two bytes, RS code page, RL count of locators, the locators
-abbrev pub header_front : FileHeader → List ℕ
-header_front header =
+abbrev pub header_prefix : FileHeader → List ℕ
+header_prefix header =
     version_bytes header.version ++ header.lead ++ to_le_bytes w32 header.preview ++ header.mark ++ to_le_bytes w16 header.code_page
     ++ to_le_bytes w32 (length header.locators) ++ flat_map locator_bytes header.locators
 
--- the whole header: its front, RS check word, sentinel
+-- the whole header: its prefix, RS check word, sentinel
 abbrev pub header_bytes : FileHeader → List ℕ
 header_bytes header =
-    header_front header ++ to_le_bytes w16 (header_check_word (length header.locators) (header_front header)) ++ HEADER_SENTINEL
+    header_prefix header ++ to_le_bytes w16 (header_check_word (length header.locators) (header_prefix header)) ++ HEADER_SENTINEL
 
 -- how many bytes a header has without its locators, and how many a locator
 abbrev pub WITHOUT_LOCATORS : ℕ

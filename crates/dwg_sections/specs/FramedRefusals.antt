@@ -26,7 +26,7 @@ pub record HasRoom (which : Framed) (bytes : List ℕ) (place : ℕ) : Type 0 wh
 abbrev pub HasSectionCheckWord : List ℕ → ℕ → Type 0
 HasSectionCheckWord bytes place = rs_at bytes (place + 20 + size_at bytes place) ≡ check_word FRAME_START (bytes_at bytes (place + 16) (4 + size_at bytes place))
 
--- the end sentinel of the section at a place stands behind it
+-- the end sentinel of the section at a place stands after it
 abbrev pub HasEnd : Framed → List ℕ → ℕ → Type 0
 HasEnd which bytes place = bytes_at bytes (place + 22 + size_at bytes place) 16 ≡ end_sentinel which
 

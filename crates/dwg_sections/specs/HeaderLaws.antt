@@ -21,8 +21,8 @@ HeaderIsRead =
     → (first_fault HEADER_LINES bytes ≡ None) × (header ≡ header_at bytes)
 
 -- the version of the header that bytes begin with is the one by which they are read
-abbrev pub HeaderTellsVersion : Type 0
-HeaderTellsVersion = (bytes : List ℕ) (header : FileHeader) → BeginsWithHeader bytes header → header.version ≡ version_at bytes
+abbrev pub HeaderGivesVersion : Type 0
+HeaderGivesVersion = (bytes : List ℕ) (header : FileHeader) → BeginsWithHeader bytes header → header.version ≡ version_at bytes
 
 -- a header has so many bytes without its locators, and so many for each
 abbrev pub HeaderIsCounted : Type 0
@@ -38,26 +38,26 @@ SectionsAreLocated =
 abbrev pub StandsTwice : List ℕ → ℕ → Type 0
 StandsTwice numbers index = (earlier : ℕ) × (earlier < index) × (slice_index numbers earlier ≡ slice_index numbers index)
 
--- the refusal tells the first locator that has the number of an earlier one
+-- the refusal reports the first locator that has the number of an earlier one
 pub record IsFirstRepeated (bytes : List ℕ) (refusal : Refusal) : Type 0 where
   pub index : ℕ
   pub inside : index < count_at bytes
-  pub tells : refusal ≡ repeated_refusal index
+  pub reports : refusal ≡ repeated_refusal index
   pub repeats : StandsTwice (numbers_at bytes) index
   pub first : (earlier : ℕ) → earlier < index → StandsTwice (numbers_at bytes) earlier → ⊥
 
--- the line on repeated numbers refuses exactly where a locator has the number of an earlier one, and tells the first such
+-- the line on repeated numbers refuses exactly where a locator has the number of an earlier one, and reports the first such
 abbrev pub RepeatedIsFirst : Type 0
 RepeatedIsFirst = (bytes : List ℕ) (refusal : Refusal) → (repeated_line bytes ≡ Some refusal) ↔ IsFirstRepeated bytes refusal
 
--- the refusal tells the least of 0, 1 and 2 that no locator has
+-- the refusal reports the least of 0, 1 and 2 that no locator has
 pub record IsLeastMissing (bytes : List ℕ) (refusal : Refusal) : Type 0 where
   pub number : ℕ
   pub wanted : number < 3
-  pub tells : refusal ≡ missing_refusal number
+  pub reports : refusal ≡ missing_refusal number
   pub missing : Contains (numbers_at bytes) number → ⊥
   pub least : (lesser : ℕ) → lesser < number → Contains (numbers_at bytes) lesser
 
--- the line on missing numbers refuses exactly where no locator has one of 0, 1 and 2, and tells the least such
+-- the line on missing numbers refuses exactly where no locator has one of 0, 1 and 2, and reports the least such
 abbrev pub MissingIsLeast : Type 0
 MissingIsLeast = (bytes : List ℕ) (refusal : Refusal) → (missing_line bytes ≡ Some refusal) ↔ IsLeastMissing bytes refusal

@@ -66,7 +66,7 @@ abbrev pub locator_at : List ℕ → ℕ → Locator
 locator_at bytes place =
     record { number = slice_index bytes place; place = rl_at bytes (place + 1); size = rl_at bytes (place + 5) }
 
--- so many locators, one behind the other from the place
+-- so many locators, one after the other from the place
 unfoldable pub locators_at : ℕ → List ℕ → ℕ → List Locator
 locators_at zero bytes place = []
 locators_at (suc count) bytes place = locator_at bytes place ∷ locators_at count bytes (place + 9)

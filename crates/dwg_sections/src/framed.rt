@@ -99,7 +99,7 @@ pub fn has_end(bytes: &[u8], place: usize, which: Framed) -> bool
     piece(bytes, place, SENTINEL_SIZE) == end_sentinel(which).as_slice()
 }
 
-/// Whether the check word behind so many bytes of content is that of the size and the content.
+/// Whether the check word after so many bytes of content is that of the size and the content.
 fn has_section_word(bytes: &[u8], place: usize, size: usize) -> bool
     requires { place + 22 + size ≤ length bytes.now }
     ensures { result ≡ (rs_at bytes.now (place + 20 + size) == check_word FRAME_START (bytes_at bytes.now (place + 16) (4 + size))) }

@@ -17,7 +17,7 @@ pub struct FramedPieces {
     pub begin: [u8; 16],
     /// The size of the content, which stands before it.
     pub size: [u8; 4],
-    /// The check word of size and content, which stands behind it.
+    /// The check word of size and content, which stands after it.
     pub word: [u8; 2],
     /// The end sentinel.
     pub end: [u8; 16],

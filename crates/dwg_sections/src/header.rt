@@ -2,7 +2,7 @@
 
 ghost use Rattle.std.specs.Prelude.{◌≡◌, ◌+◌, ◌*◌, ◌≤◌, length, IfSome, IfNone, IfOk, IfErr, OnOk, None};
 ghost use Rattle.dwg_base.specs.FirstItem.{HaveOther};
-ghost use Rattle.dwg_base.specs.Refusals.{first_fault, Tells, IsFaultOfTable};
+ghost use Rattle.dwg_base.specs.Refusals.{first_fault, Reports, IsFaultOfTable};
 ghost use Rattle.dwg_sections.specs.FileHeader.{BeginsWithHeader};
 ghost use Rattle.dwg_sections.specs.FirstLocator.{number_of, IsFirstPlace};
 ghost use Rattle.dwg_sections.specs.HeaderLines.{HEADER_LINES, bytes_at, rs_at, rl_at, locator_at, locators_at, locators_end, header_at, place_of};
@@ -31,7 +31,7 @@ pub struct Locator {
 pub struct FileHeader {
     /// The version, by the six bytes with which the file begins.
     pub version: Version,
-    /// Seven bytes behind the version, kept without meaning.
+    /// Seven bytes after the version, kept without meaning.
     pub lead: [u8; 7],
     /// The place of the preview section.
     pub preview: u32,
@@ -65,7 +65,7 @@ fn first_place(locators: &[Locator], number: u8) -> Option<u32>
         .map(|locator| locator.place)
 }
 
-/// The seven bytes behind the version.
+/// The seven bytes after the version.
 fn lead(bytes: &[u8]) -> [u8; 7]
     requires { 25 ≤ length bytes.now }
     ensures { result ≡ bytes_at bytes.now 6 7 }
@@ -117,7 +117,7 @@ fn read_locator(bytes: &[u8], place: usize) -> Locator
     }
 }
 
-/// So many locators, one behind the other. The only refusal is want of memory.
+/// So many locators, one after the other. Err: out of memory.
 #[tactic(auto, using(crate::proofs::LocatorStep::one_locator_less, crate::proofs::LocatorStep::no_locator_left))]
 fn read_locators(alloc: Global, bytes: &[u8], count: u32) -> Result<Items<Locator>, NoMemory>
     requires { 25 + 9 * count ≤ length bytes.now }
@@ -131,7 +131,7 @@ fn read_locators(alloc: Global, bytes: &[u8], count: u32) -> Result<Items<Locato
     Ok(locators)
 }
 
-/// The header by the places of its parts, where no line on it fails. The only refusal is want of memory.
+/// The header by the places of its parts, where no line on it fails. Err: out of memory.
 #[tactic(auto, unfolding(crate::specs::HeaderLines::header_at, crate::specs::HeaderLines::locators_end))]
 fn read_parts(alloc: Global, bytes: &[u8]) -> Result<FileHeader, NoMemory>
     requires { 18 + locators_end bytes.now ≤ length bytes.now }
@@ -148,7 +148,7 @@ fn read_parts(alloc: Global, bytes: &[u8]) -> Result<FileHeader, NoMemory>
     })
 }
 
-/// Reads the file header at the front of the input. It is refused by the first of its lines that fails: the input is
+/// Reads the file header at the begin of the input. It is refused by the first of its lines that fails: the input is
 /// short, the version is neither AC1014 nor AC1015, the count of locators is another, the check word or the sentinel is wrong, a locator has the
 /// number of an earlier one, or 0, 1 or 2 is no locator's number.
 pub fn read_file_header(alloc: Global, bytes: &[u8]) -> Result<FileHeader, Fault>
@@ -157,8 +157,8 @@ pub fn read_file_header(alloc: Global, bytes: &[u8]) -> Result<FileHeader, Fault
     ensures value { IfOk result (λ header. header ≡ header_at bytes.now) }
     ensures holds { OnOk result (first_fault HEADER_LINES bytes.now ≡ None) }
 
-    // The first line that fails, or want of memory.
-    ensures refused { IfErr result (λ fault. Tells fault (first_fault HEADER_LINES bytes.now)) }
+    // The first line that fails, or out of memory.
+    ensures refused { IfErr result (λ fault. Reports fault (first_fault HEADER_LINES bytes.now)) }
     ensures of_table { IfErr result IsFaultOfTable }
 {
     if let Some(refusal) = refusal_of_header(bytes) {

@@ -26,7 +26,7 @@ const CHECK_LINE: u8 = 5;
 
 const SENTINEL_LINE: u8 = 6;
 
-/// The sixteen bytes behind the check word.
+/// The sixteen bytes after the check word.
 pub const SENTINEL_BYTES: [u8; 16] = [
     0x95, 0xA0, 0x4E, 0x28, 0x99, 0x82, 0x1A, 0xE5, 0x5E, 0x41, 0xE0, 0x5F, 0x9D, 0x3A, 0x4D, 0x00,
 ];
@@ -37,10 +37,10 @@ const LEAST_COUNT: u32 = 3;
 /// The most locators of a header.
 const MOST_COUNT: u32 = 6;
 
-/// The bytes of the check word, which stands behind the locators.
+/// The bytes of the check word, which stands after the locators.
 const CHECK_SIZE: usize = 2;
 
-/// The bytes of the check word and of the sentinel behind it.
+/// The bytes of the check word and of the sentinel after it.
 const TAIL_SIZE: usize = 18;
 
 /// Whether the input begins with the bytes of a version that is read.

@@ -1,6 +1,6 @@
 //! Where the parts of the file header stand (Open Design Specification, "R13 to R2000 file layout").
 
-/// Where the seven bytes behind the version stand.
+/// Where the seven bytes after the version stand.
 pub const LEAD_PLACE: usize = 6;
 
 /// Where the place of the preview section stands.

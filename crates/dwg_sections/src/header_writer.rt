@@ -5,7 +5,7 @@ ghost use Rattle.dwg_base.specs.Bytes.{AreBytes};
 ghost use Rattle.dwg_bits.specs.Bits.{bits};
 ghost use Rattle.dwg_bits.specs.Sink.{Extends};
 ghost use Rattle.dwg_check.specs.CheckWord.{header_check_word};
-ghost use Rattle.dwg_sections.specs.FileHeader.{LocateSections, locator_bytes, header_front, header_bytes};
+ghost use Rattle.dwg_sections.specs.FileHeader.{LocateSections, locator_bytes, header_prefix, header_bytes};
 ghost use Rattle.dwg_sections.specs.Writing.{Puts};
 
 use crate::appending::put;
@@ -24,7 +24,7 @@ fn write_locator(locator: &Locator, sink: &mut BitSink)
     put(&locator.size.to_le_bytes(), sink);
 }
 
-/// Writes locators, one behind the other.
+/// Writes locators, one after the other.
 fn write_locators(locators: &[Locator], sink: &mut BitSink)
     requires { 72 * length locators.now ≤ sink.old.spare }
     ensures puts { Puts sink.old sink.new (flat_map locator_bytes locators.now) }
@@ -36,10 +36,10 @@ fn write_locators(locators: &[Locator], sink: &mut BitSink)
 }
 
 /// Writes what stands before the check word.
-fn write_front(header: &FileHeader, sink: &mut BitSink)
+fn write_prefix(header: &FileHeader, sink: &mut BitSink)
     requires few { length header.now.locators ≤ 6 }
     requires room { 200 + 72 * length header.now.locators ≤ sink.old.spare }
-    ensures puts { Puts sink.old sink.new (header_front header.now) }
+    ensures puts { Puts sink.old sink.new (header_prefix header.now) }
     ensures spare { sink.old.spare ≤ sink.new.spare + (200 + 72 * length header.now.locators) }
 {
     let locators = header.locators.as_slice();
@@ -53,14 +53,14 @@ fn write_front(header: &FileHeader, sink: &mut BitSink)
     write_locators(locators, sink);
 }
 
-/// The check word of a header with so many locators behind its front.
-fn word_behind(count: u32, front: &[u8]) -> u16
+/// The check word of a header with so many locators after its prefix.
+fn word_after(count: u32, prefix: &[u8]) -> u16
     requires least { 3 ≤ count }
     requires most { count ≤ 6 }
-    ensures word { result ≡ header_check_word count front.now }
-    ensures small { AreBytes front.now }
+    ensures word { result ≡ header_check_word count prefix.now }
+    ensures small { AreBytes prefix.now }
 {
-    header_word(count, front)
+    header_word(count, prefix)
 }
 
 /// Writes a file header into an empty sink: its fields, the locators in their order, the check word, the sentinel (Open
@@ -73,8 +73,8 @@ pub fn write_file_header(header: &FileHeader, sink: &mut BitSink)
     ensures { Extends sink.old sink.new (bits (header_bytes header.now)) }
 {
     let count = header.locators.as_slice().len() as u32;
-    write_front(header, sink);
-    let word = word_behind(count, sink.as_bytes());
+    write_prefix(header, sink);
+    let word = word_after(count, sink.as_bytes());
     put(&word.to_le_bytes(), sink);
     put(&SENTINEL_BYTES, sink);
 }

@@ -41,7 +41,7 @@ fn is_repeated(bytes: &[u8], index: u32) -> bool
 }
 
 /// The first locator with the number of an earlier one.
-#[tactic(auto, using(dwg_base::proofs::RangeSearch::found_here, dwg_base::proofs::RangeSearch::found_behind, dwg_base::proofs::RangeSearch::found_nowhere))]
+#[tactic(auto, using(dwg_base::proofs::RangeSearch::found_here, dwg_base::proofs::RangeSearch::found_after, dwg_base::proofs::RangeSearch::found_nowhere))]
 fn first_repeated(bytes: &[u8], count: u32) -> Option<u32>
     requires counted { count ≡ count_at bytes.now }
     requires whole { locators_end bytes.now ≤ length bytes.now }
@@ -70,7 +70,7 @@ fn lacks(bytes: &[u8], count: u32, number: u32) -> bool
 }
 
 /// The least of 0, 1 and 2 that is no locator's number.
-#[tactic(auto, using(dwg_base::proofs::RangeSearch::found_here, dwg_base::proofs::RangeSearch::found_behind, dwg_base::proofs::RangeSearch::found_nowhere))]
+#[tactic(auto, using(dwg_base::proofs::RangeSearch::found_here, dwg_base::proofs::RangeSearch::found_after, dwg_base::proofs::RangeSearch::found_nowhere))]
 fn first_missing(bytes: &[u8], count: u32) -> Option<u32>
     requires counted { count ≡ count_at bytes.now }
     requires whole { locators_end bytes.now ≤ length bytes.now }

@@ -1,4 +1,4 @@
--- Points of a light polyline: known, counted and written one behind the other.
+-- Points of a light polyline: known, counted and written one after the other.
 use Rattle.std.proofs.Common.{◌≡◌, refl, ℕ, ◌+◌, ◌≤◌, Bool, List, [], ◌∷◌, ◌++◌, length, drop, Option, Some, None}
 use Rattle.std.specs.List.{AllByRecursion}
 use Rattle.dwg_bits.specs.Sink.{Written, Extends}
@@ -9,14 +9,14 @@ use Rattle.dwg_shapes.specs.LwPolylines.{vertex, before_next, vertices}
 use Rattle.dwg_grammar.specs.Points.{IsPoint2}
 use Rattle.dwg_shapes.proofs.Known.{IsKnownSoFar, all_known}
 
--- the points that are left are values, and what is written of them, behind a point
+-- the points that are left are values, and what is written of them, after a point
 abbrev pub AreLeft : Version → Option Point2 → List Point2 → Type 0
 AreLeft version before left = IsChain vertex (before_next version) before left
 
 abbrev pub short_left : Version → Option Point2 → List Point2 → List Bool
 short_left version before left = short_chain vertex (before_next version) before left
 
--- a point has a spelling behind each
+-- a point has a spelling after each
 any_vertex : (before : Option Point2) (point : Point2) → IsPoint2 point → (vertex before).IsValue point
 any_vertex None point is = (is.x, is.y)
 any_vertex (Some last) point is = (is.x, is.y)

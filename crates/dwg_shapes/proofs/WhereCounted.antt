@@ -12,7 +12,7 @@ use Rattle.dwg_shapes.specs.LwPolylines.{items_where}
 abbrev pub by_count : {V : Type 0} → Grammar Bool V → Option (List V) → Grammar Bool (Option (List V))
 by_count {V} code values = items_where code (option_map (λ (many : List V). length many) values)
 
--- members that are values are values one behind the other
+-- members that are values are values one after the other
 are_members : {V : Type 0} (code : Grammar Bool V) (members : List V) → AllByRecursion code.IsValue members → AreValues code members
 are_members code [] all = tt
 are_members code (member ∷ members) all = (all.0, are_members code members all.1)

@@ -51,7 +51,7 @@ heights_picked start_z end_z true true no_start no_end start_fits end_fits =
 heights_picked start_z end_z true false no_start no_end start_fits end_fits = (start_fits, end_fits)
 heights_picked start_z end_z false end no_start no_end start_fits end_fits = (start_fits, end_fits)
 
--- and no fewer bits behind another
+-- and no fewer bits after another
 heights_least : (start_z end_z : ℕ) (start end z_zero : Bool) → (start_z == 0) ≡ start → (end_z == 0) ≡ end → (heights z_zero).IsValue (start_z, end_z)
     → length ((heights (flat_by start end)).short (start_z, end_z)) ≤ length ((heights z_zero).short (start_z, end_z))
 heights_least start_z end_z true true z_zero no_start no_end fits = omega arith
@@ -77,7 +77,7 @@ length_of_ends z_zero ends =
       length-append end_y z,
     )
 
--- behind z-zero they are a code
+-- after z-zero they are a code
 newer_ends_is_code : IsCode AnyLetters newer_ends
 newer_ends_is_code =
     tagged_is_code AnyLetters b ends_by AreEnds is_flat any_letters_closed b_is_code (λ z_zero any. ends_by_is_code z_zero) (λ z_zero ends any fits. ends_by_value z_zero ends fits)

@@ -8,7 +8,7 @@ pub mod Circles
 pub mod Arcs
 -- LWPOLYLINE.
 pub mod LwPolylines
--- What a reader of lightweight polylines has read, as the parts that the grammar tells.
+-- What a reader of lightweight polylines has read, as the parts that the grammar gives.
 pub mod PolylineReading
 -- The ends of a line are a code.
 pub mod EndLaws

@@ -1,4 +1,4 @@
--- What a reader of lightweight polylines has read, as the parts that the grammar tells.
+-- What a reader of lightweight polylines has read, as the parts that the grammar gives.
 use Rattle.dwg_shapes.specs.declared.lwpolyline.Start.{Start}
 use Rattle.dwg_shapes.specs.LwPolylines.{StartParts}
 

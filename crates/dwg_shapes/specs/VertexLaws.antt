@@ -1,4 +1,4 @@
--- The points of a lightweight polyline are a code, and lists that are there by their counts tell these.
+-- The points of a lightweight polyline are a code, and lists that are there by their counts give these.
 use Rattle.std.proofs.Common.{◌≡◌, ◌∙◌, ap, ℕ, Bool, List, [], ◌∷◌, Option, Some, None}
 use Rattle.std.specs.Prelude.{⊤}
 use Rattle.dwg_base.specs.declared.version.Version.{Version}
@@ -18,7 +18,7 @@ abbrev pub IsBefore : Option Point2 → Type 0
 IsBefore None = ⊤
 IsBefore (Some before) = IsPoint2 before
 
--- a point is a code behind each point
+-- a point is a code after each point
 vertex_is_code : (before : Option Point2) → IsBefore before → IsCode AnyLetters (vertex before)
 vertex_is_code None is = rd2_is_code
 vertex_is_code (Some before) is = dd2_is_code before is
@@ -42,14 +42,14 @@ vertices_is_code version count =
 pub width_pair_is_code : IsCode AnyLetters width_pair
 width_pair_is_code = search codes
 
--- values that are there where there is a count tell it
-pub count_told : {V : Type 0} (code : Grammar Bool V) (count : Option ℕ) (values : Option (List V)) → (items_where code count).IsValue values
+-- values that are there where there is a count give it
+pub count_parsed : {V : Type 0} (code : Grammar Bool V) (count : Option ℕ) (values : Option (List V)) → (items_where code count).IsValue values
     → count_of values ≡ count
 unfolding chain
-count_told code (Some count) values (inner, same, fits) = ap count_of same ∙ ap (λ (many : ℕ). Some many) fits.0
-count_told code None values none = ap count_of none
+count_parsed code (Some count) values (inner, same, fits) = ap count_of same ∙ ap (λ (many : ℕ). Some many) fits.0
+count_parsed code None values none = ap count_of none
 
--- a point that is told against none is told against any
+-- a point that is given against none is given against any
 vertex_narrower : (before : Option Point2) (point : Point2) → rd2.IsValue point → (vertex before).IsValue point
 vertex_narrower None point fits = fits
 vertex_narrower (Some last) point fits = fits

@@ -10,7 +10,7 @@ ghost use Rattle.dwg_shapes.specs.LwPolylines.{lwpolyline_body};
 ghost use Rattle.dwg_shapes.specs.Points.{point_body};
 
 /// What holds of the bodies of lines, points, circles, arcs and lightweight polylines, in the object of any handle: main bits
-/// spell at most one by their fronts; just those that fit are spelled, each by what is written of it, and none by fewer main
+/// spell at most one by their prefixes; just those that fit are spelled, each by what is written of it, and none by fewer main
 /// bits; and any bits may follow.
 pub fn shape_laws()
     ensures line { (version : Version) (base : ℕ) → base < 2 ^ 63 → IsFreeBody base (line_body version base) }

@@ -12,8 +12,8 @@ use dwg_base::{Handle, NoMemory, Version};
 use dwg_bits::{BitCursor, BitSink};
 use dwg_codes::{BitCode, Code3BD, CodeB, CodeDD, CodeExtrusion, CodeRD, CodeThickness, Point3};
 use dwg_common::{
-    BodyCode, BodyCode14, Layout, Lengths, known_extrusion, known_point, known_thickness,
-    parse_code,
+    BodyCode, BodyCode14, Layout, Lengths, known_extrusion, known_thickness, parse_code,
+    point_with_range,
 };
 use std::alloc::Global;
 
@@ -43,7 +43,7 @@ fn read_heights(z_zero: bool, cursor: &mut BitCursor<'_>) -> Option<(u64, u64)>
     Some((start_z, end_z))
 }
 
-/// Reads both ends of a line, as they are parsed behind z-zero.
+/// Reads both ends of a line, as they are parsed after z-zero.
 fn read_newer_ends(cursor: &mut BitCursor<'_>) -> Option<(Point3, Point3)>
     ensures parsed { Parses newer_ends (option_map ends_read result) cursor.old cursor.new }
     ensures kept { Keeps cursor.old cursor.new }
@@ -138,17 +138,17 @@ fn known_ends(line: &Line, version: Version)
     ensures { (line_ends version).IsValue (ends_of line.now) }
 {
     let _newer = version.is_newer();
-    known_point(&line.start);
-    known_point(&line.end);
+    point_with_range(&line.start);
+    point_with_range(&line.end);
 }
 
-/// How many bits the ends of a line are written by behind z-zero.
+/// How many bits the ends of a line are written by after z-zero.
 fn newer_ends_bits(line: &Line) -> u64
     ensures length { result ≡ length (newer_ends.short (ends_of line.now)) }
     ensures few { result < 2 ^ 36 }
 {
-    known_point(&line.start);
-    known_point(&line.end);
+    point_with_range(&line.start);
+    point_with_range(&line.end);
     let z_zero = is_flat(line);
     CodeB::length(&(), &z_zero)
         + CodeRD::length(&(), &line.start.x)
@@ -163,8 +163,8 @@ fn older_ends_bits(line: &Line) -> u64
     ensures length { result ≡ length (older_ends.short (ends_of line.now)) }
     ensures few { result < 2 ^ 36 }
 {
-    known_point(&line.start);
-    known_point(&line.end);
+    point_with_range(&line.start);
+    point_with_range(&line.end);
     Code3BD::length(&(), &line.start) + Code3BD::length(&(), &line.end)
 }
 
@@ -179,13 +179,13 @@ fn ends_bits(line: &Line, version: Version) -> u64
     }
 }
 
-/// Writes the ends of a line behind z-zero.
+/// Writes the ends of a line after z-zero.
 fn write_newer_ends(line: &Line, sink: &mut BitSink)
     requires room { length (newer_ends.short (ends_of line.now)) ≤ sink.old.spare }
     ensures { Extends sink.old sink.new (newer_ends.short (ends_of line.now)) }
 {
-    known_point(&line.start);
-    known_point(&line.end);
+    point_with_range(&line.start);
+    point_with_range(&line.end);
     let z_zero = is_flat(line);
     CodeB::write(&(), &z_zero, sink);
     CodeRD::write(&(), &line.start.x, sink);
@@ -200,8 +200,8 @@ fn write_older_ends(line: &Line, sink: &mut BitSink)
     requires room { length (older_ends.short (ends_of line.now)) ≤ sink.old.spare }
     ensures { Extends sink.old sink.new (older_ends.short (ends_of line.now)) }
 {
-    known_point(&line.start);
-    known_point(&line.end);
+    point_with_range(&line.start);
+    point_with_range(&line.end);
     Code3BD::write(&(), &line.start, sink);
     Code3BD::write(&(), &line.end, sink);
 }

@@ -37,7 +37,7 @@ where
     Ok(Some(Some(values)))
 }
 
-/// Whether a list is there exactly where it is present, and its count can be told.
+/// Whether a list is there exactly where it is present, and its count can be given.
 pub(crate) fn count_fits_when<T>(present: bool, values: &Option<Items<T>>) -> bool
     ensures { IsTrue result ↔ (when present bl).IsValue (option_map (λ (many : List T). length many) values.now) }
 {

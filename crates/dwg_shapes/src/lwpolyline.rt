@@ -24,7 +24,7 @@ use dwg_codes::{
     BitCode, Code3BD, CodeBD, CodeBL, CodeBS, Point2, Point3, length_when, write_when,
 };
 use dwg_common::{
-    BodyCode, BodyCode14, Layout, Lengths, TOO_MANY, known_point, parse_code, parse_when,
+    BodyCode, BodyCode14, Layout, Lengths, TOO_MANY, parse_code, parse_when, point_with_range,
 };
 use std::alloc::Global;
 
@@ -53,9 +53,9 @@ pub struct LwPolyline {
     pub normal: Option<Point3>,
     /// Its points in its plane, fewer than 2^32.
     pub points: Items<Point2>,
-    /// How much it bulges behind each point, words of floating-point numbers, fewer than 2^32.
+    /// How much it bulges after each point, words of floating-point numbers, fewer than 2^32.
     pub bulges: Option<Items<u64>>,
-    /// How wide it is behind each point, fewer than 2^32.
+    /// How wide it is after each point, fewer than 2^32.
     pub widths: Option<Items<Width>>,
 }
 
@@ -93,11 +93,11 @@ const BULGES: u16 = 16;
 const WIDTHS: u16 = 32;
 
 /// Whether the bit of a flag that is worth so much is set.
-fn has(flag: u16, worth: u16) -> bool
-    requires { 0 < worth }
-    ensures { result ≡ has flag worth }
+fn has(flag: u16, weight: u16) -> bool
+    requires { 0 < weight }
+    ensures { result ≡ has flag weight }
 {
-    flag / worth % 2 == 1
+    flag / weight % 2 == 1
 }
 
 /// Whether a word is there exactly where it is present.
@@ -116,7 +116,7 @@ fn point_fits_when(present: bool, value: &Option<Point3>) -> bool
 {
     match value {
         Some(point) => {
-            known_point(point);
+            point_with_range(point);
             present
         }
         None => !present,

@@ -11,7 +11,7 @@ use dwg_codes::{BitCode, Point2};
 use dwg_common::{Code2DD, Code2RD, known_place, parse_code};
 use std::alloc::Global;
 
-/// The point against which the one behind a point is told.
+/// The point against which the one after a point is given.
 fn before_next(version: Version, point: Point2) -> Option<Point2>
     ensures { result ≡ before_next version point }
 {
@@ -21,7 +21,7 @@ fn before_next(version: Version, point: Point2) -> Option<Point2>
     }
 }
 
-/// Reads a point behind the one before it, as it is parsed.
+/// Reads a point after the one before it, as it is parsed.
 fn read_vertex(before: Option<Point2>, cursor: &mut BitCursor<'_>) -> Option<Point2>
     ensures parsed { Parses (vertex before) result cursor.old cursor.new }
     ensures kept { Keeps cursor.old cursor.new }
@@ -35,7 +35,7 @@ fn read_vertex(before: Option<Point2>, cursor: &mut BitCursor<'_>) -> Option<Poi
     }
 }
 
-/// Reads so many points, as they are parsed. The only refusal is want of memory, which is taken only for points that are there.
+/// Reads so many points, as they are parsed. Err: out of memory, which is taken only for points that are there.
 #[tactic(auto, using(dwg_common::proofs::ChainReading::none_begun, dwg_common::proofs::ChainReading::all_begun), unfolding(dwg_grammar::specs::Combinators::chain))]
 pub(crate) fn read_vertices(
     alloc: Global,
@@ -67,13 +67,13 @@ pub(crate) fn known_vertices(version: Version, points: &[Point2])
     ensures { (vertices version (length points.now)).IsValue points.now }
 {
     let _newer = version.is_newer();
-    // It finds nothing out: a turn tells the proof of one point what holds of every value of its type.
+    // It finds nothing out: a turn gives the proof of one point what holds of every value of its type.
     'along: for point in points {
         known_place(point);
     }
 }
 
-/// How many bits a point is written by behind the one before it.
+/// How many bits a point is written by after the one before it.
 fn vertex_bits(before: Option<Point2>, point: &Point2) -> u64
     requires { (vertex before).IsValue point.now }
     ensures length { result ≡ length ((vertex before).short point.now) }
@@ -104,7 +104,7 @@ pub(crate) fn vertices_bits(version: Version, points: &[Point2]) -> u64
     bits
 }
 
-/// Writes a point behind the one before it.
+/// Writes a point after the one before it.
 fn write_vertex(before: Option<Point2>, point: &Point2, sink: &mut BitSink)
     requires value { (vertex before).IsValue point.now }
     requires room { length ((vertex before).short point.now) ≤ sink.old.spare }
@@ -119,7 +119,7 @@ fn write_vertex(before: Option<Point2>, point: &Point2, sink: &mut BitSink)
     }
 }
 
-/// Writes points, each behind the one before it.
+/// Writes points, each after the one before it.
 #[tactic(auto, unfolding(dwg_grammar::specs::Combinators::chain))]
 pub(crate) fn write_vertices(version: Version, points: &[Point2], sink: &mut BitSink)
     requires value { (vertices version (length points.now)).IsValue points.now }

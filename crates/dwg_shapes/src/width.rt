@@ -24,7 +24,7 @@ fn known_width(width: &Width)
 pub(crate) fn known_widths(widths: &[Width])
     ensures { AllByRecursion width_pair.IsValue widths.now }
 {
-    // It finds nothing out: a turn tells the proof of one width what holds of every value of its type.
+    // It finds nothing out: a turn gives the proof of one width what holds of every value of its type.
     'along: for width in widths {
         known_width(width);
     }

@@ -11,8 +11,8 @@ use Rattle.dwg_dicts.specs.declared.xrecord.XRecord.{XRecord}
 use Rattle.dwg_entities.specs.declared.attdef.Attdef.{Attdef}
 use Rattle.dwg_entities.specs.declared.attrib.Attrib.{Attrib}
 use Rattle.dwg_entities.specs.declared.block.Block.{Block}
-use Rattle.dwg_entities.specs.declared.closing.EndBlk.{EndBlk}
-use Rattle.dwg_entities.specs.declared.closing.SeqEnd.{SeqEnd}
+use Rattle.dwg_entities.specs.declared.block_ends.EndBlk.{EndBlk}
+use Rattle.dwg_entities.specs.declared.block_ends.SeqEnd.{SeqEnd}
 use Rattle.dwg_entities.specs.declared.insert.Attributes.{Attributes}
 use Rattle.dwg_entities.specs.declared.insert.Insert.{Insert}
 use Rattle.dwg_entities.specs.declared.minsert.MInsert.{MInsert}

@@ -10,7 +10,7 @@ use Rattle.dwg_show.specs.Fields.{Printer, member, bytes, listed, number, option
 unfoldable pub app_data_fields : Printer AppData
 app_data_fields path app_data = member path (codes "application") reference app_data.application ++ member path (codes "bytes") bytes app_data.bytes
 
--- the entities before and behind an entity
+-- the entities before and after an entity
 unfoldable pub links_fields : Printer Links
 links_fields path links = member path (codes "previous") reference links.previous ++ member path (codes "next") reference links.next
 

@@ -5,7 +5,7 @@ use Rattle.dwg_file.specs.Contents.{Contents, OtherValue}
 use Rattle.dwg_object.specs.Objects.{ObjectValue}
 use Rattle.dwg_text.specs.Classes.{classes_text}
 use Rattle.dwg_text.specs.Lines.{line}
-use Rattle.dwg_page.specs.Values.{bytes_text}
+use Rattle.dwg_text.specs.Values.{bytes_text}
 use Rattle.dwg_show.specs.ObjectText.{object_text}
 
 -- the version, the code page, and the bytes that are kept without meaning

@@ -4,8 +4,8 @@ use Rattle.dwg_grammar.specs.declared.points.Point2.{Point2}
 use Rattle.dwg_grammar.specs.declared.points.Point3.{Point3}
 use Rattle.dwg_grammar.specs.Reference.{Reference}
 use Rattle.dwg_text.specs.Lines.{line, truth, quoted}
-use Rattle.dwg_page.specs.Numbered.{numbered}
-use Rattle.dwg_page.specs.Values.{word_text, point2_text, point3_text, reference_text, bytes_text}
+use Rattle.dwg_text.specs.Numbered.{numbered}
+use Rattle.dwg_text.specs.Values.{word_text, point2_text, point3_text, reference_text, bytes_text}
 
 -- the lines of a value at a path
 abbrev pub Printer : Type 0 → Type 0
@@ -15,11 +15,11 @@ Printer A = List ℕ → A → List ℕ
 unfoldable pub field_line : List ℕ → List ℕ → List ℕ
 field_line path text = line (codes "  " ++ path ++ codes " " ++ text)
 
--- the path of a member of what stands at a path: behind a full stop, unless it is a member of the object itself
+-- the path of a member of what stands at a path: after a full stop, unless it is a member of the object itself
 abbrev pub member_path : List ℕ → List ℕ → List ℕ
 member_path path name = if length path == 0 then name else path ++ codes "." ++ name
 
--- the path of an element of the list at a path: its number in brackets behind the list's name
+-- the path of an element of the list at a path: its number in brackets after the list's name
 abbrev pub element_path : List ℕ → ℕ → List ℕ
 element_path path index = path ++ codes "[" ++ decimal index ++ codes "]"
 

@@ -7,7 +7,7 @@ use Rattle.dwg_object.specs.Objects.{ObjectValue, TypedValue, PlainValue, RawVal
 use Rattle.dwg_object.specs.declared.common.Common.{Common}
 use Rattle.dwg_object.specs.declared.common.Common.TheVariants as commons
 use Rattle.dwg_text.specs.Lines.{line}
-use Rattle.dwg_page.specs.Values.{upper_digits}
+use Rattle.dwg_text.specs.Values.{upper_digits}
 use Rattle.dwg_show.specs.Fields.{Printer, member, number, bytes, reference, listed}
 use Rattle.dwg_show.specs.CommonFields.{entity_common_fields, object_common_fields}
 use Rattle.dwg_show.specs.BodyFields.{body_fields}

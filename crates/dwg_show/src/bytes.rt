@@ -1,11 +1,11 @@
 //! Runs of bytes, which are printed as their digits.
 
-ghost use Rattle.dwg_page.specs.Telling.{Tells};
+ghost use Rattle.dwg_text.specs.Writing.{WritesText};
 ghost use Rattle.dwg_show.specs.Fields as printers;
 
 use crate::fields::{Print, print_member};
 use dwg_base::{ByteRun, Sink};
-use dwg_page::{Page, tell_bytes};
+use dwg_text::{TextWriter, write_bytes};
 
 /// Bytes that are no text.
 #[derive(Clone, Copy)]
@@ -15,12 +15,12 @@ impl Print for Bytes<'_> {
     ghost lines = { λ path bytes. printers.bytes path bytes.0.now };
 
     #[tactic(auto, unfolding(crate::specs::Fields::field_line))]
-    fn print<W: Sink>(&self, path: &str, page: &mut Page, sink: &mut W) {
-        page.tell("  ", sink);
-        page.tell(path, sink);
-        page.tell(" ", sink);
-        tell_bytes(self.0, page, sink);
-        page.tell("\n", sink);
+    fn print<W: Sink>(&self, path: &str, page: &mut TextWriter, sink: &mut W) {
+        page.write("  ", sink);
+        page.write(path, sink);
+        page.write(" ", sink);
+        write_bytes(self.0, page, sink);
+        page.write("\n", sink);
     }
 }
 
@@ -29,10 +29,10 @@ pub(crate) fn print_slice<W: Sink>(
     bytes: &[u8],
     path: &str,
     name: &str,
-    page: &mut Page,
+    page: &mut TextWriter,
     sink: &mut W,
 )
-    ensures { Tells page.old page.new (W.taken sink.old) (W.taken sink.new) (W.faults sink.old) (W.faults sink.new) (printers.member path.now name.now printers.bytes bytes.now) }
+    ensures { WritesText page.old page.new (W.taken sink.old) (W.taken sink.new) (W.faults sink.old) (W.faults sink.new) (printers.member path.now name.now printers.bytes bytes.now) }
 {
     print_member(&Bytes(bytes), path, name, page, sink);
 }
@@ -42,24 +42,24 @@ pub(crate) fn print_bytes<W: Sink>(
     bytes: &ByteRun,
     path: &str,
     name: &str,
-    page: &mut Page,
+    page: &mut TextWriter,
     sink: &mut W,
 )
-    ensures { Tells page.old page.new (W.taken sink.old) (W.taken sink.new) (W.faults sink.old) (W.faults sink.new) (printers.member path.now name.now printers.bytes bytes.now) }
+    ensures { WritesText page.old page.new (W.taken sink.old) (W.taken sink.new) (W.faults sink.old) (W.faults sink.new) (printers.member path.now name.now printers.bytes bytes.now) }
 {
     print_slice(bytes.as_slice(), path, name, page, sink);
 }
 
 /// Prints a member of what stands at a path: a run of bytes that is no text, where there is one.
-#[tactic(auto, using(dwg_page::proofs::Telling::tells_nothing))]
+#[tactic(auto, using(dwg_text::proofs::Writing::writes_nothing))]
 pub(crate) fn print_bytes_where<W: Sink>(
     bytes: &Option<ByteRun>,
     path: &str,
     name: &str,
-    page: &mut Page,
+    page: &mut TextWriter,
     sink: &mut W,
 )
-    ensures { Tells page.old page.new (W.taken sink.old) (W.taken sink.new) (W.faults sink.old) (W.faults sink.new) (printers.member path.now name.now (printers.optional printers.bytes) bytes.now) }
+    ensures { WritesText page.old page.new (W.taken sink.old) (W.taken sink.new) (W.faults sink.old) (W.faults sink.new) (printers.member path.now name.now (printers.optional printers.bytes) bytes.now) }
 {
     match bytes {
         Some(run) => print_bytes(run, path, name, page, sink),

@@ -6,13 +6,13 @@ use crate::bytes::{print_bytes, print_bytes_where};
 use crate::fields::{Print, print_member};
 use dwg_base::Sink;
 use dwg_common::{AppData, EntityCommon, Links, ObjectCommon};
-use dwg_page::Page;
+use dwg_text::TextWriter;
 
 impl Print for AppData {
     ghost lines = { fields.app_data_fields };
 
     #[tactic(auto, unfolding(crate::specs::CommonFields::app_data_fields))]
-    fn print<W: Sink>(&self, path: &str, page: &mut Page, sink: &mut W) {
+    fn print<W: Sink>(&self, path: &str, page: &mut TextWriter, sink: &mut W) {
         print_member(&self.application, path, "application", page, sink);
         print_bytes(&self.bytes, path, "bytes", page, sink);
     }
@@ -21,8 +21,8 @@ impl Print for AppData {
 impl Print for Links {
     ghost lines = { fields.links_fields };
 
-    #[tactic(auto, using(dwg_page::proofs::Telling::tells_more), unfolding(crate::specs::CommonFields::links_fields))]
-    fn print<W: Sink>(&self, path: &str, page: &mut Page, sink: &mut W) {
+    #[tactic(auto, using(dwg_text::proofs::Writing::writes_more), unfolding(crate::specs::CommonFields::links_fields))]
+    fn print<W: Sink>(&self, path: &str, page: &mut TextWriter, sink: &mut W) {
         print_member(&self.previous, path, "previous", page, sink);
         print_member(&self.next, path, "next", page, sink);
     }
@@ -32,7 +32,7 @@ impl Print for EntityCommon {
     ghost lines = { fields.entity_common_fields };
 
     #[tactic(auto, unfolding(crate::specs::CommonFields::entity_common_fields))]
-    fn print<W: Sink>(&self, path: &str, page: &mut Page, sink: &mut W) {
+    fn print<W: Sink>(&self, path: &str, page: &mut TextWriter, sink: &mut W) {
         print_member(&self.app, path, "app", page, sink);
         print_bytes_where(&self.graphic, path, "graphic", page, sink);
         print_member(&self.mode, path, "mode", page, sink);
@@ -55,8 +55,8 @@ impl Print for EntityCommon {
 impl Print for ObjectCommon {
     ghost lines = { fields.object_common_fields };
 
-    #[tactic(auto, using(dwg_page::proofs::Telling::tells_more), unfolding(crate::specs::CommonFields::object_common_fields))]
-    fn print<W: Sink>(&self, path: &str, page: &mut Page, sink: &mut W) {
+    #[tactic(auto, using(dwg_text::proofs::Writing::writes_more), unfolding(crate::specs::CommonFields::object_common_fields))]
+    fn print<W: Sink>(&self, path: &str, page: &mut TextWriter, sink: &mut W) {
         print_member(&self.app, path, "app", page, sink);
         print_member(&self.reactors, path, "reactors", page, sink);
         print_member(&self.owner, path, "owner", page, sink);

@@ -9,13 +9,13 @@ use dwg_dicts::{
     AppIdControl, BlockControl, DictItem, Dictionary, LayerControl, LtypeControl, StyleControl,
     XRecord,
 };
-use dwg_page::Page;
+use dwg_text::TextWriter;
 
 impl Print for BlockControl {
     ghost lines = { fields.block_control_fields };
 
-    #[tactic(auto, using(dwg_page::proofs::Telling::tells_more), unfolding(crate::specs::BodyFields::block_control_fields))]
-    fn print<W: Sink>(&self, path: &str, page: &mut Page, sink: &mut W) {
+    #[tactic(auto, using(dwg_text::proofs::Writing::writes_more), unfolding(crate::specs::BodyFields::block_control_fields))]
+    fn print<W: Sink>(&self, path: &str, page: &mut TextWriter, sink: &mut W) {
         print_member(&self.entries, path, "entries", page, sink);
         print_member(&self.model, path, "model", page, sink);
         print_member(&self.paper, path, "paper", page, sink);
@@ -25,8 +25,8 @@ impl Print for BlockControl {
 impl Print for LayerControl {
     ghost lines = { fields.layer_control_fields };
 
-    #[tactic(auto, using(dwg_page::proofs::Telling::tells_more), unfolding(crate::specs::BodyFields::layer_control_fields))]
-    fn print<W: Sink>(&self, path: &str, page: &mut Page, sink: &mut W) {
+    #[tactic(auto, using(dwg_text::proofs::Writing::writes_more), unfolding(crate::specs::BodyFields::layer_control_fields))]
+    fn print<W: Sink>(&self, path: &str, page: &mut TextWriter, sink: &mut W) {
         print_member(&self.entries, path, "entries", page, sink);
     }
 }
@@ -34,8 +34,8 @@ impl Print for LayerControl {
 impl Print for StyleControl {
     ghost lines = { fields.style_control_fields };
 
-    #[tactic(auto, using(dwg_page::proofs::Telling::tells_more), unfolding(crate::specs::BodyFields::style_control_fields))]
-    fn print<W: Sink>(&self, path: &str, page: &mut Page, sink: &mut W) {
+    #[tactic(auto, using(dwg_text::proofs::Writing::writes_more), unfolding(crate::specs::BodyFields::style_control_fields))]
+    fn print<W: Sink>(&self, path: &str, page: &mut TextWriter, sink: &mut W) {
         print_member(&self.entries, path, "entries", page, sink);
     }
 }
@@ -43,8 +43,8 @@ impl Print for StyleControl {
 impl Print for LtypeControl {
     ghost lines = { fields.ltype_control_fields };
 
-    #[tactic(auto, using(dwg_page::proofs::Telling::tells_more), unfolding(crate::specs::BodyFields::ltype_control_fields))]
-    fn print<W: Sink>(&self, path: &str, page: &mut Page, sink: &mut W) {
+    #[tactic(auto, using(dwg_text::proofs::Writing::writes_more), unfolding(crate::specs::BodyFields::ltype_control_fields))]
+    fn print<W: Sink>(&self, path: &str, page: &mut TextWriter, sink: &mut W) {
         print_member(&self.entries, path, "entries", page, sink);
         print_member(&self.first, path, "first", page, sink);
         print_member(&self.second, path, "second", page, sink);
@@ -54,8 +54,8 @@ impl Print for LtypeControl {
 impl Print for AppIdControl {
     ghost lines = { fields.appid_control_fields };
 
-    #[tactic(auto, using(dwg_page::proofs::Telling::tells_more), unfolding(crate::specs::BodyFields::appid_control_fields))]
-    fn print<W: Sink>(&self, path: &str, page: &mut Page, sink: &mut W) {
+    #[tactic(auto, using(dwg_text::proofs::Writing::writes_more), unfolding(crate::specs::BodyFields::appid_control_fields))]
+    fn print<W: Sink>(&self, path: &str, page: &mut TextWriter, sink: &mut W) {
         print_member(&self.entries, path, "entries", page, sink);
     }
 }
@@ -63,8 +63,8 @@ impl Print for AppIdControl {
 impl Print for DictItem {
     ghost lines = { fields.dict_item_fields };
 
-    #[tactic(auto, using(dwg_page::proofs::Telling::tells_more), unfolding(crate::specs::BodyFields::dict_item_fields))]
-    fn print<W: Sink>(&self, path: &str, page: &mut Page, sink: &mut W) {
+    #[tactic(auto, using(dwg_text::proofs::Writing::writes_more), unfolding(crate::specs::BodyFields::dict_item_fields))]
+    fn print<W: Sink>(&self, path: &str, page: &mut TextWriter, sink: &mut W) {
         print_member(&self.name, path, "name", page, sink);
         print_member(&self.target, path, "target", page, sink);
     }
@@ -73,8 +73,8 @@ impl Print for DictItem {
 impl Print for Dictionary {
     ghost lines = { fields.dictionary_fields };
 
-    #[tactic(auto, using(dwg_page::proofs::Telling::tells_more), unfolding(crate::specs::BodyFields::dictionary_fields))]
-    fn print<W: Sink>(&self, path: &str, page: &mut Page, sink: &mut W) {
+    #[tactic(auto, using(dwg_text::proofs::Writing::writes_more), unfolding(crate::specs::BodyFields::dictionary_fields))]
+    fn print<W: Sink>(&self, path: &str, page: &mut TextWriter, sink: &mut W) {
         print_member(&self.cloning, path, "cloning", page, sink);
         print_member(&self.hard_owner, path, "hard_owner", page, sink);
         print_member(&self.items, path, "items", page, sink);
@@ -84,8 +84,8 @@ impl Print for Dictionary {
 impl Print for XRecord {
     ghost lines = { fields.xrecord_fields };
 
-    #[tactic(auto, using(dwg_page::proofs::Telling::tells_more), unfolding(crate::specs::BodyFields::xrecord_fields))]
-    fn print<W: Sink>(&self, path: &str, page: &mut Page, sink: &mut W) {
+    #[tactic(auto, using(dwg_text::proofs::Writing::writes_more), unfolding(crate::specs::BodyFields::xrecord_fields))]
+    fn print<W: Sink>(&self, path: &str, page: &mut TextWriter, sink: &mut W) {
         print_bytes(&self.bytes, path, "bytes", page, sink);
         print_member(&self.cloning, path, "cloning", page, sink);
         print_member(&self.targets, path, "targets", page, sink);

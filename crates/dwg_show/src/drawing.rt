@@ -11,18 +11,17 @@ ghost use Rattle.dwg_text.specs.Classes.{class_line, classes_text};
 ghost use Rattle.dwg_text.specs.Lines.{line};
 ghost use Rattle.dwg_show.specs.DrawingText as texts;
 ghost use Rattle.dwg_show.specs.FewBits.{HasFewBits};
-ghost use Rattle.dwg_page.specs.Telling.{Tells};
+ghost use Rattle.dwg_text.specs.Writing.{WritesText};
 
-use crate::paragraphs::{Tell, tell_all};
+use crate::paragraphs::{Paragraph, write_all};
 use dwg_base::{Sink, Version};
 use dwg_classes::Class;
 use dwg_file::{Drawing, Other, Parts};
 use dwg_object::Object;
-use dwg_page::{Page, ShowFault, tell_bytes};
-use dwg_text::{push_class_line, version_word};
+use dwg_text::{ShowFault, TextWriter, push_class_line, version_word, write_bytes};
 use std::alloc::{AllocError, Global};
 
-/// The line of a class. The only refusal is want of memory.
+/// The line of a class. Err: out of memory.
 fn class_text(alloc: Global, class: &Class) -> Result<String, AllocError>
     ensures { IfOk result (λ text. string_bytes text ≡ class_line class.now) }
 {
@@ -31,78 +30,78 @@ fn class_text(alloc: Global, class: &Class) -> Result<String, AllocError>
     Ok(text)
 }
 
-impl Tell for Class {
-    ghost can_tell = { λ class. ⊤ };
+impl Paragraph for Class {
+    ghost can_write = { λ class. ⊤ };
 
-    ghost told = { class_line };
+    ghost written = { class_line };
 
-    #[tactic(auto, using(dwg_page::proofs::Telling::tells_idle))]
-    fn tell<W: Sink>(&self, page: &mut Page, sink: &mut W) {
+    #[tactic(auto, using(dwg_text::proofs::Writing::writes_idle))]
+    fn write<W: Sink>(&self, page: &mut TextWriter, sink: &mut W) {
         if page.fault.is_some() {
             return;
         }
-        page.tell_made(class_text(page.alloc, self), sink);
+        page.write_made(class_text(page.alloc, self), sink);
     }
 }
 
-/// The front of the line of an unknown section.
-fn other_front(alloc: Global, number: u8) -> Result<String, AllocError>
+/// The prefix of the line of an unknown section.
+fn other_prefix(alloc: Global, number: u8) -> Result<String, AllocError>
     ensures { IfOk result (λ text. string_bytes text ≡ codes "section " ++ decimal number ++ codes " ") }
 {
     format!(in alloc; "section {number} ")
 }
 
-/// Tells an unknown section.
-fn tell_other<W: Sink>(number: u8, bytes: &[u8], page: &mut Page, sink: &mut W)
-    ensures { Tells page.old page.new (W.taken sink.old) (W.taken sink.new) (W.faults sink.old) (W.faults sink.new) (texts.other_line (record { number = number; bytes = bytes.now })) }
+/// Writes an unknown section.
+fn write_other<W: Sink>(number: u8, bytes: &[u8], page: &mut TextWriter, sink: &mut W)
+    ensures { WritesText page.old page.new (W.taken sink.old) (W.taken sink.new) (W.faults sink.old) (W.faults sink.new) (texts.other_line (record { number = number; bytes = bytes.now })) }
 {
-    page.tell_made(other_front(page.alloc, number), sink);
-    tell_bytes(bytes, page, sink);
-    page.tell("\n", sink);
+    page.write_made(other_prefix(page.alloc, number), sink);
+    write_bytes(bytes, page, sink);
+    page.write("\n", sink);
 }
 
-impl Tell for Other<'_> {
-    ghost can_tell = { λ other. ⊤ };
+impl Paragraph for Other<'_> {
+    ghost can_write = { λ other. ⊤ };
 
-    ghost told = { λ other. texts.other_line (other_value other) };
+    ghost written = { λ other. texts.other_line (other_value other) };
 
-    fn tell<W: Sink>(&self, page: &mut Page, sink: &mut W) {
-        tell_other(self.number, self.bytes.as_slice(), page, sink);
+    fn write<W: Sink>(&self, page: &mut TextWriter, sink: &mut W) {
+        write_other(self.number, self.bytes.as_slice(), page, sink);
     }
 }
 
-/// The front of the line that a drawing begins with.
-fn drawing_front(alloc: Global, version: Version, code_page: u16) -> Result<String, AllocError>
+/// The prefix of the line that a drawing begins with.
+fn drawing_prefix(alloc: Global, version: Version, code_page: u16) -> Result<String, AllocError>
     ensures { IfOk result (λ text. string_bytes text ≡ codes "drawing " ++ version_bytes version ++ codes " codepage " ++ decimal code_page ++ codes " lead ") }
 {
     let version = version_word(version);
     format!(in alloc; "drawing {version} codepage {code_page} lead ")
 }
 
-/// Tells the version, the code page, and the bytes that are kept without meaning.
-fn tell_drawing_line<W: Sink>(parts: &Parts<'_>, page: &mut Page, sink: &mut W)
-    ensures { Tells page.old page.new (W.taken sink.old) (W.taken sink.new) (W.faults sink.old) (W.faults sink.new) (texts.drawing_line (contents_of parts.now)) }
+/// Writes the version, the code page, and the bytes that are kept without meaning.
+fn write_drawing_line<W: Sink>(parts: &Parts<'_>, page: &mut TextWriter, sink: &mut W)
+    ensures { WritesText page.old page.new (W.taken sink.old) (W.taken sink.new) (W.faults sink.old) (W.faults sink.new) (texts.drawing_line (contents_of parts.now)) }
 {
-    page.tell_made(
-        drawing_front(page.alloc, parts.version, parts.code_page),
+    page.write_made(
+        drawing_prefix(page.alloc, parts.version, parts.code_page),
         sink,
     );
-    tell_bytes(&parts.lead, page, sink);
-    page.tell(" mark ", sink);
-    tell_bytes(&parts.mark, page, sink);
-    page.tell("\n", sink);
+    write_bytes(&parts.lead, page, sink);
+    page.write(" mark ", sink);
+    write_bytes(&parts.mark, page, sink);
+    page.write("\n", sink);
 }
 
-/// Tells the header variables.
-fn tell_variables<W: Sink>(variables: &[u8], page: &mut Page, sink: &mut W)
-    ensures { Tells page.old page.new (W.taken sink.old) (W.taken sink.new) (W.faults sink.old) (W.faults sink.new) (texts.variables_line variables.now) }
+/// Writes the header variables.
+fn write_variables<W: Sink>(variables: &[u8], page: &mut TextWriter, sink: &mut W)
+    ensures { WritesText page.old page.new (W.taken sink.old) (W.taken sink.new) (W.faults sink.old) (W.faults sink.new) (texts.variables_line variables.now) }
 {
-    page.tell("variables ", sink);
-    tell_bytes(variables, page, sink);
-    page.tell("\n", sink);
+    page.write("variables ", sink);
+    write_bytes(variables, page, sink);
+    page.write("\n", sink);
 }
 
-/// The line that tells how many there are of something.
+/// The line that writes how many there are of something.
 fn count_line(alloc: Global, name: &str, count: usize) -> Result<String, AllocError>
     ensures { IfOk result (λ text. string_bytes text ≡ line (name.now ++ codes " " ++ decimal count)) }
 {
@@ -111,46 +110,46 @@ fn count_line(alloc: Global, name: &str, count: usize) -> Result<String, AllocEr
     Ok(text)
 }
 
-/// Tells the classes.
-fn tell_classes<W: Sink>(classes: &[Class], page: &mut Page, sink: &mut W)
-    ensures { Tells page.old page.new (W.taken sink.old) (W.taken sink.new) (W.faults sink.old) (W.faults sink.new) (classes_text classes.now) }
+/// Writes the classes.
+fn write_classes<W: Sink>(classes: &[Class], page: &mut TextWriter, sink: &mut W)
+    ensures { WritesText page.old page.new (W.taken sink.old) (W.taken sink.new) (W.faults sink.old) (W.faults sink.new) (classes_text classes.now) }
 {
-    page.tell_made(count_line(page.alloc, "classes", classes.len()), sink);
-    tell_all(classes, page, sink);
+    page.write_made(count_line(page.alloc, "classes", classes.len()), sink);
+    write_all(classes, page, sink);
 }
 
-/// Tells the unknown sections.
-fn tell_others<W: Sink>(others: &[Other<'_>], page: &mut Page, sink: &mut W)
-    ensures { Tells page.old page.new (W.taken sink.old) (W.taken sink.new) (W.faults sink.old) (W.faults sink.new) (flat_map texts.other_line (map other_value others.now)) }
+/// Writes the unknown sections.
+fn write_others<W: Sink>(others: &[Other<'_>], page: &mut TextWriter, sink: &mut W)
+    ensures { WritesText page.old page.new (W.taken sink.old) (W.taken sink.new) (W.faults sink.old) (W.faults sink.new) (flat_map texts.other_line (map other_value others.now)) }
 {
-    tell_all(others, page, sink);
+    write_all(others, page, sink);
 }
 
-/// Tells the objects.
-fn tell_objects<W: Sink>(objects: &[Object<'_>], page: &mut Page, sink: &mut W)
+/// Writes the objects.
+fn write_objects<W: Sink>(objects: &[Object<'_>], page: &mut TextWriter, sink: &mut W)
     requires { AllByRecursion HasFewBits (map value_of objects.now) }
-    ensures { Tells page.old page.new (W.taken sink.old) (W.taken sink.new) (W.faults sink.old) (W.faults sink.new) (texts.objects_text (map value_of objects.now)) }
+    ensures { WritesText page.old page.new (W.taken sink.old) (W.taken sink.new) (W.faults sink.old) (W.faults sink.new) (texts.objects_text (map value_of objects.now)) }
 {
-    page.tell_made(count_line(page.alloc, "objects", objects.len()), sink);
-    tell_all(objects, page, sink);
+    page.write_made(count_line(page.alloc, "objects", objects.len()), sink);
+    write_all(objects, page, sink);
 }
 
-/// Tells a drawing.
-fn tell_drawing<W: Sink>(parts: &Parts<'_>, page: &mut Page, sink: &mut W)
+/// Writes a drawing.
+fn write_drawing<W: Sink>(parts: &Parts<'_>, page: &mut TextWriter, sink: &mut W)
     requires { IsValid (contents_of parts.now) }
-    ensures { Tells page.old page.new (W.taken sink.old) (W.taken sink.new) (W.faults sink.old) (W.faults sink.new) (texts.show_text (contents_of parts.now)) }
+    ensures { WritesText page.old page.new (W.taken sink.old) (W.taken sink.new) (W.faults sink.old) (W.faults sink.new) (texts.show_text (contents_of parts.now)) }
 {
-    tell_drawing_line(parts, page, sink);
-    tell_variables(parts.variables.as_slice(), page, sink);
-    tell_classes(parts.classes.as_slice(), page, sink);
-    tell_others(parts.others.as_slice(), page, sink);
-    tell_objects(parts.objects.as_slice(), page, sink);
+    write_drawing_line(parts, page, sink);
+    write_variables(parts.variables.as_slice(), page, sink);
+    write_classes(parts.classes.as_slice(), page, sink);
+    write_others(parts.others.as_slice(), page, sink);
+    write_objects(parts.objects.as_slice(), page, sink);
 }
 
 /// Writes the text of a drawing, a piece at a time: what its header says, the header variables, the classes, the unknown
 /// sections, and the objects in order of handle, each with all its fields. A write fault comes only where the sink's count of
-/// faults rose; the only other refusal is want of memory. After either the sink took a front of the text.
-#[tactic(auto, unfolding(dwg_page::specs::Telling::TellsBy))]
+/// faults rose; the only other refusal is out of memory. After either the sink took a prefix of the text.
+#[tactic(auto, unfolding(dwg_text::specs::Writing::WritesTextBy))]
 pub fn show<W: Sink>(alloc: Global, drawing: &Drawing<'_>, sink: &mut W) -> Result<(), ShowFault>
     ensures bytes { Sends (W.taken sink.old) (W.taken sink.new) (texts.show_text (contents_of drawing.now)) result }
     ensures never_falls { W.faults sink.old ≤ W.faults sink.new }
@@ -159,7 +158,7 @@ pub fn show<W: Sink>(alloc: Global, drawing: &Drawing<'_>, sink: &mut W) -> Resu
     ensures no_memory { IsErrOf result ShowFault.NoMemory → W.faults sink.new ≡ W.faults sink.old }
     ensures write_fault { IsErrOf result ShowFault.WriteFault → Rose (W.faults sink.old) (W.faults sink.new) }
 {
-    let mut page = Page::new(alloc);
-    tell_drawing(drawing.parts(), &mut page, sink);
+    let mut page = TextWriter::new(alloc);
+    write_drawing(drawing.parts(), &mut page, sink);
     page.end(sink)
 }

@@ -5,13 +5,13 @@ ghost use Rattle.dwg_show.specs.BodyFields as fields;
 use crate::fields::{Print, print_member};
 use dwg_base::Sink;
 use dwg_entities::{Attdef, Attrib, Attributes, Block, EndBlk, Insert, MInsert, SeqEnd, Text};
-use dwg_page::Page;
+use dwg_text::TextWriter;
 
 impl Print for Text {
     ghost lines = { fields.text_fields };
 
-    #[tactic(auto, using(dwg_page::proofs::Telling::tells_more), unfolding(crate::specs::BodyFields::text_fields))]
-    fn print<W: Sink>(&self, path: &str, page: &mut Page, sink: &mut W) {
+    #[tactic(auto, using(dwg_text::proofs::Writing::writes_more), unfolding(crate::specs::BodyFields::text_fields))]
+    fn print<W: Sink>(&self, path: &str, page: &mut TextWriter, sink: &mut W) {
         print_member(&self.elevation, path, "elevation", page, sink);
         print_member(&self.insertion, path, "insertion", page, sink);
         print_member(&self.alignment, path, "alignment", page, sink);
@@ -32,8 +32,8 @@ impl Print for Text {
 impl Print for Attrib {
     ghost lines = { fields.attrib_fields };
 
-    #[tactic(auto, using(dwg_page::proofs::Telling::tells_more), unfolding(crate::specs::BodyFields::attrib_fields))]
-    fn print<W: Sink>(&self, path: &str, page: &mut Page, sink: &mut W) {
+    #[tactic(auto, using(dwg_text::proofs::Writing::writes_more), unfolding(crate::specs::BodyFields::attrib_fields))]
+    fn print<W: Sink>(&self, path: &str, page: &mut TextWriter, sink: &mut W) {
         print_member(&self.text, path, "text", page, sink);
         print_member(&self.tag, path, "tag", page, sink);
         print_member(&self.length, path, "length", page, sink);
@@ -44,8 +44,8 @@ impl Print for Attrib {
 impl Print for Attdef {
     ghost lines = { fields.attdef_fields };
 
-    #[tactic(auto, using(dwg_page::proofs::Telling::tells_more), unfolding(crate::specs::BodyFields::attdef_fields))]
-    fn print<W: Sink>(&self, path: &str, page: &mut Page, sink: &mut W) {
+    #[tactic(auto, using(dwg_text::proofs::Writing::writes_more), unfolding(crate::specs::BodyFields::attdef_fields))]
+    fn print<W: Sink>(&self, path: &str, page: &mut TextWriter, sink: &mut W) {
         print_member(&self.attrib, path, "attrib", page, sink);
         print_member(&self.prompt, path, "prompt", page, sink);
     }
@@ -54,8 +54,8 @@ impl Print for Attdef {
 impl Print for Attributes {
     ghost lines = { fields.attributes_fields };
 
-    #[tactic(auto, using(dwg_page::proofs::Telling::tells_more), unfolding(crate::specs::BodyFields::attributes_fields))]
-    fn print<W: Sink>(&self, path: &str, page: &mut Page, sink: &mut W) {
+    #[tactic(auto, using(dwg_text::proofs::Writing::writes_more), unfolding(crate::specs::BodyFields::attributes_fields))]
+    fn print<W: Sink>(&self, path: &str, page: &mut TextWriter, sink: &mut W) {
         print_member(&self.first, path, "first", page, sink);
         print_member(&self.last, path, "last", page, sink);
         print_member(&self.seqend, path, "seqend", page, sink);
@@ -65,8 +65,8 @@ impl Print for Attributes {
 impl Print for Insert {
     ghost lines = { fields.insert_fields };
 
-    #[tactic(auto, using(dwg_page::proofs::Telling::tells_more), unfolding(crate::specs::BodyFields::insert_fields))]
-    fn print<W: Sink>(&self, path: &str, page: &mut Page, sink: &mut W) {
+    #[tactic(auto, using(dwg_text::proofs::Writing::writes_more), unfolding(crate::specs::BodyFields::insert_fields))]
+    fn print<W: Sink>(&self, path: &str, page: &mut TextWriter, sink: &mut W) {
         print_member(&self.place, path, "place", page, sink);
         print_member(&self.scale, path, "scale", page, sink);
         print_member(&self.rotation, path, "rotation", page, sink);
@@ -80,7 +80,7 @@ impl Print for MInsert {
     ghost lines = { fields.minsert_fields };
 
     #[tactic(auto, unfolding(crate::specs::BodyFields::minsert_fields))]
-    fn print<W: Sink>(&self, path: &str, page: &mut Page, sink: &mut W) {
+    fn print<W: Sink>(&self, path: &str, page: &mut TextWriter, sink: &mut W) {
         print_member(&self.insert, path, "insert", page, sink);
         print_member(&self.columns, path, "columns", page, sink);
         print_member(&self.rows, path, "rows", page, sink);
@@ -92,8 +92,8 @@ impl Print for MInsert {
 impl Print for Block {
     ghost lines = { fields.block_fields };
 
-    #[tactic(auto, using(dwg_page::proofs::Telling::tells_more), unfolding(crate::specs::BodyFields::block_fields))]
-    fn print<W: Sink>(&self, path: &str, page: &mut Page, sink: &mut W) {
+    #[tactic(auto, using(dwg_text::proofs::Writing::writes_more), unfolding(crate::specs::BodyFields::block_fields))]
+    fn print<W: Sink>(&self, path: &str, page: &mut TextWriter, sink: &mut W) {
         print_member(&self.name, path, "name", page, sink);
     }
 }
@@ -101,13 +101,13 @@ impl Print for Block {
 impl Print for EndBlk {
     ghost lines = { fields.endblk_fields };
 
-    #[tactic(auto, using(dwg_page::proofs::Telling::tells_nothing), unfolding(crate::specs::BodyFields::endblk_fields))]
-    fn print<W: Sink>(&self, _path: &str, _page: &mut Page, _sink: &mut W) {}
+    #[tactic(auto, using(dwg_text::proofs::Writing::writes_nothing), unfolding(crate::specs::BodyFields::endblk_fields))]
+    fn print<W: Sink>(&self, _path: &str, _page: &mut TextWriter, _sink: &mut W) {}
 }
 
 impl Print for SeqEnd {
     ghost lines = { fields.seqend_fields };
 
-    #[tactic(auto, using(dwg_page::proofs::Telling::tells_nothing), unfolding(crate::specs::BodyFields::seqend_fields))]
-    fn print<W: Sink>(&self, _path: &str, _page: &mut Page, _sink: &mut W) {}
+    #[tactic(auto, using(dwg_text::proofs::Writing::writes_nothing), unfolding(crate::specs::BodyFields::seqend_fields))]
+    fn print<W: Sink>(&self, _path: &str, _page: &mut TextWriter, _sink: &mut W) {}
 }

@@ -2,12 +2,12 @@
 
 ghost use Rattle.std.specs.Prelude.{◌≡◌, ◌++◌, OnOk, List, ℕ, string_bytes};
 ghost use Rattle.dwg_show.specs.Fields as printers;
-ghost use Rattle.dwg_page.specs.Telling.{Tells};
+ghost use Rattle.dwg_text.specs.Writing.{WritesText};
 
 use dwg_base::{ByteRun, Items, Sink};
 use dwg_codes::{Point2, Point3};
 use dwg_handles::Ref;
-use dwg_page::{Count, Page, ShowFault, Value};
+use dwg_text::{Count, ShowFault, TextWriter, Value};
 use std::alloc::AllocError;
 
 /// What is printed at a path: a value by one line, an option by those of what it holds, a list by those of its elements, and a
@@ -17,8 +17,8 @@ pub(crate) trait Print {
     ghost lines: { List ℕ → Self → List ℕ };
 
     /// Prints it at a path.
-    fn print<W: Sink>(&self, path: &str, page: &mut Page, sink: &mut W)
-        ensures { Tells page.old page.new (W.taken sink.old) (W.taken sink.new) (W.faults sink.old) (W.faults sink.new) (lines path.now self.now) };
+    fn print<W: Sink>(&self, path: &str, page: &mut TextWriter, sink: &mut W)
+        ensures { WritesText page.old page.new (W.taken sink.old) (W.taken sink.new) (W.faults sink.old) (W.faults sink.new) (lines path.now self.now) };
 }
 
 /// Appends the line of a value at a path.
@@ -34,9 +34,9 @@ fn push_line<T: Value>(text: &mut String, path: &str, value: &T) -> Result<(), A
 }
 
 /// Prints the line of a value.
-#[tactic(auto, using(dwg_page::proofs::Telling::tells_idle, dwg_page::proofs::Telling::tells_pushed, dwg_page::proofs::Telling::tells_wanting), unfolding(dwg_page::specs::Telling::TellsBy))]
-fn print_line<T: Value, W: Sink>(value: &T, path: &str, page: &mut Page, sink: &mut W)
-    ensures { Tells page.old page.new (W.taken sink.old) (W.taken sink.new) (W.faults sink.old) (W.faults sink.new) (printers.field_line path.now (T.printed value.now)) }
+#[tactic(auto, using(dwg_text::proofs::Writing::writes_idle, dwg_text::proofs::Writing::writes_pushed, dwg_text::proofs::Writing::writes_wanting), unfolding(dwg_text::specs::Writing::WritesTextBy))]
+fn print_line<T: Value, W: Sink>(value: &T, path: &str, page: &mut TextWriter, sink: &mut W)
+    ensures { WritesText page.old page.new (W.taken sink.old) (W.taken sink.new) (W.faults sink.old) (W.faults sink.new) (printers.field_line path.now (T.printed value.now)) }
 {
     if page.fault.is_some() {
         return;
@@ -50,7 +50,7 @@ fn print_line<T: Value, W: Sink>(value: &T, path: &str, page: &mut Page, sink: &
 impl Print for u8 {
     ghost lines = { printers.number };
 
-    fn print<W: Sink>(&self, path: &str, page: &mut Page, sink: &mut W) {
+    fn print<W: Sink>(&self, path: &str, page: &mut TextWriter, sink: &mut W) {
         print_line(self, path, page, sink);
     }
 }
@@ -58,7 +58,7 @@ impl Print for u8 {
 impl Print for u16 {
     ghost lines = { printers.number };
 
-    fn print<W: Sink>(&self, path: &str, page: &mut Page, sink: &mut W) {
+    fn print<W: Sink>(&self, path: &str, page: &mut TextWriter, sink: &mut W) {
         print_line(self, path, page, sink);
     }
 }
@@ -66,7 +66,7 @@ impl Print for u16 {
 impl Print for Count {
     ghost lines = { λ path count. printers.number path count.0 };
 
-    fn print<W: Sink>(&self, path: &str, page: &mut Page, sink: &mut W) {
+    fn print<W: Sink>(&self, path: &str, page: &mut TextWriter, sink: &mut W) {
         print_line(self, path, page, sink);
     }
 }
@@ -74,7 +74,7 @@ impl Print for Count {
 impl Print for u64 {
     ghost lines = { printers.word };
 
-    fn print<W: Sink>(&self, path: &str, page: &mut Page, sink: &mut W) {
+    fn print<W: Sink>(&self, path: &str, page: &mut TextWriter, sink: &mut W) {
         print_line(self, path, page, sink);
     }
 }
@@ -82,7 +82,7 @@ impl Print for u64 {
 impl Print for bool {
     ghost lines = { printers.truth_value };
 
-    fn print<W: Sink>(&self, path: &str, page: &mut Page, sink: &mut W) {
+    fn print<W: Sink>(&self, path: &str, page: &mut TextWriter, sink: &mut W) {
         print_line(self, path, page, sink);
     }
 }
@@ -90,7 +90,7 @@ impl Print for bool {
 impl Print for Point2 {
     ghost lines = { printers.point2 };
 
-    fn print<W: Sink>(&self, path: &str, page: &mut Page, sink: &mut W) {
+    fn print<W: Sink>(&self, path: &str, page: &mut TextWriter, sink: &mut W) {
         print_line(self, path, page, sink);
     }
 }
@@ -98,7 +98,7 @@ impl Print for Point2 {
 impl Print for Point3 {
     ghost lines = { printers.point3 };
 
-    fn print<W: Sink>(&self, path: &str, page: &mut Page, sink: &mut W) {
+    fn print<W: Sink>(&self, path: &str, page: &mut TextWriter, sink: &mut W) {
         print_line(self, path, page, sink);
     }
 }
@@ -106,7 +106,7 @@ impl Print for Point3 {
 impl Print for Ref {
     ghost lines = { printers.reference };
 
-    fn print<W: Sink>(&self, path: &str, page: &mut Page, sink: &mut W) {
+    fn print<W: Sink>(&self, path: &str, page: &mut TextWriter, sink: &mut W) {
         print_line(self, path, page, sink);
     }
 }
@@ -114,7 +114,7 @@ impl Print for Ref {
 impl Print for ByteRun {
     ghost lines = { printers.text };
 
-    fn print<W: Sink>(&self, path: &str, page: &mut Page, sink: &mut W) {
+    fn print<W: Sink>(&self, path: &str, page: &mut TextWriter, sink: &mut W) {
         print_line(self, path, page, sink);
     }
 }
@@ -124,45 +124,50 @@ pub(crate) fn print_member<T: Print, W: Sink>(
     value: &T,
     path: &str,
     name: &str,
-    page: &mut Page,
+    page: &mut TextWriter,
     sink: &mut W,
 )
-    ensures { Tells page.old page.new (W.taken sink.old) (W.taken sink.new) (W.faults sink.old) (W.faults sink.new) (printers.member path.now name.now T.lines value.now) }
+    ensures { WritesText page.old page.new (W.taken sink.old) (W.taken sink.new) (W.faults sink.old) (W.faults sink.new) (printers.member path.now name.now T.lines value.now) }
 {
     if path.is_empty() {
         value.print(name, page, sink);
     } else {
         match format!(in page.alloc; "{path}.{name}") {
             Ok(path) => value.print(&path, page, sink),
-            Err(_) => page.want(),
+            Err(_) => page.fail_no_memory(),
         }
     }
 }
 
 /// Prints an element of the list at a path.
-#[tactic(auto, using(dwg_page::proofs::Telling::tells_idle))]
+#[tactic(auto, using(dwg_text::proofs::Writing::writes_idle))]
 fn print_element<T: Print, W: Sink>(
     element: &T,
     path: &str,
     index: usize,
-    page: &mut Page,
+    page: &mut TextWriter,
     sink: &mut W,
 )
-    ensures { Tells page.old page.new (W.taken sink.old) (W.taken sink.new) (W.faults sink.old) (W.faults sink.new) (T.lines (printers.element_path path.now index) element.now) }
+    ensures { WritesText page.old page.new (W.taken sink.old) (W.taken sink.new) (W.faults sink.old) (W.faults sink.new) (T.lines (printers.element_path path.now index) element.now) }
 {
     if page.fault.is_some() {
         return;
     }
     match format!(in page.alloc; "{path}[{index}]") {
         Ok(path) => element.print(&path, page, sink),
-        Err(_) => page.want(),
+        Err(_) => page.fail_no_memory(),
     }
 }
 
 /// Prints the elements of the list at a path.
-#[tactic(auto, using(dwg_page::proofs::Telling::tells_nothing))]
-fn print_elements<T: Print, W: Sink>(elements: &[T], path: &str, page: &mut Page, sink: &mut W)
-    ensures { Tells page.old page.new (W.taken sink.old) (W.taken sink.new) (W.faults sink.old) (W.faults sink.new) (printers.listed T.lines path.now elements.now) }
+#[tactic(auto, using(dwg_text::proofs::Writing::writes_nothing))]
+fn print_elements<T: Print, W: Sink>(
+    elements: &[T],
+    path: &str,
+    page: &mut TextWriter,
+    sink: &mut W,
+)
+    ensures { WritesText page.old page.new (W.taken sink.old) (W.taken sink.new) (W.faults sink.old) (W.faults sink.new) (printers.listed T.lines path.now elements.now) }
 {
     'along: for index in 0..elements.len() {
         print_element(&elements[index], path, index, page, sink);
@@ -172,7 +177,7 @@ fn print_elements<T: Print, W: Sink>(elements: &[T], path: &str, page: &mut Page
 impl<T: Print> Print for Items<T> {
     ghost lines = { printers.listed T.lines };
 
-    fn print<W: Sink>(&self, path: &str, page: &mut Page, sink: &mut W) {
+    fn print<W: Sink>(&self, path: &str, page: &mut TextWriter, sink: &mut W) {
         print_elements(self.as_slice(), path, page, sink);
     }
 }
@@ -180,8 +185,8 @@ impl<T: Print> Print for Items<T> {
 impl<T: Print> Print for Option<T> {
     ghost lines = { printers.optional T.lines };
 
-    #[tactic(auto, using(dwg_page::proofs::Telling::tells_nothing))]
-    fn print<W: Sink>(&self, path: &str, page: &mut Page, sink: &mut W) {
+    #[tactic(auto, using(dwg_text::proofs::Writing::writes_nothing))]
+    fn print<W: Sink>(&self, path: &str, page: &mut TextWriter, sink: &mut W) {
         match self {
             Some(value) => value.print(path, page, sink),
             None => {}

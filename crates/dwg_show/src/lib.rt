@@ -14,4 +14,4 @@ mod shapes;
 mod tables;
 
 pub use drawing::show;
-pub use dwg_page::ShowFault;
+pub use dwg_text::ShowFault;

@@ -5,13 +5,13 @@ ghost use Rattle.dwg_show.specs.BodyFields as fields;
 use crate::fields::{Print, print_member};
 use dwg_base::Sink;
 use dwg_more::{Ellipse, Face3d, Group, Polyline3d, Ray, Solid, Trace, Vertex3d, XLine};
-use dwg_page::Page;
+use dwg_text::TextWriter;
 
 impl Print for Vertex3d {
     ghost lines = { fields.vertex_fields };
 
-    #[tactic(auto, using(dwg_page::proofs::Telling::tells_more), unfolding(crate::specs::BodyFields::vertex_fields))]
-    fn print<W: Sink>(&self, path: &str, page: &mut Page, sink: &mut W) {
+    #[tactic(auto, using(dwg_text::proofs::Writing::writes_more), unfolding(crate::specs::BodyFields::vertex_fields))]
+    fn print<W: Sink>(&self, path: &str, page: &mut TextWriter, sink: &mut W) {
         print_member(&self.flags, path, "flags", page, sink);
         print_member(&self.place, path, "place", page, sink);
     }
@@ -20,8 +20,8 @@ impl Print for Vertex3d {
 impl Print for Polyline3d {
     ghost lines = { fields.polyline_fields };
 
-    #[tactic(auto, using(dwg_page::proofs::Telling::tells_more), unfolding(crate::specs::BodyFields::polyline_fields))]
-    fn print<W: Sink>(&self, path: &str, page: &mut Page, sink: &mut W) {
+    #[tactic(auto, using(dwg_text::proofs::Writing::writes_more), unfolding(crate::specs::BodyFields::polyline_fields))]
+    fn print<W: Sink>(&self, path: &str, page: &mut TextWriter, sink: &mut W) {
         print_member(&self.flags_a, path, "flags_a", page, sink);
         print_member(&self.flags_b, path, "flags_b", page, sink);
         print_member(&self.first, path, "first", page, sink);
@@ -33,8 +33,8 @@ impl Print for Polyline3d {
 impl Print for Face3d {
     ghost lines = { fields.face_fields };
 
-    #[tactic(auto, using(dwg_page::proofs::Telling::tells_more), unfolding(crate::specs::BodyFields::face_fields))]
-    fn print<W: Sink>(&self, path: &str, page: &mut Page, sink: &mut W) {
+    #[tactic(auto, using(dwg_text::proofs::Writing::writes_more), unfolding(crate::specs::BodyFields::face_fields))]
+    fn print<W: Sink>(&self, path: &str, page: &mut TextWriter, sink: &mut W) {
         print_member(&self.first, path, "first", page, sink);
         print_member(&self.second, path, "second", page, sink);
         print_member(&self.third, path, "third", page, sink);
@@ -46,8 +46,8 @@ impl Print for Face3d {
 impl Print for Solid {
     ghost lines = { fields.solid_fields };
 
-    #[tactic(auto, using(dwg_page::proofs::Telling::tells_more), unfolding(crate::specs::BodyFields::solid_fields))]
-    fn print<W: Sink>(&self, path: &str, page: &mut Page, sink: &mut W) {
+    #[tactic(auto, using(dwg_text::proofs::Writing::writes_more), unfolding(crate::specs::BodyFields::solid_fields))]
+    fn print<W: Sink>(&self, path: &str, page: &mut TextWriter, sink: &mut W) {
         print_member(&self.thickness, path, "thickness", page, sink);
         print_member(&self.elevation, path, "elevation", page, sink);
         print_member(&self.first, path, "first", page, sink);
@@ -61,8 +61,8 @@ impl Print for Solid {
 impl Print for Trace {
     ghost lines = { fields.trace_fields };
 
-    #[tactic(auto, using(dwg_page::proofs::Telling::tells_more), unfolding(crate::specs::BodyFields::trace_fields))]
-    fn print<W: Sink>(&self, path: &str, page: &mut Page, sink: &mut W) {
+    #[tactic(auto, using(dwg_text::proofs::Writing::writes_more), unfolding(crate::specs::BodyFields::trace_fields))]
+    fn print<W: Sink>(&self, path: &str, page: &mut TextWriter, sink: &mut W) {
         print_member(&self.thickness, path, "thickness", page, sink);
         print_member(&self.elevation, path, "elevation", page, sink);
         print_member(&self.first, path, "first", page, sink);
@@ -76,8 +76,8 @@ impl Print for Trace {
 impl Print for Ellipse {
     ghost lines = { fields.ellipse_fields };
 
-    #[tactic(auto, using(dwg_page::proofs::Telling::tells_more), unfolding(crate::specs::BodyFields::ellipse_fields))]
-    fn print<W: Sink>(&self, path: &str, page: &mut Page, sink: &mut W) {
+    #[tactic(auto, using(dwg_text::proofs::Writing::writes_more), unfolding(crate::specs::BodyFields::ellipse_fields))]
+    fn print<W: Sink>(&self, path: &str, page: &mut TextWriter, sink: &mut W) {
         print_member(&self.centre, path, "centre", page, sink);
         print_member(&self.axis, path, "axis", page, sink);
         print_member(&self.extrusion, path, "extrusion", page, sink);
@@ -90,8 +90,8 @@ impl Print for Ellipse {
 impl Print for Ray {
     ghost lines = { fields.ray_fields };
 
-    #[tactic(auto, using(dwg_page::proofs::Telling::tells_more), unfolding(crate::specs::BodyFields::ray_fields))]
-    fn print<W: Sink>(&self, path: &str, page: &mut Page, sink: &mut W) {
+    #[tactic(auto, using(dwg_text::proofs::Writing::writes_more), unfolding(crate::specs::BodyFields::ray_fields))]
+    fn print<W: Sink>(&self, path: &str, page: &mut TextWriter, sink: &mut W) {
         print_member(&self.point, path, "point", page, sink);
         print_member(&self.vector, path, "vector", page, sink);
     }
@@ -100,8 +100,8 @@ impl Print for Ray {
 impl Print for XLine {
     ghost lines = { fields.xline_fields };
 
-    #[tactic(auto, using(dwg_page::proofs::Telling::tells_more), unfolding(crate::specs::BodyFields::xline_fields))]
-    fn print<W: Sink>(&self, path: &str, page: &mut Page, sink: &mut W) {
+    #[tactic(auto, using(dwg_text::proofs::Writing::writes_more), unfolding(crate::specs::BodyFields::xline_fields))]
+    fn print<W: Sink>(&self, path: &str, page: &mut TextWriter, sink: &mut W) {
         print_member(&self.point, path, "point", page, sink);
         print_member(&self.vector, path, "vector", page, sink);
     }
@@ -110,8 +110,8 @@ impl Print for XLine {
 impl Print for Group {
     ghost lines = { fields.group_fields };
 
-    #[tactic(auto, using(dwg_page::proofs::Telling::tells_more), unfolding(crate::specs::BodyFields::group_fields))]
-    fn print<W: Sink>(&self, path: &str, page: &mut Page, sink: &mut W) {
+    #[tactic(auto, using(dwg_text::proofs::Writing::writes_more), unfolding(crate::specs::BodyFields::group_fields))]
+    fn print<W: Sink>(&self, path: &str, page: &mut TextWriter, sink: &mut W) {
         print_member(&self.name, path, "name", page, sink);
         print_member(&self.unnamed, path, "unnamed", page, sink);
         print_member(&self.selectable, path, "selectable", page, sink);

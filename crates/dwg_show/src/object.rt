@@ -10,23 +10,23 @@ ghost use Rattle.dwg_show.specs.BodyFields.{body_fields};
 ghost use Rattle.dwg_show.specs.Fields as printers;
 ghost use Rattle.dwg_show.specs.FewBits.{HasFewBits};
 ghost use Rattle.dwg_show.specs.ObjectText as texts;
-ghost use Rattle.dwg_page.specs.Telling.{Tells};
+ghost use Rattle.dwg_text.specs.Writing.{WritesText};
 
 use crate::bytes::print_slice;
 use crate::fields::{Print, print_member};
-use crate::paragraphs::Tell;
+use crate::paragraphs::Paragraph;
 use dwg_base::Sink;
 use dwg_bits::{BitPart, BitSink};
 use dwg_kinds::name_of;
-use dwg_object::{Body, Common, Object, by_kind};
-use dwg_page::{Count, Page};
+use dwg_object::{Body, Common, Object, match_body};
+use dwg_text::{Count, TextWriter};
 use std::alloc::{AllocError, Global};
 
 impl Print for Common {
     ghost lines = { texts.common_fields };
 
     #[tactic(auto, unfolding(crate::specs::ObjectText::common_fields))]
-    fn print<W: Sink>(&self, path: &str, page: &mut Page, sink: &mut W) {
+    fn print<W: Sink>(&self, path: &str, page: &mut TextWriter, sink: &mut W) {
         match self {
             Common::Entity(common) => common.print(path, page, sink),
             Common::Object(common) => common.print(path, page, sink),
@@ -38,8 +38,8 @@ impl Print for Body {
     ghost lines = { body_fields };
 
     #[tactic(auto, unfolding(crate::specs::BodyFields::body_fields))]
-    fn print<W: Sink>(&self, path: &str, page: &mut Page, sink: &mut W) {
-        by_kind!(body self, body => body.print(path, page, sink))
+    fn print<W: Sink>(&self, path: &str, page: &mut TextWriter, sink: &mut W) {
+        match_body!(body self, body => body.print(path, page, sink))
     }
 }
 
@@ -54,7 +54,7 @@ fn form_word(object: &Object<'_>) -> &'static str
     }
 }
 
-/// The line that an object begins with. The only refusal is want of memory.
+/// The line that an object begins with. Err: out of memory.
 #[tactic(auto, unfolding(crate::specs::ObjectText::head_line))]
 fn head_line(alloc: Global, object: &Object<'_>) -> Result<String, AllocError>
     ensures { IfOk result (λ line. string_bytes line ≡ texts.head_line (value_of object.now)) }
@@ -70,7 +70,7 @@ fn head_line(alloc: Global, object: &Object<'_>) -> Result<String, AllocError>
     Ok(line)
 }
 
-/// Bits in a sink, with zero bits up to a whole byte. None is want of memory alone.
+/// Bits in a sink, with zero bits up to a whole byte. None: out of memory.
 fn padded(alloc: Global, bits: &BitPart<'_>) -> Option<BitSink>
     requires { length (part_bits bits.now) < 2 ^ 32 }
     ensures { IfSome result (λ sink. sink.written ≡ part_bits bits.now ++ padding (part_bits bits.now)) }
@@ -100,21 +100,21 @@ fn bytes_of(sink: &BitSink) -> &[u8]
 }
 
 /// Prints the own bits of an object.
-fn print_rest<W: Sink>(bits: &BitPart<'_>, page: &mut Page, sink: &mut W)
+fn print_rest<W: Sink>(bits: &BitPart<'_>, page: &mut TextWriter, sink: &mut W)
     requires { length (part_bits bits.now) < 2 ^ 32 }
-    ensures { Tells page.old page.new (W.taken sink.old) (W.taken sink.new) (W.faults sink.old) (W.faults sink.new) (printers.member [] (codes "rest") printers.bytes (whole_bytes (part_bits bits.now ++ padding (part_bits bits.now)))) }
+    ensures { WritesText page.old page.new (W.taken sink.old) (W.taken sink.new) (W.faults sink.old) (W.faults sink.new) (printers.member [] (codes "rest") printers.bytes (whole_bytes (part_bits bits.now ++ padding (part_bits bits.now)))) }
 {
     match padded(page.alloc, bits) {
         Some(whole) => print_slice(bytes_of(&whole), "", "rest", page, sink),
-        None => page.want(),
+        None => page.fail_no_memory(),
     }
 }
 
 /// Prints the fields of an object.
-#[tactic(auto, using(crate::proofs::Runs::tells_2, crate::proofs::Runs::tells_4), unfolding(crate::specs::ObjectText::object_fields))]
-fn print_fields<W: Sink>(object: &Object<'_>, page: &mut Page, sink: &mut W)
+#[tactic(auto, using(crate::proofs::Runs::writes_2, crate::proofs::Runs::writes_4), unfolding(crate::specs::ObjectText::object_fields))]
+fn print_fields<W: Sink>(object: &Object<'_>, page: &mut TextWriter, sink: &mut W)
     requires { HasFewBits (value_of object.now) }
-    ensures { Tells page.old page.new (W.taken sink.old) (W.taken sink.new) (W.faults sink.old) (W.faults sink.new) (texts.object_fields (value_of object.now)) }
+    ensures { WritesText page.old page.new (W.taken sink.old) (W.taken sink.new) (W.faults sink.old) (W.faults sink.new) (texts.object_fields (value_of object.now)) }
 {
     match object {
         Object::Typed(typed) => {
@@ -131,17 +131,17 @@ fn print_fields<W: Sink>(object: &Object<'_>, page: &mut Page, sink: &mut W)
     }
 }
 
-impl Tell for Object<'_> {
-    ghost can_tell = { λ object. HasFewBits (value_of object) };
+impl Paragraph for Object<'_> {
+    ghost can_write = { λ object. HasFewBits (value_of object) };
 
-    ghost told = { λ object. texts.object_text (value_of object) };
+    ghost written = { λ object. texts.object_text (value_of object) };
 
-    #[tactic(auto, using(dwg_page::proofs::Telling::tells_idle), unfolding(crate::specs::ObjectText::object_text))]
-    fn tell<W: Sink>(&self, page: &mut Page, sink: &mut W) {
+    #[tactic(auto, using(dwg_text::proofs::Writing::writes_idle), unfolding(crate::specs::ObjectText::object_text))]
+    fn write<W: Sink>(&self, page: &mut TextWriter, sink: &mut W) {
         if page.fault.is_some() {
             return;
         }
-        page.tell_made(head_line(page.alloc, self), sink);
+        page.write_made(head_line(page.alloc, self), sink);
         print_fields(self, page, sink);
     }
 }

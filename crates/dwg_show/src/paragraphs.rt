@@ -2,32 +2,36 @@
 
 ghost use Rattle.std.specs.Prelude.{List, ℕ, flat_map};
 ghost use Rattle.std.specs.List.{AllByRecursion};
-ghost use Rattle.dwg_page.specs.Telling.{Tells};
+ghost use Rattle.dwg_text.specs.Writing.{WritesText};
 
 use dwg_base::Sink;
-use dwg_page::Page;
+use dwg_text::TextWriter;
 
 /// What is printed by lines of its own.
-pub(crate) trait Tell {
-    /// It can be told.
-    ghost can_tell: { Self → Type 0 };
+pub(crate) trait Paragraph {
+    /// It can be written.
+    ghost can_write: { Self → Type 0 };
 
     /// Its lines.
-    ghost told: { Self → List ℕ };
+    ghost written: { Self → List ℕ };
 
-    /// Tells them.
-    fn tell<W: Sink>(&self, page: &mut Page, sink: &mut W)
-        requires { can_tell self.now }
-        ensures { Tells page.old page.new (W.taken sink.old) (W.taken sink.new) (W.faults sink.old) (W.faults sink.new) (told self.now) };
+    /// Writes them.
+    fn write<W: Sink>(&self, page: &mut TextWriter, sink: &mut W)
+        requires { can_write self.now }
+        ensures { WritesText page.old page.new (W.taken sink.old) (W.taken sink.new) (W.faults sink.old) (W.faults sink.new) (written self.now) };
 }
 
-/// Tells some of them, one behind the other.
-#[tactic(auto, using(dwg_page::proofs::Telling::tells_nothing))]
-pub(crate) fn tell_all<T: Tell, W: Sink>(paragraphs: &[T], page: &mut Page, sink: &mut W)
-    requires { AllByRecursion T.can_tell paragraphs.now }
-    ensures { Tells page.old page.new (W.taken sink.old) (W.taken sink.new) (W.faults sink.old) (W.faults sink.new) (flat_map T.told paragraphs.now) }
+/// Writes some of them, one after the other.
+#[tactic(auto, using(dwg_text::proofs::Writing::writes_nothing))]
+pub(crate) fn write_all<T: Paragraph, W: Sink>(
+    paragraphs: &[T],
+    page: &mut TextWriter,
+    sink: &mut W,
+)
+    requires { AllByRecursion T.can_write paragraphs.now }
+    ensures { WritesText page.old page.new (W.taken sink.old) (W.taken sink.new) (W.faults sink.old) (W.faults sink.new) (flat_map T.written paragraphs.now) }
 {
     'along: for index in 0..paragraphs.len() {
-        paragraphs[index].tell(page, sink);
+        paragraphs[index].write(page, sink);
     }
 }

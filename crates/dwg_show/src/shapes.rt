@@ -4,14 +4,14 @@ ghost use Rattle.dwg_show.specs.BodyFields as fields;
 
 use crate::fields::{Print, print_member};
 use dwg_base::Sink;
-use dwg_page::Page;
 use dwg_shapes::{Arc, Circle, Line, LwPolyline, Point, Width};
+use dwg_text::TextWriter;
 
 impl Print for Line {
     ghost lines = { fields.line_fields };
 
-    #[tactic(auto, using(dwg_page::proofs::Telling::tells_more), unfolding(crate::specs::BodyFields::line_fields))]
-    fn print<W: Sink>(&self, path: &str, page: &mut Page, sink: &mut W) {
+    #[tactic(auto, using(dwg_text::proofs::Writing::writes_more), unfolding(crate::specs::BodyFields::line_fields))]
+    fn print<W: Sink>(&self, path: &str, page: &mut TextWriter, sink: &mut W) {
         print_member(&self.start, path, "start", page, sink);
         print_member(&self.end, path, "end", page, sink);
         print_member(&self.thickness, path, "thickness", page, sink);
@@ -22,8 +22,8 @@ impl Print for Line {
 impl Print for Point {
     ghost lines = { fields.point_fields };
 
-    #[tactic(auto, using(dwg_page::proofs::Telling::tells_more), unfolding(crate::specs::BodyFields::point_fields))]
-    fn print<W: Sink>(&self, path: &str, page: &mut Page, sink: &mut W) {
+    #[tactic(auto, using(dwg_text::proofs::Writing::writes_more), unfolding(crate::specs::BodyFields::point_fields))]
+    fn print<W: Sink>(&self, path: &str, page: &mut TextWriter, sink: &mut W) {
         print_member(&self.place, path, "place", page, sink);
         print_member(&self.thickness, path, "thickness", page, sink);
         print_member(&self.extrusion, path, "extrusion", page, sink);
@@ -34,8 +34,8 @@ impl Print for Point {
 impl Print for Circle {
     ghost lines = { fields.circle_fields };
 
-    #[tactic(auto, using(dwg_page::proofs::Telling::tells_more), unfolding(crate::specs::BodyFields::circle_fields))]
-    fn print<W: Sink>(&self, path: &str, page: &mut Page, sink: &mut W) {
+    #[tactic(auto, using(dwg_text::proofs::Writing::writes_more), unfolding(crate::specs::BodyFields::circle_fields))]
+    fn print<W: Sink>(&self, path: &str, page: &mut TextWriter, sink: &mut W) {
         print_member(&self.centre, path, "centre", page, sink);
         print_member(&self.radius, path, "radius", page, sink);
         print_member(&self.thickness, path, "thickness", page, sink);
@@ -46,8 +46,8 @@ impl Print for Circle {
 impl Print for Arc {
     ghost lines = { fields.arc_fields };
 
-    #[tactic(auto, using(dwg_page::proofs::Telling::tells_more), unfolding(crate::specs::BodyFields::arc_fields))]
-    fn print<W: Sink>(&self, path: &str, page: &mut Page, sink: &mut W) {
+    #[tactic(auto, using(dwg_text::proofs::Writing::writes_more), unfolding(crate::specs::BodyFields::arc_fields))]
+    fn print<W: Sink>(&self, path: &str, page: &mut TextWriter, sink: &mut W) {
         print_member(&self.centre, path, "centre", page, sink);
         print_member(&self.radius, path, "radius", page, sink);
         print_member(&self.thickness, path, "thickness", page, sink);
@@ -60,8 +60,8 @@ impl Print for Arc {
 impl Print for Width {
     ghost lines = { fields.width_fields };
 
-    #[tactic(auto, using(dwg_page::proofs::Telling::tells_more), unfolding(crate::specs::BodyFields::width_fields))]
-    fn print<W: Sink>(&self, path: &str, page: &mut Page, sink: &mut W) {
+    #[tactic(auto, using(dwg_text::proofs::Writing::writes_more), unfolding(crate::specs::BodyFields::width_fields))]
+    fn print<W: Sink>(&self, path: &str, page: &mut TextWriter, sink: &mut W) {
         print_member(&self.start, path, "start", page, sink);
         print_member(&self.end, path, "end", page, sink);
     }
@@ -70,8 +70,8 @@ impl Print for Width {
 impl Print for LwPolyline {
     ghost lines = { fields.lwpolyline_fields };
 
-    #[tactic(auto, using(dwg_page::proofs::Telling::tells_more), unfolding(crate::specs::BodyFields::lwpolyline_fields))]
-    fn print<W: Sink>(&self, path: &str, page: &mut Page, sink: &mut W) {
+    #[tactic(auto, using(dwg_text::proofs::Writing::writes_more), unfolding(crate::specs::BodyFields::lwpolyline_fields))]
+    fn print<W: Sink>(&self, path: &str, page: &mut TextWriter, sink: &mut W) {
         print_member(&self.flag, path, "flag", page, sink);
         print_member(&self.width, path, "width", page, sink);
         print_member(&self.elevation, path, "elevation", page, sink);

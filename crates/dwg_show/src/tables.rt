@@ -5,14 +5,14 @@ ghost use Rattle.dwg_show.specs.BodyFields as fields;
 use crate::bytes::print_bytes;
 use crate::fields::{Print, print_member};
 use dwg_base::Sink;
-use dwg_page::Page;
 use dwg_tables::{AppId, BlockHeader, Dash, Ends, Entry, InsertMark, Layer, Ltype, Style};
+use dwg_text::TextWriter;
 
 impl Print for Entry {
     ghost lines = { fields.entry_fields };
 
-    #[tactic(auto, using(dwg_page::proofs::Telling::tells_more), unfolding(crate::specs::BodyFields::entry_fields))]
-    fn print<W: Sink>(&self, path: &str, page: &mut Page, sink: &mut W) {
+    #[tactic(auto, using(dwg_text::proofs::Writing::writes_more), unfolding(crate::specs::BodyFields::entry_fields))]
+    fn print<W: Sink>(&self, path: &str, page: &mut TextWriter, sink: &mut W) {
         print_member(&self.name, path, "name", page, sink);
         print_member(&self.flag64, path, "flag64", page, sink);
         print_member(&self.xref_index, path, "xref_index", page, sink);
@@ -24,8 +24,8 @@ impl Print for Entry {
 impl Print for Layer {
     ghost lines = { fields.layer_fields };
 
-    #[tactic(auto, using(dwg_page::proofs::Telling::tells_more), unfolding(crate::specs::BodyFields::layer_fields))]
-    fn print<W: Sink>(&self, path: &str, page: &mut Page, sink: &mut W) {
+    #[tactic(auto, using(dwg_text::proofs::Writing::writes_more), unfolding(crate::specs::BodyFields::layer_fields))]
+    fn print<W: Sink>(&self, path: &str, page: &mut TextWriter, sink: &mut W) {
         print_member(&self.entry, path, "entry", page, sink);
         print_member(&self.values, path, "values", page, sink);
         print_member(&self.colour, path, "colour", page, sink);
@@ -37,8 +37,8 @@ impl Print for Layer {
 impl Print for Style {
     ghost lines = { fields.style_fields };
 
-    #[tactic(auto, using(dwg_page::proofs::Telling::tells_more), unfolding(crate::specs::BodyFields::style_fields))]
-    fn print<W: Sink>(&self, path: &str, page: &mut Page, sink: &mut W) {
+    #[tactic(auto, using(dwg_text::proofs::Writing::writes_more), unfolding(crate::specs::BodyFields::style_fields))]
+    fn print<W: Sink>(&self, path: &str, page: &mut TextWriter, sink: &mut W) {
         print_member(&self.entry, path, "entry", page, sink);
         print_member(&self.flag_a, path, "flag_a", page, sink);
         print_member(&self.flag_b, path, "flag_b", page, sink);
@@ -55,8 +55,8 @@ impl Print for Style {
 impl Print for Dash {
     ghost lines = { fields.dash_fields };
 
-    #[tactic(auto, using(dwg_page::proofs::Telling::tells_more), unfolding(crate::specs::BodyFields::dash_fields))]
-    fn print<W: Sink>(&self, path: &str, page: &mut Page, sink: &mut W) {
+    #[tactic(auto, using(dwg_text::proofs::Writing::writes_more), unfolding(crate::specs::BodyFields::dash_fields))]
+    fn print<W: Sink>(&self, path: &str, page: &mut TextWriter, sink: &mut W) {
         print_member(&self.length, path, "length", page, sink);
         print_member(&self.code, path, "code", page, sink);
         print_member(&self.x, path, "x", page, sink);
@@ -71,8 +71,8 @@ impl Print for Dash {
 impl Print for Ltype {
     ghost lines = { fields.ltype_fields };
 
-    #[tactic(auto, using(dwg_page::proofs::Telling::tells_more), unfolding(crate::specs::BodyFields::ltype_fields))]
-    fn print<W: Sink>(&self, path: &str, page: &mut Page, sink: &mut W) {
+    #[tactic(auto, using(dwg_text::proofs::Writing::writes_more), unfolding(crate::specs::BodyFields::ltype_fields))]
+    fn print<W: Sink>(&self, path: &str, page: &mut TextWriter, sink: &mut W) {
         print_member(&self.entry, path, "entry", page, sink);
         print_member(&self.description, path, "description", page, sink);
         print_member(&self.length, path, "length", page, sink);
@@ -85,8 +85,8 @@ impl Print for Ltype {
 impl Print for AppId {
     ghost lines = { fields.app_id_fields };
 
-    #[tactic(auto, using(dwg_page::proofs::Telling::tells_more), unfolding(crate::specs::BodyFields::app_id_fields))]
-    fn print<W: Sink>(&self, path: &str, page: &mut Page, sink: &mut W) {
+    #[tactic(auto, using(dwg_text::proofs::Writing::writes_more), unfolding(crate::specs::BodyFields::app_id_fields))]
+    fn print<W: Sink>(&self, path: &str, page: &mut TextWriter, sink: &mut W) {
         print_member(&self.entry, path, "entry", page, sink);
         print_member(&self.extra, path, "extra", page, sink);
     }
@@ -95,8 +95,8 @@ impl Print for AppId {
 impl Print for InsertMark {
     ghost lines = { fields.insert_mark_fields };
 
-    #[tactic(auto, using(dwg_page::proofs::Telling::tells_more), unfolding(crate::specs::BodyFields::insert_mark_fields))]
-    fn print<W: Sink>(&self, path: &str, page: &mut Page, sink: &mut W) {
+    #[tactic(auto, using(dwg_text::proofs::Writing::writes_more), unfolding(crate::specs::BodyFields::insert_mark_fields))]
+    fn print<W: Sink>(&self, path: &str, page: &mut TextWriter, sink: &mut W) {
         print_member(&self.count, path, "count", page, sink);
         print_member(&self.target, path, "target", page, sink);
     }
@@ -105,8 +105,8 @@ impl Print for InsertMark {
 impl Print for Ends {
     ghost lines = { fields.ends_fields };
 
-    #[tactic(auto, using(dwg_page::proofs::Telling::tells_more), unfolding(crate::specs::BodyFields::ends_fields))]
-    fn print<W: Sink>(&self, path: &str, page: &mut Page, sink: &mut W) {
+    #[tactic(auto, using(dwg_text::proofs::Writing::writes_more), unfolding(crate::specs::BodyFields::ends_fields))]
+    fn print<W: Sink>(&self, path: &str, page: &mut TextWriter, sink: &mut W) {
         print_member(&self.first, path, "first", page, sink);
         print_member(&self.last, path, "last", page, sink);
     }
@@ -115,8 +115,8 @@ impl Print for Ends {
 impl Print for BlockHeader {
     ghost lines = { fields.block_header_fields };
 
-    #[tactic(auto, using(dwg_page::proofs::Telling::tells_more), unfolding(crate::specs::BodyFields::block_header_fields))]
-    fn print<W: Sink>(&self, path: &str, page: &mut Page, sink: &mut W) {
+    #[tactic(auto, using(dwg_text::proofs::Writing::writes_more), unfolding(crate::specs::BodyFields::block_header_fields))]
+    fn print<W: Sink>(&self, path: &str, page: &mut TextWriter, sink: &mut W) {
         print_member(&self.entry, path, "entry", page, sink);
         print_member(&self.anonymous, path, "anonymous", page, sink);
         print_member(&self.has_attributes, path, "has_attributes", page, sink);

@@ -18,7 +18,7 @@ use Rattle.dwg_tables.specs.InsertMarks.{IsMarkCount, mark_counts}
 pub counts_take : TakeBits rc (λ (count : ℕ). always count)
 counts_take = record {
   tag_is_code = rc_is_code;
-  some_bits = λ count front spelled. omega (arith, spelled.0);
+  some_bits = λ count prefix spelled. omega (arith, spelled.0);
   value_is_code = λ count. always_is_code AnyLetters count;
 }
 
@@ -32,17 +32,17 @@ values_of : (counts : List ℕ) → IsUntil IsMarkCount counts → AreValues rc 
 values_of [] fit = tt
 values_of (count ∷ counts) fit = (fit.0.few, values_of counts fit.1)
 
-pub counts_told : (counts : List ℕ) → mark_counts.IsValue counts → AreValues rc counts
+pub counts_parsed : (counts : List ℕ) → mark_counts.IsValue counts → AreValues rc counts
 unfolding mark_counts until
-counts_told counts fits = values_of counts fits
+counts_parsed counts fits = values_of counts fits
 
--- the counts are written one behind the other, and the mark behind them
+-- the counts are written one after the other, and the mark after them
 counts_short : (counts : List ℕ) → mark_counts.short counts ≡ short_all rc counts ++ rc.short 0
 unfolding mark_counts until
 counts_short [] = refl
 counts_short (count ∷ counts) =
-    ap (λ (front : List Bool). front ++ mark_counts.short counts) (append-nil (rc.short count))
-    ∙ ap (λ (behind : List Bool). rc.short count ++ behind) (counts_short counts)
+    ap (λ (prefix : List Bool). prefix ++ mark_counts.short counts) (append-nil (rc.short count))
+    ∙ ap (λ (after : List Bool). rc.short count ++ after) (counts_short counts)
     ∙ sym (append_assoc (rc.short count) (short_all rc counts) (rc.short 0))
 
 -- so they have the bits of each and of the mark

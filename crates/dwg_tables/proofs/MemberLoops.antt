@@ -5,4 +5,4 @@ use Rattle.dwg_common.specs.Members.{joined}
 
 -- members are joined up to what is left: those so far and those that are joined of what is left are all
 abbrev pub AreJoinedSoFar : {P V : Type 0} → (P → Reference → V) → List P → List Reference → ℕ → List V → Type 0
-AreJoinedSoFar {P} {V} join told names i members = members ++ joined join (drop i told) (drop i names) ≡ joined join told names
+AreJoinedSoFar {P} {V} join parsed names i members = members ++ joined join (drop i parsed) (drop i names) ≡ joined join parsed names

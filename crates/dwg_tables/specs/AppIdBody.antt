@@ -11,5 +11,5 @@ use Rattle.dwg_tables.specs.Entries.{entry_main, title_of, entry_of}
 -- the entry's; RC extra; and among the references xref
 unfoldable pub app_id_body : ℕ → BodyGrammar AppId
 app_id_body base =
-    body (entry_main ⋄ rc) (λ told. one_ref base)
+    body (entry_main ⋄ rc) (λ parsed. one_ref base)
     (λ (title, extra) xref. record { entry = entry_of title xref; extra = extra }) (λ app. (title_of app.entry, app.extra)) (λ app. app.entry.xref)

@@ -25,7 +25,7 @@ FlagParts = Bool × (Bool × (Bool × (Bool × Bool)))
 unfoldable pub block_flags : Version → Grammar Bool FlagParts
 block_flags version = b ⋄ b ⋄ b ⋄ b ⋄ since_1015 version false b
 
--- what AC1015 alone tells of the content, in the order of its bits
+-- what AC1015 alone gives of the content, in the order of its bits
 abbrev pub ExtraParts : Type 0
 ExtraParts = List ℕ × (List ℕ × List ℕ)
 
@@ -64,7 +64,7 @@ block_ends base = seen_refs (λ (first, last). record { first = first; last = la
 abbrev pub NameParts : Type 0
 NameParts = Reference × (Reference × (Option Ends × (Reference × (List Reference × Reference))))
 
--- xref; block; where it is neither is_xref nor overlaid first and last; endblk; the target of each mark, of which AC1014 tells none; in AC1015 layout
+-- xref; block; where it is neither is_xref nor overlaid first and last; endblk; the target of each mark, of which AC1014 gives none; in AC1015 layout
 abbrev pub block_refs : Version → ℕ → FlagParts × ContentParts → ReferencePart NameParts
 block_refs version base ((anonymous, (has_attributes, (is_xref, (overlaid, loaded)))), (origin, (path, (counts, (description, preview))))) =
     then_refs (one_ref base)
@@ -73,7 +73,7 @@ block_refs version base ((anonymous, (has_attributes, (is_xref, (overlaid, loade
     (then_refs (one_ref base)
     (then_refs (some_refs base (length counts)) (ref_since_1015 version base)))))
 
--- what the main bits of a mark tell, what it names, and the mark of both
+-- what the main bits of a mark give, what it names, and the mark of both
 abbrev pub count_of : InsertMark → ℕ
 count_of mark = mark.count
 
@@ -83,7 +83,7 @@ target_of mark = mark.target
 abbrev pub mark_of : ℕ → Reference → InsertMark
 mark_of count target = record { count = count; target = target }
 
--- what the main bits of a header tell, and what it names
+-- what the main bits of a header give, and what it names
 abbrev pub flags_of : BlockHeader → FlagParts
 flags_of header = (header.anonymous, (header.has_attributes, (header.is_xref, (header.overlaid, header.loaded))))
 
@@ -120,4 +120,4 @@ header_of (title, ((anonymous, (has_attributes, (is_xref, (overlaid, loaded)))),
 -- the main bits, and the references
 unfoldable pub block_header_body : Version → ℕ → BodyGrammar BlockHeader
 block_header_body version base =
-    body (block_main version) (λ told. block_refs version base told.1) header_of (λ header. (title_of header.entry, (flags_of header, content_of header))) names_of
+    body (block_main version) (λ parsed. block_refs version base parsed.1) header_of (λ header. (title_of header.entry, (flags_of header, content_of header))) names_of

@@ -15,26 +15,26 @@ use Rattle.dwg_tables.specs.BlockHeaderBody.{FlagParts, ExtraParts, ContentParts
 use Rattle.dwg_tables.specs.Entries.{TitleParts, entry_main, title_of}
 use Rattle.dwg_tables.specs.InsertMarkLaws.{mark_counts_is_code}
 use Rattle.dwg_common.specs.LawSets.{codes, parts, bodies, versions}
-use Rattle.dwg_common.proofs.MemberLemmas.{told_of_joined, names_of_joined, joined_again}
+use Rattle.dwg_common.proofs.MemberLemmas.{parsed_of_joined, names_of_joined, joined_again}
 
 -- its entities are a part of the references
 pub ends_is_part : (base : ℕ) → base < 2 ^ 63 → IsReferencePart base (block_ends base)
 ends_is_part base small = search parts
 
--- what AC1015 alone tells is a code in each version
+-- what AC1015 alone gives is a code in each version
 block_extras_is_code : (version : Version) → IsCode AnyLetters (block_extras version)
 unfolding newer_extras
 block_extras_is_code version = search (codes, versions, mark_counts_is_code)
 
--- what is put together of a header is told by it
-header_told : (version : Version) (base : ℕ) (told : TitleParts × (FlagParts × ContentParts)) (names : NameParts) → (block_refs version base told.1).grammar.IsValue names
+-- what is put together of a header is given by it
+header_parsed : (version : Version) (base : ℕ) (parsed : TitleParts × (FlagParts × ContentParts)) (names : NameParts) → (block_refs version base parsed.1).grammar.IsValue names
     → (◌≡◌ {A = TitleParts × (FlagParts × ContentParts)}
-    (title_of (header_of told names).entry, (flags_of (header_of told names), content_of (header_of told names))) told)
-    × (names_of (header_of told names) ≡ names)
+    (title_of (header_of parsed names).entry, (flags_of (header_of parsed names), content_of (header_of parsed names))) parsed)
+    × (names_of (header_of parsed names) ≡ names)
 unfolding chain
-header_told version base told names fits = (
-  rw (told_of_joined mark_of count_of (λ count target. refl) told.1.1.1.1.0 names.1.1.1.1.0 fits.1.1.1.1.0.0),
-  rw (names_of_joined mark_of target_of (λ count target. refl) told.1.1.1.1.0 names.1.1.1.1.0 fits.1.1.1.1.0.0),
+header_parsed version base parsed names fits = (
+  rw (parsed_of_joined mark_of count_of (λ count target. refl) parsed.1.1.1.1.0 names.1.1.1.1.0 fits.1.1.1.1.0.0),
+  rw (names_of_joined mark_of target_of (λ count target. refl) parsed.1.1.1.1.0 names.1.1.1.1.0 fits.1.1.1.1.0.0),
 )
 
 -- and it is put together of these
@@ -44,7 +44,7 @@ header_again header = rw (joined_again mark_of count_of target_of (λ mark. refl
 -- the header of a block is a body
 pub block_header_is_body : (version : Version) (base : ℕ) → base < 2 ^ 63 → IsBody base (block_header_body version base)
 unfolding block_header_body entry_main block_flags block_content
-block_header_is_body version base small = search (bodies, versions, block_extras_is_code, header_told, header_again) depth 16
+block_header_is_body version base small = search (bodies, versions, block_extras_is_code, header_parsed, header_again) depth 16
 
 -- what AC1014 can spell of the header of a block, AC1015 can
 extras_narrower : (extras : ExtraParts) → (block_extras Ac1014).IsValue extras → (block_extras Ac1015).IsValue extras

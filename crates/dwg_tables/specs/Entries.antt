@@ -6,7 +6,7 @@ use Rattle.dwg_grammar.specs.Grammar.{Grammar}
 use Rattle.dwg_grammar.specs.Reference.{Reference}
 use Rattle.dwg_tables.specs.declared.entry.Entry.{Entry}
 
--- what the main bits of an entry tell, in their order
+-- what the main bits of an entry give, in their order
 abbrev pub TitleParts : Type 0
 TitleParts = List ℕ × (Bool × (ℕ × Bool))
 
@@ -14,7 +14,7 @@ TitleParts = List ℕ × (Bool × (ℕ × Bool))
 unfoldable pub entry_main : Grammar Bool TitleParts
 entry_main = tv ⋄ b ⋄ bs ⋄ b
 
--- what the main bits of an entry tell
+-- what the main bits of an entry give
 abbrev pub title_of : Entry → TitleParts
 title_of entry = (entry.name, (entry.flag64, (entry.xref_index, entry.xref_dependent)))
 

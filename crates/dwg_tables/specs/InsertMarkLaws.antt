@@ -20,7 +20,7 @@ mark_counts_is_code =
       mark_is_tag = omega arith;
       mark_passes = refl;
       only_mark_passes = λ tag fits passed. grind (arith, nat_tests);
-      some_letters = λ tag front spelled. omega (arith, spelled.0);
+      some_letters = λ tag prefix spelled. omega (arith, spelled.0);
       value_is_item = λ tag count fits other same. (record { some = omega (arith, other, same); few = omega (arith, fits, same) }, same);
       item_is_value = λ count is. (is.few, (λ none. omega (arith, is.some, none)), refl);
     }

@@ -12,25 +12,25 @@ use Rattle.dwg_grammar.specs.References.{one_ref, then_refs}
 use Rattle.dwg_tables.specs.declared.layer.Layer.{Layer}
 use Rattle.dwg_tables.specs.Entries.{entry_main, title_of, entry_of}
 
--- what a flag is worth
-abbrev pub worth : Bool → ℕ → ℕ
-worth flag one = if flag then one else 0
+-- the weight of a flag
+abbrev pub weight : Bool → ℕ → ℕ
+weight flag one = if flag then one else 0
 
--- four flags, in their order worth 1, 2, 4, 8
+-- four flags, in their order of weight 1, 2, 4, 8
 abbrev pub FourFlags : Type 0
 FourFlags = Bool × (Bool × (Bool × Bool))
 
-abbrev pub all_worth : FourFlags → ℕ
-all_worth (one, (two, (four, eight))) = worth one 1 + worth two 2 + worth four 4 + worth eight 8
+abbrev pub all_weight : FourFlags → ℕ
+all_weight (one, (two, (four, eight))) = weight one 1 + weight two 2 + weight four 4 + weight eight 8
 
 abbrev pub flags_in : ℕ → FourFlags
 flags_in values = (has values 1, (has values 2, (has values 4, has values 8)))
 
--- four Bs, as what they are worth together
+-- four Bs, as their weight together
 unfoldable pub layer_flags : Grammar Bool ℕ
-layer_flags = image (λ values. values < 16) all_worth flags_in (b ⋄ b ⋄ b ⋄ b)
+layer_flags = image (λ values. values < 16) all_weight flags_in (b ⋄ b ⋄ b ⋄ b)
 
--- BS values; in AC1014 four Bs, worth 1, 2, 4 and 8
+-- BS values; in AC1014 four Bs, of weight 1, 2, 4 and 8
 abbrev pub layer_values : Version → Grammar Bool ℕ
 layer_values version = in_version version layer_flags bs
 
@@ -38,7 +38,7 @@ layer_values version = in_version version layer_flags bs
 unfoldable pub layer_body : Version → ℕ → BodyGrammar Layer
 layer_body version base =
     body (entry_main ⋄ layer_values version ⋄ bs)
-    (λ told. then_refs (one_ref base) (then_refs (ref_since_1015 version base) (one_ref base)))
+    (λ parsed. then_refs (one_ref base) (then_refs (ref_since_1015 version base) (one_ref base)))
     (λ (title, (values, colour)) (xref, (plotstyle, linetype)). record {
       entry = entry_of title xref;
       values = values;

@@ -14,7 +14,7 @@ pub mod InsertMarks
 pub mod InsertMarkLaws
 -- The header of a block.
 pub mod BlockHeaderBody
--- What the readers of entries have read, as the parts that the grammar tells.
+-- What the readers of entries have read, as the parts that the grammar gives.
 pub mod TableReading
 -- The entries of tables meet the laws of bodies.
 pub mod TableLaws

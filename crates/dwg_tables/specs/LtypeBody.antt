@@ -12,7 +12,7 @@ use Rattle.dwg_tables.specs.declared.ltype.Ltype.{Ltype}
 use Rattle.dwg_tables.specs.Entries.{TitleParts, entry_main, title_of, entry_of}
 use Rattle.dwg_common.specs.Members.{joined}
 
--- what the main bits of a dash tell, in their order
+-- what the main bits of a dash give, in their order
 abbrev pub StrokeParts : Type 0
 StrokeParts = ℕ × (ℕ × (ℕ × (ℕ × (ℕ × (ℕ × ℕ)))))
 
@@ -20,7 +20,7 @@ StrokeParts = ℕ × (ℕ × (ℕ × (ℕ × (ℕ × (ℕ × ℕ)))))
 unfoldable pub stroke : Grammar Bool StrokeParts
 stroke = bd ⋄ bs ⋄ rd ⋄ rd ⋄ bd ⋄ bd ⋄ bs
 
--- what the main bits of a dash tell, and the dash of these and of its style
+-- what the main bits of a dash give, and the dash of these and of its style
 abbrev pub stroke_of : Dash → StrokeParts
 stroke_of dash = (dash.length, (dash.code, (dash.x, (dash.y, (dash.scale, (dash.rotation, dash.flag))))))
 
@@ -40,11 +40,11 @@ dash_of (length, (code, (x, (y, (scale, (rotation, flag)))))) style = record {
 abbrev pub style_of : Dash → Reference
 style_of dash = dash.style
 
--- what the main bits of a linetype tell, in their order
+-- what the main bits of a linetype give, in their order
 abbrev pub PatternParts : Type 0
 PatternParts = TitleParts × (List ℕ × (ℕ × (ℕ × (List StrokeParts × List ℕ))))
 
--- the entry's; TV description; BD length; RC alignment; RC count of dashes; what the main bits of each tell; 256 bytes
+-- the entry's; TV description; BD length; RC alignment; RC count of dashes; what the main bits of each give; 256 bytes
 unfoldable pub ltype_main : Grammar Bool PatternParts
 ltype_main = entry_main ⋄ tv ⋄ bd ⋄ rc ⋄ counted rc stroke ⋄ items rc 256
 
@@ -52,7 +52,7 @@ ltype_main = entry_main ⋄ tv ⋄ bd ⋄ rc ⋄ counted rc stroke ⋄ items rc 
 abbrev pub ltype_refs : ℕ → PatternParts → ReferencePart (Reference × List Reference)
 ltype_refs base (title, (description, (extent, (alignment, (strokes, texts))))) = then_refs (one_ref base) (some_refs base (length strokes))
 
--- what the main bits of a linetype tell, and what it names
+-- what the main bits of a linetype give, and what it names
 abbrev pub pattern_of : Ltype → PatternParts
 pattern_of ltype = (title_of ltype.entry, (ltype.description, (ltype.length, (ltype.alignment, (map stroke_of ltype.dashes, ltype.texts)))))
 

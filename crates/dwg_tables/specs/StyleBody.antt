@@ -22,7 +22,7 @@ style_form = b ⋄ b ⋄ bd ⋄ bd ⋄ bd ⋄ rc ⋄ bd
 abbrev pub form_of : Style → FormParts
 form_of style = (style.flag_a, (style.flag_b, (style.height, (style.width, (style.oblique, (style.generation, style.last_height))))))
 
--- a text style from what its main bits tell and from its reference
+-- a text style from what its main bits give and from its reference
 abbrev pub text_style_of : TitleParts × (FormParts × (List ℕ × List ℕ)) → Reference → Style
 text_style_of (title, ((flag_a, (flag_b, (height, (width, (oblique, (generation, last_height)))))), (font, big_font))) xref = record {
   entry = entry_of title xref;
@@ -40,5 +40,5 @@ text_style_of (title, ((flag_a, (flag_b, (height, (width, (oblique, (generation,
 -- the entry's; the form of its letters; TV font; TV big_font; and among the references xref
 unfoldable pub style_body : ℕ → BodyGrammar Style
 style_body base =
-    body (entry_main ⋄ style_form ⋄ tv ⋄ tv) (λ told. one_ref base) text_style_of
+    body (entry_main ⋄ style_form ⋄ tv ⋄ tv) (λ parsed. one_ref base) text_style_of
     (λ style. (title_of style.entry, (form_of style, (style.font, style.big_font)))) (λ style. style.entry.xref)

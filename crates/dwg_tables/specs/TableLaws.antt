@@ -15,10 +15,10 @@ use Rattle.dwg_grammar.specs.Reference.{Reference, reaches}
 use Rattle.dwg_tables.specs.declared.ltype.Ltype.{Ltype}
 use Rattle.dwg_tables.specs.AppIdBody.{app_id_body}
 use Rattle.dwg_tables.specs.Entries.{entry_main}
-use Rattle.dwg_tables.specs.LayerBody.{FourFlags, worth, all_worth, flags_in, layer_flags, layer_values, layer_body}
+use Rattle.dwg_tables.specs.LayerBody.{FourFlags, weight, all_weight, flags_in, layer_flags, layer_values, layer_body}
 use Rattle.dwg_tables.specs.LtypeBody.{PatternParts, stroke, stroke_of, dash_of, style_of, ltype_main, ltype_refs, pattern_of, named_of_ltype, ltype_of, ltype_body}
 use Rattle.dwg_common.specs.LawSets.{codes, bodies}
-use Rattle.dwg_common.proofs.MemberLemmas.{told_of_joined, names_of_joined, joined_again}
+use Rattle.dwg_common.proofs.MemberLemmas.{parsed_of_joined, names_of_joined, joined_again}
 use Rattle.dwg_tables.specs.StyleBody.{style_form, style_body}
 
 -- the name of an application is a body
@@ -26,48 +26,48 @@ pub app_id_is_body : (base : ℕ) → base < 2 ^ 63 → IsBody base (app_id_body
 unfolding app_id_body entry_main
 app_id_is_body base small = search bodies depth 12
 
--- flags are told by what they are worth together, which is below 16
-worth_told : (flags : FourFlags) → (all_worth flags < 16) × (flags_in (all_worth flags) ≡ flags)
-worth_told (true, (true, (true, true))) = (omega arith, refl)
-worth_told (true, (true, (true, false))) = (omega arith, refl)
-worth_told (true, (true, (false, true))) = (omega arith, refl)
-worth_told (true, (true, (false, false))) = (omega arith, refl)
-worth_told (true, (false, (true, true))) = (omega arith, refl)
-worth_told (true, (false, (true, false))) = (omega arith, refl)
-worth_told (true, (false, (false, true))) = (omega arith, refl)
-worth_told (true, (false, (false, false))) = (omega arith, refl)
-worth_told (false, (true, (true, true))) = (omega arith, refl)
-worth_told (false, (true, (true, false))) = (omega arith, refl)
-worth_told (false, (true, (false, true))) = (omega arith, refl)
-worth_told (false, (true, (false, false))) = (omega arith, refl)
-worth_told (false, (false, (true, true))) = (omega arith, refl)
-worth_told (false, (false, (true, false))) = (omega arith, refl)
-worth_told (false, (false, (false, true))) = (omega arith, refl)
-worth_told (false, (false, (false, false))) = (omega arith, refl)
+-- flags are given by their weight together, which is below 16
+weight_parsed : (flags : FourFlags) → (all_weight flags < 16) × (flags_in (all_weight flags) ≡ flags)
+weight_parsed (true, (true, (true, true))) = (omega arith, refl)
+weight_parsed (true, (true, (true, false))) = (omega arith, refl)
+weight_parsed (true, (true, (false, true))) = (omega arith, refl)
+weight_parsed (true, (true, (false, false))) = (omega arith, refl)
+weight_parsed (true, (false, (true, true))) = (omega arith, refl)
+weight_parsed (true, (false, (true, false))) = (omega arith, refl)
+weight_parsed (true, (false, (false, true))) = (omega arith, refl)
+weight_parsed (true, (false, (false, false))) = (omega arith, refl)
+weight_parsed (false, (true, (true, true))) = (omega arith, refl)
+weight_parsed (false, (true, (true, false))) = (omega arith, refl)
+weight_parsed (false, (true, (false, true))) = (omega arith, refl)
+weight_parsed (false, (true, (false, false))) = (omega arith, refl)
+weight_parsed (false, (false, (true, true))) = (omega arith, refl)
+weight_parsed (false, (false, (true, false))) = (omega arith, refl)
+weight_parsed (false, (false, (false, true))) = (omega arith, refl)
+weight_parsed (false, (false, (false, false))) = (omega arith, refl)
 
--- what a bit of a number is worth
-bit_worth : (bit one : ℕ) → bit < 2 → worth (bit == 1) one ≡ bit * one
-bit_worth zero one small = omega arith
-bit_worth (suc zero) one small = omega arith
-bit_worth (suc (suc more)) one small = absurd (omega arith)
+-- the weight of a bit of a number
+bit_weight : (bit one : ℕ) → bit < 2 → weight (bit == 1) one ≡ bit * one
+bit_weight zero one small = omega arith
+bit_weight (suc zero) one small = omega arith
+bit_weight (suc (suc more)) one small = absurd (omega arith)
 
--- a number below 16 is what its bits are worth
-worth_again : (values : ℕ) → values < 16 → all_worth (flags_in values) ≡ values
-worth_again values small = omega (
+-- a number below 16 is the weight of its bits
+weight_again : (values : ℕ) → values < 16 → all_weight (flags_in values) ≡ values
+weight_again values small = omega (
   arith,
   small,
-  bit_worth (values / 1 % 2) 1 (omega arith),
-  bit_worth (values / 2 % 2) 2 (omega arith),
-  bit_worth (values / 4 % 2) 4 (omega arith),
-  bit_worth (values / 8 % 2) 8 (omega arith),
+  bit_weight (values / 1 % 2) 1 (omega arith),
+  bit_weight (values / 2 % 2) 2 (omega arith),
+  bit_weight (values / 4 % 2) 4 (omega arith),
+  bit_weight (values / 8 % 2) 8 (omega arith),
 )
 
 -- the values of a layer are a code
 layer_flags_is_code : IsCode AnyLetters layer_flags
 unfolding layer_flags
 layer_flags_is_code =
-    struct_is_code AnyLetters _ _ _ (b ⋄ b ⋄ b ⋄ b) (search codes depth 8) (λ flags any. (worth_told flags).0) (λ values small. (search, worth_again values small))
-    (λ flags any. (worth_told flags).1)
+    struct_is_code AnyLetters _ _ _ (b ⋄ b ⋄ b ⋄ b) (search codes depth 8) (λ flags any. (weight_parsed flags).0) (λ values small. (search, weight_again values small))
+    (λ flags any. (weight_parsed flags).1)
 
 layer_values_is_code : (version : Version) → IsCode AnyLetters (layer_values version)
 layer_values_is_code version = in_version_is_code AnyLetters version layer_flags bs layer_flags_is_code (search codes)
@@ -88,18 +88,18 @@ pub style_is_body : (base : ℕ) → base < 2 ^ 63 → IsBody base (style_body b
 unfolding style_body entry_main style_form
 style_is_body base small = search bodies depth 16
 
--- what the main bits of a dash tell is a code
+-- what the main bits of a dash give is a code
 pub stroke_is_code : IsCode AnyLetters stroke
 unfolding stroke
 stroke_is_code = search codes depth 12
 
--- what is put together of a linetype is told by it
-ltype_told : (base : ℕ) (told : PatternParts) (named : Reference × List Reference) → (ltype_refs base told).grammar.IsValue named
-    → (pattern_of (ltype_of told named) ≡ told) × (named_of_ltype (ltype_of told named) ≡ named)
+-- what is put together of a linetype is given by it
+ltype_parsed : (base : ℕ) (parsed : PatternParts) (named : Reference × List Reference) → (ltype_refs base parsed).grammar.IsValue named
+    → (pattern_of (ltype_of parsed named) ≡ parsed) × (named_of_ltype (ltype_of parsed named) ≡ named)
 unfolding chain
-ltype_told base told named names = (
-  rw (told_of_joined dash_of stroke_of (λ one style. refl) told.1.1.1.1.0 named.1 names.1.0),
-  rw (names_of_joined dash_of style_of (λ one style. refl) told.1.1.1.1.0 named.1 names.1.0),
+ltype_parsed base parsed named names = (
+  rw (parsed_of_joined dash_of stroke_of (λ one style. refl) parsed.1.1.1.1.0 named.1 names.1.0),
+  rw (names_of_joined dash_of style_of (λ one style. refl) parsed.1.1.1.1.0 named.1 names.1.0),
 )
 
 -- and it is put together of these
@@ -109,4 +109,4 @@ ltype_again ltype = rw (joined_again dash_of stroke_of style_of (λ dash. refl) 
 -- a linetype is a body
 pub ltype_is_body : (base : ℕ) → base < 2 ^ 63 → IsBody base (ltype_body base)
 unfolding ltype_body ltype_main entry_main
-ltype_is_body base small = search (bodies, stroke_is_code, ltype_told, ltype_again) depth 16
+ltype_is_body base small = search (bodies, stroke_is_code, ltype_parsed, ltype_again) depth 16

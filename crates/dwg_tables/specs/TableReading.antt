@@ -1,4 +1,4 @@
--- What the readers of entries of tables have read, as the parts that the grammar tells.
+-- What the readers of entries of tables have read, as the parts that the grammar gives.
 use Rattle.dwg_tables.specs.declared.block_header.BlockContent.{BlockContent}
 use Rattle.dwg_tables.specs.declared.block_header.BlockExtras.{BlockExtras}
 use Rattle.dwg_tables.specs.declared.block_header.BlockFlags.{BlockFlags}
@@ -19,7 +19,7 @@ title_read title = (title.name, (title.flag64, (title.xref_index, title.xref_dep
 abbrev pub form_read : Form → FormParts
 form_read form = (form.flag_a, (form.flag_b, (form.height, (form.width, (form.oblique, (form.generation, form.last_height))))))
 
--- what the main bits of a linetype tell
+-- what the main bits of a linetype give
 abbrev pub pattern_read : Pattern → PatternParts
 pattern_read pattern = (title_read pattern.title, (pattern.description, (pattern.length, (pattern.alignment, (pattern.strokes, pattern.texts)))))
 
@@ -27,7 +27,7 @@ pattern_read pattern = (title_read pattern.title, (pattern.description, (pattern
 abbrev pub flags_read : BlockFlags → FlagParts
 flags_read flags = (flags.anonymous, (flags.has_attributes, (flags.is_xref, (flags.overlaid, flags.loaded))))
 
--- what AC1015 alone tells of its content
+-- what AC1015 alone gives of its content
 abbrev pub extras_read : BlockExtras → ExtraParts
 extras_read extras = (extras.counts, (extras.description, extras.preview))
 

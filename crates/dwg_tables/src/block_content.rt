@@ -1,4 +1,4 @@
-//! What the main bits of the header of a block tell after its flags (Open Design Specification, "BLOCK HEADER").
+//! What the main bits of the header of a block give after its flags (Open Design Specification, "BLOCK HEADER").
 #![tactic(auto, unfolding(crate::specs::BlockHeaderBody::block_content))]
 
 ghost use Rattle.std.specs.Prelude.{◌≡◌, ◌^◌, ◌<◌, ◌≤◌, ◌↔◌, length, option_map, IfOk, IsTrue};
@@ -13,7 +13,7 @@ use dwg_base::{ByteRun, Items, NoMemory, Version};
 use dwg_bits::{BitCursor, BitSink};
 use dwg_codes::{BitCode, Code3BD};
 use dwg_common::{
-    known_point, parse_code, parse_sized, parse_tv, sized_bits, sized_fits, tv_bits, tv_fits,
+    parse_code, parse_sized, parse_tv, point_with_range, sized_bits, sized_fits, tv_bits, tv_fits,
     write_sized, write_tv,
 };
 use std::alloc::Global;
@@ -29,7 +29,7 @@ fn no_extras(alloc: Global) -> BlockExtras
     }
 }
 
-/// Reads what AC1015 alone tells of the content, as it is parsed. Err: out of memory, which is taken only for what is there.
+/// Reads what AC1015 alone gives of the content, as it is parsed. Err: out of memory, which is taken only for what is there.
 #[tactic(auto, unfolding(crate::specs::BlockHeaderBody::newer_extras))]
 fn read_newer_extras(
     alloc: Global,
@@ -103,7 +103,7 @@ fn no_extras_fit(header: &BlockHeader) -> bool
     header.preview.as_slice().is_empty()
 }
 
-/// Whether the extras can be told in AC1015: no mark has count 0, the description has at most 65,535 bytes, and the preview has fewer
+/// Whether the extras can be given in AC1015: no mark has count 0, the description has at most 65,535 bytes, and the preview has fewer
 /// than 2^32.
 #[tactic(auto, unfolding(crate::specs::BlockHeaderBody::newer_extras))]
 fn newer_extras_fit(header: &BlockHeader) -> bool
@@ -118,7 +118,7 @@ fn newer_extras_fit(header: &BlockHeader) -> bool
     sized_fits(header.preview.as_slice())
 }
 
-/// Whether the extras can be told in a version: AC1014 has none.
+/// Whether the extras can be given in a version: AC1014 has none.
 fn extras_fit(version: Version, header: &BlockHeader) -> bool
     ensures { IsTrue result ↔ (block_extras version).IsValue (extras_of header.now) }
 {
@@ -128,11 +128,11 @@ fn extras_fit(version: Version, header: &BlockHeader) -> bool
     }
 }
 
-/// Whether the content of a header can be told: its path has at most 65,535 bytes, and its extras can be told.
+/// Whether the content of a header can be given: its path has at most 65,535 bytes, and its extras can be given.
 pub(crate) fn content_fits(version: Version, header: &BlockHeader) -> bool
     ensures { IsTrue result ↔ (block_content version).IsValue (content_of header.now) }
 {
-    known_point(&header.base);
+    point_with_range(&header.base);
     if !tv_fits(header.path.as_slice()) {
         return false;
     }

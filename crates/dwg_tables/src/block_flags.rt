@@ -1,4 +1,4 @@
-//! What single bits of the header of a block tell (Open Design Specification, "BLOCK HEADER").
+//! What single bits of the header of a block give (Open Design Specification, "BLOCK HEADER").
 #![tactic(auto, unfolding(crate::specs::BlockHeaderBody::block_flags))]
 
 ghost use Rattle.std.specs.Prelude.{◌≡◌, ◌^◌, ◌<◌, ◌≤◌, ◌↔◌, length, false, option_map, IsTrue};
@@ -15,15 +15,15 @@ use dwg_bits::{BitCursor, BitSink};
 use dwg_codes::{BitCode, CodeB};
 use dwg_common::{length_given, parse_code, parse_given, write_given};
 
-/// What `loaded` is in AC1014, which doesn't tell it.
-const NOT_TOLD: bool = false;
+/// What `loaded` is in AC1014, which doesn't give it.
+const NOT_PARSED: bool = false;
 
 /// Reads whether the other drawing is loaded, as it is parsed.
 fn read_loaded(version: Version, cursor: &mut BitCursor<'_>) -> Option<bool>
     ensures parsed { Parses (since_1015 version false b) result cursor.old cursor.new }
     ensures kept { Keeps cursor.old cursor.new }
 {
-    parse_given::<CodeB>(&(), version.is_newer(), NOT_TOLD, cursor)
+    parse_given::<CodeB>(&(), version.is_newer(), NOT_PARSED, cursor)
 }
 
 /// Reads the flags of a header, as they are parsed.
@@ -45,12 +45,12 @@ pub(crate) fn read_flags(version: Version, cursor: &mut BitCursor<'_>) -> Option
     })
 }
 
-/// Whether the flags of a header can be told: in AC1014 `loaded` isn't set.
+/// Whether the flags of a header can be given: in AC1014 `loaded` isn't set.
 pub(crate) fn flags_fit(version: Version, header: &BlockHeader) -> bool
     ensures { IsTrue result ↔ (block_flags version).IsValue (flags_of header.now) }
 {
     match version {
-        Version::Ac1014 => header.loaded == NOT_TOLD,
+        Version::Ac1014 => header.loaded == NOT_PARSED,
         Version::Ac1015 => true,
     }
 }
@@ -65,7 +65,7 @@ pub(crate) fn flags_bits(version: Version, header: &BlockHeader) -> u64
         + CodeB::length(&(), &header.has_attributes)
         + CodeB::length(&(), &header.is_xref)
         + CodeB::length(&(), &header.overlaid)
-        + length_given::<CodeB>(&(), version.is_newer(), NOT_TOLD, &header.loaded)
+        + length_given::<CodeB>(&(), version.is_newer(), NOT_PARSED, &header.loaded)
 }
 
 /// Writes the flags of a header.
@@ -78,5 +78,5 @@ pub(crate) fn write_flags(version: Version, header: &BlockHeader, sink: &mut Bit
     CodeB::write(&(), &header.has_attributes, sink);
     CodeB::write(&(), &header.is_xref, sink);
     CodeB::write(&(), &header.overlaid, sink);
-    write_given::<CodeB>(&(), version.is_newer(), NOT_TOLD, &header.loaded, sink);
+    write_given::<CodeB>(&(), version.is_newer(), NOT_PARSED, &header.loaded, sink);
 }

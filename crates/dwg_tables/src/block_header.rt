@@ -27,7 +27,7 @@ pub struct InsertMark {
     pub target: Ref,
 }
 
-/// The entities of a block, which stand one behind the other (Open Design Specification, "BLOCK HEADER").
+/// The entities of a block, which stand one after the other (Open Design Specification, "BLOCK HEADER").
 #[derive(Clone, Copy, Debug, PartialEq, Eq)]
 pub struct Ends {
     /// The first of them.
@@ -71,7 +71,7 @@ pub struct BlockHeader {
     pub layout: Ref,
 }
 
-/// What single bits of a header tell.
+/// What single bits of a header give.
 #[derive(Clone, Copy)]
 pub(crate) struct BlockFlags {
     /// Whether its name was made up.
@@ -86,18 +86,18 @@ pub(crate) struct BlockFlags {
     pub(crate) loaded: bool,
 }
 
-/// What the main bits of a header tell after these.
+/// What the main bits of a header give after these.
 #[derive(Drop)]
 pub(crate) struct BlockContent {
     /// The point of it that stands at the place of an insert.
     pub(crate) base: Point3,
     /// The path of the other drawing.
     pub(crate) path: ByteRun,
-    /// What AC1015 alone tells.
+    /// What AC1015 alone gives.
     pub(crate) extras: BlockExtras,
 }
 
-/// What AC1015 alone tells of the content of a header: in AC1014 all three are empty.
+/// What AC1015 alone gives of the content of a header: in AC1014 all three are empty.
 #[derive(Drop)]
 pub(crate) struct BlockExtras {
     /// The count of each of its marks.

@@ -68,7 +68,7 @@ pub(crate) fn read_block_names(
     }))
 }
 
-/// Whether what a header names can be told from it: its entities are there exactly where it is no external reference and no
+/// Whether what a header names can be given from it: its entities are there exactly where it is no external reference and no
 /// overlaid one, and each reference reaches its target; in AC1014 its layout leads nowhere.
 #[tactic(auto, unfolding(dwg_grammar::specs::ReferenceCodes::reference, dwg_grammar::specs::Combinators::chain), using(dwg_common::proofs::MemberLemmas::parts_counted))]
 pub(crate) fn block_names_fit(version: Version, header: &BlockHeader, base: Handle) -> bool

@@ -1,4 +1,4 @@
-//! What the main bits of a dash tell, as a code (Open Design Specification, "LTYPE").
+//! What the main bits of a dash give, as a code (Open Design Specification, "LTYPE").
 
 ghost use Rattle.std.specs.Prelude.{◌≡◌, ⊤, map};
 ghost use Rattle.dwg_grammar.specs.ToEnd.{AreValues};
@@ -40,21 +40,21 @@ impl Part<Ref> for Dash {
 impl Joined<Stroke> for Dash {
     ghost join = { dash_of };
 
-    fn joined(told: &Stroke, name: Ref) -> Dash {
+    fn joined(parsed: &Stroke, name: Ref) -> Dash {
         Dash {
-            length: told.length,
-            code: told.code,
-            x: told.x,
-            y: told.y,
-            scale: told.scale,
-            rotation: told.rotation,
-            flag: told.flag,
+            length: parsed.length,
+            code: parsed.code,
+            x: parsed.x,
+            y: parsed.y,
+            scale: parsed.scale,
+            rotation: parsed.rotation,
+            flag: parsed.flag,
             style: name,
         }
     }
 }
 
-/// What is done with what the main bits of a dash tell.
+/// What is done with what the main bits of a dash give.
 macro_rules! stroke_row {
     ($($done:tt)*) => {
         row!([Stroke {
@@ -65,7 +65,7 @@ macro_rules! stroke_row {
     };
 }
 
-/// Reads what the main bits of a dash tell, as it is parsed.
+/// Reads what the main bits of a dash give, as it is parsed.
 #[tactic(auto, unfolding(crate::specs::LtypeBody::stroke))]
 fn read_stroke(cursor: &mut BitCursor<'_>) -> Option<Stroke>
     ensures parsed { Parses stroke result cursor.old cursor.new }
@@ -74,7 +74,7 @@ fn read_stroke(cursor: &mut BitCursor<'_>) -> Option<Stroke>
     stroke_row!(read(), cursor)
 }
 
-/// What the main bits of a dash tell lies in the ranges of its types.
+/// What the main bits of a dash give lies in the ranges of its types.
 #[tactic(auto, unfolding(crate::specs::LtypeBody::stroke))]
 fn known_stroke(dash: &Dash)
     ensures { stroke.IsValue (stroke_of dash.now) }
@@ -86,13 +86,13 @@ fn known_stroke(dash: &Dash)
 pub(crate) fn known_strokes(dashes: &[Dash])
     ensures { AreValues stroke (map stroke_of dashes.now) }
 {
-    // It finds nothing out: a turn tells the proof of one dash what holds of every value of its type.
+    // It finds nothing out: a turn gives the proof of one dash what holds of every value of its type.
     'along: for dash in dashes {
         known_stroke(dash);
     }
 }
 
-/// What the main bits of a dash tell: BD length, BS code, RD x, RD y, BD scale, BD rotation and BS flag.
+/// What the main bits of a dash give: BD length, BS code, RD x, RD y, BD scale, BD rotation and BS flag.
 pub(crate) struct CodeStroke;
 
 impl BitCode for CodeStroke {
@@ -107,9 +107,9 @@ impl BitCode for CodeStroke {
     #[tactic(auto, using(dwg_common::proofs::PartReading::part_read, dwg_common::proofs::PartReading::part_unread, dwg_grammar::proofs::BodyReading::parsed_value, crate::specs::TableLaws::stroke_is_code))]
     fn read(_context: &(), cursor: &mut BitCursor<'_>) -> Option<Stroke> {
         let mut ahead = *cursor;
-        let told = read_stroke(&mut ahead)?;
+        let parsed = read_stroke(&mut ahead)?;
         *cursor = ahead;
-        Some(told)
+        Some(parsed)
     }
 
     #[tactic(auto, unfolding(crate::specs::LtypeBody::stroke), using(dwg_grammar::proofs::Bounds::bd_at_most, dwg_grammar::proofs::Bounds::bs_at_most, dwg_grammar::proofs::NumberLemmas::length_of_rd))]

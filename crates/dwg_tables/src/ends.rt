@@ -11,7 +11,7 @@ use dwg_bits::{BitCursor, BitSink};
 use dwg_codes::BitCode;
 use dwg_common::{CodeTwoRefs, two_refs_fit};
 
-/// Whether the first and the last entity are there exactly where they are present, and can be told from the header of the
+/// Whether the first and the last entity are there exactly where they are present, and can be given from the header of the
 /// handle `base`.
 pub(crate) fn ends_fit_when(present: bool, value: &Option<Ends>, base: Handle) -> bool
     ensures { IsTrue result ↔ (when present (block_ends base).grammar).IsValue value.now }

@@ -13,7 +13,7 @@ use dwg_handles::Ref;
 pub struct Entry {
     /// Its name, at most 65,535 bytes.
     pub name: ByteRun,
-    /// The bit that is worth 64 among its flags: whether it is used.
+    /// The bit of weight 64 among its flags: whether it is used.
     pub flag64: bool,
     /// One more than the place of its drawing among the external references; 0 where it is of this drawing.
     pub xref_index: u16,
@@ -23,12 +23,12 @@ pub struct Entry {
     pub xref: Ref,
 }
 
-/// What the main bits of an entry tell before those of its own kind.
+/// What the main bits of an entry give before those of its own kind.
 #[derive(Drop)]
 pub(crate) struct Title {
     /// Its name.
     pub(crate) name: ByteRun,
-    /// The bit that is worth 64 among its flags.
+    /// The bit of weight 64 among its flags.
     pub(crate) flag64: bool,
     /// One more than the place of its drawing among the external references.
     pub(crate) xref_index: u16,
@@ -36,7 +36,7 @@ pub(crate) struct Title {
     pub(crate) xref_dependent: bool,
 }
 
-/// An entry from what its main bits tell and from the block that it is of.
+/// An entry from what its main bits give and from the block that it is of.
 pub(crate) fn entry_of(title: Title, xref: Ref) -> Entry
     ensures { result ≡ entry_of (title_read title) xref }
 {

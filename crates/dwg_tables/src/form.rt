@@ -35,7 +35,7 @@ pub(crate) fn read_form(cursor: &mut BitCursor<'_>) -> Option<Form>
     form_row!(read(), cursor)
 }
 
-/// The form of the letters of every text style can be told: its codes tell every number of their types.
+/// The form of the letters of every text style can be given: its codes give every number of their types.
 pub(crate) fn known_form(style: &Style)
     ensures { style_form.IsValue (form_of style.now) }
 {

@@ -9,7 +9,7 @@ ghost use Rattle.dwg_tables.specs.LayerBody.{layer_body};
 ghost use Rattle.dwg_tables.specs.LtypeBody.{ltype_body};
 ghost use Rattle.dwg_tables.specs.StyleBody.{style_body};
 
-/// What holds of these bodies, in the object of any handle: main bits and reference bits spell at most one by their fronts;
+/// What holds of these bodies, in the object of any handle: main bits and reference bits spell at most one by their prefixes;
 /// just those that fit are spelled, each by what is written of it, and none by fewer main bits or fewer reference bits; and
 /// other bits that spell the same references spell the same, and any bits may follow these.
 pub fn table_laws()

@@ -32,7 +32,7 @@ pub struct Dash {
     pub scale: u64,
     /// How its sign is turned, the word of an angle.
     pub rotation: u64,
-    /// What is told of its sign by single bits.
+    /// What is given of its sign by single bits.
     pub flag: u16,
     /// The text style of its sign; it may be null.
     pub style: Ref,
@@ -55,7 +55,7 @@ pub struct Ltype {
     pub texts: ByteRun,
 }
 
-/// What the main bits of a dash tell. Contracts see it as these in the order in which they stand.
+/// What the main bits of a dash give. Contracts see it as these in the order in which they stand.
 #[derive(Drop)]
 pub(crate) struct Stroke {
     /// How long it is.
@@ -70,7 +70,7 @@ pub(crate) struct Stroke {
     pub(crate) scale: u64,
     /// How its sign is turned.
     pub(crate) rotation: u64,
-    /// What is told of its sign by single bits.
+    /// What is given of its sign by single bits.
     pub(crate) flag: u16,
 }
 
@@ -82,10 +82,10 @@ impl Model for Stroke {
     ghost view = { λ stroke. (stroke.length, (stroke.code, (stroke.x, (stroke.y, (stroke.scale, (stroke.rotation, stroke.flag)))))) };
 }
 
-/// What the main bits of a linetype tell.
+/// What the main bits of a linetype give.
 #[derive(Drop)]
 pub(crate) struct Pattern {
-    /// What those of its entry tell.
+    /// What those of its entry give.
     pub(crate) title: Title,
     /// What it looks like, in words.
     pub(crate) description: ByteRun,
@@ -93,28 +93,28 @@ pub(crate) struct Pattern {
     pub(crate) length: u64,
     /// How it is aligned.
     pub(crate) alignment: u8,
-    /// What those of its dashes tell.
+    /// What those of its dashes give.
     pub(crate) strokes: Items<Stroke>,
     /// The texts of its dashes.
     pub(crate) texts: ByteRun,
 }
 
-/// Reads what a linetype names, as it is parsed: a style for each dash. The only refusal is want of memory, which is taken
+/// Reads what a linetype names, as it is parsed: a style for each dash. Err: out of memory, which is taken
 /// only for references that are there.
 fn read_named(
     alloc: Global,
-    told: &Pattern,
+    parsed: &Pattern,
     refs: &mut BitCursor<'_>,
     base: Handle,
 ) -> Result<Option<(Ref, Items<Ref>)>, NoMemory>
-    ensures parsed { IfOk result (λ found. Parses (ltype_refs base (pattern_read told.now)).grammar found refs.old refs.new) }
-    ensures as_many { IfOk result (λ found. IfSome found (λ named. length named.1 ≡ length told.now.strokes)) }
+    ensures parsed { IfOk result (λ found. Parses (ltype_refs base (pattern_read parsed.now)).grammar found refs.old refs.new) }
+    ensures as_many { IfOk result (λ found. IfSome found (λ named. length named.1 ≡ length parsed.now.strokes)) }
     ensures kept { Keeps refs.old refs.new }
 {
     let Some(xref) = parse_ref(refs, base) else {
         return Ok(None);
     };
-    let Some(styles) = read_names(alloc, told.strokes.as_slice(), refs, base)? else {
+    let Some(styles) = read_names(alloc, parsed.strokes.as_slice(), refs, base)? else {
         return Ok(None);
     };
     Ok(Some((xref, styles)))
@@ -131,20 +131,24 @@ impl BodyCode for Ltype {
         refs: &mut BitCursor<'_>,
         base: Handle,
     ) -> Result<Option<Ltype>, NoMemory> {
-        let Some(told) = read_pattern(alloc, main)? else {
+        let Some(parsed) = read_pattern(alloc, main)? else {
             return Ok(None);
         };
-        let Some(named) = read_named(alloc, &told, refs, base)? else {
+        let Some(named) = read_named(alloc, &parsed, refs, base)? else {
             return Ok(None);
         };
-        let dashes = join_all::<Stroke, Dash>(alloc, told.strokes.as_slice(), named.1.as_slice())?;
+        let dashes = join_all::<Stroke, Dash>(
+            alloc,
+            parsed.strokes.as_slice(),
+            named.1.as_slice(),
+        )?;
         Ok(Some(Ltype {
-            entry: entry_of(told.title, named.0),
-            description: told.description,
-            length: told.length,
-            alignment: told.alignment,
+            entry: entry_of(parsed.title, named.0),
+            description: parsed.description,
+            length: parsed.length,
+            alignment: parsed.alignment,
             dashes,
-            texts: told.texts,
+            texts: parsed.texts,
         }))
     }
 

@@ -37,17 +37,17 @@ impl Part<Ref> for InsertMark {
 impl Joined<u8> for InsertMark {
     ghost join = { mark_of };
 
-    fn joined(told: &u8, name: Ref) -> InsertMark {
+    fn joined(parsed: &u8, name: Ref) -> InsertMark {
         InsertMark {
-            count: *told,
+            count: *parsed,
             target: name,
         }
     }
 }
 
-/// Reads counts up to their mark, as they are parsed. The only refusal is want of memory, which is taken only for counts that
+/// Reads counts up to their mark, as they are parsed. Err: out of memory, which is taken only for counts that
 /// are there.
-#[tactic(auto, unfolding(crate::specs::InsertMarks::mark_counts, dwg_grammar::specs::Combinators::until), using(dwg_common::proofs::UntilReading::behind_none))]
+#[tactic(auto, unfolding(crate::specs::InsertMarks::mark_counts, dwg_grammar::specs::Combinators::until), using(dwg_common::proofs::UntilReading::after_none))]
 pub(crate) fn read_counts(
     alloc: Global,
     cursor: &mut BitCursor<'_>,
@@ -78,7 +78,7 @@ fn count_fits(mark: &InsertMark) -> bool
     0 < count
 }
 
-/// Whether the counts of marks can be told: none is 0.
+/// Whether the counts of marks can be given: none is 0.
 #[tactic(auto, unfolding(crate::specs::InsertMarks::mark_counts, dwg_grammar::specs::Combinators::until))]
 pub(crate) fn counts_fit(marks: &[InsertMark]) -> bool
     ensures { IsTrue result ↔ mark_counts.IsValue (map count_of marks.now) }
@@ -92,7 +92,7 @@ pub(crate) fn counts_fit(marks: &[InsertMark]) -> bool
 }
 
 /// How many bits the counts of marks are written by.
-#[tactic(auto, using(crate::proofs::MarkParts::counts_told, crate::proofs::MarkParts::counts_length))]
+#[tactic(auto, using(crate::proofs::MarkParts::counts_parsed, crate::proofs::MarkParts::counts_length))]
 pub(crate) fn counts_bits(marks: &[InsertMark]) -> u64
     requires value { mark_counts.IsValue (map count_of marks.now) }
     requires few { length (mark_counts.short (map count_of marks.now)) < 2 ^ 62 }
@@ -102,7 +102,7 @@ pub(crate) fn counts_bits(marks: &[InsertMark]) -> u64
 }
 
 /// Writes the counts of marks, and the one that ends them.
-#[tactic(auto, using(crate::proofs::MarkParts::counts_told, crate::proofs::MarkParts::counts_length))]
+#[tactic(auto, using(crate::proofs::MarkParts::counts_parsed, crate::proofs::MarkParts::counts_length))]
 pub(crate) fn write_counts(marks: &[InsertMark], sink: &mut BitSink)
     requires value { mark_counts.IsValue (map count_of marks.now) }
     requires room { length (mark_counts.short (map count_of marks.now)) ≤ sink.old.spare }

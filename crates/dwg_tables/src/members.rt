@@ -1,4 +1,4 @@
-//! Members of lists, of which the main bits tell one part each and the references name another. A rule of this project.
+//! Members of lists, of which the main bits give one part each and the references name another. A rule of this project.
 
 ghost use Rattle.std.specs.Prelude.{◌≡◌, ◌^◌, ◌<◌, ◌≤◌, ◌↔◌, length, map, IfOk, IfSome, IsTrue};
 ghost use Rattle.dwg_bits.specs.Sink.{Extends};
@@ -32,25 +32,25 @@ pub(crate) trait Joined<P>: Sized {
     ghost join: { P → Reference → Self };
 
     /// What is made of both.
-    fn joined(told: &P, name: Ref) -> Self
-        ensures { result ≡ join told.now name };
+    fn joined(parsed: &P, name: Ref) -> Self
+        ensures { result ≡ join parsed.now name };
 }
 
-/// Reads a reference of the object of the handle `base` for each of the members that are told of, as they are parsed. The only
-/// refusal is want of memory, which is taken only for references that are there.
+/// Reads a reference of the object of the handle `base` for each of the members that are given of, as they are parsed. The only
+/// refusal is out of memory, which is taken only for references that are there.
 #[tactic(auto, using(dwg_common::proofs::ChainReading::none_begun))]
 pub(crate) fn read_names<P>(
     alloc: Global,
-    told: &[P],
+    parsed: &[P],
     cursor: &mut BitCursor<'_>,
     base: Handle,
 ) -> Result<Option<Items<Ref>>, NoMemory>
-    ensures parsed { IfOk result (λ found. Parses (items (reference base) (length told.now)) found cursor.old cursor.new) }
-    ensures as_many { IfOk result (λ found. IfSome found (λ names. length names ≡ length told.now)) }
+    ensures parsed { IfOk result (λ found. Parses (items (reference base) (length parsed.now)) found cursor.old cursor.new) }
+    ensures as_many { IfOk result (λ found. IfSome found (λ names. length names ≡ length parsed.now)) }
     ensures kept { Keeps cursor.old cursor.new }
 {
     let mut names = Items::new(alloc);
-    'along: for _ in 0..told.len() {
+    'along: for _ in 0..parsed.len() {
         let Some(name) = parse_ref(cursor, base) else {
             return Ok(None);
         };
@@ -62,17 +62,17 @@ pub(crate) fn read_names<P>(
     Ok(Some(names))
 }
 
-/// Makes members of what is told of each and of what is named of each. The only refusal is want of memory.
+/// Makes members of what is given of each and of what is named of each. Err: out of memory.
 pub(crate) fn join_all<P, V: Joined<P> + Drop>(
     alloc: Global,
-    told: &[P],
+    parsed: &[P],
     names: &[Ref],
 ) -> Result<Items<V>, NoMemory>
-    requires { length names.now ≡ length told.now }
-    ensures { IfOk result (λ members. members ≡ joined V.join told.now names.now) }
+    requires { length names.now ≡ length parsed.now }
+    ensures { IfOk result (λ members. members ≡ joined V.join parsed.now names.now) }
 {
     let mut members = Items::new(alloc);
-    'along: for (place, part) in told.iter().enumerate() {
+    'along: for (place, part) in parsed.iter().enumerate() {
         match members.push(V::joined(part, names[place])) {
             Ok(()) => {}
             Err(_) => return Err(NoMemory),
@@ -81,7 +81,7 @@ pub(crate) fn join_all<P, V: Joined<P> + Drop>(
     Ok(members)
 }
 
-/// Whether what is named of each member can be told from the object of the handle `base`.
+/// Whether what is named of each member can be given from the object of the handle `base`.
 #[tactic(auto, unfolding(dwg_grammar::specs::ReferenceCodes::reference))]
 pub(crate) fn names_fit<V: Part<Ref>>(members: &[V], base: Handle) -> bool
     ensures { IsTrue result ↔ AreValues (reference base) (map V.part members.now) }

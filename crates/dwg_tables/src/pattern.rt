@@ -1,4 +1,4 @@
-//! What the main bits of a linetype tell, as bits (Open Design Specification, "LTYPE").
+//! What the main bits of a linetype give, as bits (Open Design Specification, "LTYPE").
 
 ghost use Rattle.std.specs.Prelude.{◌≡◌, ◌^◌, ◌<◌, ◌≤◌, ◌↔◌, length, map, option_map, IfOk, IsTrue};
 ghost use Rattle.dwg_bits.specs.Sink.{Extends};
@@ -21,10 +21,10 @@ use std::alloc::Global;
 /// How many bytes the texts of the dashes of a linetype have.
 const TEXTS: u32 = 256;
 
-/// How many dashes can't be told: their count is an RC.
+/// How many dashes can't be given: their count is an RC.
 const TOO_MANY_DASHES: usize = 1 << 8;
 
-/// Reads a count of dashes and what their main bits tell, as they are parsed. The only refusal is want of memory, which is
+/// Reads a count of dashes and what their main bits give, as they are parsed. Err: out of memory, which is
 /// taken only for dashes that are there.
 fn read_strokes(
     alloc: Global,
@@ -42,7 +42,7 @@ fn read_strokes(
     Ok(Some(strokes))
 }
 
-/// Reads what the main bits of a linetype tell, as it is parsed. The only refusal is want of memory, which is taken only for
+/// Reads what the main bits of a linetype give, as it is parsed. Err: out of memory, which is taken only for
 /// what is there.
 #[tactic(auto, unfolding(crate::specs::LtypeBody::ltype_main))]
 pub(crate) fn read_pattern(
@@ -80,7 +80,7 @@ pub(crate) fn read_pattern(
     }))
 }
 
-/// Whether a count of 8 bits can tell how many dashes there are.
+/// Whether a count of 8 bits can give how many dashes there are.
 #[tactic(auto, unfolding(dwg_grammar::specs::Combinators::chain), using(dwg_common::proofs::MemberLemmas::parts_counted))]
 fn strokes_fit(dashes: &[Dash]) -> bool
     ensures { IsTrue result ↔ (counted rc stroke).IsValue (map stroke_of dashes.now) }
@@ -97,13 +97,13 @@ fn texts_fit(texts: &[u8]) -> bool
     texts.len() == TEXTS as usize
 }
 
-/// Whether the main bits of a linetype can be told: its name and its description have at most 65,535 bytes each, it has at
+/// Whether the main bits of a linetype can be given: its name and its description have at most 65,535 bytes each, it has at
 /// most 255 dashes, and its texts have 256 bytes.
 #[tactic(auto, unfolding(crate::specs::LtypeBody::ltype_main))]
 pub(crate) fn pattern_fits(ltype: &Ltype) -> bool
     ensures { IsTrue result ↔ ltype_main.IsValue (pattern_of ltype.now) }
 {
-    // Their codes tell every number of their types.
+    // Their codes give every number of their types.
     let _length = ltype.length;
     let _alignment = ltype.alignment;
     if !title_fits(&ltype.entry) {
@@ -118,7 +118,7 @@ pub(crate) fn pattern_fits(ltype: &Ltype) -> bool
     texts_fit(ltype.texts.as_slice())
 }
 
-/// How many bits a count of dashes and what their main bits tell are written by.
+/// How many bits a count of dashes and what their main bits give are written by.
 #[tactic(auto, unfolding(dwg_grammar::specs::Combinators::chain), using(dwg_common::proofs::MemberLemmas::parts_counted))]
 fn strokes_bits(dashes: &[Dash]) -> u64
     requires value { (counted rc stroke).IsValue (map stroke_of dashes.now) }
@@ -128,7 +128,7 @@ fn strokes_bits(dashes: &[Dash]) -> u64
     CodeRC::length(&(), &(dashes.len() as u8)) + parts_bits::<CodeStroke, Dash>(&(), dashes)
 }
 
-/// Writes a count of dashes and what their main bits tell.
+/// Writes a count of dashes and what their main bits give.
 #[tactic(auto, unfolding(dwg_grammar::specs::Combinators::chain), using(dwg_common::proofs::MemberLemmas::parts_counted))]
 fn write_strokes(dashes: &[Dash], sink: &mut BitSink)
     requires value { (counted rc stroke).IsValue (map stroke_of dashes.now) }

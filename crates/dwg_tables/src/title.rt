@@ -1,4 +1,4 @@
-//! What the main bits of an entry tell before those of its own kind, as bits (Open Design Specification, "LAYER",
+//! What the main bits of an entry give before those of its own kind, as bits (Open Design Specification, "LAYER",
 //! "SHAPEFILE", "LTYPE", "APPID" and "BLOCK HEADER").
 #![tactic(auto, unfolding(crate::specs::Entries::entry_main))]
 
@@ -22,7 +22,7 @@ macro_rules! title_row {
     };
 }
 
-/// Reads what the main bits of an entry tell, as it is parsed. Err: out of memory, which is taken only for bytes that are there.
+/// Reads what the main bits of an entry give, as it is parsed. Err: out of memory, which is taken only for bytes that are there.
 pub(crate) fn read_title(
     alloc: Global,
     cursor: &mut BitCursor<'_>,
@@ -33,7 +33,7 @@ pub(crate) fn read_title(
     title_row!(parse alloc, (), cursor, (), ())
 }
 
-/// Whether the main bits of an entry can be told: its name has at most 65,535 bytes.
+/// Whether the main bits of an entry can be given: its name has at most 65,535 bytes.
 pub(crate) fn title_fits(entry: &Entry) -> bool
     ensures { IsTrue result ↔ entry_main.IsValue (title_of entry.now) }
 {

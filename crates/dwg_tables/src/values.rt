@@ -4,26 +4,26 @@ ghost use Rattle.std.specs.Prelude.{◌≡◌, ◌^◌, ◌<◌, ◌≤◌, ◌�
 ghost use Rattle.dwg_bits.specs.Sink.{Extends};
 ghost use Rattle.dwg_common.specs.Parsing.{Keeps, Parses};
 ghost use Rattle.dwg_grammar.specs.Flags.{has};
-ghost use Rattle.dwg_tables.specs.LayerBody.{layer_flags, layer_values, worth};
+ghost use Rattle.dwg_tables.specs.LayerBody.{layer_flags, layer_values, weight};
 
 use dwg_base::Version;
 use dwg_bits::{BitCursor, BitSink};
 use dwg_codes::{BitCode, CodeB, CodeBS};
 use dwg_common::parse_code;
 
-/// What a flag is worth.
-fn worth(flag: bool, one: u16) -> u16
-    ensures { result ≡ worth flag one }
+/// The weight of a flag.
+fn weight(flag: bool, one: u16) -> u16
+    ensures { result ≡ weight flag one }
 {
     if flag { one } else { 0 }
 }
 
 /// Whether the flag of this worth is set.
-fn has(values: u16, worth: u16) -> bool
-    requires { 0 < worth }
-    ensures { result ≡ has values worth }
+fn has(values: u16, weight: u16) -> bool
+    requires { 0 < weight }
+    ensures { result ≡ has values weight }
 {
-    values / worth % 2 == 1
+    values / weight % 2 == 1
 }
 
 /// Reads the values of a layer in AC1014, as they are parsed.
@@ -36,7 +36,7 @@ fn read_flags(cursor: &mut BitCursor<'_>) -> Option<u16>
     let two = parse_code::<CodeB>(&(), cursor)?;
     let four = parse_code::<CodeB>(&(), cursor)?;
     let eight = parse_code::<CodeB>(&(), cursor)?;
-    Some(worth(one, 1) + worth(two, 2) + worth(four, 4) + worth(eight, 8))
+    Some(weight(one, 1) + weight(two, 2) + weight(four, 4) + weight(eight, 8))
 }
 
 /// How many bits they are written by in AC1014.
@@ -74,7 +74,7 @@ pub(crate) fn read_values(version: Version, cursor: &mut BitCursor<'_>) -> Optio
     }
 }
 
-/// Whether they can be told: in AC1014 they are at most 15.
+/// Whether they can be given: in AC1014 they are at most 15.
 #[tactic(auto, unfolding(crate::specs::LayerBody::layer_flags))]
 pub(crate) fn values_fit(version: Version, values: u16) -> bool
     ensures { IsTrue result ↔ (layer_values version).IsValue values }

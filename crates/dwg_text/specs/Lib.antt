@@ -6,5 +6,9 @@ pub mod Notes
 pub mod Sections
 -- The text of a file's classes.
 pub mod Classes
--- What is printed of a certificate before a drawing.
-pub mod Acceptance
+-- What is written of single values.
+pub mod Values
+-- What a page and the sink below it do as a text is written to the page.
+pub mod Writing
+-- Lists whose elements are written by their numbers.
+pub mod Numbered

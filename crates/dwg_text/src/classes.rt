@@ -16,7 +16,7 @@ pub fn truth(value: bool) -> &'static str
     if value { "1" } else { "0" }
 }
 
-/// Appends what a class says, as a line. The only refusal is want of memory.
+/// Appends what a class says, as a line. Err: out of memory.
 #[tactic(auto, unfolding(crate::specs::Classes::class_line))]
 pub fn push_class_line(text: &mut String, class: &Class) -> Result<(), AllocError>
     ensures { OnOk result (string_bytes text.new ≡ string_bytes text.old ++ texts.class_line class.now) }
@@ -47,7 +47,7 @@ fn text_of(alloc: Global, classes: &[Class]) -> Result<String, AllocError>
     Ok(text)
 }
 
-/// The count of the classes, and the classes in file order, a line each. The only refusal is want of memory.
+/// The count of the classes, and the classes in file order, a line each. Err: out of memory.
 pub fn classes_text(alloc: Global, classes: &[Class]) -> Result<ByteRun, NoMemory>
     ensures { IfOk result (λ text. text ≡ texts.classes_text classes.now) }
 {

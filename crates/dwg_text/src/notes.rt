@@ -55,7 +55,7 @@ pub fn too_long_note() -> &'static [u8]
     b"dwg: input too long\n"
 }
 
-/// Appends the words of a refusal: which part of the input is faulty, where, and why. The only refusal is want of memory.
+/// Appends the words of a refusal: which part of the input is faulty, where, and why. Err: out of memory.
 #[tactic(auto, unfolding(crate::specs::Notes::refusal_words))]
 pub fn push_refusal_words(text: &mut String, refusal: Refusal) -> Result<(), AllocError>
     requires { IsOfTable refusal }
@@ -79,7 +79,7 @@ fn refusal_text(alloc: Global, refusal: Refusal) -> Result<String, AllocError>
     Ok(note)
 }
 
-/// Appends which part of the input is faulty, where, and why, as a line. The only refusal is want of memory.
+/// Appends which part of the input is faulty, where, and why, as a line. Err: out of memory.
 pub fn push_refusal(alloc: Global, text: &mut String, refusal: Refusal) -> Result<(), AllocError>
     requires { IsOfTable refusal }
     ensures { OnOk result (string_bytes text.new ≡ string_bytes text.old ++ texts.refusal_note refusal) }
@@ -88,7 +88,7 @@ pub fn push_refusal(alloc: Global, text: &mut String, refusal: Refusal) -> Resul
     text.push_str(note.as_str())
 }
 
-/// Which part of the input is faulty, where, and why. The only refusal is want of memory.
+/// Which part of the input is faulty, where, and why. Err: out of memory.
 pub fn refusal_note(alloc: Global, refusal: Refusal) -> Result<ByteRun, NoMemory>
     requires { IsOfTable refusal }
     ensures { IfOk result (λ note. note ≡ texts.refusal_note refusal) }
@@ -108,7 +108,7 @@ fn too_large_text(alloc: Global, size: u64) -> Result<String, AllocError>
     Ok(note)
 }
 
-/// The canonical file would have so many bytes, more than the limit. The only refusal is want of memory.
+/// The canonical file would have so many bytes, more than the limit. Err: out of memory.
 pub fn too_large_note(alloc: Global, size: u64) -> Result<ByteRun, NoMemory>
     ensures { IfOk result (λ note. note ≡ texts.too_large_note size) }
 {

@@ -39,7 +39,7 @@ fn push_quoted_byte(text: &mut String, byte: u8) -> Result<(), AllocError>
 }
 
 /// Appends bytes between quotation marks: visible characters and spaces as they are, but for quotation marks and
-/// backslashes, and each other byte as a backslash and two lower-case hexadecimal digits. The only refusal is want of memory.
+/// backslashes, and each other byte as a backslash and two lower-case hexadecimal digits. Err: out of memory.
 #[tactic(auto, unfolding(crate::specs::Lines::quoted))]
 pub fn push_quoted(text: &mut String, bytes: &[u8]) -> Result<(), AllocError>
     ensures { OnOk result (string_bytes text.new ≡ string_bytes text.old ++ quoted bytes.now) }

@@ -47,8 +47,7 @@ fn text_of(alloc: Global, header: &FileHeader) -> Result<String, AllocError>
     Ok(text)
 }
 
-/// The version, the code page, the place of the preview, and the locators in file order, a line each. The only refusal
-/// is want of memory.
+/// The version, the code page, the place of the preview, and the locators in file order, a line each. Err: out of memory.
 pub fn sections_text(alloc: Global, header: &FileHeader) -> Result<ByteRun, NoMemory>
     ensures { IfOk result (λ text. text ≡ texts.sections_text header.now) }
 {

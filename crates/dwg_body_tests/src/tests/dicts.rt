@@ -9,7 +9,7 @@ use dwg_dicts::{
     XRecord,
 };
 use dwg_handles::Ref;
-use dwg_samples::Case;
+use dwg_testkit::Case;
 use std::alloc::Global;
 
 impl Fields for LayerControl {
@@ -32,7 +32,7 @@ impl Fields for AppIdControl {
 
 /// The entries: none, two, and of the layers the same by more bytes; each is cut short once.
 #[test]
-fn controls_of_entries_are_told_and_written(rt: HostRuntime) {
+fn controls_of_entries_are_reported_and_written(rt: HostRuntime) {
     let alloc = rt.alloc();
     hold::<Body<LayerControl>>(
         &rt,
@@ -80,7 +80,7 @@ impl Fields for LtypeControl {
 
 /// The entries and the two beside them: none, one; cut short; each reference another one.
 #[test]
-fn controls_with_two_entries_more_are_told_and_written(rt: HostRuntime) {
+fn controls_with_two_entries_more_are_reported_and_written(rt: HostRuntime) {
     let alloc = rt.alloc();
     hold::<Body<BlockControl>>(
         &rt,
@@ -132,7 +132,7 @@ impl Fields for XRecord {
 /// and the same by longer codes; eight bits that are no reference, by their code and by their count of bytes; cut short; every number another
 /// one.
 #[test]
-fn dictionaries_and_records_are_told_and_written(rt: HostRuntime) {
+fn dictionaries_and_records_are_reported_and_written(rt: HostRuntime) {
     let alloc = rt.alloc();
     hold::<Body<Dictionary>>(
         &rt,
@@ -162,19 +162,19 @@ fn dictionaries_and_records_are_told_and_written(rt: HostRuntime) {
     );
 }
 
-/// Records behind two other bits of the references: lines as those of `Body`.
-struct Behind;
+/// Records after two other bits of the references: lines as those of `Body`.
+struct After;
 
-impl Case for Behind {
+impl Case for After {
     fn holds(alloc: Global, line: &str) -> bool {
         holds::<XRecord>(alloc, line, 2) == Some(true)
     }
 }
 
-/// Two bits stand before the one reference, and six behind it.
+/// Two bits stand before the one reference, and six after it.
 #[test]
 fn references_of_a_record_end_before_the_last_bits(rt: HostRuntime) {
-    hold::<Behind>(
+    hold::<After>(
         &rt,
         rt.alloc(),
         "\
@@ -234,9 +234,9 @@ fn fits_next(alloc: Global, target: u64) -> Option<String> {
     format!(in alloc; "{control} {record} {dictionary}").ok()
 }
 
-/// Code 6 tells the next handle and no other.
+/// Code 6 reports the next handle and no other.
 #[test]
-fn what_no_bits_tell_does_not_fit(rt: HostRuntime) {
+fn what_no_bits_report_does_not_fit(rt: HostRuntime) {
     let next = fits_next(rt.alloc(), 0x81);
     assert_eq!(rt; next.as_deref(), Some("true true true"));
     let far = fits_next(rt.alloc(), 0x82);

@@ -46,7 +46,7 @@ impl Fields for Text {
 /// of a text with nothing else, with every part, with some; cut short in both places; every number another one. Its style is one before
 /// the text (`C.1`).
 #[test]
-fn texts_are_told_and_written(rt: HostRuntime) {
+fn texts_are_reported_and_written(rt: HostRuntime) {
     let alloc = rt.alloc();
     hold::<Body<Text>>(
         &rt,
@@ -94,7 +94,7 @@ impl Fields for Attdef {
 /// What a text has, and then tag, length and flags, and of a definition the prompt. Of each the second is cut short, and in the third every
 /// number is another one.
 #[test]
-fn attributes_are_told_and_written(rt: HostRuntime) {
+fn attributes_are_reported_and_written(rt: HostRuntime) {
     let alloc = rt.alloc();
     hold::<Body<Attrib>>(
         &rt,
@@ -156,7 +156,7 @@ impl Fields for Insert {
 /// Place, scale, rotation, extrusion, block, attributes: of scale 1.0, of (1.0, 2.0, 1.0) with attributes, of 2.0, of (2.0, 2.0, 3.0), and
 /// of 1.0 by all its words; without the references to its attributes; every number another one.
 #[test]
-fn inserts_are_told_and_written(rt: HostRuntime) {
+fn inserts_are_reported_and_written(rt: HostRuntime) {
     let alloc = rt.alloc();
     hold::<Body<Insert>>(
         &rt,
@@ -205,10 +205,10 @@ impl Fields for MInsert {
     }
 }
 
-/// What an insert has, and then columns, rows and the spacing of each: behind inserts of several lengths, with spacings and counts of all
+/// What an insert has, and then columns, rows and the spacing of each: after inserts of several lengths, with spacings and counts of all
 /// forms; counts and spacings by longer codes; cut short in the last spacing, and in the references; every number another one.
 #[test]
-fn inserts_in_columns_and_rows_are_told_and_written(rt: HostRuntime) {
+fn inserts_in_columns_and_rows_are_reported_and_written(rt: HostRuntime) {
     let alloc = rt.alloc();
     hold::<Body<MInsert>>(
         &rt,
@@ -261,7 +261,7 @@ impl Fields for SeqEnd {
 
 /// The begin of a block has a name, the ends have no field. The second block is cut short.
 #[test]
-fn marks_of_blocks_are_told_and_written(rt: HostRuntime) {
+fn marks_of_blocks_are_reported_and_written(rt: HostRuntime) {
     let alloc = rt.alloc();
     hold::<Body<Block>>(
         &rt,

@@ -1,5 +1,5 @@
-//! Fields of bodies, printed: each behind a blank, in the order in which the type names them, and `-` for one that isn't there. Numbers
-//! and words of floating-point numbers stand in hexadecimal digits (1.0 is 3FF0000000000000), texts between apostrophes, bytes behind
+//! Fields of bodies, printed: each after a blank, in the order in which the type names them, and `-` for one that isn't there. Numbers
+//! and words of floating-point numbers stand in hexadecimal digits (1.0 is 3FF0000000000000), texts between apostrophes, bytes after
 //! a colon, references as `CODE.TARGET`, and lists between brackets.
 
 use dwg_base::ByteRun;
@@ -69,11 +69,11 @@ pub(crate) fn put_space(text: &mut String, point: &Point3) -> Option<()> {
 
 /// Adds a text, between apostrophes.
 pub(crate) fn put_text(text: &mut String, run: &ByteRun) -> Option<()> {
-    let told = std::str::from_utf8(run.as_slice()).ok()?;
-    write!(text, " '{told}'").ok()
+    let reported = std::str::from_utf8(run.as_slice()).ok()?;
+    write!(text, " '{reported}'").ok()
 }
 
-/// Adds bytes, two hexadecimal digits each, behind a colon.
+/// Adds bytes, two hexadecimal digits each, after a colon.
 pub(crate) fn put_bytes(text: &mut String, run: &ByteRun) -> Option<()> {
     text.push_str(" :").ok()?;
     for byte in run.as_slice() {

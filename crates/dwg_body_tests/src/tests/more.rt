@@ -21,7 +21,7 @@ impl Fields for Ellipse {
 
 /// Centre, axis, extrusion, ratio, start and end angles: in 24 bits, and the same by longer codes; cut short; every number another one.
 #[test]
-fn ellipses_are_told_and_written(rt: HostRuntime) {
+fn ellipses_are_reported_and_written(rt: HostRuntime) {
     hold::<Body<Ellipse>>(
         &rt,
         rt.alloc(),
@@ -54,7 +54,7 @@ impl Fields for XLine {
 
 /// Point, vector: of each of the two the second is cut short, and in the third every number is another one.
 #[test]
-fn rays_and_lines_without_ends_are_told_and_written(rt: HostRuntime) {
+fn rays_and_lines_without_ends_are_reported_and_written(rt: HostRuntime) {
     let alloc = rt.alloc();
     hold::<Body<Ray>>(
         &rt,
@@ -103,7 +103,7 @@ impl Fields for Trace {
 /// Thickness, elevation, the four corners, extrusion: by the shortest codes, and of the solid the same by longer ones; cut short; every
 /// number another one.
 #[test]
-fn solids_and_traces_are_told_and_written(rt: HostRuntime) {
+fn solids_and_traces_are_reported_and_written(rt: HostRuntime) {
     let alloc = rt.alloc();
     hold::<Body<Solid>>(
         &rt,
@@ -157,7 +157,7 @@ impl Fields for Face3d {
 /// it; the first z the word of negative zero, which isn't 0; the first z by its word 0, and the same without it; flags cut short; every
 /// number another one.
 #[test]
-fn faces_are_told_and_written(rt: HostRuntime) {
+fn faces_are_reported_and_written(rt: HostRuntime) {
     hold::<Body<Face3d>>(
         &rt,
         rt.alloc(),
@@ -215,7 +215,7 @@ impl Fields for Vertex3d {
 /// Polylines: flags, first, last, seqend; the same by more bytes; cut short in both places. Vertices: flags, place; the second is cut short.
 /// In the last of each every number is another one.
 #[test]
-fn polylines_and_vertices_in_space_are_told_and_written(rt: HostRuntime) {
+fn polylines_and_vertices_in_space_are_reported_and_written(rt: HostRuntime) {
     let alloc = rt.alloc();
     hold::<Body<Polyline3d>>(
         &rt,
@@ -248,7 +248,7 @@ impl Fields for Group {
 /// Name, unnamed, selectable, entries: none; a name and two entries; one by longer codes; cut short in the name, before the count, and among
 /// the entries; every number another one.
 #[test]
-fn groups_are_told_and_written(rt: HostRuntime) {
+fn groups_are_reported_and_written(rt: HostRuntime) {
     hold::<Body<Group>>(
         &rt,
         rt.alloc(),
@@ -290,9 +290,9 @@ fn group_fits(alloc: Global, target: u64) -> Option<bool> {
     Some(group.fits(base))
 }
 
-/// Code 6 tells the next handle and no other.
+/// Code 6 reports the next handle and no other.
 #[test]
-fn polylines_and_groups_that_no_bits_tell_do_not_fit(rt: HostRuntime) {
+fn polylines_and_groups_that_no_bits_report_do_not_fit(rt: HostRuntime) {
     let alloc = rt.alloc();
     assert_eq!(rt; polyline_fits(0x81), Some(true));
     assert_eq!(rt; polyline_fits(0x82), Some(false));

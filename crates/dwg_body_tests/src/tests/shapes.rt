@@ -28,7 +28,7 @@ impl Fields for Point {
 /// to (2.0, 0, 1.0) of thickness 2.0; cut short; every number another one. Points: place, thickness, extrusion, angle; the second is cut
 /// short.
 #[test]
-fn lines_and_points_are_told_and_written(rt: HostRuntime) {
+fn lines_and_points_are_reported_and_written(rt: HostRuntime) {
     let alloc = rt.alloc();
     hold::<Body<Line>>(
         &rt,
@@ -85,7 +85,7 @@ impl Fields for Arc {
 /// Circles: centre, radius, thickness, extrusion. Arcs: the same, and the start and end angles. Of each the second is cut short, and in the
 /// third every number is another one.
 #[test]
-fn circles_and_arcs_are_told_and_written(rt: HostRuntime) {
+fn circles_and_arcs_are_reported_and_written(rt: HostRuntime) {
     let alloc = rt.alloc();
     hold::<Body<Circle>>(
         &rt,
@@ -165,7 +165,7 @@ impl Fields for LwPolyline {
 /// Flag, width, elevation, thickness, normal, points, bulges, widths: with every part, with none, with a bulge alone; cut short, and with a
 /// count of 2^32 - 1 points of which none is there; every number another one.
 #[test]
-fn lightweight_polylines_are_told_and_written(rt: HostRuntime) {
+fn lightweight_polylines_are_reported_and_written(rt: HostRuntime) {
     let alloc = rt.alloc();
     hold::<Body<LwPolyline>>(
         &rt,

@@ -8,7 +8,7 @@ use crate::tests::fields::Fields;
 use dwg_base::Handle;
 use dwg_bits::{BitCursor, BitSink};
 use dwg_common::{BodyCode, BodyCode14};
-use dwg_samples::{Bits, Case, first_failing};
+use dwg_testkit::{Bits, Case, first_failing};
 use std::alloc::Global;
 use std::marker::PhantomData;
 use std::process::Abort;
@@ -21,13 +21,13 @@ pub(crate) const OWN: u64 = 0x80;
 
 /// Bodies of one type, in the object 80. A line `MAIN / REFERENCES | MAIN / REFERENCES | FIELDS` has the bits that a body is read of,
 /// those that it is written by (`=`: the same), and its fields, as they are printed; `MAIN / REFERENCES | none` has bits that begin
-/// with no body. Behind the bits that are read stand zeros up to the next whole byte.
+/// with no body. After the bits that are read stand zeros up to the next whole byte.
 pub(crate) struct Body<B> {
     /// The type.
     of: PhantomData<B>,
 }
 
-/// Ends the test if a line of a table doesn't tell the truth.
+/// Ends the test if a line of a table doesn't report the truth.
 pub(crate) fn hold<C: Case>(rt: &impl Abort, alloc: Global, table: &str) {
     assert_eq!(rt; first_failing::<C>(alloc, table), None);
 }
@@ -53,14 +53,14 @@ pub(crate) fn holds<B: BodyCode + Fields + Drop>(
 
 /// Adds the bits of one text, in which `00..FF` stands for all bytes in ascending order.
 fn push_text(bits: &mut Bits, text: &str) -> Option<()> {
-    let Some((before, behind)) = text.split_once("00..FF") else {
+    let Some((before, after)) = text.split_once("00..FF") else {
         return bits.push_text(text);
     };
     bits.push_text(before)?;
     for byte in 0..=255u8 {
         bits.push(u64::from(byte), 8)?;
     }
-    bits.push_text(behind)
+    bits.push_text(after)
 }
 
 /// The bits of one text.
@@ -104,7 +104,7 @@ fn written_of<'t>(bits: &'t str, written: &'t str) -> &'t str {
     if written == "=" { bits } else { written }
 }
 
-/// What is to be told of a body.
+/// What is to be reported of a body.
 fn wanted_body(alloc: Global, bits: &str, written: &str, fields: &str) -> Option<String> {
     let mut text = String::new(alloc);
     put_places(alloc, &mut text, bits)?;
@@ -113,7 +113,7 @@ fn wanted_body(alloc: Global, bits: &str, written: &str, fields: &str) -> Option
     Some(text)
 }
 
-/// What is to be told of the bits of a line by what stands behind them.
+/// What is to be reported of the bits of a line by what stands after them.
 fn wanted_of(alloc: Global, bits: &str, wanted: &str) -> Option<String> {
     match wanted.split_once(" | ") {
         Some((written, fields)) => wanted_body(alloc, bits, written_of(bits, written), fields),
@@ -192,8 +192,8 @@ fn put_read(text: &mut String, main: &BitCursor<'_>, refs: &BitCursor<'_>) -> Op
     put_bits(text, refs.place, refs.bytes)
 }
 
-/// What is told of a body: the bits that it is read of, those that it is written by, and its fields.
-fn told_of<B: BodyCode + Fields>(
+/// What is reported of a body: the bits that it is read of, those that it is written by, and its fields.
+fn reported_of<B: BodyCode + Fields>(
     alloc: Global,
     base: Handle,
     body: &B,
@@ -210,8 +210,8 @@ fn told_of<B: BodyCode + Fields>(
     Some(text)
 }
 
-/// What is told of the body in front of the bits.
-fn told<B: BodyCode + Fields + Drop>(
+/// What is reported of the body before the bits.
+fn reported<B: BodyCode + Fields + Drop>(
     alloc: Global,
     base: Handle,
     main: BitCursor<'_>,
@@ -222,12 +222,12 @@ fn told<B: BodyCode + Fields + Drop>(
 {
     let (mut main, mut refs) = (main, refs);
     match read_body::<B>(alloc, base, &mut main, &mut refs)? {
-        Some(body) => told_of(alloc, base, &body, &main, &refs),
+        Some(body) => reported_of(alloc, base, &body, &main, &refs),
         None => format!(in alloc; "none").ok(),
     }
 }
 
-/// What is told of the body in these bytes, where so many of the reference bits are skipped.
+/// What is reported of the body in these bytes, where so many of the reference bits are skipped.
 fn found_in_bytes<B: BodyCode + Fields + Drop>(
     alloc: Global,
     main: &[u8],
@@ -239,10 +239,10 @@ fn found_in_bytes<B: BodyCode + Fields + Drop>(
     }
     let main = BitCursor::new(main, 0, 8 * main.len() as u64);
     let refs = BitCursor::new(refs, skipped, 8 * refs.len() as u64);
-    told::<B>(alloc, Handle::new(OWN)?, main, refs)
+    reported::<B>(alloc, Handle::new(OWN)?, main, refs)
 }
 
-/// What is told of the body in the bits of a text `MAIN / REFERENCES`, where so many of the reference bits are skipped.
+/// What is reported of the body in the bits of a text `MAIN / REFERENCES`, where so many of the reference bits are skipped.
 fn found_in<B: BodyCode + Fields + Drop>(
     alloc: Global,
     bits: &str,
@@ -276,7 +276,7 @@ pub(crate) fn main_bits_of<B: BodyCode + Drop>(alloc: Global, bits: &str) -> Opt
 /// AC1015, its bits in AC1014 (`=`: the same), and its fields: of each it is read, and by each it is written. `MAIN / REFERENCES | unfit` has
 /// the bits in AC1015 of one that AC1014 can't spell, `none | MAIN / REFERENCES` bits that begin with none in AC1014.
 ///
-/// Nothing is asked of the type but the bound [`BodyCode14`]: bodies are read, told to fit, and written in both versions by it alone.
+/// Nothing is asked of the type but the bound [`BodyCode14`]: bodies are read, reported to fit, and written in both versions by it alone.
 pub(crate) struct BothVersions<B> {
     /// The type.
     of: PhantomData<B>,
@@ -291,7 +291,7 @@ impl<B: BodyCode14 + Fields + Drop> Case for BothVersions<B> {
 /// The bit size of the object in AC1014, which the common parts alone spell: four bytes that differ.
 const SIZE: u32 = 0x0403_0201;
 
-/// Whether a line tells the truth in both versions. None for want of memory, and for another text.
+/// Whether a line reports the truth in both versions. None: out of memory, and for another text.
 fn holds_in_both<B: BodyCode14 + Fields + Drop>(alloc: Global, line: &str) -> Option<bool> {
     let (newer, rest) = line.split_once(" | ")?;
     if newer == "none" {
@@ -309,7 +309,7 @@ fn holds_in_both<B: BodyCode14 + Fields + Drop>(alloc: Global, line: &str) -> Op
     Some(found.as_str() == wanted.as_str() && older_found.as_str() == older_wanted.as_str())
 }
 
-/// Adds the main bits that a body is written by in AC1014. None where they aren't as many as they are told to be.
+/// Adds the main bits that a body is written by in AC1014. None where they aren't as many as they are reported to be.
 fn put_main14<B: BodyCode14>(alloc: Global, text: &mut String, base: Handle, body: &B) -> Option<()>
     requires fits { (B.grammar (older 0) base).Fits body.now }
     requires few { length ((B.grammar (older 0) base).short_main body.now) < 2 ^ 20 }
@@ -330,7 +330,7 @@ fn put_main14<B: BodyCode14>(alloc: Global, text: &mut String, base: Handle, bod
     put_sink(text, sink)
 }
 
-/// Adds the reference bits that a body is written by in AC1014. None where they aren't as many as they are told to be.
+/// Adds the reference bits that a body is written by in AC1014. None where they aren't as many as they are reported to be.
 fn put_refs14<B: BodyCode14>(alloc: Global, text: &mut String, base: Handle, body: &B) -> Option<()>
     requires fits { (B.grammar (older 0) base).Fits body.now }
     requires few { length ((B.grammar (older 0) base).short_main body.now) < 2 ^ 20 }
@@ -351,7 +351,7 @@ fn put_refs14<B: BodyCode14>(alloc: Global, text: &mut String, base: Handle, bod
     put_sink(text, sink)
 }
 
-/// What is told of a body of AC1014: the bits that it is read of, those that it is written by, and its fields. None where it doesn't fit.
+/// What is reported of a body of AC1014: the bits that it is read of, those that it is written by, and its fields. None where it doesn't fit.
 fn told14_of<B: BodyCode14 + Fields>(
     alloc: Global,
     base: Handle,
@@ -374,7 +374,7 @@ fn told14_of<B: BodyCode14 + Fields>(
     Some(text)
 }
 
-/// What is told of the body of AC1014 that the bits begin with.
+/// What is reported of the body of AC1014 that the bits begin with.
 fn told14<B: BodyCode14 + Fields + Drop>(
     alloc: Global,
     base: Handle,
@@ -391,7 +391,7 @@ fn told14<B: BodyCode14 + Fields + Drop>(
     }
 }
 
-/// What is told of the body of AC1014 in the bits of a text `MAIN / REFERENCES`.
+/// What is reported of the body of AC1014 in the bits of a text `MAIN / REFERENCES`.
 fn found14_in<B: BodyCode14 + Fields + Drop>(alloc: Global, bits: &str) -> Option<String> {
     let (main, refs) = bits.split_once(" / ")?;
     let main = padded(alloc, main)?;

@@ -40,7 +40,7 @@ impl Fields for AppId {
 /// plotstyle, linetype. Of each one is spelled by long codes as well, two are cut short, and in the last every number is another one; an
 /// application has no name and is of another drawing.
 #[test]
-fn applications_and_layers_are_told_and_written(rt: HostRuntime) {
+fn applications_and_layers_are_reported_and_written(rt: HostRuntime) {
     let alloc = rt.alloc();
     hold::<Body<AppId>>(
         &rt,
@@ -90,7 +90,7 @@ impl Fields for Style {
 /// What an entry has, and then both flags, height, width, oblique, generation, last height, font and big font: `STANDARD`, and the same by
 /// long codes; with every part; cut short in both places; every number another one.
 #[test]
-fn text_styles_are_told_and_written(rt: HostRuntime) {
+fn text_styles_are_reported_and_written(rt: HostRuntime) {
     let alloc = rt.alloc();
     hold::<Body<Style>>(
         &rt,
@@ -171,7 +171,7 @@ impl Fields for Ltype {
 /// many bytes they are, the first two and the last: without dashes; of two, and the same by long codes; cut short in both places; every
 /// number another one.
 #[test]
-fn linetypes_are_told_and_written(rt: HostRuntime) {
+fn linetypes_are_reported_and_written(rt: HostRuntime) {
     let alloc = rt.alloc();
     hold::<Body<Ltype>>(
         &rt,
@@ -236,7 +236,7 @@ fn put_ends(text: &mut String, ends: Option<Ends>) -> Option<()> {
     put_ref(text, &ends.last)
 }
 
-/// Adds what the header of a block tells by its main bits.
+/// Adds what the header of a block reports by its main bits.
 fn put_content(text: &mut String, of: &BlockHeader) -> Option<()> {
     put_flags(
         text,
@@ -271,7 +271,7 @@ impl Fields for BlockHeader {
 /// reference; of an overlaid drawing; cut short in both places, and without first and last; every number another one, and one of another
 /// drawing.
 #[test]
-fn headers_of_blocks_are_told_and_written(rt: HostRuntime) {
+fn headers_of_blocks_are_reported_and_written(rt: HostRuntime) {
     let alloc = rt.alloc();
     hold::<Body<BlockHeader>>(
         &rt,

@@ -48,15 +48,15 @@ impl Write for Stream {
     }
 }
 
-/// Adds what a call gave, `-` for a failure, and the count of faults behind it.
-fn push_told(text: &mut String, told: Result<usize, Failed>, faults: u64) -> Option<()> {
-    match told {
+/// Adds what a call gave, `-` for a failure, and the count of faults after it.
+fn push_reported(text: &mut String, reported: Result<usize, Failed>, faults: u64) -> Option<()> {
+    match reported {
         Ok(count) => write!(text, "{}/{} ", count, faults).ok(),
         Err(Failed) => write!(text, "-/{} ", faults).ok(),
     }
 }
 
-/// What reads into the fronts of a buffer of these lengths give of a stream.
+/// What reads into the prefixes of a buffer of these lengths give of a stream.
 fn reads(alloc: Global, lengths: &[usize]) -> Option<String> {
     let mut source = ReaderSource::new(Stream {
         calls: 0,
@@ -65,37 +65,37 @@ fn reads(alloc: Global, lengths: &[usize]) -> Option<String> {
     let mut text = String::new(alloc);
     let mut buffer = [0; 5];
     for length in lengths {
-        let told = source.read(buffer.get_mut(..*length)?);
-        push_told(&mut text, told, source.faults)?;
+        let reported = source.read(buffer.get_mut(..*length)?);
+        push_reported(&mut text, reported, source.faults)?;
     }
     Some(text)
 }
 
-/// What writes of pieces give, over a stream whose first flush fails, or that behind its second call.
+/// What writes of pieces give, over a stream whose first flush fails, or that after its second call.
 fn writes(alloc: Global, flushed: bool, pieces: &str) -> Option<String> {
     let mut sink = WriterSink::new(Stream { calls: 0, flushed });
     let mut text = String::new(alloc);
     for piece in pieces.split(" ") {
-        let told = sink.write(piece.as_bytes());
-        push_told(&mut text, told, sink.faults)?;
+        let reported = sink.write(piece.as_bytes());
+        push_reported(&mut text, reported, sink.faults)?;
     }
     Some(text)
 }
 
 #[test]
 fn each_error_of_a_reader_is_a_fault(rt: HostRuntime) -> Result<(), Fail> {
-    let told = reads(rt.alloc(), &[5, 1, 5, 5]).ok_or("no memory")?;
-    assert_eq!(rt; told.as_str(), "2/0 1/0 -/1 0/1 ");
+    let reported = reads(rt.alloc(), &[5, 1, 5, 5]).ok_or("no memory")?;
+    assert_eq!(rt; reported.as_str(), "2/0 1/0 -/1 0/1 ");
     Ok(())
 }
 
 #[test]
 fn each_error_of_a_writer_is_a_fault(rt: HostRuntime) -> Result<(), Fail> {
     // The fourth takes nothing of a piece that isn't empty, and the flush of the fifth, which is empty, fails.
-    let told = writes(rt.alloc(), false, "12345 5 12345 12345 ").ok_or("no memory")?;
-    assert_eq!(rt; told.as_str(), "2/0 1/0 -/1 -/2 -/3 ");
-    // A flush that fails behind bytes that were taken.
-    let told = writes(rt.alloc(), true, "12345").ok_or("no memory")?;
-    assert_eq!(rt; told.as_str(), "-/1 ");
+    let reported = writes(rt.alloc(), false, "12345 5 12345 12345 ").ok_or("no memory")?;
+    assert_eq!(rt; reported.as_str(), "2/0 1/0 -/1 -/2 -/3 ");
+    // A flush that fails after bytes that were taken.
+    let reported = writes(rt.alloc(), true, "12345").ok_or("no memory")?;
+    assert_eq!(rt; reported.as_str(), "-/1 ");
     Ok(())
 }

@@ -3,11 +3,11 @@
 use crate::tests::audit::is_printed;
 use crate::tests::commands::OverDevices;
 use crate::tests::runs::{Answers, every_line, every_paragraph};
-use dwg_samples::Case;
+use dwg_testkit::Case;
 use std::alloc::Global;
 use std::test::Fail;
 
-/// A paragraph: what stands in a drawing, the input, and behind them the lines that `appdata` prints.
+/// A paragraph: what stands in a drawing, the input, and after them the lines that `appdata` prints.
 struct Itemised;
 
 impl Case for Itemised {

@@ -2,12 +2,12 @@
 
 use crate::tests::inputs::input_of;
 use crate::tests::runs::{Answers, PLENTY, Wanted, every_line, every_paragraph, in_pieces, leaves};
-use dwg_answers::Status;
-use dwg_samples::Case;
+use dwg_commands::Status;
+use dwg_testkit::Case;
 use std::alloc::Global;
 use std::test::Fail;
 
-/// A paragraph: what is done to a drawing, the input, and behind them the lines that the audit prints.
+/// A paragraph: what is done to a drawing, the input, and after them the lines that the audit prints.
 pub(crate) struct Audited;
 
 impl Case for Audited {
@@ -473,7 +473,7 @@ audit no 28";
 #[test]
 fn finds_nothing_in_made_drawings(rt: HostRuntime) -> Result<(), Fail> {
     // The second has all kinds of further entities, and those of the third go on from handle to handle. The others have objects
-    // behind those that are made.
+    // after those that are made.
     every_line::<Answers>(
         rt.alloc(),
         "\
@@ -487,7 +487,7 @@ dwg audit | more_kinds | Done | audit yes | -",
 }
 
 #[test]
-fn finds_what_the_specification_tells(rt: HostRuntime) -> Result<(), Fail> {
+fn finds_what_the_specification_reports(rt: HostRuntime) -> Result<(), Fail> {
     every_line::<Answers>(
         rt.alloc(),
         "\

@@ -1,13 +1,13 @@
-//! Certificates over devices in memory: what `certify` writes, and what `accept` says of a certificate and the drawing behind it.
+//! Certificates over devices in memory: what `certify` writes, and what `accept` says of a certificate and the drawing after it.
 
 use crate::tests::commands::OverDevices;
 use crate::tests::inputs::input_of;
 use crate::tests::runs::{
     Answers, PLENTY, every_line, in_pieces, leaves_in_pieces, ran, wanted_of, written,
 };
-use dwg_answers::Status;
 use dwg_base::Refusal;
-use dwg_samples::Case;
+use dwg_commands::Status;
+use dwg_testkit::Case;
 use std::alloc::Global;
 use std::test::Fail;
 
@@ -23,14 +23,14 @@ const ENTRY: usize = 24;
 /// How many entries the certificate of `make 7 1` has: 29 of the fixed objects, and 7.
 const MADE: usize = 36;
 
-/// A certificate and a drawing behind it.
+/// A certificate and a drawing after it.
 fn together(alloc: Global, certificate: &str, drawing: &str) -> Option<Vec<u8>> {
     let mut bytes = input_of(alloc, certificate)?;
     bytes.extend_from_slice(&input_of(alloc, drawing)?).ok()?;
     Some(bytes)
 }
 
-/// `CERTIFICATE | DRAWING | STATUS | OUTPUT | NOTES`: what `accept` leaves of both, one behind the other.
+/// `CERTIFICATE | DRAWING | STATUS | OUTPUT | NOTES`: what `accept` leaves of both, one after the other.
 pub(crate) struct Accepted;
 
 impl Case for Accepted {

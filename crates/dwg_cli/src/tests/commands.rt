@@ -5,9 +5,9 @@ use crate::tests::runs::{
     Answers, Devices, PLENTY, Wanted, answers_text, every_line, every_paragraph, leaves,
     leaves_in_pieces, status_of, wanted_of, written,
 };
-use dwg_answers::Status;
 use dwg_base::{ByteRun, LIMIT};
-use dwg_samples::{Case, bytes_of};
+use dwg_commands::Status;
+use dwg_testkit::{Case, bytes_of};
 use std::alloc::Global;
 use std::test::Fail;
 
@@ -112,7 +112,7 @@ fn is_left(
     Some(leaves(alloc, command, &bytes, devices, &wanted))
 }
 
-/// `COMMAND LINE`: what a run leaves tells how the program is used.
+/// `COMMAND LINE`: what a run leaves reports how the program is used.
 pub(crate) struct Used;
 
 impl Case for Used {
@@ -156,7 +156,7 @@ A0839747B192CCA08DA1C4B8C4A9F8C5C0DCF45FE7CFB68A000000003DC0725E3B473B56073A3F23
 D43628289D57CA3F9D44102B0100000000E0DA92F82BC9D7D762A835C062BBEFD40C004A9280000000432A80100C001F4900\
 050CB7012E77000201D0";
 
-/// What a run leaves that tells how the program is used.
+/// What a run leaves that reports how the program is used.
 const USAGE: &str =
     "Usage | - | dwg: usage: sections | classes | show | rewrite | audit | recover | make N SEED | drill N | appdata | certify | accept | carry";
 
@@ -397,7 +397,7 @@ fn text_of_made(alloc: Global) -> Option<ByteRun> {
 }
 
 #[test]
-fn inputs_are_spelled_as_told(rt: HostRuntime) -> Result<(), Fail> {
+fn inputs_are_spelled_as_reported(rt: HostRuntime) -> Result<(), Fail> {
     every_line::<Spelled>(rt.alloc(), SPELLED)
 }
 
@@ -440,7 +440,7 @@ dwg classes | smallest #140 | Refused 16 0 124 | - | dwg: refused: classes 0 at 
 
 #[test]
 fn makes_and_rewrites_drawings(rt: HostRuntime) -> Result<(), Fail> {
-    // What stands behind the last part is in no drawing; a spelling that is longer than is needed becomes the shortest.
+    // What stands after the last part is in no drawing; a spelling that is longer than is needed becomes the shortest.
     every_line::<Answers>(
         rt.alloc(),
         "\
@@ -460,7 +460,7 @@ dwg rewrite | long_kinds | Done | file short_kinds | -",
 #[test]
 fn carries_previews(rt: HostRuntime) -> Result<(), Fail> {
     // Where it stands and where the header says, moved and without a picture; and one that isn't there: another sentinel, a place at the
-    // begin of the file, behind the entries' end by one too few, and a header that names another place.
+    // begin of the file, after the entries' end by one too few, and a header that names another place.
     every_line::<Answers>(
         rt.alloc(),
         "\
@@ -543,7 +543,7 @@ dwg carry | 1000000 0 1000000 0 | two_sections | TooLarge 34000205 | - | dwg: dr
 }
 
 #[test]
-fn tells_how_it_is_used(rt: HostRuntime) -> Result<(), Fail> {
+fn reports_how_it_is_used(rt: HostRuntime) -> Result<(), Fail> {
     every_line::<Used>(
         rt.alloc(),
         "\
@@ -582,7 +582,7 @@ TooLarge 34000205 | 8",
 }
 
 #[test]
-fn tells_a_failing_input(rt: HostRuntime) -> Result<(), Fail> {
+fn reports_a_failing_input(rt: HostRuntime) -> Result<(), Fail> {
     every_line::<OverDevices>(
         rt.alloc(),
         "\

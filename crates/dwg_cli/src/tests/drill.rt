@@ -3,7 +3,7 @@
 use crate::tests::commands::{OverDevices, Used};
 use crate::tests::inputs::input_of;
 use crate::tests::runs::{Answers, every_line};
-use dwg_samples::{Case, bytes_of};
+use dwg_testkit::{Case, bytes_of};
 use std::alloc::Global;
 use std::test::Fail;
 
@@ -88,7 +88,7 @@ drill 200000; objects 200029; bytes 11120301; check 0ADA; changed 5560150 object
 }
 
 #[test]
-fn tells_how_a_drill_is_asked_for(rt: HostRuntime) -> Result<(), Fail> {
+fn reports_how_a_drill_is_asked_for(rt: HostRuntime) -> Result<(), Fail> {
     let alloc = rt.alloc();
     every_line::<Used>(
         alloc,

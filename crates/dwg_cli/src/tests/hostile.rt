@@ -4,7 +4,7 @@
 use crate::tests::commands::OverDevices;
 use crate::tests::inputs::input_of;
 use crate::tests::runs::{Answers, PLENTY, answers_text, every_line, in_pieces, ran};
-use dwg_answers::Status;
+use dwg_commands::Status;
 use std::alloc::Global;
 use std::test::Fail;
 
@@ -13,7 +13,7 @@ trait Numbered {
     /// What is said of a number that fails.
     const WHAT: &'static str;
 
-    /// Whether the case of a number holds. None for want of memory.
+    /// Whether the case of a number holds. None: out of memory.
     fn holds(alloc: Global, number: usize) -> Option<bool>;
 }
 
@@ -35,21 +35,21 @@ fn code_of(alloc: Global, line: &str, input: &str) -> Option<u8> {
 }
 
 /// Whether a file that is cut to a length is refused by `rewrite`, and `recover` says that it is damaged.
-fn is_cut_told(alloc: Global, file: &str, length: usize) -> Option<bool> {
+fn is_cut_reported(alloc: Global, file: &str, length: usize) -> Option<bool> {
     let input = format!(in alloc; "{} #{}", file, length).ok()?;
     let rewritten = code_of(alloc, "dwg rewrite", input.as_str())?;
     let recovered = code_of(alloc, "dwg recover", input.as_str())?;
     Some(rewritten == 3 && recovered == 1)
 }
 
-/// The drawing with one object, cut to a length, is refused and told so.
+/// The drawing with one object, cut to a length, is refused and reported so.
 struct Cut;
 
 impl Numbered for Cut {
     const WHAT: &'static str = "cut to a length";
 
     fn holds(alloc: Global, number: usize) -> Option<bool> {
-        is_cut_told(alloc, "one_object", number)
+        is_cut_reported(alloc, "one_object", number)
     }
 }
 
@@ -60,11 +60,11 @@ impl Numbered for OlderCut {
     const WHAT: &'static str = "of AC1014, cut to a length";
 
     fn holds(alloc: Global, number: usize) -> Option<bool> {
-        is_cut_told(alloc, "older_object", number)
+        is_cut_reported(alloc, "older_object", number)
     }
 }
 
-/// Where a read fails, `rewrite` of that drawing byte by byte tells the read fault and writes nothing.
+/// Where a read fails, `rewrite` of that drawing byte by byte reports the read fault and writes nothing.
 struct FailingRead;
 
 impl Numbered for FailingRead {
@@ -93,7 +93,7 @@ fn bytes_before(pieces: usize) -> Option<usize> {
     }
 }
 
-/// Where a write fails, `rewrite` of that drawing tells the write fault, and what it wrote are the pieces before.
+/// Where a write fails, `rewrite` of that drawing reports the write fault, and what it wrote are the pieces before.
 struct FailingWrite;
 
 impl Numbered for FailingWrite {
@@ -111,7 +111,7 @@ impl Numbered for FailingWrite {
 
 /// Whether a file of one object, with a byte changed to its complement, is refused for the check word of its object, and just the
 /// object is lost, so that another file is left.
-fn is_damage_told(alloc: Global, file: &str, place: usize, left: &str) -> Option<bool> {
+fn is_damage_reported(alloc: Global, file: &str, place: usize, left: &str) -> Option<bool> {
     let input = format!(in alloc; "{} ~{}", file, place).ok()?;
     let refused = "Refused 30 0 183 | - | dwg: refused: objects 0 at 183: check";
     let lost = format!(in alloc;
@@ -131,7 +131,7 @@ impl Numbered for Damaged {
     const WHAT: &'static str = "a damaged byte";
 
     fn holds(alloc: Global, number: usize) -> Option<bool> {
-        is_damage_told(alloc, "one_object", number, "smallest")
+        is_damage_reported(alloc, "one_object", number, "smallest")
     }
 }
 
@@ -142,23 +142,23 @@ impl Numbered for OlderDamaged {
     const WHAT: &'static str = "of AC1014, a damaged byte";
 
     fn holds(alloc: Global, number: usize) -> Option<bool> {
-        is_damage_told(alloc, "older_object", number, "older_smallest")
+        is_damage_reported(alloc, "older_object", number, "older_smallest")
     }
 }
 
 #[test]
-fn every_cut_is_told(rt: HostRuntime) -> Result<(), Fail> {
+fn every_cut_is_reported(rt: HostRuntime) -> Result<(), Fail> {
     every_number::<Cut>(rt.alloc(), 0, 210)?;
     every_number::<OlderCut>(rt.alloc(), 0, 209)
 }
 
 #[test]
-fn every_failing_read_is_told(rt: HostRuntime) -> Result<(), Fail> {
+fn every_failing_read_is_reported(rt: HostRuntime) -> Result<(), Fail> {
     every_number::<FailingRead>(rt.alloc(), 1, 212)
 }
 
 #[test]
-fn every_failing_write_is_told(rt: HostRuntime) -> Result<(), Fail> {
+fn every_failing_write_is_reported(rt: HostRuntime) -> Result<(), Fail> {
     every_number::<FailingWrite>(rt.alloc(), 1, 23)
 }
 
@@ -170,13 +170,13 @@ fn status_without_notes(alloc: Global) -> Option<Status> {
 }
 
 #[test]
-fn failing_notes_are_told(rt: HostRuntime) -> Result<(), Fail> {
+fn failing_notes_are_reported(rt: HostRuntime) -> Result<(), Fail> {
     assert_eq!(rt; status_without_notes(rt.alloc()), Some(Status::WriteFault));
     Ok(())
 }
 
 #[test]
-fn devices_of_a_large_drawing_are_told(rt: HostRuntime) -> Result<(), Fail> {
+fn devices_of_a_large_drawing_are_reported(rt: HostRuntime) -> Result<(), Fail> {
     every_line::<OverDevices>(
         rt.alloc(),
         "\
@@ -188,7 +188,7 @@ dwg rewrite | 1000000 0 10 3 | made/1/7 | WriteFault | file made/1/7 #20 | -",
 }
 
 #[test]
-fn hostile_numbers_are_told(rt: HostRuntime) -> Result<(), Fail> {
+fn hostile_numbers_are_reported(rt: HostRuntime) -> Result<(), Fail> {
     every_line::<Answers>(
         rt.alloc(),
         "\
@@ -215,7 +215,7 @@ dwg recover | one_page ~213 ~214 | Found | file two_of_page | dwg: refused: obje
 }
 
 #[test]
-fn every_damaged_byte_is_told(rt: HostRuntime) -> Result<(), Fail> {
+fn every_damaged_byte_is_reported(rt: HostRuntime) -> Result<(), Fail> {
     every_number::<Damaged>(rt.alloc(), 185, 199)?;
     every_number::<OlderDamaged>(rt.alloc(), 185, 198)
 }

@@ -2,7 +2,7 @@
 
 use crate::tests::older_files;
 use crate::tests::runs::{PLENTY, written};
-use dwg_samples::{bytes_of, file_of, frame_of, framed, with_header_word};
+use dwg_testkit::{bytes_of, file_of, frame_of, framed, with_header_word};
 use std::alloc::Global;
 
 /// Files, a paragraph each: its name, the content of its header variables, that of its classes, and its frames. They are
@@ -110,21 +110,21 @@ long_kinds
 '10 '01 '01 '10 '00 000000000000F03F / 3.0 5.10
 72 6 : '1010 '00 0100 47 '00 0000 '00 0001 '00 01000000 / 4.C 3.0 520061";
 
-/// Other files, a paragraph each: its name, a canonical file or a made drawing with changes, and what stands behind that.
+/// Other files, a paragraph each: its name, a canonical file or a made drawing with changes, and what stands after that.
 ///
-/// - `sections` has an unknown section of number 7 behind the map, and `two_sections` two of them, each of 17,000,000 bytes from 0 on.
+/// - `sections` has an unknown section of number 7 after the map, and `two_sections` two of them, each of 17,000,000 bytes from 0 on.
 /// - `null` names the null handle in its map, and `twice` a handle twice.
 /// - `overlap` has an XRECORD whose content is the frame of the dictionary, and a map that names both.
 /// - `pages` has a map of three pages, with a pair each.
-/// - `plain_and_raw` has an object of handle 1 that has no meaning, and an entity of handle 2 of which no more is told, with five own
+/// - `plain_and_raw` has an object of handle 1 that has no meaning, and an entity of handle 2 of which no more is reported, with five own
 ///   bits and a reference of its own.
-/// - `dictionaries` has two dictionaries behind a made drawing, each the other's owner and only item.
+/// - `dictionaries` has two dictionaries after a made drawing, each the other's owner and only item.
 /// - `text_and_number`, `layer_there` and `layer_missing` have application data at the last line of a made drawing: a text and a number, then bytes
 ///   that are no items; the handle of a layer; and that of a text style where a layer is named. `items` has an item of each code there, bytes that
 ///   are no items, and two items that lead nowhere.
 /// - `polyline` has a polyline in space of handle 32 in the model space of a made drawing, its vertices 33 and 34, and the end
 ///   35 of these.
-/// - `more` has these objects behind a made drawing, so that each field but that of groups has a holder here or there whose
+/// - `more` has these objects after a made drawing, so that each field but that of groups has a holder here or there whose
 ///   reference isn't null, in one byte:
 ///
 /// | handle | object |
@@ -140,7 +140,7 @@ long_kinds
 /// | 46, 47 | a plain object of number 70, and a dictionary that it owns |
 /// | 48 | a line in 3E |
 ///
-/// - `more_kinds` has these objects behind a made drawing, the entities in its model space where nothing else is said:
+/// - `more_kinds` has these objects after a made drawing, the entities in its model space where nothing else is said:
 ///
 /// | handle | object |
 /// |---|---|
@@ -347,7 +347,7 @@ fn certificate_of(alloc: Global, name: &str) -> Option<Vec<u8>> {
 /// A canonical file of AC1014 by its name, or `nothing`.
 fn listed_older(alloc: Global, name: &str) -> Option<Vec<u8>> {
     match paragraph(older_files::FILES, name) {
-        Some(text) => dwg_samples::older(alloc, &canonical(alloc, text)?),
+        Some(text) => dwg_testkit::older(alloc, &canonical(alloc, text)?),
         None if name == "nothing" => Some(Vec::new(alloc)),
         None => None,
     }
@@ -406,7 +406,7 @@ fn complemented(alloc: Global, bytes: &[u8], place: usize) -> Option<Vec<u8>> {
     Some(list)
 }
 
-/// The bytes with one change: `PLACE=BYTES` puts bytes over those from a place on, `FROM..TO=BYTES` in the place of some, `+BYTES` behind
+/// The bytes with one change: `PLACE=BYTES` puts bytes over those from a place on, `FROM..TO=BYTES` in the place of some, `+BYTES` after
 /// the last; `#LENGTH` cuts to a length or fills up to it with zeros; `~PLACE` complements a byte; `sealed` makes the check word of a
 /// header of three locators right.
 fn changed(alloc: Global, bytes: &[u8], change: &str) -> Option<Vec<u8>> {
@@ -437,7 +437,7 @@ fn changed_by_all(alloc: Global, bytes: Vec<u8>, changes: &str) -> Option<Vec<u8
     Some(bytes)
 }
 
-/// A frame: of a body that stands behind the word `body`, or of an object; and what else stands behind the word `bytes`.
+/// A frame: of a body that stands after the word `body`, or of an object; and what else stands after the word `bytes`.
 fn frame_of_line(alloc: Global, line: &str) -> Option<Vec<u8>> {
     if let Some(bytes) = line.strip_prefix("bytes ") {
         return bytes_of(alloc, bytes);
@@ -448,7 +448,7 @@ fn frame_of_line(alloc: Global, line: &str) -> Option<Vec<u8>> {
     }
 }
 
-/// The bytes with frames behind them, a line each.
+/// The bytes with frames after them, a line each.
 fn with_frames(alloc: Global, bytes: Vec<u8>, frames: &str) -> Option<Vec<u8>> {
     let mut bytes = bytes;
     for line in frames.lines() {
@@ -457,7 +457,7 @@ fn with_frames(alloc: Global, bytes: Vec<u8>, frames: &str) -> Option<Vec<u8>> {
     Some(bytes)
 }
 
-/// The first word and what stands behind it.
+/// The first word and what stands after it.
 fn first_word(text: &str) -> (&str, &str) {
     text.split_once(" ").unwrap_or((text, ""))
 }
@@ -486,7 +486,7 @@ fn sample_of(alloc: Global, name: &str) -> Option<Vec<u8>> {
     }
 }
 
-/// An input by its text: the name of a file, or `certificate/` and one, which is its certificate, and changes behind it.
+/// An input by its text: the name of a file, or `certificate/` and one, which is its certificate, and changes after it.
 pub(crate) fn input_of(alloc: Global, text: &str) -> Option<Vec<u8>> {
     let (name, changes) = first_word(text);
     changed_by_all(alloc, named(alloc, name)?, changes)

@@ -637,7 +637,7 @@ object 38 UNKNOWN raw 200
 const VERSION_LEFT: &str = "\
 check word of the file header | older_object 52=78 | older_object | dwg: refused: header 0 at 52: check; lost: file header; found: object C at 183; kept 1
 sentinel of the file header | older_object 69=FF | older_object | dwg: refused: header 0 at 54: sentinel; lost: file header; found: object C at 183; kept 1
-all behind the version | older_object 6=FFFFFFFFFFFFFFFFFFFFFFFFFFFFFFFFFFFF 21=FFFFFFFF | older_object | dwg: refused: header 0 at 21: count; lost: file header; found: object C at 183; kept 1
+all after the version | older_object 6=FFFFFFFFFFFFFFFFFFFFFFFFFFFFFFFFFFFF 21=FFFFFFFF | older_object | dwg: refused: header 0 at 21: count; lost: file header; found: object C at 183; kept 1
 no sections | older_object 6..183= | older_object | dwg: refused: header 0 at 21: count; lost: file header; lost: header variables; lost: classes; found: object C at 6; kept 1
 a Plain, a Raw and a Typed object | older_forms 52=00 | older_found | dwg: refused: header 0 at 52: check; lost: file header; found: object 1 at 183; found: object C at 217; kept 2
 an object that is Raw in AC1015 | older_either 52=00 | older_either | dwg: refused: header 0 at 52: check; lost: file header; found: object C at 183; kept 1
@@ -654,18 +654,18 @@ of an object that is Raw then, of a pair | older_either 5=35 sealed 70=30 | olde
 of AC1015 to AC1014 | one_object 5=34 | older_smallest | dwg: refused: header 0 at 52: check; lost: file header; kept 0
 of AC1015 to AC1014, with the check word | one_object 5=34 sealed | older_smallest | dwg: refused: objects 0 at 183: head; lost: object C at 183; kept 0";
 
-/// Damages behind the file header.
-const BEHIND: &str = "\
+/// Damages after the file header.
+const AFTER: &str = "\
 header variables | older_object 70=30 | older_object | dwg: refused: variables 0 at 70: begin; lost: header variables; kept 1
 check word of a frame | older_object 196=FD | older_smallest | dwg: refused: objects 0 at 183: check; lost: object C at 183; kept 0
 check word of a page | older_object 203=2F | older_object | dwg: refused: map 0 at 203: check; lost: map page 0 at 198; found: object C at 183; kept 1
 handle of a pair | older_object 200=0D 203=EE26 | older_object | dwg: refused: objects 0 at 183: handle; lost: object D at 183; found: object C at 183; kept 1
 check word of the page of a Plain, a Raw and a Typed object | older_forms 241=00 | older_found | dwg: refused: map 0 at 241: check; lost: map page 0 at 232; found: object 1 at 183; found: object C at 217; kept 2
-cut before the last frame ends | older_page #227 | older_front | dwg: refused: map 0 at 228: short; lost: map end at 228; found: object A at 183; found: object B at 198; kept 2
+cut before the last frame ends | older_page #227 | older_prefix | dwg: refused: map 0 at 228: short; lost: map end at 228; found: object A at 183; found: object B at 198; kept 2
 two of three pages | older_page #228 +00050AB7012F97 +00050BC6010000 +00050CD5010000 +000201D0 | older_page | dwg: refused: map 1 at 240: check; lost: map page 1 at 235; lost: map page 2 at 242; found: object B at 198; found: object C at 213; kept 3";
 
 #[test]
-fn inputs_of_ac1014_are_spelled_as_told(rt: HostRuntime) -> Result<(), Fail> {
+fn inputs_of_ac1014_are_spelled_as_reported(rt: HostRuntime) -> Result<(), Fail> {
     every_line::<Spelled>(
         rt.alloc(),
         "\
@@ -694,7 +694,7 @@ dwg classes | older_object | Done | classes 0 | -",
 
 #[test]
 fn rewrites_drawings_of_ac1014(rt: HostRuntime) -> Result<(), Fail> {
-    // A map of three pages becomes one of one page; padding, spellings that are longer than is needed, and what stands behind the last part
+    // A map of three pages becomes one of one page; padding, spellings that are longer than is needed, and what stands after the last part
     // are in no drawing.
     every_line::<Answers>(
         rt.alloc(),
@@ -779,5 +779,5 @@ fn recovers_by_ac1015_where_the_version_is_lost(rt: HostRuntime) -> Result<(), F
 
 #[test]
 fn recovers_drawings_of_ac1014(rt: HostRuntime) -> Result<(), Fail> {
-    every_line::<Recovered>(rt.alloc(), BEHIND)
+    every_line::<Recovered>(rt.alloc(), AFTER)
 }

@@ -3,8 +3,8 @@
 /// Files of AC1014, a paragraph each: its name, the content of its header variables, that of its classes, and its frames. They are
 /// canonical where nothing else is said.
 ///
-/// - `older_page` has the dictionaries A, B and C, and `older_front` the first two of them.
-/// - `older_padded` has an entity of three own bits and a dictionary, behind whose references four and six bits are left, and
+/// - `older_page` has the dictionaries A, B and C, and `older_prefix` the first two of them.
+/// - `older_padded` has an entity of three own bits and a dictionary, after whose references four and six bits are left, and
 ///   `older_padded_with_ones` the same with ones in these places, so that it isn't canonical.
 /// - `older_short` has a dictionary and a line, and `older_long` the same by longer spellings, so that it isn't canonical.
 /// - `older_forms` has an ellipse, of which the common part alone is known in AC1014, an object of a number that no kind has, and a
@@ -12,7 +12,7 @@
 /// - `older_hostile_items` and `older_hostile_reactors` have a dictionary that counts 2^32 - 1 items, or reactors, of which none is there.
 /// - `older_either` has a dictionary with application data. By the rules of AC1015 it has a head, with the same handle, and a bit size
 ///   that is far too great.
-/// - `older_drawing` has the fixed objects of the made drawing and, behind these, in its model space:
+/// - `older_drawing` has the fixed objects of the made drawing and, after these, in its model space:
 ///
 /// | handle | object |
 /// |---|---|
@@ -39,7 +39,7 @@ older_page
 42 B : '10 size '10 '10 00 / 4.0 3.0
 42 C : '10 size '10 '10 00 / 4.0 3.0
 
-older_front
+older_prefix
 -
 -
 42 A : '10 size '10 '10 00 / 4.0 3.0

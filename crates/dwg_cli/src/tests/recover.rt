@@ -6,8 +6,8 @@ use crate::tests::runs::{
     Answers, Left, PLENTY, Wanted, answers_text, every_line, in_pieces, leaves_in_pieces, lines_of,
     ran,
 };
-use dwg_answers::Status;
-use dwg_samples::Case;
+use dwg_commands::Status;
+use dwg_testkit::Case;
 use std::alloc::Global;
 use std::test::Fail;
 
@@ -35,16 +35,16 @@ check word of the file header | one_object 52=D4 | one_object | dwg: refused: he
 sentinel of the file header | one_object 69=FF | one_object | dwg: refused: header 0 at 54: sentinel; lost: file header; found: object C at 183; kept 1
 count of locators | one_object 21=07 | one_object | dwg: refused: header 0 at 21: count; lost: file header; found: object C at 183; kept 1
 begin sentinel of the variables | one_object 70=30 | one_object | dwg: refused: variables 0 at 70: begin; lost: header variables; kept 1
-the same, and a whole section behind the file | one_object 70=30 +CF7B1F23FDDE38A95F7C68B84E6D335F000000003DC03084E0DC0221C756A0839747B192CCA0 | one_object | dwg: refused: variables 0 at 70: begin; kept 1
+the same, and a whole section after the file | one_object 70=30 +CF7B1F23FDDE38A95F7C68B84E6D335F000000003DC03084E0DC0221C756A0839747B192CCA0 | one_object | dwg: refused: variables 0 at 70: begin; kept 1
 length of the variables | one_object 86=01 | one_object | dwg: refused: variables 0 at 91: check; lost: header variables; kept 1
 longest length of the variables | one_object 86=FFFFFFFF | one_object | dwg: refused: variables 0 at 86: length; lost: header variables; kept 1
 check word of the variables | one_object 90=3C | one_object | dwg: refused: variables 0 at 90: check; lost: header variables; kept 1
-the same, and a cut section behind the file | one_object 90=3C +CF7B1F23FDDE38A95F7C68B84E6D335F000000003DC03084E0DC0221C756A0839747B192CC | one_object | dwg: refused: variables 0 at 90: check; lost: header variables; kept 1
+the same, and a cut section after the file | one_object 90=3C +CF7B1F23FDDE38A95F7C68B84E6D335F000000003DC03084E0DC0221C756A0839747B192CC | one_object | dwg: refused: variables 0 at 90: check; lost: header variables; kept 1
 end sentinel of the variables | one_object 107=5F | one_object | dwg: refused: variables 0 at 92: end; lost: header variables; kept 1
 begin sentinel of the classes | one_object 123=8B | one_object | dwg: refused: classes 0 at 108: begin; lost: classes; kept 1
 length of the classes | one_object 124=01 | one_object | dwg: refused: classes 0 at 129: check; lost: classes; kept 1
 check word of the classes | one_object 129=40 | one_object | dwg: refused: classes 0 at 128: check; lost: classes; kept 1
-the same, and a whole section behind the file | one_object 128=3C +8DA1C4B8C4A9F8C5C0DCF45FE7CFB68A000000003DC0725E3B473B56073A3F230BA018304975 | one_object | dwg: refused: classes 0 at 128: check; kept 1
+the same, and a whole section after the file | one_object 128=3C +8DA1C4B8C4A9F8C5C0DCF45FE7CFB68A000000003DC0725E3B473B56073A3F230BA018304975 | one_object | dwg: refused: classes 0 at 128: check; kept 1
 end sentinel of the classes | one_object 130=73 | one_object | dwg: refused: classes 0 at 130: end; lost: classes; kept 1
 locator of the variables | one_object 26=FFFFFFFF 52=8E3E | one_object | dwg: refused: variables 0 at 4294967295: short; kept 1
 check word of a page | one_object 204=D1 | one_object | dwg: refused: map 0 at 204: check; lost: map page 0 at 199; found: object C at 183; kept 1
@@ -56,8 +56,8 @@ null handle of a pair | one_object 201=00 204=2DB7 | one_object | dwg: refused: 
 pair that repeats a handle | one_object 200=07 204=000A09260002 +01D0 | one_object | dwg: refused: map 0 at 204: duplicate; lost: object C at 193; kept 1
 handle of a pair | one_object 201=0D 204=EE26 | one_object | dwg: refused: objects 0 at 183: handle; lost: object D at 183; found: object C at 183; kept 1
 place of a pair | one_object 202=B8 204=DE72 | one_object | dwg: refused: objects 0 at 184: length; lost: object C at 184; found: object C at 183; kept 1
-place of a pair behind the end | one_object 200=06 202=C0843D7D39000201 +D0 | one_object | dwg: refused: objects 0 at 1000000: place; lost: object C at 1000000; found: object C at 183; kept 1
-pair in the page behind a lost page | one_object 204=0000 207=050CB7 +012E77000201D0 | one_object | dwg: refused: map 0 at 204: check; lost: map page 0 at 199; kept 1
+place of a pair after the end | one_object 200=06 202=C0843D7D39000201 +D0 | one_object | dwg: refused: objects 0 at 1000000: place; lost: object C at 1000000; found: object C at 183; kept 1
+pair in the page after a lost page | one_object 204=0000 207=050CB7 +012E77000201D0 | one_object | dwg: refused: map 0 at 204: check; lost: map page 0 at 199; kept 1
 two frames of a handle that no pair leads to | one_object 44=D8 52=94DD 199=0D004A92800000 207=432A80 +10404C003CDF00050CB7010000000201D0 | one_object | dwg: refused: map 0 at 221: check; lost: map page 0 at 216; found: object C at 183; kept 1";
 
 /// Damages that leave no object.
@@ -112,7 +112,7 @@ E 329 351
 30 1770 1801
 31 1801 1851";
 
-/// What is noted first of that drawing where it is cut behind its file header, a line each: from this length on, up to that one, and
+/// What is noted first of that drawing where it is cut after its file header, a line each: from this length on, up to that one, and
 /// the lines.
 const CUTS: &str = "\
 70 86 dwg: refused: variables 0 at 70: short; lost: header variables; lost: classes; lost: map end at 1851
@@ -121,15 +121,15 @@ const CUTS: &str = "\
 124 146 dwg: refused: classes 0 at 124: length; lost: classes; lost: map end at 1851
 146 1919 dwg: refused: map 0 at 1851: short; lost: map end at 1851";
 
-/// Two numbers and what stands behind them.
+/// Two numbers and what stands after them.
 fn numbers_of(line: &str) -> Option<(usize, usize, &str)> {
     let (first, rest) = line.split_once(" ")?;
     let (second, rest) = rest.split_once(" ")?;
     Some((first.parse().ok()?, second.parse().ok()?, rest))
 }
 
-/// The refusal and the losses of the drawing where it is cut to a length behind its file header.
-fn losses_behind_the_header(length: usize) -> Option<&'static str> {
+/// The refusal and the losses of the drawing where it is cut to a length after its file header.
+fn losses_after_the_header(length: usize) -> Option<&'static str> {
     for line in CUTS.lines() {
         let (from, to, losses) = numbers_of(line)?;
         if from <= length && length < to {
@@ -148,10 +148,10 @@ fn losses(alloc: Global, length: usize) -> Option<String> {
         )
         .ok();
     }
-    String::from_str(alloc, losses_behind_the_header(length)?).ok()
+    String::from_str(alloc, losses_after_the_header(length)?).ok()
 }
 
-/// Adds what is noted of a frame, by its line, where it ends in front of the cut. True where it does.
+/// Adds what is noted of a frame, by its line, where it ends before the cut. True where it does.
 fn push_found(text: &mut String, frame: &str, length: usize) -> Option<bool> {
     let (handle, rest) = frame.split_once(" ")?;
     let (place, end) = rest.split_once(" ")?;
@@ -162,7 +162,7 @@ fn push_found(text: &mut String, frame: &str, length: usize) -> Option<bool> {
     Some(true)
 }
 
-/// What is noted of the made drawing where it is cut to a length in front of the end of its map.
+/// What is noted of the made drawing where it is cut to a length before the end of its map.
 fn notes_of_cut(alloc: Global, length: usize) -> Option<Vec<u8>> {
     let mut text = losses(alloc, length)?;
     let mut kept = 0u32;
@@ -185,9 +185,9 @@ fn is_drawing(alloc: Global, bytes: &[u8]) -> Option<bool> {
     Some(leaves_in_pieces(alloc, "dwg rewrite", bytes, &wanted))
 }
 
-/// Whether recovery of a front of a drawing notes this, and leaves a drawing.
-fn is_front_recovered(alloc: Global, front: &[u8], notes: &[u8]) -> Option<bool> {
-    let ran = ran(alloc, "dwg recover", front, in_pieces(PLENTY))?;
+/// Whether recovery of a prefix of a drawing notes this, and leaves a drawing.
+fn is_prefix_recovered(alloc: Global, prefix: &[u8], notes: &[u8]) -> Option<bool> {
+    let ran = ran(alloc, "dwg recover", prefix, in_pieces(PLENTY))?;
     if ran.status != Status::Found || ran.notes.as_slice() != notes {
         return Some(false);
     }
@@ -197,16 +197,16 @@ fn is_front_recovered(alloc: Global, front: &[u8], notes: &[u8]) -> Option<bool>
 /// Whether recovery of the made drawing, cut to a length, leaves what it has to.
 fn is_cut_recovered(alloc: Global, made: &[u8], length: usize) -> Option<bool> {
     let notes = notes_of_cut(alloc, length)?;
-    is_front_recovered(alloc, made.get(..length)?, &notes)
+    is_prefix_recovered(alloc, made.get(..length)?, &notes)
 }
 
-/// The first length of those tried, in front of the end of the map, at which the made drawing isn't recovered.
+/// The first length of those tried, before the end of the map, at which the made drawing isn't recovered.
 fn first_failing_cut(alloc: Global, made: &[u8]) -> Option<usize> {
     (0..1920usize).step_by(10).find(|length| is_cut_recovered(alloc, made, *length) != Some(true))
 }
 
 /// The drawing that is made of 20,000 and 1 with a byte changed: the first of the check word of its map's first page, which begins at
-/// 1053874 and has 2,030 bytes in front of that word.
+/// 1053874 and has 2,030 bytes before that word.
 const LARGE: &str = "made/20000/1 ~1055904";
 
 /// What is noted of it first.
@@ -216,7 +216,7 @@ lost: map page 0 at 1053874
 found: object 1 at 183
 ";
 
-/// What is noted of it last, behind the other objects of the page.
+/// What is noted of it last, after the other objects of the page.
 const LAST_NOTES: &str = "
 found: object 3C4 at 48917
 kept 20029
@@ -297,7 +297,7 @@ outer frame and map | overlap 213=87 222=91 | one_object | dwg: refused: map 0 a
 }
 
 #[test]
-fn finds_the_frames_in_front_of_a_cut(rt: HostRuntime) -> Result<(), Fail> {
+fn finds_the_frames_before_a_cut(rt: HostRuntime) -> Result<(), Fail> {
     let alloc = rt.alloc();
     let made = input_of(alloc, "made/1/7").ok_or("no drawing")?;
     assert_eq!(rt; first_failing_cut(alloc, &made), None);

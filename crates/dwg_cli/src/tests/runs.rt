@@ -2,9 +2,9 @@
 
 use crate::run::run;
 use crate::tests::inputs::input_of;
-use dwg_answers::Status;
 use dwg_base::{ByteRun, Items, MemSink, MemSource, Refusal};
-use dwg_samples::{Case, first_failing};
+use dwg_commands::Status;
+use dwg_testkit::{Case, first_failing};
 use std::alloc::Global;
 use std::test::Fail;
 
@@ -69,7 +69,7 @@ fn sink(alloc: Global, room: usize, most: usize, call: u64) -> Option<MemSink> {
     MemSink::new(alloc, room, most.max(1), failing(alloc, call)?).ok()
 }
 
-/// The words behind the program's name; `''` is the empty word.
+/// The words after the program's name; `''` is the empty word.
 fn words_of(alloc: Global, line: &str) -> Option<Vec<String>> {
     let mut words = Vec::new(alloc);
     for word in line.split_whitespace().skip(1) {
@@ -114,7 +114,7 @@ fn left_over(alloc: Global, words: &[String], bytes: &[u8], devices: Devices) ->
     Some(left_by(alloc, words, input, output, notes))
 }
 
-/// Runs the program as a command line says, which begins with its name. None for want of memory.
+/// Runs the program as a command line says, which begins with its name. None: out of memory.
 pub(crate) fn ran(alloc: Global, line: &str, bytes: &[u8], devices: Devices) -> Option<Left> {
     left_over(alloc, &words_of(alloc, line)?, bytes, devices)
 }
@@ -156,7 +156,7 @@ fn plain_status_of(text: &str) -> Option<Status> {
     }
 }
 
-/// A status by its name, with its numbers behind it: `Done`, `Refused 26 3 204`, `TooLarge 34000205`.
+/// A status by its name, with its numbers after it: `Done`, `Refused 26 3 204`, `TooLarge 34000205`.
 pub(crate) fn status_of(text: &str) -> Option<Status> {
     match text.split_once(" ") {
         None => plain_status_of(text),
@@ -188,13 +188,13 @@ fn cut_lines_of(alloc: Global, text: &str) -> Option<Vec<u8>> {
     Some(bytes)
 }
 
-/// The bytes of a file behind the word `file`, or lines; `..` behind them says that the last line isn't whole.
+/// The bytes of a file after the word `file`, or lines; `..` after them says that the last line isn't whole.
 fn output_of(alloc: Global, text: &str) -> Option<Vec<u8>> {
     if let Some(file) = text.strip_prefix("file ") {
         return input_of(alloc, file);
     }
     match text.strip_suffix("..") {
-        Some(front) => cut_lines_of(alloc, front),
+        Some(prefix) => cut_lines_of(alloc, prefix),
         None => lines_of(alloc, text),
     }
 }
@@ -270,7 +270,7 @@ fn is_answered(alloc: Global, line: &str) -> Option<bool> {
     answers_text(alloc, command, input, wanted)
 }
 
-/// The first paragraph of a table that doesn't tell the truth; an empty line stands between two.
+/// The first paragraph of a table that doesn't report the truth; an empty line stands between two.
 fn first_failing_paragraph<C: Case>(alloc: Global, table: &str) -> Option<&str> {
     for paragraph in table.split("\n\n") {
         if !C::holds(alloc, paragraph) {
@@ -280,7 +280,7 @@ fn first_failing_paragraph<C: Case>(alloc: Global, table: &str) -> Option<&str> 
     None
 }
 
-/// Fails by the first case of some that doesn't tell the truth.
+/// Fails by the first case of some that doesn't report the truth.
 fn passes_unless(failing: Option<&str>) -> Result<(), Fail> {
     match failing {
         None => Ok(()),
@@ -288,12 +288,12 @@ fn passes_unless(failing: Option<&str>) -> Result<(), Fail> {
     }
 }
 
-/// Fails by the first line of a table that doesn't tell the truth.
+/// Fails by the first line of a table that doesn't report the truth.
 pub(crate) fn every_line<C: Case>(alloc: Global, table: &str) -> Result<(), Fail> {
     passes_unless(first_failing::<C>(alloc, table))
 }
 
-/// Fails by the first paragraph of a table that doesn't tell the truth.
+/// Fails by the first paragraph of a table that doesn't report the truth.
 pub(crate) fn every_paragraph<C: Case>(alloc: Global, table: &str) -> Result<(), Fail> {
     passes_unless(first_failing_paragraph::<C>(alloc, table))
 }

@@ -3,8 +3,8 @@
 ghost use Rattle.std.specs.Prelude.{◌≡◌, ◌<◌};
 
 use crate::tests::inputs::canonical_file;
-use crate::tests::table::{Telling, hold};
-use crate::tests::told;
+use crate::tests::reported;
+use crate::tests::table::{Reporting, hold};
 use dwg_appitems::{AppFinding, app_audit};
 use dwg_audit::auditable_laws;
 use dwg_base::{Items, LIMIT};
@@ -32,29 +32,29 @@ fn audit_counted<L: Ledger>(
 }
 
 /// Adds findings: of each the handle of the object, which application data, which item, and the handle that it names.
-fn tell_findings(told: &mut String, found: &[AppFinding]) -> Option<()> {
+fn report_findings(reported: &mut String, found: &[AppFinding]) -> Option<()> {
     for finding in found {
-        told::hexadecimal(told, finding.handle.value())?;
-        told::number(told, finding.index)?;
-        told::number(told, finding.item)?;
-        told::hexadecimal(told, finding.target)?;
+        reported::hexadecimal(reported, finding.handle.value())?;
+        reported::number(reported, finding.index)?;
+        reported::number(reported, finding.item)?;
+        reported::hexadecimal(reported, finding.target)?;
     }
     Some(())
 }
 
 /// Adds what is found of a drawing.
-fn tell_drawing(alloc: Global, told: &mut String, drawing: &Drawing<'_>) -> Option<()> {
+fn report_drawing(alloc: Global, reported: &mut String, drawing: &Drawing<'_>) -> Option<()> {
     let found = audit_counted::<Brand>(alloc, drawing, Blank::new(1))?;
-    tell_findings(told, found.as_slice())
+    report_findings(reported, found.as_slice())
 }
 
 /// Adds what is found of the drawing that bytes spell.
-fn tell_bytes(alloc: Global, told: &mut String, bytes: &[u8]) -> Option<()> {
+fn report_bytes(alloc: Global, reported: &mut String, bytes: &[u8]) -> Option<()> {
     if bytes.len() as u64 > LIMIT {
         return None;
     }
     match read_drawing(alloc, bytes) {
-        Ok(drawing) => tell_drawing(alloc, told, &drawing),
+        Ok(drawing) => report_drawing(alloc, reported, &drawing),
         Err(_) => None,
     }
 }
@@ -62,9 +62,9 @@ fn tell_bytes(alloc: Global, told: &mut String, bytes: &[u8]) -> Option<()> {
 /// `FRAME ; FRAME ; .. => HANDLE INDEX ITEM TARGET ..`: what the items of the objects of these frames refer to and isn't there.
 struct Missing;
 
-impl Telling for Missing {
-    fn tell(alloc: Global, told: &mut String, input: &str) -> Option<()> {
-        tell_bytes(alloc, told, &canonical_file(alloc, "-", input)?)
+impl Reporting for Missing {
+    fn report(alloc: Global, reported: &mut String, input: &str) -> Option<()> {
+        report_bytes(alloc, reported, &canonical_file(alloc, "-", input)?)
     }
 }
 
@@ -89,7 +89,7 @@ fn missing_references_of_items_are_found(rt: HostRuntime) -> Result<(), Fail> {
 #[test]
 fn only_items_of_objects_that_are_read_are_found(rt: HostRuntime) -> Result<(), Fail> {
     // Bytes that are no items, though they begin with one, alone and before others; handles of 2^63 and more; two items, the second of them in the second of
-    // two application data; a Plain object behind a Typed one; an object that is kept as its bytes.
+    // two application data; a Plain object after a Typed one; an object that is kept as its bytes.
     let cases = "\
         42 C : '01 0A 5.1 030000000000000011FF '10 '10 '10 '10 00 / 4.0 3.0 =>\n\
         42 C : '01 0A 5.1 030000000000000011FF '01 09 5.2 030000000000000011 '10 '10 '10 '10 00 / 4.0 3.0 => C 1 0 11\n\

@@ -1,90 +1,90 @@
-//! The common parts of entities and of other objects: read, and told to fit.
+//! The common parts of entities and of other objects: read, and reported to fit.
 
-use crate::tests::table::{Telling, hold};
-use crate::tests::told;
+use crate::tests::reported;
+use crate::tests::table::{Reporting, hold};
 use dwg_base::{ByteRun, Handle, NoMemory};
 use dwg_bits::BitCursor;
 use dwg_common::{AppData, BodyCode, EntityCommon, Links, ObjectCommon, body_laws, common_laws};
 use dwg_handles::Ref;
-use dwg_samples::bytes_of;
+use dwg_testkit::bytes_of;
 use std::alloc::Global;
 use std::test::Fail;
 
 /// Adds a reference: its code, and its target in hexadecimal digits.
-fn tell_ref(told: &mut String, reference: Ref) -> Option<()> {
+fn report_ref(reported: &mut String, reference: Ref) -> Option<()> {
     let code = reference.code;
     let target = reference.target.value();
-    write!(told, " {code}.{target:X}").ok()
+    write!(reported, " {code}.{target:X}").ok()
 }
 
 /// Adds a reference, or `none`.
-fn tell_part(told: &mut String, reference: Option<Ref>) -> Option<()> {
+fn report_part(reported: &mut String, reference: Option<Ref>) -> Option<()> {
     match reference {
-        Some(reference) => tell_ref(told, reference),
-        None => told::word(told, "none"),
+        Some(reference) => report_ref(reported, reference),
+        None => reported::word(reported, "none"),
     }
 }
 
 /// Adds references.
-fn tell_refs(told: &mut String, references: &[Ref]) -> Option<()> {
+fn report_refs(reported: &mut String, references: &[Ref]) -> Option<()> {
     for reference in references {
-        tell_ref(told, *reference)?;
+        report_ref(reported, *reference)?;
     }
     Some(())
 }
 
 /// Adds items of application data: the application and the bytes of each.
-fn tell_items(told: &mut String, items: &[AppData]) -> Option<()> {
+fn report_items(reported: &mut String, items: &[AppData]) -> Option<()> {
     for item in items {
-        tell_ref(told, item.application)?;
-        told::bytes(told, item.bytes.as_slice())?;
+        report_ref(reported, item.application)?;
+        reported::bytes(reported, item.bytes.as_slice())?;
     }
     Some(())
 }
 
 /// Adds the bytes of a graphic, or `none`.
-fn tell_graphic(told: &mut String, graphic: Option<&ByteRun>) -> Option<()> {
+fn report_graphic(reported: &mut String, graphic: Option<&ByteRun>) -> Option<()> {
     match graphic {
-        Some(graphic) => told::bytes(told, graphic.as_slice()),
-        None => told::word(told, "none"),
+        Some(graphic) => reported::bytes(reported, graphic.as_slice()),
+        None => reported::word(reported, "none"),
     }
 }
 
-/// Adds the entities before and behind an entity, or `none`.
-fn tell_links(told: &mut String, links: Option<Links>) -> Option<()> {
+/// Adds the entities before and after an entity, or `none`.
+fn report_links(reported: &mut String, links: Option<Links>) -> Option<()> {
     match links {
-        Some(links) => tell_refs(told, &[links.previous, links.next]),
-        None => told::word(told, "none"),
+        Some(links) => report_refs(reported, &[links.previous, links.next]),
+        None => reported::word(reported, "none"),
     }
 }
 
 /// Adds items, graphic, owner and reactors.
-fn tell_front(told: &mut String, part: &EntityCommon) -> Option<()> {
-    tell_items(told, part.app.as_slice())?;
-    tell_graphic(told, part.graphic.as_ref())?;
-    tell_part(told, part.owner)?;
-    tell_refs(told, part.reactors.as_slice())
+fn report_prefix(reported: &mut String, part: &EntityCommon) -> Option<()> {
+    report_items(reported, part.app.as_slice())?;
+    report_graphic(reported, part.graphic.as_ref())?;
+    report_part(reported, part.owner)?;
+    report_refs(reported, part.reactors.as_slice())
 }
 
 /// Adds dictionary, links, layer, linetype and plot style.
-fn tell_back(told: &mut String, part: &EntityCommon) -> Option<()> {
-    tell_ref(told, part.xdict)?;
-    tell_links(told, part.links)?;
-    tell_ref(told, part.layer)?;
-    tell_part(told, part.linetype)?;
-    tell_part(told, part.plotstyle)
+fn report_back(reported: &mut String, part: &EntityCommon) -> Option<()> {
+    report_ref(reported, part.xdict)?;
+    report_links(reported, part.links)?;
+    report_ref(reported, part.layer)?;
+    report_part(reported, part.linetype)?;
+    report_part(reported, part.plotstyle)
 }
 
 /// Adds mode, both flags, colour, linetype scale, invisible and line weight in hexadecimal digits.
-fn tell_numbers(told: &mut String, part: &EntityCommon) -> Option<()> {
+fn report_numbers(reported: &mut String, part: &EntityCommon) -> Option<()> {
     let flags = [part.mode, part.linetype_flag, part.plotstyle_flag];
     for number in flags {
-        told::hexadecimal(told, u64::from(number))?;
+        reported::hexadecimal(reported, u64::from(number))?;
     }
-    told::hexadecimal(told, u64::from(part.colour))?;
-    told::hexadecimal(told, part.linetype_scale)?;
-    told::hexadecimal(told, u64::from(part.invisible))?;
-    told::hexadecimal(told, u64::from(part.lineweight))
+    reported::hexadecimal(reported, u64::from(part.colour))?;
+    reported::hexadecimal(reported, part.linetype_scale)?;
+    reported::hexadecimal(reported, u64::from(part.invisible))?;
+    reported::hexadecimal(reported, u64::from(part.lineweight))
 }
 
 /// The handle of the object that has the common part.
@@ -93,26 +93,26 @@ pub(crate) fn own() -> Option<Handle> {
 }
 
 /// Adds whether a common part fits.
-fn tell_fit(told: &mut String, fits: bool) -> Option<()> {
-    told::word(told, if fits { "fits" } else { "unfit" })
+fn report_fit(reported: &mut String, fits: bool) -> Option<()> {
+    reported::word(reported, if fits { "fits" } else { "unfit" })
 }
 
 /// Adds the common part of an entity, and whether it fits in the object of the handle 80, and of 81.
-fn tell_entity(told: &mut String, part: &EntityCommon) -> Option<()> {
-    tell_front(told, part)?;
-    tell_back(told, part)?;
-    tell_numbers(told, part)?;
-    tell_fit(told, part.fits(own()?))?;
-    tell_fit(told, part.fits(Handle::new(0x81)?))
+fn report_entity(reported: &mut String, part: &EntityCommon) -> Option<()> {
+    report_prefix(reported, part)?;
+    report_back(reported, part)?;
+    report_numbers(reported, part)?;
+    report_fit(reported, part.fits(own()?))?;
+    report_fit(reported, part.fits(Handle::new(0x81)?))
 }
 
 /// Adds the common part of another object: items, owner, reactors, dictionary, and whether it fits in the object of the handle 80.
-fn tell_object(told: &mut String, part: &ObjectCommon) -> Option<()> {
-    tell_items(told, part.app.as_slice())?;
-    tell_ref(told, part.owner)?;
-    tell_refs(told, part.reactors.as_slice())?;
-    tell_ref(told, part.xdict)?;
-    tell_fit(told, part.fits(own()?))
+fn report_object(reported: &mut String, part: &ObjectCommon) -> Option<()> {
+    report_items(reported, part.app.as_slice())?;
+    report_ref(reported, part.owner)?;
+    report_refs(reported, part.reactors.as_slice())?;
+    report_ref(reported, part.xdict)?;
+    report_fit(reported, part.fits(own()?))
 }
 
 /// The cursor over the first hundred bytes.
@@ -121,78 +121,78 @@ fn cursor(bytes: &[u8]) -> BitCursor<'_> {
     BitCursor::new(bytes, 0, 8 * end as u64)
 }
 
-/// Adds the places behind what was read.
-fn tell_places(told: &mut String, main: &BitCursor<'_>, refs: &BitCursor<'_>) -> Option<()> {
-    told::number(told, main.at())?;
-    told::number(told, refs.at())
+/// Adds the places after what was read.
+fn report_places(reported: &mut String, main: &BitCursor<'_>, refs: &BitCursor<'_>) -> Option<()> {
+    reported::number(reported, main.at())?;
+    reported::number(reported, refs.at())
 }
 
-/// A common part that is told.
-trait Told {
+/// A common part that is reported.
+trait Reported {
     /// Adds it.
-    fn tell_part(&self, told: &mut String) -> Option<()>;
+    fn report_part(&self, reported: &mut String) -> Option<()>;
 }
 
-impl Told for EntityCommon {
-    fn tell_part(&self, told: &mut String) -> Option<()> {
-        tell_entity(told, self)
+impl Reported for EntityCommon {
+    fn report_part(&self, reported: &mut String) -> Option<()> {
+        report_entity(reported, self)
     }
 }
 
-impl Told for ObjectCommon {
-    fn tell_part(&self, told: &mut String) -> Option<()> {
-        tell_object(told, self)
+impl Reported for ObjectCommon {
+    fn report_part(&self, reported: &mut String) -> Option<()> {
+        report_object(reported, self)
     }
 }
 
 /// Adds a common part, or `none`.
-fn tell_found<T: Told>(told: &mut String, part: Option<&T>) -> Option<()> {
+fn report_found<T: Reported>(reported: &mut String, part: Option<&T>) -> Option<()> {
     match part {
-        Some(part) => part.tell_part(told),
-        None => told::word(told, "none"),
+        Some(part) => part.report_part(reported),
+        None => reported::word(reported, "none"),
     }
 }
 
-/// Adds the places behind what was read as a common part, and the part. Of any type, since a function that drops the part of an entity is
+/// Adds the places after what was read as a common part, and the part. Of any type, since a function that drops the part of an entity is
 /// dear to prove.
-fn tell_read<T: Told + Drop>(
-    told: &mut String,
+fn report_read<T: Reported + Drop>(
+    reported: &mut String,
     main: &BitCursor<'_>,
     refs: &BitCursor<'_>,
     part: Result<Option<T>, NoMemory>,
 ) -> Option<()> {
     match part {
         Ok(part) => {
-            tell_places(told, main, refs)?;
-            tell_found(told, part.as_ref())
+            report_places(reported, main, refs)?;
+            report_found(reported, part.as_ref())
         }
         Err(NoMemory) => None,
     }
 }
 
 /// Adds what is read as the common part of the object 80.
-fn tell_bits<T: BodyCode + Told + Drop>(
+fn report_bits<T: BodyCode + Reported + Drop>(
     alloc: Global,
-    told: &mut String,
+    reported: &mut String,
     main: &[u8],
     refs: &[u8],
 ) -> Option<()> {
     let mut main = cursor(main);
     let mut refs = cursor(refs);
     let part = T::read(alloc, &mut main, &mut refs, own()?);
-    tell_read(told, &main, &refs, part)
+    report_read(reported, &main, &refs, part)
 }
 
 /// Adds what is read of a text `MAIN / REFERENCES` as the common part of the object 80.
-fn tell_text<T: BodyCode + Told + Drop>(
+fn report_text<T: BodyCode + Reported + Drop>(
     alloc: Global,
-    told: &mut String,
+    reported: &mut String,
     input: &str,
 ) -> Option<()> {
     let (main, refs) = input.split_once(" / ")?;
-    tell_bits::<T>(
+    report_bits::<T>(
         alloc,
-        told,
+        reported,
         &bytes_of(alloc, main)?,
         &bytes_of(alloc, refs)?,
     )
@@ -203,9 +203,9 @@ fn tell_text<T: BodyCode + Told + Drop>(
 /// colour, linetype scale, invisible, line weight in hexadecimal digits; and whether it fits in the object 80, and in 81.
 struct Entities;
 
-impl Telling for Entities {
-    fn tell(alloc: Global, told: &mut String, input: &str) -> Option<()> {
-        tell_text::<EntityCommon>(alloc, told, input)
+impl Reporting for Entities {
+    fn report(alloc: Global, reported: &mut String, input: &str) -> Option<()> {
+        report_text::<EntityCommon>(alloc, reported, input)
     }
 }
 
@@ -231,9 +231,9 @@ fn the_common_part_of_an_entity_is_read(rt: HostRuntime) -> Result<(), Fail> {
 /// `MAIN / REFERENCES => MAIN REFERENCES PART`: the same of the common part of the object 80, which has items, owner, reactors, dictionary.
 struct Objects;
 
-impl Telling for Objects {
-    fn tell(alloc: Global, told: &mut String, input: &str) -> Option<()> {
-        tell_text::<ObjectCommon>(alloc, told, input)
+impl Reporting for Objects {
+    fn report(alloc: Global, reported: &mut String, input: &str) -> Option<()> {
+        report_text::<ObjectCommon>(alloc, reported, input)
     }
 }
 

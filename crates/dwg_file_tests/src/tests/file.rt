@@ -5,8 +5,8 @@ ghost use Rattle.dwg_preview.specs.Previews.{IsContent};
 
 use crate::tests::inputs::canonical_file;
 use crate::tests::objmap::{long_map, sink};
-use crate::tests::table::{Telling, hold};
-use crate::tests::told;
+use crate::tests::reported;
+use crate::tests::table::{Reporting, hold};
 use dwg_base::{Items, LIMIT, MemSink};
 use dwg_check::check;
 use dwg_classes::Class;
@@ -16,23 +16,23 @@ use dwg_file::{
 };
 use dwg_object::Object;
 use dwg_preview::{Preview, read_preview};
-use dwg_samples::{bytes_of, frame_of};
 use dwg_sections::read_file_header;
+use dwg_testkit::{bytes_of, frame_of};
 use std::alloc::Global;
 use std::test::Fail;
 
 /// `NAME | BYTES`, or `NAME | CLASSES | FRAME ; FRAME ; ..` of a canonical file without header variables:
 /// - the smallest file; that of one dictionary;
 /// - an entity, an object of a class, an entity whose mode is 3, and one of type 10 with every part;
-/// - an entity of five bits of its own, behind whose references seven bits are left, and a record of one target, behind which six are;
+/// - an entity of five bits of its own, after whose references seven bits are left, and a record of one target, after which six are;
 ///   the same with ones in these places;
 /// - a class of polylines, a line, a line with one further bit, entities of type 45 and 200, a block inserted with an attribute, and a
 ///   polyline of the class without points;
 /// - two unknown sections, the first of them empty;
 /// - lead, mark, code page, header variables, a class, two objects and an unknown section; the same with its parts in another order,
-///   without a preview, with slack behind the class, and with a map whose first page has the greater handle by a spelling longer than is
+///   without a preview, with slack after the class, and with a map whose first page has the greater handle by a spelling longer than is
 ///   needed;
-/// - the plain and the typed objects from above, spelled longer than is needed, with ones behind references;
+/// - the plain and the typed objects from above, spelled longer than is needed, with ones after references;
 /// - the smallest file with a picture; the same with the picture's place 0, so that no preview stands there; that with three entries, of
 ///   which the second is of no picture, as it is written, and with its preview at the end; and that with a picture in AC1014;
 /// - the begin of a file whose two unknown sections begin with it and have 17,000,000 bytes each;
@@ -135,8 +135,8 @@ fn file_by(alloc: Global, text: &str) -> Option<Vec<u8>> {
     }
 }
 
-/// What stands behind a name in a list.
-fn behind_name<'a>(list: &'a str, name: &str) -> Option<&'a str> {
+/// What stands after a name in a list.
+fn after_name<'a>(list: &'a str, name: &str) -> Option<&'a str> {
     for line in list.lines() {
         let (this, text) = line.split_once(" | ")?;
         if this == name {
@@ -148,17 +148,17 @@ fn behind_name<'a>(list: &'a str, name: &str) -> Option<&'a str> {
 
 /// The bytes of a file of the list.
 fn listed(alloc: Global, name: &str) -> Option<Vec<u8>> {
-    file_by(alloc, behind_name(FILES, name)?)
+    file_by(alloc, after_name(FILES, name)?)
 }
 
-/// The file of one object with three bytes behind it.
+/// The file of one object with three bytes after it.
 fn longer_file(alloc: Global) -> Option<Vec<u8>> {
     let mut bytes = listed(alloc, "one object")?;
     bytes.extend_from_slice(&[1, 2, 3]).ok()?;
     Some(bytes)
 }
 
-/// The file of two large sections, with zeros behind its begin.
+/// The file of two large sections, with zeros after its begin.
 fn large_file(alloc: Global) -> Option<Vec<u8>> {
     let mut bytes = listed(alloc, "begin of two large sections")?;
     for _ in 205..17_000_000u32 {
@@ -193,7 +193,7 @@ fn push_map(alloc: Global, file: &mut Vec<u8>) -> Option<()> {
 }
 
 /// The file of dictionaries of the handles from 1 to 1,100, whose map has two pages, before its map.
-fn front_of_long_file(alloc: Global) -> Option<Vec<u8>> {
+fn prefix_of_long_file(alloc: Global) -> Option<Vec<u8>> {
     let mut file = listed(alloc, "header of a long map")?;
     push_of_smallest(alloc, &mut file, 183)?;
     push_dictionaries(alloc, &mut file)?;
@@ -202,12 +202,12 @@ fn front_of_long_file(alloc: Global) -> Option<Vec<u8>> {
 
 /// That file.
 fn long_file(alloc: Global) -> Option<Vec<u8>> {
-    let mut file = front_of_long_file(alloc)?;
+    let mut file = prefix_of_long_file(alloc)?;
     push_map(alloc, &mut file)?;
     Some(file)
 }
 
-/// The file of these dictionaries and of an unknown section, in which zeros stand behind the classes.
+/// The file of these dictionaries and of an unknown section, in which zeros stand after the classes.
 fn long_file_with_section(alloc: Global) -> Option<Vec<u8>> {
     let mut file = listed(alloc, "header of a long map and a section")?;
     push_of_smallest(alloc, &mut file, 146)?;
@@ -229,48 +229,48 @@ fn named(alloc: Global, name: &str) -> Option<Vec<u8>> {
 }
 
 /// Adds lead, mark, code page and header variables.
-fn tell_front(told: &mut String, parts: &Parts<'_>) -> Option<()> {
-    told::bytes(told, &parts.lead)?;
-    told::bytes(told, &parts.mark)?;
-    told::number(told, u64::from(parts.code_page))?;
-    told::bytes(told, parts.variables.as_slice())
+fn report_prefix(reported: &mut String, parts: &Parts<'_>) -> Option<()> {
+    reported::bytes(reported, &parts.lead)?;
+    reported::bytes(reported, &parts.mark)?;
+    reported::number(reported, u64::from(parts.code_page))?;
+    reported::bytes(reported, parts.variables.as_slice())
 }
 
 /// Adds the numbers of classes.
-fn tell_classes(told: &mut String, classes: &[Class]) -> Option<()> {
-    told::word(told, "classes")?;
+fn report_classes(reported: &mut String, classes: &[Class]) -> Option<()> {
+    reported::word(reported, "classes")?;
     for class in classes {
-        told::number(told, u64::from(class.number))?;
+        reported::number(reported, u64::from(class.number))?;
     }
     Some(())
 }
 
 /// Adds the numbers and the bytes of unknown sections.
-fn tell_others(told: &mut String, others: &[Other<'_>]) -> Option<()> {
-    told::word(told, "others")?;
+fn report_others(reported: &mut String, others: &[Other<'_>]) -> Option<()> {
+    reported::word(reported, "others")?;
     for other in others {
-        told::number(told, u64::from(other.number))?;
-        told::bytes(told, other.bytes.as_slice())?;
+        reported::number(reported, u64::from(other.number))?;
+        reported::bytes(reported, other.bytes.as_slice())?;
     }
     Some(())
 }
 
-/// Adds objects, each behind a comma.
-fn tell_objects(told: &mut String, objects: &[Object<'_>]) -> Option<()> {
-    told::word(told, "objects")?;
+/// Adds objects, each after a comma.
+fn report_objects(reported: &mut String, objects: &[Object<'_>]) -> Option<()> {
+    reported::word(reported, "objects")?;
     for object in objects {
-        told::word(told, ",")?;
-        told::object(told, object)?;
+        reported::word(reported, ",")?;
+        reported::object(reported, object)?;
     }
     Some(())
 }
 
 /// Adds all parts of a drawing.
-fn tell_parts(told: &mut String, parts: &Parts<'_>) -> Option<()> {
-    tell_front(told, parts)?;
-    tell_classes(told, parts.classes.as_slice())?;
-    tell_others(told, parts.others.as_slice())?;
-    tell_objects(told, parts.objects.as_slice())
+fn report_parts(reported: &mut String, parts: &Parts<'_>) -> Option<()> {
+    report_prefix(reported, parts)?;
+    report_classes(reported, parts.classes.as_slice())?;
+    report_others(reported, parts.others.as_slice())?;
+    report_objects(reported, parts.objects.as_slice())
 }
 
 /// Sends the canonical file of a plan, and says whether the sink took it whole.
@@ -289,8 +289,13 @@ fn sent(alloc: Global, plan: &mut Plan<'_, '_>) -> Option<Vec<u8>> {
 }
 
 /// Adds whether a plan sends the file of that name.
-fn tell_sent(alloc: Global, told: &mut String, plan: &mut Plan<'_, '_>, name: &str) -> Option<()> {
-    told::same(told, &sent(alloc, plan)?, &named(alloc, name)?)
+fn report_sent(
+    alloc: Global,
+    reported: &mut String,
+    plan: &mut Plan<'_, '_>,
+    name: &str,
+) -> Option<()> {
+    reported::same(reported, &sent(alloc, plan)?, &named(alloc, name)?)
 }
 
 /// A sink with room for 210 bytes, which takes ten bytes a call and fails in the third.
@@ -301,15 +306,15 @@ fn failing_sink(alloc: Global) -> Option<MemSink> {
 }
 
 /// Adds what that sink holds of what a plan sends, if it isn't all.
-fn tell_front_sent(alloc: Global, told: &mut String, plan: &mut Plan<'_, '_>) -> Option<()> {
+fn report_prefix_sent(alloc: Global, reported: &mut String, plan: &mut Plan<'_, '_>) -> Option<()> {
     let mut sink = failing_sink(alloc)?;
     if send(plan, &mut sink) {
         return None;
     }
-    told::bytes(told, sink.bytes())
+    reported::bytes(reported, sink.bytes())
 }
 
-/// Whether a call of a sink fails that takes at most a thousand bytes a call of the file that a plan sends, if the sink holds a front of
+/// Whether a call of a sink fails that takes at most a thousand bytes a call of the file that a plan sends, if the sink holds a prefix of
 /// it then, and all of it exactly where no call failed.
 fn fails_at(alloc: Global, plan: &mut Plan<'_, '_>, file: &[u8], call: u64) -> Option<bool> {
     let mut fails = Items::new(alloc);
@@ -323,11 +328,11 @@ fn fails_at(alloc: Global, plan: &mut Plan<'_, '_>, file: &[u8], call: u64) -> O
 }
 
 /// Adds how many calls there are of that sink, if after a fault in each of them the plan sends the whole file.
-fn tell_faults(alloc: Global, told: &mut String, plan: &mut Plan<'_, '_>) -> Option<()> {
+fn report_faults(alloc: Global, reported: &mut String, plan: &mut Plan<'_, '_>) -> Option<()> {
     let file = sent(alloc, plan)?;
     for before in 0..1_000u64 {
         if !fails_at(alloc, plan, &file, before + 1)? {
-            return told::number(told, before);
+            return reported::number(reported, before);
         }
         if sent(alloc, plan)?.as_slice() != file.as_slice() {
             return None;
@@ -336,66 +341,86 @@ fn tell_faults(alloc: Global, told: &mut String, plan: &mut Plan<'_, '_>) -> Opt
     None
 }
 
-/// Adds what is asked of a plan: `front`, what the failing sink holds of it; `faults`, how often it can fail; or whether it sends
+/// Adds what is asked of a plan: `prefix`, what the failing sink holds of it; `faults`, how often it can fail; or whether it sends
 /// the file of a name.
-fn tell_plan(alloc: Global, told: &mut String, plan: &mut Plan<'_, '_>, ask: &str) -> Option<()> {
+fn report_plan(
+    alloc: Global,
+    reported: &mut String,
+    plan: &mut Plan<'_, '_>,
+    ask: &str,
+) -> Option<()> {
     match ask {
-        "front" => tell_front_sent(alloc, told, plan),
-        "faults" => tell_faults(alloc, told, plan),
-        _ => tell_sent(alloc, told, plan, ask),
+        "prefix" => report_prefix_sent(alloc, reported, plan),
+        "faults" => report_faults(alloc, reported, plan),
+        _ => report_sent(alloc, reported, plan, ask),
     }
 }
 
 /// Adds all parts of the drawing that bytes spell.
-fn tell_read(alloc: Global, told: &mut String, bytes: &[u8]) -> Option<()> {
+fn report_read(alloc: Global, reported: &mut String, bytes: &[u8]) -> Option<()> {
     if bytes.len() as u64 > LIMIT {
         return None;
     }
     match read_drawing(alloc, bytes) {
-        Ok(drawing) => tell_parts(told, drawing.parts()),
+        Ok(drawing) => report_parts(reported, drawing.parts()),
         Err(_) => None,
     }
 }
 
 /// Adds whether what is sent of a drawing is read as the same parts.
-fn tell_again(alloc: Global, told: &mut String, parts: &Parts<'_>, file: &[u8]) -> Option<()> {
+fn report_again(
+    alloc: Global,
+    reported: &mut String,
+    parts: &Parts<'_>,
+    file: &[u8],
+) -> Option<()> {
     let mut before = String::new(alloc);
-    tell_parts(&mut before, parts)?;
+    report_parts(&mut before, parts)?;
     let mut after = String::new(alloc);
-    tell_read(alloc, &mut after, file)?;
-    told::same(told, before.as_bytes(), after.as_bytes())
+    report_read(alloc, &mut after, file)?;
+    reported::same(reported, before.as_bytes(), after.as_bytes())
 }
 
 /// Adds what is asked of the plan of a drawing, or the size of a drawing that is too large.
-fn tell_planned(alloc: Global, told: &mut String, drawing: &Drawing<'_>, ask: &str) -> Option<()> {
+fn report_planned(
+    alloc: Global,
+    reported: &mut String,
+    drawing: &Drawing<'_>,
+    ask: &str,
+) -> Option<()> {
     match Plan::prepare(alloc, drawing) {
         Ok(plan) => {
             let mut plan = plan;
             if ask == "again" {
-                return tell_again(alloc, told, drawing.parts(), &sent(alloc, &mut plan)?);
+                return report_again(alloc, reported, drawing.parts(), &sent(alloc, &mut plan)?);
             }
-            tell_plan(alloc, told, &mut plan, ask)
+            report_plan(alloc, reported, &mut plan, ask)
         }
-        Err(PlanFault::TooLarge { size }) => told::number(told, size),
+        Err(PlanFault::TooLarge { size }) => reported::number(reported, size),
         Err(PlanFault::NoMemory) => None,
     }
 }
 
 /// Adds what is asked of a drawing: `parts`, or something of its plan.
-fn tell_drawing(alloc: Global, told: &mut String, drawing: &Drawing<'_>, ask: &str) -> Option<()> {
+fn report_drawing(
+    alloc: Global,
+    reported: &mut String,
+    drawing: &Drawing<'_>,
+    ask: &str,
+) -> Option<()> {
     match ask {
-        "parts" => tell_parts(told, drawing.parts()),
-        _ => tell_planned(alloc, told, drawing, ask),
+        "parts" => report_parts(reported, drawing.parts()),
+        _ => report_planned(alloc, reported, drawing, ask),
     }
 }
 
 /// Adds what is asked of the drawing that bytes spell.
-fn tell_bytes(alloc: Global, told: &mut String, bytes: &[u8], ask: &str) -> Option<()> {
+fn report_bytes(alloc: Global, reported: &mut String, bytes: &[u8], ask: &str) -> Option<()> {
     if bytes.len() as u64 > LIMIT {
         return None;
     }
     match read_drawing(alloc, bytes) {
-        Ok(drawing) => tell_drawing(alloc, told, &drawing, ask),
+        Ok(drawing) => report_drawing(alloc, reported, &drawing, ask),
         Err(_) => None,
     }
 }
@@ -404,15 +429,15 @@ fn tell_bytes(alloc: Global, told: &mut String, bytes: &[u8], ask: &str) -> Opti
 /// - `FILE | NAME => same`: whether its canonical file is that of another name; or its size, where it is too large;
 /// - `FILE | parts => LEAD MARK PAGE VARIABLES classes .. others .. objects ..`: its parts;
 /// - `FILE | again => same`: whether its canonical file is read as the same parts;
-/// - `FILE | front => BYTES`: what a sink holds of its canonical file whose third write of ten bytes fails;
+/// - `FILE | prefix => BYTES`: what a sink holds of its canonical file whose third write of ten bytes fails;
 /// - `FILE | faults => CALLS`: how many calls a sink takes that takes at most a thousand bytes a call, if each of them can fail and the
 ///   whole file is sent then.
 struct Drawings;
 
-impl Telling for Drawings {
-    fn tell(alloc: Global, told: &mut String, input: &str) -> Option<()> {
+impl Reporting for Drawings {
+    fn report(alloc: Global, reported: &mut String, input: &str) -> Option<()> {
         let (name, ask) = input.split_once(" | ")?;
-        tell_bytes(alloc, told, &named(alloc, name)?, ask)
+        report_bytes(alloc, reported, &named(alloc, name)?, ask)
     }
 }
 
@@ -449,9 +474,9 @@ fn preview_of(alloc: Global, bytes: &[u8]) -> Option<Preview<'_>>
 }
 
 /// Adds whether the canonical file of a drawing that carries a preview is that of a name, or its size, where it is too large.
-fn tell_carrying<'a>(
+fn report_carrying<'a>(
     alloc: Global,
-    told: &mut String,
+    reported: &mut String,
     drawing: &Drawing<'a>,
     preview: Option<Preview<'a>>,
     name: &str,
@@ -461,20 +486,22 @@ fn tell_carrying<'a>(
     match Plan::prepare_with(alloc, drawing, preview) {
         Ok(plan) => {
             let mut plan = plan;
-            tell_sent(alloc, told, &mut plan, name)
+            report_sent(alloc, reported, &mut plan, name)
         }
-        Err(PlanFault::TooLarge { size }) => told::number(told, size),
+        Err(PlanFault::TooLarge { size }) => reported::number(reported, size),
         Err(PlanFault::NoMemory) => None,
     }
 }
 
 /// Adds that of the drawing that bytes spell, with the preview that they have.
-fn tell_carried(alloc: Global, told: &mut String, bytes: &[u8], name: &str) -> Option<()> {
+fn report_carried(alloc: Global, reported: &mut String, bytes: &[u8], name: &str) -> Option<()> {
     if bytes.len() as u64 > LIMIT {
         return None;
     }
     match read_drawing(alloc, bytes) {
-        Ok(drawing) => { tell_carrying(alloc, told, &drawing, preview_of(alloc, bytes), name) }
+        Ok(drawing) => {
+            report_carrying(alloc, reported, &drawing, preview_of(alloc, bytes), name)
+        }
         Err(_) => None,
     }
 }
@@ -483,10 +510,10 @@ fn tell_carried(alloc: Global, told: &mut String, bytes: &[u8], name: &str) -> O
 /// another name; or its size, where it is too large.
 struct Carried;
 
-impl Telling for Carried {
-    fn tell(alloc: Global, told: &mut String, input: &str) -> Option<()> {
+impl Reporting for Carried {
+    fn report(alloc: Global, reported: &mut String, input: &str) -> Option<()> {
         let (name, other) = input.split_once(" | ")?;
-        tell_carried(alloc, told, &named(alloc, name)?, other)
+        report_carried(alloc, reported, &named(alloc, name)?, other)
     }
 }
 
@@ -532,15 +559,15 @@ fn each_part_of_a_drawing_is_kept(rt: HostRuntime) -> Result<(), Fail> {
 }
 
 #[test]
-fn a_file_that_is_too_large_is_told_with_its_size(rt: HostRuntime) -> Result<(), Fail> {
+fn a_file_that_is_too_large_is_reported_with_its_size(rt: HostRuntime) -> Result<(), Fail> {
     let cases = "two large sections | smallest => 34000205\n";
     hold::<Drawings>(&rt, rt.alloc(), cases);
     Ok(())
 }
 
 #[test]
-fn a_failing_sink_holds_a_front(rt: HostRuntime) -> Result<(), Fail> {
-    let cases = "one object | front => 4143313031350000000000000092000000000000\n";
+fn a_failing_sink_holds_a_prefix(rt: HostRuntime) -> Result<(), Fail> {
+    let cases = "one object | prefix => 4143313031350000000000000092000000000000\n";
     hold::<Drawings>(&rt, rt.alloc(), cases);
     Ok(())
 }
@@ -559,13 +586,13 @@ fn a_file_is_sent_whole_after_a_fault_in_each_call(rt: HostRuntime) -> Result<()
 
 /// Of the file of 1,100 dictionaries where its map stands, the length, and the check word from 0.
 fn numbers_of_long_file(alloc: Global) -> Option<(usize, usize, u16)> {
-    let front = front_of_long_file(alloc)?;
+    let prefix = prefix_of_long_file(alloc)?;
     let file = long_file(alloc)?;
-    Some((front.len(), file.len(), check(0, &file)))
+    Some((prefix.len(), file.len(), check(0, &file)))
 }
 
 #[test]
-fn a_map_of_two_pages_stands_behind_the_frames(rt: HostRuntime) -> Result<(), Fail> {
+fn a_map_of_two_pages_stands_after_the_frames(rt: HostRuntime) -> Result<(), Fail> {
     assert_eq!(rt;
         numbers_of_long_file(rt.alloc()),
         Some((18_628, 20_844, 0x4FB5))

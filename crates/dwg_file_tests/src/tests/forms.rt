@@ -32,7 +32,7 @@ fn ellipses_faces_polylines_in_space_and_groups_are_read_by_their_fields(
 ) -> Result<(), Fail> {
     // A block inserted twice in three rows, without attributes and with them; a vertex at (1.0, 0, 0), and a polyline; a face
     // whose corners are one; a solid and a trace whose corners are the origin; an ellipse around the origin, and the same by its
-    // bytes, which tell that 108 bits stand before its references; a ray and a line without ends, both through the origin; a
+    // bytes, which report that 108 bits stand before its references; a ray and a line without ends, both through the origin; a
     // group "G" of an object and null.
     let cases = "\
         8 80 : ENTITY '10 '10 '10 '11 '10 '10 '10 '01 '0 '01 02 '01 03 '01 '10 / 3.0 5.10 5.12 => 8 80 MINSERT typed 25\n\
@@ -111,7 +111,7 @@ fn kinds_of_ac1015_alone_are_plain_in_ac1014(rt: HostRuntime) -> Result<(), Fail
 
 #[test]
 fn an_object_is_read_in_the_strongest_form_that_it_has(rt: HostRuntime) -> Result<(), Fail> {
-    // The line: its type number in 18 bits and the words of its end in full; with ones behind its references; with one further bit
+    // The line: its type number in 18 bits and the words of its end in full; with ones after its references; with one further bit
     // before them; with one further reference. Entities of type 45 and 200 with three bits of their own; and one of type 500, of which
     // no class speaks, with the four bits of a polyline.
     let cases = "\
@@ -165,7 +165,7 @@ fn an_object_of_a_kind_with_a_body_is_read_by_it(rt: HostRuntime) -> Result<(), 
 fn fewer_than_eight_bits_may_follow_the_references_of_a_record(
     rt: HostRuntime,
 ) -> Result<(), Fail> {
-    // Six ones behind the target of a record; and eight bits that are no reference.
+    // Six ones after the target of a record; and eight bits that are no reference.
     let cases = "\
         79 90 : '10 '10 '10 '10 / 4.0 3.0 4.10 '111111 => 79 90 XRECORD typed 17\n\
         79 90 : '10 '10 '10 '10 / 4.0 3.0 4.10 F0 => 79 90 XRECORD raw 14 18\n";

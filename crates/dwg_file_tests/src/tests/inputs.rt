@@ -2,7 +2,7 @@
 
 use dwg_base::Items;
 use dwg_classes::{Class, read_classes};
-use dwg_samples::{Bits, bytes_of, file_of, frame_of};
+use dwg_testkit::{Bits, bytes_of, file_of, frame_of};
 use std::alloc::Global;
 
 /// The number that decimal digits spell.
@@ -77,13 +77,13 @@ pub(crate) fn canonical_file(alloc: Global, classes: &str, frames: &str) -> Opti
     file_of(alloc, &[], &bytes_of(alloc, classes)?, frames.as_str())
 }
 
-/// Adds a number below 2^16 by decimal digits, behind its code.
+/// Adds a number below 2^16 by decimal digits, after its code.
 fn push_short(content: &mut Bits, digits: &str) -> Option<()> {
     content.push_text("'00")?;
     content.push_bytes(&small(digits)?.to_le_bytes())
 }
 
-/// Adds a name of fewer than 256 letters, behind the code of its length.
+/// Adds a name of fewer than 256 letters, after the code of its length.
 fn push_name(content: &mut Bits, name: &str) -> Option<()> {
     content.push_text("'01")?;
     content.push(name.len() as u64, 8)?;

@@ -1,8 +1,8 @@
 //! Kinds of type numbers, and what classes say of them.
 
 use crate::tests::inputs::{classes_of, small};
-use crate::tests::table::{Telling, hold};
-use crate::tests::told;
+use crate::tests::reported;
+use crate::tests::table::{Reporting, hold};
 use dwg_classes::{Class, Hints, hint};
 use dwg_kinds::{ClassHint, Kind, is_entity, kind_laws, kind_of, name_of};
 use std::alloc::Global;
@@ -13,16 +13,16 @@ use std::test::Fail;
 struct Numbers;
 
 /// Adds a kind.
-fn tell_kind(told: &mut String, kind: Kind) -> Option<()> {
-    write!(told, " {kind:?}").ok()
+fn report_kind(reported: &mut String, kind: Kind) -> Option<()> {
+    write!(reported, " {kind:?}").ok()
 }
 
-impl Telling for Numbers {
-    fn tell(_alloc: Global, told: &mut String, input: &str) -> Option<()> {
+impl Reporting for Numbers {
+    fn report(_alloc: Global, reported: &mut String, input: &str) -> Option<()> {
         let kind = kind_of(small(input)?, ClassHint::Entity);
-        tell_kind(told, kind)?;
-        told::word(told, name_of(kind))?;
-        told::word(told, if is_entity(kind) { "true" } else { "false" })
+        report_kind(reported, kind)?;
+        reported::word(reported, name_of(kind))?;
+        reported::word(reported, if is_entity(kind) { "true" } else { "false" })
     }
 }
 
@@ -86,16 +86,16 @@ const HINTS: [ClassHint; 6] = [
 ];
 
 /// Adds what a class says of a number.
-fn tell_hint(told: &mut String, hint: ClassHint) -> Option<()> {
-    write!(told, " {hint:?}").ok()
+fn report_hint(reported: &mut String, hint: ClassHint) -> Option<()> {
+    write!(reported, " {hint:?}").ok()
 }
 
-impl Telling for Hinted {
-    fn tell(_alloc: Global, told: &mut String, input: &str) -> Option<()> {
+impl Reporting for Hinted {
+    fn report(_alloc: Global, reported: &mut String, input: &str) -> Option<()> {
         let number = small(input)?;
         for hint in HINTS {
-            tell_hint(told, hint)?;
-            tell_kind(told, kind_of(number, hint))?;
+            report_hint(reported, hint)?;
+            report_kind(reported, kind_of(number, hint))?;
         }
         Some(())
     }
@@ -123,12 +123,12 @@ fn found(alloc: Global, classes: &[Class], number: u16) -> Option<ClassHint> {
     Some(hints.hint(number))
 }
 
-impl Telling for Said {
-    fn tell(alloc: Global, told: &mut String, input: &str) -> Option<()> {
+impl Reporting for Said {
+    fn report(alloc: Global, reported: &mut String, input: &str) -> Option<()> {
         let classes = classes_of(alloc, CLASSES)?;
         let number = small(input)?;
-        tell_hint(told, hint(classes.as_slice(), number))?;
-        tell_hint(told, found(alloc, classes.as_slice(), number)?)
+        report_hint(reported, hint(classes.as_slice(), number))?;
+        report_hint(reported, found(alloc, classes.as_slice(), number)?)
     }
 }
 

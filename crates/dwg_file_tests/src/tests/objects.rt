@@ -5,8 +5,8 @@ ghost use Rattle.dwg_object.specs.Objects.{value_of};
 ghost use Rattle.dwg_object.specs.Written.{PartsFit, body_bytes};
 
 use crate::tests::inputs::{classes_of, frame, placed, small};
-use crate::tests::table::{Telling, hold};
-use crate::tests::told;
+use crate::tests::reported;
+use crate::tests::table::{Reporting, hold};
 use dwg_base::{Fault, Handle, NoMemory, Version};
 use dwg_bits::BitSink;
 use dwg_classes::Class;
@@ -14,14 +14,14 @@ use dwg_codes::BytePart;
 use dwg_object::{
     Found, Object, Raw, Span, frame_laws, frame_length, read_body, read_frame, span_at, write_frame,
 };
-use dwg_samples::bytes_of;
+use dwg_testkit::bytes_of;
 use std::alloc::Global;
 use std::test::Fail;
 
 /// Adds what was found: the object with its type number, and the end of its frame.
-fn tell_found(told: &mut String, found: &Found<'_>) -> Option<()> {
-    told::numbered_object(told, &found.object)?;
-    told::number(told, found.end)
+fn report_found(reported: &mut String, found: &Found<'_>) -> Option<()> {
+    reported::numbered_object(reported, &found.object)?;
+    reported::number(reported, found.end)
 }
 
 /// What is read of the frame at a place by the rules of AC1015, of the pair 7.
@@ -34,21 +34,21 @@ pub(crate) fn frame_at<'a>(
     read_frame(alloc, bytes, place, 7, classes, Version::Ac1015)
 }
 
-/// What is told of what was read.
+/// What is reported of what was read.
 pub(crate) trait Words<T> {
     /// Adds it.
-    fn tell_of(alloc: Global, told: &mut String, read: &T) -> Option<()>;
+    fn report_of(alloc: Global, reported: &mut String, read: &T) -> Option<()>;
 }
 
-/// Adds what is told of what was read, or the fault. Of any type, since a function that drops an object of all its kinds is dear to prove.
-pub(crate) fn tell_answer<W: Words<T>, T: Drop>(
+/// Adds what is reported of what was read, or the fault. Of any type, since a function that drops an object of all its kinds is dear to prove.
+pub(crate) fn report_answer<W: Words<T>, T: Drop>(
     alloc: Global,
-    told: &mut String,
+    reported: &mut String,
     answer: Result<T, Fault>,
 ) -> Option<()> {
     match answer {
-        Ok(read) => W::tell_of(alloc, told, &read),
-        Err(fault) => told::fault(told, fault),
+        Ok(read) => W::report_of(alloc, reported, &read),
+        Err(fault) => reported::fault(reported, fault),
     }
 }
 
@@ -56,46 +56,51 @@ pub(crate) fn tell_answer<W: Words<T>, T: Drop>(
 fn let_go<T: Drop>(_value: T) {}
 
 /// Adds what is read of the frame at a place.
-fn tell_frame(
+fn report_frame(
     alloc: Global,
-    told: &mut String,
+    reported: &mut String,
     bytes: &[u8],
     place: u64,
     classes: &[Class],
 ) -> Option<()> {
-    tell_answer::<Frames, Found<'_>>(alloc, told, frame_at(alloc, bytes, place, classes))
+    report_answer::<Frames, Found<'_>>(alloc, reported, frame_at(alloc, bytes, place, classes))
 }
 
 /// Adds what is read of the frame at a place by the rules of AC1014, of the pair 7.
-fn tell_older_frame(alloc: Global, told: &mut String, bytes: &[u8], place: u64) -> Option<()> {
+fn report_older_frame(
+    alloc: Global,
+    reported: &mut String,
+    bytes: &[u8],
+    place: u64,
+) -> Option<()> {
     let found = read_frame(alloc, bytes, place, 7, &[], Version::Ac1014);
-    tell_answer::<Frames, Found<'_>>(alloc, told, found)
+    report_answer::<Frames, Found<'_>>(alloc, reported, found)
 }
 
 /// `PLACE | BYTES => NUMBER HANDLE KIND FORM END`: what is read of the frame at a place: type number, own handle, kind and form of the object
-/// (`told::object`), and the frame's end; or `refused LINE INDEX PLACE`.
+/// (`reported::object`), and the frame's end; or `refused LINE INDEX PLACE`.
 struct Placed;
 
-impl Telling for Placed {
-    fn tell(alloc: Global, told: &mut String, input: &str) -> Option<()> {
+impl Reporting for Placed {
+    fn report(alloc: Global, reported: &mut String, input: &str) -> Option<()> {
         let (place, bytes) = placed(alloc, input)?;
-        tell_frame(alloc, told, &bytes, place, &[])
+        report_frame(alloc, reported, &bytes, place, &[])
     }
 }
 
 /// The same by the rules of AC1014.
 struct OlderPlaced;
 
-impl Telling for OlderPlaced {
-    fn tell(alloc: Global, told: &mut String, input: &str) -> Option<()> {
+impl Reporting for OlderPlaced {
+    fn report(alloc: Global, reported: &mut String, input: &str) -> Option<()> {
         let (place, bytes) = placed(alloc, input)?;
-        tell_older_frame(alloc, told, &bytes, place)
+        report_older_frame(alloc, reported, &bytes, place)
     }
 }
 
 #[test]
 fn a_frame_is_read_by_the_rules_of_a_version(rt: HostRuntime) -> Result<(), Fail> {
-    // The frames of a dictionary in AC1014 and in AC1015, each behind the bytes of both versions: these tell nothing.
+    // The frames of a dictionary in AC1014 and in AC1015, each after the bytes of both versions: these report nothing.
     let cases = "\
         6 | 414331303134 0B00 4A8043248000000A004030 FCA7 => 42 C DICTIONARY typed 21\n\
         6 | 414331303135 0B00 4A8043248000000A004030 FCA7 => 42 C DICTIONARY typed 21\n\
@@ -116,7 +121,7 @@ fn a_frame_is_read_by_the_rules_of_a_version(rt: HostRuntime) -> Result<(), Fail
 #[test]
 fn a_frame_is_read_where_it_stands(rt: HostRuntime) -> Result<(), Fail> {
     frame_laws();
-    // A dictionary; the same among other bytes, before a frame without a body; and behind a length that is spelled in four units.
+    // A dictionary; the same among other bytes, before a frame without a body; and after a length that is spelled in four units.
     let cases = "\
         0 | 0C00 4A9280000000432A80100C00 1F49 => 42 C DICTIONARY typed 16\n\
         3 | FF000C 0C00 4A9280000000432A80100C00 1F49 000051C0 => 42 C DICTIONARY typed 19\n\
@@ -127,7 +132,7 @@ fn a_frame_is_read_where_it_stands(rt: HostRuntime) -> Result<(), Fail> {
 
 #[test]
 fn the_first_line_that_fails_is_named(rt: HostRuntime) -> Result<(), Fail> {
-    // Places at and behind the end of the input; frames and lengths that are cut off; wrong check words; no body.
+    // Places at and after the end of the input; frames and lengths that are cut off; wrong check words; no body.
     let cases = "\
         16 | 0C00 4A9280000000432A80100C00 1F49 => refused 27 7 16\n\
         9223372036854775808 | 0C00 4A9280000000432A80100C00 1F49 => refused 27 7 9223372036854775808\n\
@@ -166,40 +171,40 @@ fn the_parts_of_a_frame_are_found(rt: HostRuntime) -> Result<(), Fail> {
 pub(crate) struct Frames;
 
 impl Words<Found<'_>> for Frames {
-    fn tell_of(_alloc: Global, told: &mut String, found: &Found<'_>) -> Option<()> {
-        tell_found(told, found)
+    fn report_of(_alloc: Global, reported: &mut String, found: &Found<'_>) -> Option<()> {
+        report_found(reported, found)
     }
 }
 
-impl Telling for Frames {
-    fn tell(alloc: Global, told: &mut String, input: &str) -> Option<()> {
-        tell_frame(alloc, told, &frame(alloc, input)?, 0, &[])
+impl Reporting for Frames {
+    fn report(alloc: Global, reported: &mut String, input: &str) -> Option<()> {
+        report_frame(alloc, reported, &frame(alloc, input)?, 0, &[])
     }
 }
 
 /// `FRAME => NUMBER HANDLE KIND FORM END`: the same by the rules of AC1014.
 pub(crate) struct OlderFrames;
 
-impl Telling for OlderFrames {
-    fn tell(alloc: Global, told: &mut String, input: &str) -> Option<()> {
-        tell_older_frame(alloc, told, &frame(alloc, input)?, 0)
+impl Reporting for OlderFrames {
+    fn report(alloc: Global, reported: &mut String, input: &str) -> Option<()> {
+        report_older_frame(alloc, reported, &frame(alloc, input)?, 0)
     }
 }
 
 /// `CLASS | FRAME => NUMBER HANDLE KIND FORM END`: the same in a drawing with a class, `NUMBER NAME ITEM`.
 pub(crate) struct Classed;
 
-impl Telling for Classed {
-    fn tell(alloc: Global, told: &mut String, input: &str) -> Option<()> {
+impl Reporting for Classed {
+    fn report(alloc: Global, reported: &mut String, input: &str) -> Option<()> {
         let (classes, text) = input.split_once(" | ")?;
         let classes = classes_of(alloc, classes)?;
-        tell_frame(alloc, told, &frame(alloc, text)?, 0, classes.as_slice())
+        report_frame(alloc, reported, &frame(alloc, text)?, 0, classes.as_slice())
     }
 }
 
 #[test]
 fn an_object_is_read_with_its_common_part_where_it_has_one(rt: HostRuntime) -> Result<(), Fail> {
-    // A dictionary; an entity; the same, spelled longer than is needed, with a one behind its references; the same with the mode 3, which
+    // A dictionary; an entity; the same, spelled longer than is needed, with a one after its references; the same with the mode 3, which
     // no entity has; and an object of whose number no class speaks.
     let cases = "\
         42 C : '10 '10 '10 '10 00 / 4.0 3.0 => 42 C DICTIONARY typed 16\n\
@@ -221,16 +226,16 @@ fn an_object_is_read_with_its_common_part_where_it_has_one(rt: HostRuntime) -> R
 struct Bodies;
 
 impl Words<Option<Object<'_>>> for Bodies {
-    fn tell_of(_alloc: Global, told: &mut String, object: &Option<Object<'_>>) -> Option<()> {
-        tell_body(told, object.as_ref())
+    fn report_of(_alloc: Global, reported: &mut String, object: &Option<Object<'_>>) -> Option<()> {
+        report_body(reported, object.as_ref())
     }
 }
 
 /// Adds an object with its type number, or `none`.
-fn tell_body(told: &mut String, object: Option<&Object<'_>>) -> Option<()> {
+fn report_body(reported: &mut String, object: Option<&Object<'_>>) -> Option<()> {
     match object {
-        Some(object) => told::numbered_object(told, object),
-        None => told::word(told, "none"),
+        Some(object) => reported::numbered_object(reported, object),
+        None => reported::word(reported, "none"),
     }
 }
 
@@ -250,22 +255,22 @@ fn body_of<'a>(
 }
 
 /// Adds what is read of a body.
-fn tell_read(alloc: Global, told: &mut String, body: &[u8], version: Version) -> Option<()> {
-    tell_answer::<Bodies, Option<Object<'_>>>(alloc, told, body_of(alloc, body, version))
+fn report_read(alloc: Global, reported: &mut String, body: &[u8], version: Version) -> Option<()> {
+    report_answer::<Bodies, Option<Object<'_>>>(alloc, reported, body_of(alloc, body, version))
 }
 
-impl Telling for Bodies {
-    fn tell(alloc: Global, told: &mut String, input: &str) -> Option<()> {
-        tell_read(alloc, told, &bytes_of(alloc, input)?, Version::Ac1015)
+impl Reporting for Bodies {
+    fn report(alloc: Global, reported: &mut String, input: &str) -> Option<()> {
+        report_read(alloc, reported, &bytes_of(alloc, input)?, Version::Ac1015)
     }
 }
 
 /// The same by the rules of AC1014.
 struct OlderBodies;
 
-impl Telling for OlderBodies {
-    fn tell(alloc: Global, told: &mut String, input: &str) -> Option<()> {
-        tell_read(alloc, told, &bytes_of(alloc, input)?, Version::Ac1014)
+impl Reporting for OlderBodies {
+    fn report(alloc: Global, reported: &mut String, input: &str) -> Option<()> {
+        report_read(alloc, reported, &bytes_of(alloc, input)?, Version::Ac1014)
     }
 }
 
@@ -287,8 +292,8 @@ fn a_body_is_read_by_the_rules_of_a_version(rt: HostRuntime) -> Result<(), Fail>
 fn a_bit_size_within_or_before_what_it_counts_leaves_a_raw_object(
     rt: HostRuntime,
 ) -> Result<(), Fail> {
-    // A dictionary with application data, which end in front of bit 62; its bit size is 106. It says 0, an end within these, one within
-    // itself, the place behind itself, one bit less than is right, sixteen more, and as much as it can.
+    // A dictionary with application data, which end before bit 62; its bit size is 106. It says 0, an end within these, one within
+    // itself, the place after itself, one bit less than is right, sixteen more, and as much as it can.
     let cases = "\
         4A80431015112419A800000280100C00 => 42 C DICTIONARY typed\n\
         4A804310151124180000000280100C00 => 42 C DICTIONARY raw 16\n\
@@ -299,7 +304,7 @@ fn a_bit_size_within_or_before_what_it_counts_leaves_a_raw_object(
         4A80431015112419E800000280100C00 => 42 C DICTIONARY raw 16\n\
         4A8043101511241BFFFFFFFE80100C00 => 42 C DICTIONARY raw 16\n";
     hold::<OlderBodies>(&rt, rt.alloc(), cases);
-    // A line with a picture, which ends in front of bit 77; its bit size is 141. The same of it but for the first and the last two.
+    // A line with a picture, which ends before bit 77; its bit size is 141. The same of it but for the first and the last two.
     let cases = "\
         44C0602810000003BBC4680000057B54D549828880 => 19 80 LINE typed 0 0 0 3FF0000000000000 0 0\n\
         44C0602810000003BBC2280000057B54D549828880 => 19 80 LINE raw 21\n\
@@ -382,11 +387,11 @@ fn frame_written(alloc: Global, body: &[u8], version: Version) -> Option<Vec<u8>
 /// `BODY => FRAME FRAME`: the frame that is written of a body in AC1015, and in AC1014.
 struct WrittenFrames;
 
-impl Telling for WrittenFrames {
-    fn tell(alloc: Global, told: &mut String, input: &str) -> Option<()> {
+impl Reporting for WrittenFrames {
+    fn report(alloc: Global, reported: &mut String, input: &str) -> Option<()> {
         let body = bytes_of(alloc, input)?;
-        told::bytes(told, &frame_written(alloc, &body, Version::Ac1015)?)?;
-        told::bytes(told, &frame_written(alloc, &body, Version::Ac1014)?)
+        reported::bytes(reported, &frame_written(alloc, &body, Version::Ac1015)?)?;
+        reported::bytes(reported, &frame_written(alloc, &body, Version::Ac1014)?)
     }
 }
 
@@ -407,29 +412,34 @@ fn written_anew(alloc: Global, bytes: &[u8], version: Version) -> Option<BitSink
 
 /// Adds how long the frame is that is written in a version of the object of a frame, and whether it is another frame, of a text
 /// `FRAME | FRAME`.
-fn tell_rewritten(alloc: Global, told: &mut String, input: &str, version: Version) -> Option<()> {
+fn report_rewritten(
+    alloc: Global,
+    reported: &mut String,
+    input: &str,
+    version: Version,
+) -> Option<()> {
     let (before, after) = input.split_once(" | ")?;
     let sink = written_anew(alloc, &frame(alloc, before)?, version)?;
     let frame_now = bytes_in(alloc, &sink)?;
-    told::number(told, frame_now.len() as u64)?;
-    told::same(told, &frame_now, &frame(alloc, after)?)
+    reported::number(reported, frame_now.len() as u64)?;
+    reported::same(reported, &frame_now, &frame(alloc, after)?)
 }
 
 /// `FRAME | FRAME => LENGTH same`: the same of AC1015.
 struct Rewritten;
 
-impl Telling for Rewritten {
-    fn tell(alloc: Global, told: &mut String, input: &str) -> Option<()> {
-        tell_rewritten(alloc, told, input, Version::Ac1015)
+impl Reporting for Rewritten {
+    fn report(alloc: Global, reported: &mut String, input: &str) -> Option<()> {
+        report_rewritten(alloc, reported, input, Version::Ac1015)
     }
 }
 
 /// `FRAME | FRAME => LENGTH same`: the same of AC1014.
 struct OlderRewritten;
 
-impl Telling for OlderRewritten {
-    fn tell(alloc: Global, told: &mut String, input: &str) -> Option<()> {
-        tell_rewritten(alloc, told, input, Version::Ac1014)
+impl Reporting for OlderRewritten {
+    fn report(alloc: Global, reported: &mut String, input: &str) -> Option<()> {
+        report_rewritten(alloc, reported, input, Version::Ac1014)
     }
 }
 
@@ -437,7 +447,7 @@ impl Telling for OlderRewritten {
 fn a_frame_is_written_by_the_rules_of_a_version(rt: HostRuntime) -> Result<(), Fail> {
     frame_laws();
     // A dictionary, a line and an ellipse by longer spellings, and an object of a number that no kind has, which is kept as it is; in
-    // AC1014 with ones behind the references of the ellipse.
+    // AC1014 with ones after the references of the ellipse.
     let cases = "\
         42 C : '00 0000 size '00 00000000 '10 00 / 420000 3.0 | 42 C : '10 size '10 '10 00 / 4.0 3.0 => 15 same\n\
         19 80 : '00 0000 '0 size '10 '00 00000000 '1 '1 '00 0001 '00 000000000000F03F '01 00 A9 AA '1001 / 320000 520010 \
@@ -474,11 +484,11 @@ fn long_frame(alloc: Global, length: u16) -> Option<Vec<u8>> {
     frame_written(alloc, &long_body(alloc, length)?, Version::Ac1015)
 }
 
-impl Telling for LongBodies {
-    fn tell(alloc: Global, told: &mut String, input: &str) -> Option<()> {
+impl Reporting for LongBodies {
+    fn report(alloc: Global, reported: &mut String, input: &str) -> Option<()> {
         let frame = long_frame(alloc, small(input)?)?;
-        told::bytes(told, frame.get(..4)?)?;
-        tell_frame(alloc, told, &frame, 0, &[])
+        reported::bytes(reported, frame.get(..4)?)?;
+        report_frame(alloc, reported, &frame, 0, &[])
     }
 }
 

@@ -5,8 +5,8 @@ ghost use Rattle.dwg_objmap.specs.MapLines.{HasPage};
 ghost use Rattle.dwg_objmap.specs.Writing.{FRESH};
 
 use crate::tests::inputs::{number, placed, small};
-use crate::tests::table::{Telling, hold};
-use crate::tests::told;
+use crate::tests::reported;
+use crate::tests::table::{Reporting, hold};
 use dwg_base::{Handle, Items, MemSink, WriteFault};
 use dwg_objmap::{
     Page, PageWriter, Pair, map_laws, map_length, map_writing_laws, page_holds, page_laws,
@@ -16,19 +16,19 @@ use std::alloc::Global;
 use std::test::Fail;
 
 /// Adds a pair: its handle in hexadecimal digits, and its place.
-fn tell_pair(told: &mut String, pair: Pair) -> Option<()> {
+fn report_pair(reported: &mut String, pair: Pair) -> Option<()> {
     let handle = pair.handle.value();
     let place = pair.place;
-    write!(told, " {handle:X}:{place}").ok()
+    write!(reported, " {handle:X}:{place}").ok()
 }
 
 /// Adds pairs; `-` where there are none.
-fn tell_pairs(told: &mut String, pairs: &[Pair]) -> Option<()> {
+fn report_pairs(reported: &mut String, pairs: &[Pair]) -> Option<()> {
     if pairs.is_empty() {
-        return told::word(told, "-");
+        return reported::word(reported, "-");
     }
     for pair in pairs {
-        tell_pair(told, *pair)?;
+        report_pair(reported, *pair)?;
     }
     Some(())
 }
@@ -37,24 +37,24 @@ fn tell_pairs(told: &mut String, pairs: &[Pair]) -> Option<()> {
 struct Maps;
 
 /// Adds what is read of the map at a place.
-fn tell_map(alloc: Global, told: &mut String, bytes: &[u8], place: u64) -> Option<()> {
+fn report_map(alloc: Global, reported: &mut String, bytes: &[u8], place: u64) -> Option<()> {
     match read_map(alloc, bytes, place) {
-        Ok(pairs) => tell_pairs(told, pairs.as_slice()),
-        Err(fault) => told::fault(told, fault),
+        Ok(pairs) => report_pairs(reported, pairs.as_slice()),
+        Err(fault) => reported::fault(reported, fault),
     }
 }
 
-impl Telling for Maps {
-    fn tell(alloc: Global, told: &mut String, input: &str) -> Option<()> {
+impl Reporting for Maps {
+    fn report(alloc: Global, reported: &mut String, input: &str) -> Option<()> {
         let (place, bytes) = placed(alloc, input)?;
-        tell_map(alloc, told, &bytes, place)
+        report_map(alloc, reported, &bytes, place)
     }
 }
 
 #[test]
 fn pairs_are_read_in_map_order(rt: HostRuntime) -> Result<(), Fail> {
     map_laws();
-    // No pairs; one; a second page with a lesser handle, and a place that is told from 0 again; both steps spelled by one byte more than
+    // No pairs; one; a second page with a lesser handle, and a place that is written from 0 again; both steps spelled by one byte more than
     // is needed; and the greatest place.
     let cases = "\
         0 | 000201D0 => -\n\
@@ -69,7 +69,7 @@ fn pairs_are_read_in_map_order(rt: HostRuntime) -> Result<(), Fail> {
 #[test]
 fn names_the_first_line_of_the_map_that_fails(rt: HostRuntime) -> Result<(), Fail> {
     // Sizes of 0 and 1; the null handle; a handle twice in a page, and in two pages; a place before the begin of the file, and one step
-    // behind the greatest; a handle one step behind the greatest; a pair that the page cuts off; a step of eleven bytes. The place counts
+    // after the greatest; a handle one step after the greatest; a pair that the page cuts off; a step of eleven bytes. The place counts
     // from the begin of the input, and no place is too great to ask for.
     let cases = "\
         0 | 000001D0 => refused 22 0 0\n\
@@ -180,16 +180,16 @@ pub(crate) fn long_map(alloc: Global) -> Option<Vec<u8>> {
 struct Filled;
 
 /// Adds how many bytes a map has, and so many of them from a place on.
-fn tell_piece(told: &mut String, map: &[u8], place: u16, count: u16) -> Option<()> {
-    told::number(told, map.len() as u64)?;
-    let behind = map.get(usize::from(place)..)?;
-    told::bytes(told, behind.get(..usize::from(count))?)
+fn report_piece(reported: &mut String, map: &[u8], place: u16, count: u16) -> Option<()> {
+    reported::number(reported, map.len() as u64)?;
+    let after = map.get(usize::from(place)..)?;
+    reported::bytes(reported, after.get(..usize::from(count))?)
 }
 
-impl Telling for Filled {
-    fn tell(alloc: Global, told: &mut String, input: &str) -> Option<()> {
+impl Reporting for Filled {
+    fn report(alloc: Global, reported: &mut String, input: &str) -> Option<()> {
         let (place, count) = input.split_once(" ")?;
-        tell_piece(told, &long_map(alloc)?, small(place)?, small(count)?)
+        report_piece(reported, &long_map(alloc)?, small(place)?, small(count)?)
     }
 }
 
@@ -205,26 +205,26 @@ fn pages_are_filled(rt: HostRuntime) -> Result<(), Fail> {
     Ok(())
 }
 
-/// `PLACE | PAIRS NEXT`: how many pairs the page at a place of that map has, and the place behind it.
+/// `PLACE | PAIRS NEXT`: how many pairs the page at a place of that map has, and the place after it.
 struct Pages;
 
-/// Adds how many pairs a page has, and the place behind it.
-fn tell_page(told: &mut String, page: &Page) -> Option<()> {
-    told::number(told, page.pairs.as_slice().len() as u64)?;
-    told::number(told, page.next)
+/// Adds how many pairs a page has, and the place after it.
+fn report_page(reported: &mut String, page: &Page) -> Option<()> {
+    reported::number(reported, page.pairs.as_slice().len() as u64)?;
+    reported::number(reported, page.next)
 }
 
 /// Adds what is read of the page at a place.
-fn tell_page_at(alloc: Global, told: &mut String, bytes: &[u8], place: u64) -> Option<()> {
+fn report_page_at(alloc: Global, reported: &mut String, bytes: &[u8], place: u64) -> Option<()> {
     match read_page(alloc, bytes, place, 0) {
-        Ok(page) => tell_page(told, &page),
+        Ok(page) => report_page(reported, &page),
         Err(_) => None,
     }
 }
 
-impl Telling for Pages {
-    fn tell(alloc: Global, told: &mut String, input: &str) -> Option<()> {
-        tell_page_at(alloc, told, &long_map(alloc)?, number(input)?)
+impl Reporting for Pages {
+    fn report(alloc: Global, reported: &mut String, input: &str) -> Option<()> {
+        report_page_at(alloc, reported, &long_map(alloc)?, number(input)?)
     }
 }
 
@@ -271,11 +271,11 @@ fn fill(alloc: Global, sink: &mut MemSink) -> Option<()> {
     }
 }
 
-impl Telling for Rooms {
-    fn tell(alloc: Global, told: &mut String, input: &str) -> Option<()> {
+impl Reporting for Rooms {
+    fn report(alloc: Global, reported: &mut String, input: &str) -> Option<()> {
         let mut sink = sink(alloc, usize::from(small(input)?))?;
         fill(alloc, &mut sink)?;
-        told::number(told, sink.bytes().len() as u64)
+        reported::number(reported, sink.bytes().len() as u64)
     }
 }
 
@@ -292,49 +292,59 @@ fn a_map_that_is_not_taken_whole_is_a_fault(rt: HostRuntime) -> Result<(), Fail>
 }
 
 /// `ROOM => LENGTH SAME BYTES`: how many bytes of that map a sink of so much room takes; whether the same writer, restarted, writes
-/// that map; and what it writes, restarted behind its end, where it is ended without a pair.
+/// that map; and what it writes, restarted after its end, where it is ended without a pair.
 struct Restarts;
 
 /// Adds whether a writer that was given no pair yet writes that map.
-fn tell_same(alloc: Global, told: &mut String, writer: &mut PageWriter) -> Option<()>
+fn report_same(alloc: Global, reported: &mut String, writer: &mut PageWriter) -> Option<()>
     requires { writer.old ≡ FRESH }
 {
-    told::same(told, &map_by(alloc, writer)?, &long_map(alloc)?)
+    reported::same(reported, &map_by(alloc, writer)?, &long_map(alloc)?)
 }
 
 /// Adds what a writer that was given no pair yet writes where it is ended at once.
-fn tell_end(alloc: Global, told: &mut String, writer: &mut PageWriter) -> Option<()>
+fn report_end(alloc: Global, reported: &mut String, writer: &mut PageWriter) -> Option<()>
     requires { writer.old ≡ FRESH }
 {
     let mut sink = sink(alloc, 5)?;
     writer.end(&mut sink).ok()?;
-    told::bytes(told, sink.bytes())
+    reported::bytes(reported, sink.bytes())
 }
 
 /// Adds how many bytes of that map a sink of so much room takes of a writer that was given no pair yet.
-fn tell_taken(alloc: Global, told: &mut String, writer: &mut PageWriter, room: u16) -> Option<()>
+fn report_taken(
+    alloc: Global,
+    reported: &mut String,
+    writer: &mut PageWriter,
+    room: u16,
+) -> Option<()>
     requires { writer.old ≡ FRESH }
 {
     let mut short = sink(alloc, usize::from(room))?;
     fill_map(writer, 1_100, &mut short)?;
-    told::number(told, short.bytes().len() as u64)
+    reported::number(reported, short.bytes().len() as u64)
 }
 
 /// Adds all that of a writer that was given no pair yet.
-fn tell_restarts(alloc: Global, told: &mut String, writer: &mut PageWriter, room: u16) -> Option<()>
+fn report_restarts(
+    alloc: Global,
+    reported: &mut String,
+    writer: &mut PageWriter,
+    room: u16,
+) -> Option<()>
     requires { writer.old ≡ FRESH }
 {
-    tell_taken(alloc, told, writer, room)?;
+    report_taken(alloc, reported, writer, room)?;
     writer.restart();
-    tell_same(alloc, told, writer)?;
+    report_same(alloc, reported, writer)?;
     writer.restart();
-    tell_end(alloc, told, writer)
+    report_end(alloc, reported, writer)
 }
 
-impl Telling for Restarts {
-    fn tell(alloc: Global, told: &mut String, input: &str) -> Option<()> {
+impl Reporting for Restarts {
+    fn report(alloc: Global, reported: &mut String, input: &str) -> Option<()> {
         let mut writer = PageWriter::new(alloc).ok()?;
-        tell_restarts(alloc, told, &mut writer, small(input)?)
+        report_restarts(alloc, reported, &mut writer, small(input)?)
     }
 }
 
@@ -362,21 +372,21 @@ fn pairs_past_faults(alloc: Global, bytes: &[u8], place: u64) -> Option<Items<Pa
 }
 
 /// Adds what recovery reads of the page at a place.
-fn tell_damaged(alloc: Global, told: &mut String, bytes: &[u8], place: u64) -> Option<()> {
+fn report_damaged(alloc: Global, reported: &mut String, bytes: &[u8], place: u64) -> Option<()> {
     let Some(size) = page_size(bytes, place) else {
-        return told::word(told, "none");
+        return reported::word(reported, "none");
     };
     let right = page_holds(bytes, place);
     let pairs = pairs_past_faults(alloc, bytes, place)?;
-    told::number(told, u64::from(size))?;
-    told::word(told, if right { "right" } else { "wrong" })?;
-    tell_pairs(told, pairs.as_slice())
+    reported::number(reported, u64::from(size))?;
+    reported::word(reported, if right { "right" } else { "wrong" })?;
+    report_pairs(reported, pairs.as_slice())
 }
 
-impl Telling for Damaged {
-    fn tell(alloc: Global, told: &mut String, input: &str) -> Option<()> {
+impl Reporting for Damaged {
+    fn report(alloc: Global, reported: &mut String, input: &str) -> Option<()> {
         let (place, bytes) = placed(alloc, input)?;
-        tell_damaged(alloc, told, &bytes, place)
+        report_damaged(alloc, reported, &bytes, place)
     }
 }
 

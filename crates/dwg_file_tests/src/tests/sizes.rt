@@ -1,11 +1,11 @@
 //! The bit size of an object of AC1014.
 
 use crate::tests::common::own;
-use crate::tests::table::{Telling, hold};
-use crate::tests::told;
+use crate::tests::reported;
+use crate::tests::table::{Reporting, hold};
 use dwg_bits::BitCursor;
 use dwg_common::read_size;
-use dwg_samples::Bits;
+use dwg_testkit::Bits;
 use std::alloc::Global;
 
 /// At which bit reading begins.
@@ -27,51 +27,51 @@ fn is_unread(bytes: &[u8], end: u64, entity: bool) -> Option<bool> {
 }
 
 /// Adds the least end before which a size is read, or the cursor moves; `none` where there is none up to `count`.
-fn tell_least(told: &mut String, bytes: &[u8], count: u64, entity: bool) -> Option<()> {
+fn report_least(reported: &mut String, bytes: &[u8], count: u64, entity: bool) -> Option<()> {
     for end in FROM..=count {
         if !is_unread(bytes, end, entity)? {
-            return told::number(told, end);
+            return reported::number(reported, end);
         }
     }
-    told::word(told, "none")
+    reported::word(reported, "none")
 }
 
 /// Adds what is read of the bits before `count`: the size in hexadecimal digits, and the place after it.
-fn tell_size(told: &mut String, bytes: &[u8], count: u64, entity: bool) -> Option<()> {
+fn report_size(reported: &mut String, bytes: &[u8], count: u64, entity: bool) -> Option<()> {
     let mut cursor = cursor_to(bytes, count)?;
     match read_size(&mut cursor, entity, own()?) {
-        Some(size) => told::hexadecimal(told, u64::from(size))?,
-        None => told::word(told, "none")?,
+        Some(size) => reported::hexadecimal(reported, u64::from(size))?,
+        None => reported::word(reported, "none")?,
     }
-    told::number(told, cursor.at())
+    reported::number(reported, cursor.at())
 }
 
 /// Adds what is read of the bits of a text, and of how many of them.
-fn tell_sizes(alloc: Global, told: &mut String, input: &str, entity: bool) -> Option<()> {
+fn report_sizes(alloc: Global, reported: &mut String, input: &str, entity: bool) -> Option<()> {
     let mut bits = Bits::new(alloc);
     bits.push_text(input)?;
     let count = bits.length() as u64;
     let bytes = bits.to_bytes(alloc)?;
-    tell_size(told, &bytes, count, entity)?;
-    tell_least(told, &bytes, count, entity)
+    report_size(reported, &bytes, count, entity)?;
+    report_least(reported, &bytes, count, entity)
 }
 
 /// `BITS => SIZE PLACE LEAST`: the bit size of the entity 80 that is read of these bits from bit 3 on, and the place after it. LEAST is how
 /// many of the bits are enough: of fewer nothing is read, and the cursor stays where it was.
 struct Entities;
 
-impl Telling for Entities {
-    fn tell(alloc: Global, told: &mut String, input: &str) -> Option<()> {
-        tell_sizes(alloc, told, input, true)
+impl Reporting for Entities {
+    fn report(alloc: Global, reported: &mut String, input: &str) -> Option<()> {
+        report_sizes(alloc, reported, input, true)
     }
 }
 
 /// The same of another object, which has no picture.
 struct Objects;
 
-impl Telling for Objects {
-    fn tell(alloc: Global, told: &mut String, input: &str) -> Option<()> {
-        tell_sizes(alloc, told, input, false)
+impl Reporting for Objects {
+    fn report(alloc: Global, reported: &mut String, input: &str) -> Option<()> {
+        report_sizes(alloc, reported, input, false)
     }
 }
 

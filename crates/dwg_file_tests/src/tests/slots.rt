@@ -1,13 +1,13 @@
-//! The references that an object holds: how many, the one at each place, and all behind those of others.
+//! The references that an object holds: how many, the one at each place, and all after those of others.
 
 ghost use Rattle.std.specs.Prelude.{◌≡◌};
 ghost use Rattle.dwg_graph.specs.Slots.{slots};
 ghost use Rattle.dwg_object.specs.Objects.{value_of};
 
 use crate::tests::inputs::frame;
-use crate::tests::objects::{Words, frame_at, tell_answer};
-use crate::tests::table::{Telling, hold};
-use crate::tests::told;
+use crate::tests::objects::{Words, frame_at, report_answer};
+use crate::tests::reported;
+use crate::tests::table::{Reporting, hold};
 use dwg_base::{Handle, Items};
 use dwg_graph::{Slot, slot_at, slot_count, slot_laws, with_slots};
 use dwg_kinds::{Field, field_word};
@@ -16,31 +16,31 @@ use std::alloc::Global;
 use std::test::Fail;
 
 /// Adds a slot: its field, its position, and its target in hexadecimal digits.
-fn tell_slot(told: &mut String, slot: Slot) -> Option<()> {
-    told::word(told, field_word(slot.field))?;
-    told::number(told, slot.position)?;
-    told::hexadecimal(told, slot.target.value())
+fn report_slot(reported: &mut String, slot: Slot) -> Option<()> {
+    reported::word(reported, field_word(slot.field))?;
+    reported::number(reported, slot.position)?;
+    reported::hexadecimal(reported, slot.target.value())
 }
 
 /// Adds how many slots an object has, and each of them by its place.
-fn tell_each(told: &mut String, object: &Object<'_>, all: &[Slot]) -> Option<()>
+fn report_each(reported: &mut String, object: &Object<'_>, all: &[Slot]) -> Option<()>
     requires { all.now ≡ slots (value_of object.now) }
 {
     let count = all.len() as u64;
     if count >= 1 << 58 {
         return None;
     }
-    told::number(told, slot_count(object))?;
+    reported::number(reported, slot_count(object))?;
     for place in 0..count {
-        tell_slot(told, slot_at(object, place))?;
+        report_slot(reported, slot_at(object, place))?;
     }
     Some(())
 }
 
 /// Adds how many slots an object has, and each by its place.
-fn tell_slots(alloc: Global, told: &mut String, object: &Object<'_>) -> Option<()> {
+fn report_slots(alloc: Global, reported: &mut String, object: &Object<'_>) -> Option<()> {
     match with_slots(Items::new(alloc), object) {
-        Ok(all) => tell_each(told, object, all.as_slice()),
+        Ok(all) => report_each(reported, object, all.as_slice()),
         Err(_) => None,
     }
 }
@@ -60,57 +60,57 @@ fn owner_null(alloc: Global) -> Option<Items<Slot>> {
 }
 
 /// Adds slots.
-fn tell_all(told: &mut String, slots: &[Slot]) -> Option<()> {
+fn report_all(reported: &mut String, slots: &[Slot]) -> Option<()> {
     for slot in slots {
-        tell_slot(told, *slot)?;
+        report_slot(reported, *slot)?;
     }
     Some(())
 }
 
-/// Adds the slot of the owner null, and behind it all slots of an object.
-fn tell_behind(alloc: Global, told: &mut String, object: &Object<'_>) -> Option<()> {
+/// Adds the slot of the owner null, and after it all slots of an object.
+fn report_after(alloc: Global, reported: &mut String, object: &Object<'_>) -> Option<()> {
     match with_slots(owner_null(alloc)?, object) {
-        Ok(all) => tell_all(told, all.as_slice()),
+        Ok(all) => report_all(reported, all.as_slice()),
         Err(_) => None,
     }
 }
 
-/// Adds what is told of the frame at the begin of bytes.
-fn tell_frame<'a, W: Words<Found<'a>>>(
+/// Adds what is reported of the frame at the begin of bytes.
+fn report_frame<'a, W: Words<Found<'a>>>(
     alloc: Global,
-    told: &mut String,
+    reported: &mut String,
     bytes: &'a [u8],
 ) -> Option<()> {
-    tell_answer::<W, Found<'a>>(alloc, told, frame_at(alloc, bytes, 0, &[]))
+    report_answer::<W, Found<'a>>(alloc, reported, frame_at(alloc, bytes, 0, &[]))
 }
 
 /// `FRAME => COUNT FIELD POSITION TARGET ..`: how many slots the object of a frame has, and each by its place.
 struct Held;
 
 impl Words<Found<'_>> for Held {
-    fn tell_of(alloc: Global, told: &mut String, found: &Found<'_>) -> Option<()> {
-        tell_slots(alloc, told, &found.object)
+    fn report_of(alloc: Global, reported: &mut String, found: &Found<'_>) -> Option<()> {
+        report_slots(alloc, reported, &found.object)
     }
 }
 
-impl Telling for Held {
-    fn tell(alloc: Global, told: &mut String, input: &str) -> Option<()> {
-        tell_frame::<Held>(alloc, told, &frame(alloc, input)?)
+impl Reporting for Held {
+    fn report(alloc: Global, reported: &mut String, input: &str) -> Option<()> {
+        report_frame::<Held>(alloc, reported, &frame(alloc, input)?)
     }
 }
 
-/// `FRAME => FIELD POSITION TARGET ..`: all slots of the object of a frame behind that of the owner null.
-struct Behind;
+/// `FRAME => FIELD POSITION TARGET ..`: all slots of the object of a frame after that of the owner null.
+struct After;
 
-impl Words<Found<'_>> for Behind {
-    fn tell_of(alloc: Global, told: &mut String, found: &Found<'_>) -> Option<()> {
-        tell_behind(alloc, told, &found.object)
+impl Words<Found<'_>> for After {
+    fn report_of(alloc: Global, reported: &mut String, found: &Found<'_>) -> Option<()> {
+        report_after(alloc, reported, &found.object)
     }
 }
 
-impl Telling for Behind {
-    fn tell(alloc: Global, told: &mut String, input: &str) -> Option<()> {
-        tell_frame::<Behind>(alloc, told, &frame(alloc, input)?)
+impl Reporting for After {
+    fn report(alloc: Global, reported: &mut String, input: &str) -> Option<()> {
+        report_frame::<After>(alloc, reported, &frame(alloc, input)?)
     }
 }
 
@@ -133,10 +133,10 @@ fn slots_are_counted_and_have_places(rt: HostRuntime) -> Result<(), Fail> {
 }
 
 #[test]
-fn slots_are_gathered_behind_others(rt: HostRuntime) -> Result<(), Fail> {
+fn slots_are_gathered_after_others(rt: HostRuntime) -> Result<(), Fail> {
     // The same record.
     let cases = "\
         79 90 : '10 '10 '10 '10 / 4.0 3.0 4.10 5.0 => owner 0 0 xdict 0 0 target 0 10 target 1 0\n";
-    hold::<Behind>(&rt, rt.alloc(), cases);
+    hold::<After>(&rt, rt.alloc(), cases);
     Ok(())
 }

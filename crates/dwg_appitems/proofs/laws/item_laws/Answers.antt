@@ -2,7 +2,7 @@ use Rattle.dwg_grammar.specs.Grammar.{AnyLetters}
 use Rattle.dwg_grammar.proofs.CodeLemmas.{lawful_of_code}
 use Rattle.dwg_appitems.specs.Items.{item}
 use Rattle.dwg_appitems.proofs.ItemLemmas.{item_is_code}
-use Rattle.dwg_appitems.proofs.ItemFronts.{items_unique}
+use Rattle.dwg_appitems.proofs.ItemPrefixes.{items_unique}
 use Rattle.dwg_appitems.proofs.AllItems.{items_whole}
 use Rattle.dwg_appitems.proofs.ComputedItems.{computed_are, are_computed}
 use Rattle.dwg_appitems.proofs.laws.item_laws.Goals as goal

@@ -1,7 +1,7 @@
 use Rattle.std.proofs.Common.{subst, sym, arith}
 use Rattle.dwg_base.proofs.ByteLists.{are_bytes}
-use Rattle.dwg_appitems.specs.ItemFront.{ReadsItem}
-use Rattle.dwg_appitems.proofs.ItemFronts.{one_so_far, all_so_far, none_behind_them}
+use Rattle.dwg_appitems.specs.ItemPrefix.{ReadsItem}
+use Rattle.dwg_appitems.proofs.ItemPrefixes.{one_so_far, all_so_far, none_after_them}
 use Rattle.dwg_appitems.proofs.AllItems.{items_can_be_written}
 use Rattle.dwg_appitems.proofs.ComputedItems.{are_computed, none_computed}
 use Rattle.dwg_appitems.proofs.ExactSpellings.{items_again}
@@ -9,22 +9,22 @@ use Rattle.dwg_appitems.proofs.reading.read_items.Goals as goal
 
 pub returns-in_default-clause-none : goal.returns-in_default-clause-none
 returns-in_default-clause-none c all =
-    let none = subst (λ found. ReadsItem found c.bytes_behind.result.now) c.in_default.is c.in_ok-item.ensures in
-    none_behind_them c.along.found all c.args.bytes.now _ c.along.place c.along-test.true c.bytes_behind.ensures.rest c.along.invariant.so_far none
+    let none = subst (λ found. ReadsItem found c.bytes_after.result.now) c.in_default.is c.in_ok-item.ensures in
+    none_after_them c.along.found all c.args.bytes.now _ c.along.place c.along-test.true c.bytes_after.ensures.rest c.along.invariant.so_far none
 
 pub along-preserved : goal.along-preserved
 along-preserved c =
     let so_far = c.along.invariant in
-    let front = subst (λ found. ReadsItem found c.bytes_behind.result.now) c.in-Some.is c.in_ok-item.ensures in
+    let prefix = subst (λ found. ReadsItem found c.bytes_after.result.now) c.in-Some.is c.in_ok-item.ensures in
     record {
-      so_far = one_so_far _ _ _ _ _ _ _ c.in_ok-add.ensures c.bytes_behind.ensures.rest front so_far.so_far;
-      within = omega (arith, front.within, c.bytes_behind.ensures.len);
+      so_far = one_so_far _ _ _ _ _ _ _ c.in_ok-add.ensures c.bytes_after.ensures.rest prefix so_far.so_far;
+      within = omega (arith, prefix.within, c.bytes_after.ensures.len);
     }
 
 pub along-smaller : goal.along-smaller
 along-smaller c =
-    let front = subst (λ found. ReadsItem found c.bytes_behind.result.now) c.in-Some.is c.in_ok-item.ensures in
-    omega (arith, front.some, front.within, c.bytes_behind.ensures.len)
+    let prefix = subst (λ found. ReadsItem found c.bytes_after.result.now) c.in-Some.is c.in_ok-item.ensures in
+    omega (arith, prefix.some, prefix.within, c.bytes_after.ensures.len)
 
 pub returns-clause-items : goal.returns-clause-items
 returns-clause-items c = all_so_far c.along.found c.args.bytes.now c.along.place c.along-test.false c.along.invariant.so_far
@@ -43,5 +43,5 @@ returns-clause-computed c =
 
 pub returns-in_default-clause-computed : goal.returns-in_default-clause-computed
 returns-in_default-clause-computed c =
-    let none = subst (λ found. ReadsItem found c.bytes_behind.result.now) c.in_default.is c.in_ok-item.ensures in
-    sym (none_computed c.args.bytes.now (λ all. none_behind_them c.along.found all c.args.bytes.now _ c.along.place c.along-test.true c.bytes_behind.ensures.rest c.along.invariant.so_far none))
+    let none = subst (λ found. ReadsItem found c.bytes_after.result.now) c.in_default.is c.in_ok-item.ensures in
+    sym (none_computed c.args.bytes.now (λ all. none_after_them c.along.found all c.args.bytes.now _ c.along.place c.along-test.true c.bytes_after.ensures.rest c.along.invariant.so_far none))

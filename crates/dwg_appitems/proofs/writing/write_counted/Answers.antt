@@ -14,14 +14,14 @@ write_bytes-requires c = record {
     length_of_counted c.args.bytes.now,
     c.write.ensures.spare,
     length_of_low_bits 8 (length c.args.bytes.now),
-    ap length c.bounded_bytes.ensures.same,
+    ap length c.bytes_with_range.ensures.same,
   );
 }
 
 pub returns-clause-written : goal.returns-clause-written
 returns-clause-written c =
     counted_written c.args.bytes.now _ _ _ c.write.ensures
-    (subst (λ bytes. Extends c.write.new.sink c.write_bytes.new.sink (short_all rc bytes)) c.bounded_bytes.ensures.same c.write_bytes.ensures)
+    (subst (λ bytes. Extends c.write.new.sink c.write_bytes.new.sink (short_all rc bytes)) c.bytes_with_range.ensures.same c.write_bytes.ensures)
 
 pub returns-clause-value : goal.returns-clause-value
-returns-clause-value c = counted_value c.args.bytes.now c.bounded_bytes.ensures.bytes c.requires.count
+returns-clause-value c = counted_value c.args.bytes.now c.bytes_with_range.ensures.bytes c.requires.count

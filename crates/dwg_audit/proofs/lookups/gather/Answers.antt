@@ -10,11 +10,11 @@ along-init c = c.in_ok-gathered.ensures c.args.known.now
 
 pub along-preserved : goal.along-preserved
 along-preserved c =
-    subst (λ (front : List ObjectValue). AreGathered front c.args.known.now c.in_ok-gathered-2.gathered)
+    subst (λ (prefix : List ObjectValue). AreGathered prefix c.args.known.now c.in_ok-gathered-2.gathered)
     (one_object_more c.args.objects.now c.along.object-index c.object-item.result c.along-test.true c.object-item.is)
     (c.in_ok-gathered-2.ensures (take c.along.object-index (map value_of c.args.objects.now)) c.along.invariant)
 
 pub returns : goal.returns
 returns c =
-    subst (λ (front : List ObjectValue). AreGathered front c.args.known.now c.along.gathered)
+    subst (λ (prefix : List ObjectValue). AreGathered prefix c.args.known.now c.along.gathered)
     (take_all c.along.object-index (map value_of c.args.objects.now) (omega (arith, c.along-test.false, length-map c.args.objects.now value_of))) c.along.invariant

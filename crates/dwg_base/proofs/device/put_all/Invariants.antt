@@ -5,7 +5,7 @@ use Rattle.dwg_base.proofs.device.put_all.Given as goal
 abbrev pub invariant-loop-sent : goal.invariant-loop-sent
 invariant-loop-sent g l = record {
   within : l.sent ≤ length l.piece;
-  sent_front : Appends (g.W.Sink.taken l.fn.sink) (g.W.Sink.taken l.sink) (take l.sent l.piece);
+  sent_prefix : Appends (g.W.Sink.taken l.fn.sink) (g.W.Sink.taken l.sink) (take l.sent l.piece);
   quiet : g.W.Sink.faults l.sink ≡ g.W.Sink.faults l.fn.sink;
 }
 

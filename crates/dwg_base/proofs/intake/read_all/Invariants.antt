@@ -6,7 +6,7 @@ use Rattle.dwg_base.proofs.intake.read_all.Given as goal
 abbrev pub invariant-pieces : goal.invariant-pieces
 invariant-pieces g l = record {
   within : vec_len l.bytes ≤ l.limit + 1;
-  read_front : Consumes (g.R.Source.left l.fn.source) (g.R.Source.left l.source) l.bytes.items;
+  read_prefix : Consumes (g.R.Source.left l.fn.source) (g.R.Source.left l.source) l.bytes.items;
   are_bytes : AreBytes l.bytes.items;
   quiet : g.R.Source.faults l.source ≡ g.R.Source.faults l.fn.source;
 }

@@ -6,12 +6,12 @@ pub returns : goal.returns
 returns c =
     record {
       spelled = num_of_low_bits;
-      told = low_bits_of_num;
+      reported = low_bits_of_num;
       fits = num_fits;
       counted = length_of_low_bits;
       eight = length_of_bits;
       joined = bits_joined;
-      bytes_told = bits_same;
+      bytes_reported = bits_same;
       split = low_bits_split;
       numbers_joined = num_joined;
       between_counted = length_of_bits_between;

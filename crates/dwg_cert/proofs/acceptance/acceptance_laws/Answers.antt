@@ -2,7 +2,7 @@ use Rattle.dwg_cert.proofs.AcceptedOfSound.{sound_is_accepted}
 use Rattle.dwg_cert.proofs.ChainPlaces.{places_are_in_chains}
 use Rattle.dwg_cert.proofs.Ranks.{ranks_are_steps}
 use Rattle.dwg_cert.proofs.SoundOfAccepted.{accepted_is_sound}
-use Rattle.dwg_cert.proofs.Told.{acceptance_is_told}
+use Rattle.dwg_cert.proofs.Reported.{acceptance_is_reported}
 use Rattle.dwg_cert.proofs.acceptance.acceptance_laws.Goals as goal
 
 pub returns-clause-sound : goal.returns-clause-sound
@@ -17,5 +17,5 @@ returns-clause-ranks c = ranks_are_steps
 pub returns-clause-places : goal.returns-clause-places
 returns-clause-places c = places_are_in_chains
 
-pub returns-clause-told : goal.returns-clause-told
-returns-clause-told c = acceptance_is_told
+pub returns-clause-reported : goal.returns-clause-reported
+returns-clause-reported c = acceptance_is_reported

@@ -5,15 +5,15 @@ use Rattle.dwg_graph.proofs.Counting.{value_there}
 use Rattle.dwg_object.specs.Objects.{value_of}
 use Rattle.dwg_cert.proofs.counting.count_member.Goals as goal
 
-pub raise-requires-clause-within : goal.raise-requires-clause-within
-raise-requires-clause-within c =
+pub increment-requires-clause-within : goal.increment-requires-clause-within
+increment-requires-clause-within c =
     let objects = map value_of c.args.objects.now in
     let x = value_of c.index-objects-place.result in
     let homed = home_by_index objects c.args.known.now x c.args.index.now c.owner_of.result c.place_of.result c.home_of.result c.requires.index c.owner_of.ensures c.place_of.ensures c.home_of.ensures in
     omega (arith, c.requires.counted.long, home_within objects c.args.known.now x c.in-Some.home (sym homed ∙ c.in-Some.is))
 
-pub raise-requires-clause-room : goal.raise-requires-clause-room
-raise-requires-clause-room c =
+pub increment-requires-clause-room : goal.increment-requires-clause-room
+increment-requires-clause-room c =
     let objects = map value_of c.args.objects.now in
     let x = value_of c.index-objects-place.result in
     let homed = home_by_index objects c.args.known.now x c.args.index.now c.owner_of.result c.place_of.result c.home_of.result c.requires.index c.owner_of.ensures c.place_of.ensures c.home_of.ensures in
@@ -27,8 +27,8 @@ returns-in-Some c =
     let object = c.index-objects-place.result in
     let x = value_of object in
     let homed = home_by_index objects c.args.known.now x c.args.index.now c.owner_of.result c.place_of.result c.home_of.result c.requires.index c.owner_of.ensures c.place_of.ensures c.home_of.ensures in
-    one_more objects c.args.known.now c.args.place x c.in-Some.home c.args.counts.now.items c.raise.new.counts.items c.requires.ascend
-    (value_there c.args.objects.now c.args.place object c.requires.place c.index-objects-place.is) (sym homed ∙ c.in-Some.is) c.raise.ensures c.requires.counted
+    one_more objects c.args.known.now c.args.place x c.in-Some.home c.args.counts.now.items c.increment.new.counts.items c.requires.ascend
+    (value_there c.args.objects.now c.args.place object c.requires.place c.index-objects-place.is) (sym homed ∙ c.in-Some.is) c.increment.ensures c.requires.counted
 
 pub returns-in-None : goal.returns-in-None
 returns-in-None c =

@@ -1,7 +1,7 @@
 use Rattle.std.proofs.Common.{sym, ◌∙◌, ap, length, arith}
 use Rattle.dwg_cert.proofs.CertificateSound.{begins_with_read, read_are_certificate}
 use Rattle.dwg_cert.proofs.EntryReading.{length_of_read}
-use Rattle.dwg_cert.proofs.PassingLines.{room_from_front, entries_decide, none_of_read, fault_tells}
+use Rattle.dwg_cert.proofs.PassingLines.{room_from_prefix, entries_decide, none_of_read, fault_reports}
 use Rattle.dwg_cert.proofs.reading.read_certificate.Goals as goal
 
 pub build-requires : goal.build-requires
@@ -9,7 +9,7 @@ build-requires c = (read_are_certificate c.args.bytes.now c.in-Ok.entries c.in-O
 
 pub returns-clause-begins : goal.returns-clause-begins
 returns-clause-begins c =
-    begins_with_read c.args.bytes.now c.in-Ok.entries c.build.result c.count-count.result (λ i. omega (arith, c.type_inv.bytes i)) (room_from_front c.args.bytes.now (sym c.in_default.ensures.first))
+    begins_with_read c.args.bytes.now c.in-Ok.entries c.build.result c.count-count.result (λ i. omega (arith, c.type_inv.bytes i)) (room_from_prefix c.args.bytes.now (sym c.in_default.ensures.first))
     c.in-Ok.ensures.answers c.build.ensures c.count-count.ensures
 
 pub returns-clause-end : goal.returns-clause-end
@@ -19,9 +19,9 @@ returns-clause-end c =
 
 pub returns-clause-holds : goal.returns-clause-holds
 returns-clause-holds c =
-    entries_decide c.args.bytes.now (room_from_front c.args.bytes.now (sym c.in_default.ensures.first))
+    entries_decide c.args.bytes.now (room_from_prefix c.args.bytes.now (sym c.in_default.ensures.first))
     ∙ none_of_read c.args.bytes.now c.in-Ok.entries c.in-Ok.ensures.answers
 
 pub returns-in-Err-clause-refused : goal.returns-in-Err-clause-refused
 returns-in-Err-clause-refused c =
-    fault_tells c.args.bytes.now c.in-Err.fault (room_from_front c.args.bytes.now (sym c.in_default.ensures.first)) c.in-Err.ensures.answers
+    fault_reports c.args.bytes.now c.in-Err.fault (room_from_prefix c.args.bytes.now (sym c.in_default.ensures.first)) c.in-Err.ensures.answers

@@ -9,4 +9,4 @@ pub returns-clause-reads : goal.returns-clause-reads
 returns-clause-reads c =
     let short : IfNone c.take.result (length (rest c.args.cursor.now) < c.args.count) = grind (arith, length_of_bits_between) in
     let same : IfNone c.take.result (rest c.take.new.self ≡ rest c.args.cursor.now) = grind (arith, rest_stays) in
-    fixed_reads c.args.count c.take.result _ _ c.take.ensures.bound c.take.ensures.front short same
+    fixed_reads c.args.count c.take.result _ _ c.take.ensures.bound c.take.ensures.prefix short same

@@ -1,7 +1,7 @@
 use Rattle.std.proofs.Common.{arith}
 use Rattle.dwg_codes.proofs.GroupReading.{group_below, last_below}
 use Rattle.dwg_codes.proofs.ShortReading.{three_groups, ms_cut, ms_found}
-use Rattle.dwg_codes.proofs.FrontReading.{if_none}
+use Rattle.dwg_codes.proofs.PrefixReading.{if_none}
 use Rattle.dwg_codes.proofs.modular.+ms_within.Goals as goal
 
 pub returns-then-group-lt32768-clause-value : goal.returns-then-group-lt32768-clause-value

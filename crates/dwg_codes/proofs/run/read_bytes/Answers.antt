@@ -13,4 +13,4 @@ returns-then-left-from-clause-reads c =
 pub returns-clause-reads : goal.returns-clause-reads
 returns-clause-reads c =
     let taken = c.in_ok-bytes.ensures in
-    run_read c.args.count c.in_ok-bytes.bytes.items c.from_vec.result (rest c.args.cursor.now) (rest c.take_bytes.new.cursor) c.from_vec.ensures taken.counted taken.small taken.front
+    run_read c.args.count c.in_ok-bytes.bytes.items c.from_vec.result (rest c.args.cursor.now) (rest c.take_bytes.new.cursor) c.from_vec.ensures taken.counted taken.small taken.prefix

@@ -1,7 +1,7 @@
 use Rattle.std.proofs.Common.{arith}
 use Rattle.dwg_drill.specs.Drilled.{DRILL_SEED}
 use Rattle.dwg_make.specs.Made.{made}
-use Rattle.dwg_drill.proofs.Drills.{can_be_drilled, told_is_drilled}
+use Rattle.dwg_drill.proofs.Drills.{can_be_drilled, reported_is_drilled}
 use Rattle.dwg_drill.proofs.drilling.drill.Goals as goal
 
 pub drill_file-requires : goal.drill_file-requires
@@ -16,4 +16,4 @@ returns-in-Ok-drill_file-clause-report c =
     let within = c.in-Ok.ensures.within in
     let valid = c.make_laws.ensures.valid c.args.n DRILL_SEED within.0 within.1 (omega arith) in
     let can = can_be_drilled c.canonical_laws.ensures.counted c.canonical_laws.ensures.read (made c.args.n DRILL_SEED) c.in-Ok.file valid within.2 c.in-Ok.ensures.file in
-    told_is_drilled c.args.n c.in-Ok.file c.in-Ok-drill_file.report c.in-Ok-drill_file.ensures.report can.read c.in-Ok.ensures.file
+    reported_is_drilled c.args.n c.in-Ok.file c.in-Ok-drill_file.report c.in-Ok-drill_file.ensures.report can.read c.in-Ok.ensures.file

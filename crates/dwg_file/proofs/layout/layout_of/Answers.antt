@@ -39,7 +39,7 @@ returns-clause-room c =
     let all = subst (λ (objects : List Object). AllByRecursion (FitsIn c.args.parts.now.version c.in_ok-frames.frames.part) (map value_of objects)) c.as_slice-3.ensures c.in_ok-frames.ensures.part in
     record {
       header = omega (arith, c.max.ensures, c.max-2.ensures, c.max-3.ensures, ap length c.as_slice-sections.ensures, length-map c.args.parts.now.others other_value);
-      preview = omega (arith, c.max.ensures, c.max-2.ensures, c.max-3.ensures, c.front_length.ensures.length (preview_place drawing));
+      preview = omega (arith, c.max.ensures, c.max-2.ensures, c.max-3.ensures, c.prefix_length.ensures.length (preview_place drawing));
       classes = omega (arith, c.max-2.ensures, c.max-3.ensures, c.content_length-content.ensures, ap (λ (all : List Class). length (class_content all)) c.as_slice-2.ensures);
       objects = objects_sent c.args.parts.now.version c.args.parts.now.classes drawing.objects c.in_ok-frames.frames.part (8 * part) (omega (arith, c.max-3.ensures)) c.requires.valid.objects all;
     }

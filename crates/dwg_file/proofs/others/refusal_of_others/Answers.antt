@@ -1,6 +1,6 @@
 use Rattle.std.proofs.Common.{sym, ◌∙◌, ap, refl}
 use Rattle.std.specs.Prelude.{Some}
-use Rattle.dwg_file.proofs.OthersAlong.{cut_here, cut_behind, none_cut}
+use Rattle.dwg_file.proofs.OthersAlong.{cut_here, cut_after, none_cut}
 use Rattle.dwg_file.proofs.others.refusal_of_others.Goals as goal
 
 pub returns-then-is_cut-clause-first : goal.returns-then-is_cut-clause-first
@@ -10,7 +10,7 @@ returns-then-is_cut-clause-first c =
 
 pub along-preserved : goal.along-preserved
 along-preserved c =
-    cut_behind c.args.bytes.now c.along.index c.args.locators.now _ (record { number = 0; place = 0; size = 0 }) _ c.along-test.true refl (sym c.is_cut.ensures ∙ c.if-is_cut.false) c.along.invariant
+    cut_after c.args.bytes.now c.along.index c.args.locators.now _ (record { number = 0; place = 0; size = 0 }) _ c.along-test.true refl (sym c.is_cut.ensures ∙ c.if-is_cut.false) c.along.invariant
 
 pub returns-clause-first : goal.returns-clause-first
 returns-clause-first c = none_cut c.args.bytes.now c.along.index c.args.locators.now _ c.along-test.false c.along.invariant

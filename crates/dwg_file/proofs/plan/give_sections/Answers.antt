@@ -2,7 +2,7 @@ use Rattle.std.proofs.Common.{refl, sym, subst, ap, length, arith}
 use Rattle.dwg_classes.specs.WrittenClasses.{AreWritable}
 use Rattle.dwg_sections.specs.declared.framed.Framed.TheVariants.{Variables, Classes}
 use Rattle.dwg_sections.specs.Framed.{framed_bytes}
-use Rattle.dwg_preview.specs.Previews.{front_bytes}
+use Rattle.dwg_preview.specs.Previews.{prefix_bytes}
 use Rattle.dwg_file.specs.Canonical.{carried_by, class_content, preview_at, preview_place}
 use Rattle.dwg_file.specs.Contents.{contents_of}
 use Rattle.dwg_file.proofs.PlanFacts.{valid_writable}
@@ -44,4 +44,4 @@ give_preview-requires-clause-within g c = omega (arith, c.requires.place, c.requ
 pub give_preview-requires-clause-room : goal.give_preview-requires-clause-room
 give_preview-requires-clause-room g c =
     let carried = carried_by c.args.carried.now in
-    omega (arith, c.in-Ok-give_classes.ensures.room, c.requires.room.preview, ap (λ place. length (front_bytes carried.place place carried.content)) c.requires.place)
+    omega (arith, c.in-Ok-give_classes.ensures.room, c.requires.room.preview, ap (λ place. length (prefix_bytes carried.place place carried.content)) c.requires.place)

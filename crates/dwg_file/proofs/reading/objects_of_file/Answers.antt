@@ -1,4 +1,4 @@
-use Rattle.dwg_file.proofs.FileReading.{objects_in, frames_in, objects_hold, map_refused, objects_told}
+use Rattle.dwg_file.proofs.FileReading.{objects_in, frames_in, objects_hold, map_refused, objects_reported}
 use Rattle.dwg_file.proofs.reading.objects_of_file.Goals as goal
 
 pub returns-in-Err-clause-refused : goal.returns-in-Err-clause-refused
@@ -18,4 +18,4 @@ returns-in-Ok-read_objects-clause-holds c =
 
 pub returns-clause-refused : goal.returns-clause-refused
 returns-clause-refused c =
-    objects_told c.args.classes.now c.args.bytes.now c.in-Ok.pairs c.as_slice.result.now c.in-Err-read_objects.fault c.in-Ok.ensures.tried c.as_slice.ensures c.in-Err-read_objects.ensures.tried
+    objects_reported c.args.classes.now c.args.bytes.now c.in-Ok.pairs c.as_slice.result.now c.in-Err-read_objects.fault c.in-Ok.ensures.tried c.as_slice.ensures c.in-Err-read_objects.ensures.tried

@@ -5,7 +5,7 @@ use Rattle.dwg_object.specs.declared.object.Object.{Object}
 use Rattle.dwg_object.specs.Frames.{frame_bytes, framed_body}
 use Rattle.dwg_object.specs.Objects.{value_of}
 use Rattle.dwg_object.proofs.FormLaws.{frame_is_bytes}
-use Rattle.dwg_file.specs.Gathering.{Gives}
+use Rattle.dwg_file.specs.WriteBuffer.{Gives}
 use Rattle.dwg_file.proofs.SentParts.{part_aligned, part_bytes as bytes_of_part, raw_frame}
 use Rattle.dwg_file.proofs.sending.give_frame.Goals as goal
 

@@ -1,6 +1,6 @@
 use Rattle.std.proofs.Common.{subst, List, ℕ}
 use Rattle.dwg_sections.specs.Framed.{framed_bytes}
-use Rattle.dwg_file.specs.Gathering.{Gives}
+use Rattle.dwg_file.specs.WriteBuffer.{Gives}
 use Rattle.dwg_file.proofs.SentParts.{framed_given}
 use Rattle.dwg_file.proofs.sending.give_framed.Goals as goal
 

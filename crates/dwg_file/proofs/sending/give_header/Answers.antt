@@ -1,6 +1,6 @@
 use Rattle.std.proofs.Common.{subst, List, ℕ}
 use Rattle.dwg_sections.specs.FileHeader.{header_bytes}
-use Rattle.dwg_file.specs.Gathering.{Gives}
+use Rattle.dwg_file.specs.WriteBuffer.{Gives}
 use Rattle.dwg_file.proofs.CanonicalParts.{header_is_bytes}
 use Rattle.dwg_file.proofs.SentParts.{part_aligned, part_bytes}
 use Rattle.dwg_file.proofs.sending.give_header.Goals as goal

@@ -1,20 +1,20 @@
 use Rattle.std.proofs.Common.{subst, List, ℕ}
-use Rattle.dwg_preview.specs.Previews.{front_bytes}
+use Rattle.dwg_preview.specs.Previews.{prefix_bytes}
 use Rattle.dwg_file.specs.Canonical.{carried_by}
-use Rattle.dwg_file.specs.Gathering.{Gives}
-use Rattle.dwg_file.proofs.CanonicalParts.{front_is_bytes}
+use Rattle.dwg_file.specs.WriteBuffer.{Gives}
+use Rattle.dwg_file.proofs.CanonicalParts.{prefix_is_bytes}
 use Rattle.dwg_file.proofs.SentParts.{part_aligned, part_bytes, preview_given}
 use Rattle.dwg_file.proofs.sending.give_preview.Goals as goal
 
 pub bytes_of-requires : goal.bytes_of-requires
-bytes_of-requires g c = part_aligned _ _ (front_bytes c.args.carried.now.place c.args.place c.args.carried.now.content.now) c.clear.ensures.empty c.write_front.ensures
+bytes_of-requires g c = part_aligned _ _ (prefix_bytes c.args.carried.now.place c.args.place c.args.carried.now.content.now) c.clear.ensures.empty c.write_prefix.ensures
 
 pub returns-clause-gives : goal.returns-clause-gives
 returns-clause-gives g c =
     let carried = carried_by c.args.carried.now in
-    let front = part_bytes _ _ (front_bytes carried.place c.args.place carried.content) c.bytes_of.result.now c.clear.ensures.empty c.write_front.ensures (front_is_bytes carried c.args.place c.requires.carried.are)
+    let prefix = part_bytes _ _ (prefix_bytes carried.place c.args.place carried.content) c.bytes_of.result.now c.clear.ensures.empty c.write_prefix.ensures (prefix_is_bytes carried c.args.place c.requires.carried.are)
     c.bytes_of.ensures in
     subst (λ (bytes : List ℕ). Gives (g.W.Sink.taken c.args.sink.now) (g.W.Sink.taken c.give_all.new.sink) c.args.gathering.now c.give_all.new.gathering bytes c.give_all.result)
-    (preview_given carried c.args.place c.bytes_of.result.now c.further.result.now c.end_sentinel-end.result c.as_slice.result.now c.requires.carried c.requires.within front c.further.ensures c.as_slice.ensures
+    (preview_given carried c.args.place c.bytes_of.result.now c.further.result.now c.end_sentinel-end.result c.as_slice.result.now c.requires.carried c.requires.within prefix c.further.ensures c.as_slice.ensures
     c.end_sentinel-end.ensures)
     c.give_all.ensures.gives

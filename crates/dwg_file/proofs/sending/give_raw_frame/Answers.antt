@@ -1,7 +1,7 @@
 use Rattle.std.proofs.Common.{subst, List, ℕ, length, ◌∙◌, arith}
 use Rattle.dwg_grammar.specs.ModularCodes.{ms}
 use Rattle.dwg_object.proofs.LengthLemmas.{length_is_bytes}
-use Rattle.dwg_file.specs.Gathering.{Gives}
+use Rattle.dwg_file.specs.WriteBuffer.{Gives}
 use Rattle.dwg_file.proofs.SentParts.{part_aligned, part_bytes, frame_given}
 use Rattle.dwg_file.proofs.sending.give_raw_frame.Goals as goal
 

@@ -1,6 +1,6 @@
 use Rattle.std.proofs.Common.{refl, ◌∙◌}
-use Rattle.dwg_objmap.specs.Writing.{map_behind}
-use Rattle.dwg_file.proofs.PlanMap.{none_put, pair_put, pair_cut, all_put, ascends_behind}
+use Rattle.dwg_objmap.specs.Writing.{map_after}
+use Rattle.dwg_file.proofs.PlanMap.{none_put, pair_put, pair_cut, all_put, ascends_after}
 use Rattle.dwg_file.proofs.sending.put_pairs.Goals as goal
 
 pub along-init : goal.along-init
@@ -14,19 +14,19 @@ along-init g c = record {
 pub returns-in-Err-clause-cut : goal.returns-in-Err-clause-cut
 returns-in-Err-clause-cut g c =
     pair_cut c.args.pairs.now c.along.pair-index c.pair-item.result (g.W.Sink.taken c.args.sink.now) (g.W.Sink.taken c.along.sink) (g.W.Sink.taken c.put.new.sink) c.along.writer
-    (map_behind c.args.writer.now c.args.pairs.now) c.along-test.true c.pair-item.is c.in-Err.ensures.bytes c.along.invariant.put
+    (map_after c.args.writer.now c.args.pairs.now) c.along-test.true c.pair-item.is c.in-Err.ensures.bytes c.along.invariant.put
 
 pub along-preserved : goal.along-preserved
 along-preserved g c = record {
   put =
       pair_put c.args.pairs.now c.along.pair-index c.pair-item.result (g.W.Sink.taken c.args.sink.now) (g.W.Sink.taken c.along.sink) (g.W.Sink.taken c.put.new.sink) c.along.writer
-      c.put.new.self (map_behind c.args.writer.now c.args.pairs.now) c.along-test.true c.pair-item.is c.in-Ok.ensures.bytes c.in-Ok.ensures.page c.along.invariant.put;
-  ascend = ascends_behind c.args.pairs.now c.along.pair-index _ c.pair-item.result c.put.new.self.last c.along-test.true c.pair-item.is c.in-Ok.ensures.last c.along.invariant.ascend;
+      c.put.new.self (map_after c.args.writer.now c.args.pairs.now) c.along-test.true c.pair-item.is c.in-Ok.ensures.bytes c.in-Ok.ensures.page c.along.invariant.put;
+  ascend = ascends_after c.args.pairs.now c.along.pair-index _ c.pair-item.result c.put.new.self.last c.along-test.true c.pair-item.is c.in-Ok.ensures.last c.along.invariant.ascend;
   still_open = c.in-Ok.ensures.still_open;
   counts = c.in-Ok.ensures.counts.ok ∙ c.along.invariant.counts;
 }
 
 pub returns-clause-put : goal.returns-clause-put
 returns-clause-put g c =
-    all_put c.args.pairs.now c.along.pair-index (g.W.Sink.taken c.args.sink.now) (g.W.Sink.taken c.along.sink) c.along.writer (map_behind c.args.writer.now c.args.pairs.now)
+    all_put c.args.pairs.now c.along.pair-index (g.W.Sink.taken c.args.sink.now) (g.W.Sink.taken c.along.sink) c.along.writer (map_after c.args.writer.now c.args.pairs.now)
     c.along-test.false c.along.invariant.put

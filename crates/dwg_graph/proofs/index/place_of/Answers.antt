@@ -1,10 +1,10 @@
 use Rattle.std.proofs.Common.{◌-◌}
-use Rattle.dwg_graph.proofs.Searching.{spends_behind, spends_before, is_missing}
+use Rattle.dwg_graph.proofs.Searching.{spends_after, spends_before, is_missing}
 use Rattle.dwg_graph.proofs.index.place_of.Goals as goal
 
 pub along-preserved-then-lt : goal.along-preserved-then-lt
 along-preserved-then-lt g c =
-    spends_behind c.args.handles.now c.args.handle c.along.from c.along.width c.args.steps.now c.along.steps c.tick.new.self c.index-handles-from.result c.requires.ascend c.along.invariant
+    spends_after c.args.handles.now c.args.handle c.along.from c.along.width c.args.steps.now c.along.steps c.tick.new.self c.index-handles-from.result c.requires.ascend c.along.invariant
     c.along-test.true c.index-handles-from.is c.if-lt.ensures c.tick.ensures
 
 pub along-preserved : goal.along-preserved

@@ -1,5 +1,5 @@
 use Rattle.std.proofs.Common.{◌≡◌, drop, map}
-use Rattle.dwg_paths.specs.Paths.{first_of}
+use Rattle.dwg_chains.specs.Paths.{first_of}
 use Rattle.dwg_graph.specs.Owners.{block_controls}
 use Rattle.dwg_object.specs.Objects.{value_of}
 use Rattle.dwg_graph.proofs.owner.first_spaces.Given as goal

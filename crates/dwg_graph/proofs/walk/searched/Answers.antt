@@ -1,10 +1,10 @@
 use Rattle.std.proofs.Common.{refl, ap, ◌∙◌, arith}
 use Rattle.std.proofs.lemmas.Option.{slice_get_read}
-use Rattle.dwg_graph.proofs.Passing.{listed_behind, listed_within}
+use Rattle.dwg_graph.proofs.Passing.{listed_after, listed_within}
 use Rattle.dwg_graph.proofs.walk.searched.Goals as goal
 
 pub returns-then-count-place : goal.returns-then-count-place
-returns-then-count-place g c = listed_behind g.T.Refers.refers c.args.field c.args.place c.args.items.now (omega (arith, c.if-count-place.true))
+returns-then-count-place g c = listed_after g.T.Refers.refers c.args.field c.args.place c.args.items.now (omega (arith, c.if-count-place.true))
 
 pub returns : goal.returns
 returns g c =

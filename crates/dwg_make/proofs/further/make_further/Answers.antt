@@ -9,5 +9,5 @@ along-init c = record { at = c.new-random.ensures ∙ from_seed c.args.seed; mad
 pub along-preserved : goal.along-preserved
 along-preserved c = record {
   at = next_at c.args.seed c.along.done _ _ c.along.invariant.at c.draw-draw.ensures.next;
-  made = more_made c.args.count c.args.seed c.along.done _ _ _ _ _ _ c.along.invariant.at c.draw-draw.ensures.told c.in_ok-entity_of.ensures c.along.invariant.made c.in_ok-add.ensures;
+  made = more_made c.args.count c.args.seed c.along.done _ _ _ _ _ _ c.along.invariant.at c.draw-draw.ensures.reported c.in_ok-entity_of.ensures c.along.invariant.made c.in_ok-add.ensures;
 }

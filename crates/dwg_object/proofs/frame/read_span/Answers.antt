@@ -1,19 +1,19 @@
 use Rattle.std.proofs.Common.{sym, refl, ◌∙◌, subst, arith, ◌<◌, ◌^◌, List, ℕ, length}
 use Rattle.dwg_base.proofs.ByteLists.{are_bytes}
 use Rattle.dwg_object.proofs.FrameLaws.{check_refused, framed_at}
-use Rattle.dwg_object.proofs.FrameReading.{span_small, told_frame, head_refused, found_frame, found_tried}
+use Rattle.dwg_object.proofs.FrameReading.{span_small, reported_frame, head_refused, found_frame, found_tried}
 use Rattle.dwg_object.proofs.frame.read_span.Goals as goal
 
 pub head_of-requires : goal.head_of-requires
 head_of-requires c = subst (λ (b : List ℕ). length b < 2 ^ 60) (sym c.piece-body.ensures) (span_small c.args.bytes.now c.args.span.now c.requires)
 
-pub read_behind_head-requires-clause-small : goal.read_behind_head-requires-clause-small
-read_behind_head-requires-clause-small c = subst (λ (b : List ℕ). length b < 2 ^ 60) (sym c.piece-body.ensures) (span_small c.args.bytes.now c.args.span.now c.requires)
+pub read_after_head-requires-clause-small : goal.read_after_head-requires-clause-small
+read_after_head-requires-clause-small c = subst (λ (b : List ℕ). length b < 2 ^ 60) (sym c.piece-body.ensures) (span_small c.args.bytes.now c.args.span.now c.requires)
 
 pub returns-in_default-clause-tried : goal.returns-in_default-clause-tried
 returns-in_default-clause-tried c =
     let framed = framed_at c.args.bytes.now _ c.args.span.now (are_bytes c.args.bytes.now (λ i. omega (arith, c.type_inv.bytes i))) c.requires refl (sym c.has_frame_word.ensures ∙ c.if-not-has_frame_word.false) in
-    told_frame c.args.version c.args.bytes.now _ _ _ (λ i. omega (arith, c.type_inv.bytes i))
+    reported_frame c.args.version c.args.bytes.now _ _ _ (λ i. omega (arith, c.type_inv.bytes i))
     (head_refused _ _ c.args.span.now c.piece-body.result.now _ framed c.piece-body.ensures c.in_default.ensures.none c.frame_refusal-in_default.ensures)
 
 pub returns-in-Ok-clause-found : goal.returns-in-Ok-clause-found
@@ -28,5 +28,5 @@ returns-in-Ok-clause-tried c =
 
 pub returns-then-not-has_frame_word-clause-tried : goal.returns-then-not-has_frame_word-clause-tried
 returns-then-not-has_frame_word-clause-tried c =
-    told_frame c.args.version c.args.bytes.now _ _ _ (λ i. omega (arith, c.type_inv.bytes i))
+    reported_frame c.args.version c.args.bytes.now _ _ _ (λ i. omega (arith, c.type_inv.bytes i))
     (check_refused c.args.bytes.now _ _ c.args.span.now _ c.requires refl (sym c.has_frame_word.ensures ∙ c.if-not-has_frame_word.true) c.frame_refusal.ensures)

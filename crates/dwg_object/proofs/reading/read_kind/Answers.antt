@@ -9,15 +9,15 @@ use Rattle.dwg_object.proofs.reading.read_kind.Goals.{in_default-2-via-in-Some-2
 
 pub returns-in_default-clause-form : goal.returns-in_default-clause-form
 returns-in_default-clause-form c = λ classes same.
-    let clauses = rw c.in_default.is at c.in_ok-front.ensures in
+    let clauses = rw c.in_default.is at c.in_ok-prefix.ensures in
     let none = clauses.none refl classes same in
     c.raw_object.ensures.form classes (λ plain. none (common_of_plain plain)) (λ typed. none (common_of_typed typed))
 
 pub read_untyped-requires-clause-untyped : goal.read_untyped-requires-clause-untyped
 read_untyped-requires-clause-untyped c = λ has.
     let own = c.args.found.now.head.own in
-    let main = rest c.in-Some.front.main in
-    let refs = rest c.in-Some.front.refs in
+    let main = rest c.in-Some.prefix.main in
+    let refs = rest c.in-Some.prefix.refs in
     elim c.in_default-2.branch [
       | in_default-2-via-in-Some-2+else-is_read_out w ↦
           let clauses = rw w.in-Some-2.is at c.in_ok-value.ensures in
@@ -31,10 +31,10 @@ read_untyped-requires-clause-untyped c = λ has.
 pub returns-in-Some-2-clause-form : goal.returns-in-Some-2-clause-form
 returns-in-Some-2-clause-form c = λ classes same.
     let own = c.args.found.now.head.own in
-    let main = rest c.in-Some.front.main in
-    let refs = rest c.in-Some.front.refs in
+    let main = rest c.in-Some.prefix.main in
+    let refs = rest c.in-Some.prefix.refs in
     let left = rest c.parse.new.refs in
-    let cut = rw c.in-Some.is at c.in_ok-front.ensures in
+    let cut = rw c.in-Some.is at c.in_ok-prefix.ensures in
     let clauses = rw c.in-Some-2.is at c.in_ok-value.ensures in
     let ends = c.if-is_read_out.ensures.0 refl in
     let are = own_read c.args.version c.args.kind own main refs (rest c.parse.new.main) left c.in-Some-2.value (omega (arith, c.value-base.ensures)) clauses.parsed ends.0 ends.1 in

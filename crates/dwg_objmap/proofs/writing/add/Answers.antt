@@ -11,14 +11,14 @@ as_bytes-requires c = pair_is_whole c.clear.new.self c.write_pair.new.sink c.arg
 
 pub append_bytes-requires : goal.append_bytes-requires
 append_bytes-requires c =
-    let is = pair_spelled c.clear.new.self c.write_pair.new.sink c.args.before.now c.args.pair.now c.as_bytes.result.now c.bounded_bytes.result.now c.requires.before c.requires.pair c.requires.above
-    c.clear.ensures.empty c.write_pair.ensures c.bounded_bytes.ensures.same c.bounded_bytes.ensures.bytes c.as_bytes.ensures in
+    let is = pair_spelled c.clear.new.self c.write_pair.new.sink c.args.before.now c.args.pair.now c.as_bytes.result.now c.bytes_with_range.result.now c.requires.before c.requires.pair c.requires.above
+    c.clear.ensures.empty c.write_pair.ensures c.bytes_with_range.ensures.same c.bytes_with_range.ensures.bytes c.as_bytes.ensures in
     record { room = omega (arith, c.requires.fits, ap length is) }
 
 pub returns-clause-both : goal.returns-clause-both
 returns-clause-both c =
-    let is = pair_spelled c.clear.new.self c.write_pair.new.sink c.args.before.now c.args.pair.now c.as_bytes.result.now c.bounded_bytes.result.now c.requires.before c.requires.pair c.requires.above
-    c.clear.ensures.empty c.write_pair.ensures c.bounded_bytes.ensures.same c.bounded_bytes.ensures.bytes c.as_bytes.ensures in
+    let is = pair_spelled c.clear.new.self c.write_pair.new.sink c.args.before.now c.args.pair.now c.as_bytes.result.now c.bytes_with_range.result.now c.requires.before c.requires.pair c.requires.above
+    c.clear.ensures.empty c.write_pair.ensures c.bytes_with_range.ensures.same c.bytes_with_range.ensures.bytes c.as_bytes.ensures in
     c.append_bytes.ensures.both ∙ ap (λ (short : List ℕ). c.args.page.now.items ++ short) is
 
 pub returns-clause-room : goal.returns-clause-room

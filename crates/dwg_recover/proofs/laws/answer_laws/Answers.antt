@@ -1,5 +1,5 @@
-use Rattle.dwg_recover.proofs.ToldLosses.{losses_told}
-use Rattle.dwg_recover.proofs.ResultLemmas.{damaged_is_answered, mapped_are_told, recovered_is_valid, spelled_is_answered}
+use Rattle.dwg_recover.proofs.ReportedLosses.{losses_reported}
+use Rattle.dwg_recover.proofs.ResultLemmas.{damaged_is_answered, mapped_are_reported, recovered_is_valid, spelled_is_answered}
 use Rattle.dwg_recover.proofs.SectionsOfFile.{section_laws}
 use Rattle.dwg_recover.proofs.laws.answer_laws.Goals as goal
 
@@ -15,7 +15,7 @@ pub returns-clause-damaged : goal.returns-clause-damaged
 returns-clause-damaged c = damaged_is_answered
 
 pub returns-clause-mapped : goal.returns-clause-mapped
-returns-clause-mapped c = mapped_are_told
+returns-clause-mapped c = mapped_are_reported
 
 pub returns-clause-losses : goal.returns-clause-losses
-returns-clause-losses c = losses_told
+returns-clause-losses c = losses_reported

@@ -8,16 +8,16 @@ use Rattle.dwg_recover.specs.declared.loss.Loss.TheVariants as losses
 use Rattle.dwg_recover.specs.Frames.{lost_pairs}
 use Rattle.dwg_recover.specs.Recovering.{losses_of}
 use Rattle.dwg_recover.specs.Sections.{locators_of, lost_if, lost_sections}
-use Rattle.dwg_recover.proofs.RecoveryParts.{losses_joined, none_told}
+use Rattle.dwg_recover.proofs.RecoveryParts.{losses_joined, none_reported}
 use Rattle.dwg_recover.proofs.recovery.losses_of.Goals as goal
 
 pub returns-in-Ok : goal.returns-in-Ok
 unfolding losses_of
 returns-in-Ok c =
     losses_joined _ _ _ _ _ _ _ _ _ _ _ _ _ _
-    (c.in_ok-losses.ensures ∙ ap₂ (λ (l : List Loss) (t : Bool). l ++ lost_if t losses.Header) c.new.ensures (none_told _ c.is_none.result c.is_none.ensures ∙ ap is_none c.requires.header))
-    (c.in_ok-losses-2.ensures ∙ ap (λ (t : Bool). c.in_ok-losses.losses ++ lost_if t losses.Variables) (none_told _ c.is_none-2.result c.is_none-2.ensures ∙ ap is_none c.requires.variables))
-    (c.in_ok-losses-3.ensures ∙ ap (λ (t : Bool). c.in_ok-losses-2.losses ++ lost_if t losses.Classes) (none_told _ c.is_none-3.result c.is_none-3.ensures ∙ ap is_none c.requires.classes))
+    (c.in_ok-losses.ensures ∙ ap₂ (λ (l : List Loss) (t : Bool). l ++ lost_if t losses.Header) c.new.ensures (none_reported _ c.is_none.result c.is_none.ensures ∙ ap is_none c.requires.header))
+    (c.in_ok-losses-2.ensures ∙ ap (λ (t : Bool). c.in_ok-losses.losses ++ lost_if t losses.Variables) (none_reported _ c.is_none-2.result c.is_none-2.ensures ∙ ap is_none c.requires.variables))
+    (c.in_ok-losses-3.ensures ∙ ap (λ (t : Bool). c.in_ok-losses-2.losses ++ lost_if t losses.Classes) (none_reported _ c.is_none-3.result c.is_none-3.ensures ∙ ap is_none c.requires.classes))
     (c.in_ok-losses-4.ensures ∙ ap (λ (l : List Locator). c.in_ok-losses-3.losses ++ lost_sections c.args.bytes.now l) (c.locators_of.ensures ∙ ap locators_of c.requires.header))
     (c.in_ok-losses-5.ensures ∙ ap (λ (l : List Loss). c.in_ok-losses-4.losses ++ l) c.as_slice.ensures)
     c.requires.pages

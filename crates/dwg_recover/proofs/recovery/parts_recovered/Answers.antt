@@ -14,5 +14,5 @@ in_handle_order-objects-requires c =
 
 pub returns : goal.returns
 returns c =
-    drawing_is c.args.bytes.now c.args.header.now _ _ _ _ _ _ _ _ _ _ _ c.requires.header c.requires.variables c.requires.classes c.of_input.ensures c.front_of-front.ensures.lead c.front_of-front.ensures.mark
-    c.front_of-front.ensures.code_page c.variables_at-variables.ensures c.locators_of.ensures c.in_ok-others.ensures.value c.requires.objects c.in_handle_order-objects.ensures.sorted
+    drawing_is c.args.bytes.now c.args.header.now _ _ _ _ _ _ _ _ _ _ _ c.requires.header c.requires.variables c.requires.classes c.of_input.ensures c.header_fields_of-prefix.ensures.lead c.header_fields_of-prefix.ensures.mark
+    c.header_fields_of-prefix.ensures.code_page c.variables_at-variables.ensures c.locators_of.ensures c.in_ok-others.ensures.value c.requires.objects c.in_handle_order-objects.ensures.sorted

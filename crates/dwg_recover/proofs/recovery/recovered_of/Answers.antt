@@ -1,6 +1,6 @@
 use Rattle.std.proofs.Common.{◌∙◌, ap, map}
 use Rattle.dwg_recover.proofs.WholeRecovery.{damaged_value, kept_placed}
-use Rattle.dwg_recover.specs.Recovering.{classes_found, object_of, told}
+use Rattle.dwg_recover.specs.Recovering.{classes_found, object_of, reported}
 use Rattle.dwg_file.specs.Contents.{contents_of}
 use Rattle.dwg_recover.proofs.recovery.recovered_of.Goals as goal
 
@@ -17,10 +17,10 @@ pub parts_recovered-requires-clause-objects : goal.parts_recovered-requires-clau
 parts_recovered-requires-clause-objects c =
     let bytes = c.args.bytes.now in c.requires.objects ∙ ap (map (object_of (classes_found bytes) bytes)) c.requires.frames
 
-pub told-requires : goal.told-requires
-told-requires c = kept_placed c.args.bytes.now c.into_frames-frames.result.items (c.into_frames-frames.ensures ∙ c.requires.frames)
+pub reported-requires : goal.reported-requires
+reported-requires c = kept_placed c.args.bytes.now c.into_frames-frames.result.items (c.into_frames-frames.ensures ∙ c.requires.frames)
 
 pub returns-clause-recovered : goal.returns-clause-recovered
 returns-clause-recovered c =
     damaged_value c.args.bytes.now (contents_of c.drawing_of.result) c.args.refusal c.args.gathered.losses c.in_ok-kept.kept c.requires.refusal c.drawing_of.ensures c.requires.losses
-    (c.in_ok-kept.ensures ∙ ap (told c.args.bytes.now) (c.into_frames-frames.ensures ∙ c.requires.frames))
+    (c.in_ok-kept.ensures ∙ ap (reported c.args.bytes.now) (c.into_frames-frames.ensures ∙ c.requires.frames))

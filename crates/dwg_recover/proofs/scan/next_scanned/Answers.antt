@@ -2,11 +2,11 @@ use Rattle.dwg_recover.proofs.ScanAlong.{next_found, scan_goes_on, scan_passes}
 use Rattle.dwg_recover.proofs.ScanReading.{kept_at, none_at}
 use Rattle.dwg_recover.proofs.scan.next_scanned.Goals as goal
 
-pub along-preserved-then-place-behind : goal.along-preserved-then-place-behind
-along-preserved-then-place-behind g c = record {
+pub along-preserved-then-place-after : goal.along-preserved-then-place-after
+along-preserved-then-place-after g c = record {
   scanned =
-      scan_passes c.args.hints.now c.args.bytes.now c.args.kept.now c.args.from c.args.kept.now c.along.place c.behind-behind.result c.args.steps.now c.along.steps
-      c.along.invariant.scanned c.behind-behind.ensures.after c.behind-behind.ensures.taken;
+      scan_passes c.args.hints.now c.args.bytes.now c.args.kept.now c.args.from c.args.kept.now c.along.place c.after-after.result c.args.steps.now c.along.steps
+      c.along.invariant.scanned c.after-after.ensures.after c.after-after.ensures.taken;
 }
 
 pub returns-in-Some-clause-next : goal.returns-in-Some-clause-next

@@ -1,5 +1,5 @@
 use Rattle.std.proofs.Common.{sym, ◌∙◌, arith}
-use Rattle.dwg_recover.proofs.ScanAlong.{next_told, none_told, scan_begins, scan_whole}
+use Rattle.dwg_recover.proofs.ScanAlong.{next_reported, none_reported, scan_begins, scan_whole}
 use Rattle.dwg_recover.proofs.scan.with_scanned.Goals as goal
 
 pub along-init : goal.along-init
@@ -7,10 +7,10 @@ along-init g c = record { scanned = scan_begins c.args.hints.now c.args.bytes.no
 
 pub along-smaller : goal.along-smaller
 along-smaller g c =
-    let next = next_told c.args.hints.now c.args.bytes.now c.along.kept.frames c.along.place c.along.steps c.next_scanned.new.steps _ c.in-Some.found c.in-Some.is c.in_ok-found.ensures.next in
+    let next = next_reported c.args.hints.now c.args.bytes.now c.along.kept.frames c.along.place c.along.steps c.next_scanned.new.steps _ c.in-Some.found c.in-Some.is c.in_ok-found.ensures.next in
     omega (arith, next.after, next.within)
 
 pub returns-in-None-clause-frames : goal.returns-in-None-clause-frames
 returns-in-None-clause-frames g c =
-    sym (none_told c.args.hints.now c.args.bytes.now c.along.kept.frames c.along.place c.along.steps c.next_scanned.new.steps _ c.in-None.is c.in_ok-found.ensures.next)
+    sym (none_reported c.args.hints.now c.args.bytes.now c.along.kept.frames c.along.place c.along.steps c.next_scanned.new.steps _ c.in-None.is c.in_ok-found.ensures.next)
     ∙ c.along.invariant.scanned.left ∙ scan_whole c.args.hints.now c.args.bytes.now c.args.kept.frames

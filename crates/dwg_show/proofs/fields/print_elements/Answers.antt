@@ -1,11 +1,11 @@
 use Rattle.std.proofs.Common.{subst}
-use Rattle.dwg_page.specs.Telling.{Tells}
+use Rattle.dwg_text.specs.Writing.{WritesText}
 use Rattle.dwg_show.specs.Fields.{element}
-use Rattle.dwg_page.proofs.Elements.{more_numbered}
-use Rattle.dwg_page.proofs.Telling.{◌▷◌}
+use Rattle.dwg_text.proofs.Elements.{more_numbered}
+use Rattle.dwg_text.proofs.Writing.{◌▷◌}
 use Rattle.dwg_show.proofs.fields.print_elements.Goals as goal
 
 pub along-preserved : goal.along-preserved
 along-preserved g c =
-    subst (Tells _ _ _ _ _ _) (more_numbered (element g.T.Print.lines c.args.path.now) c.args.elements.now c.along.index c.index-elements-index.result c.along-test.true c.index-elements-index.is)
+    subst (WritesText _ _ _ _ _ _) (more_numbered (element g.T.Print.lines c.args.path.now) c.args.elements.now c.along.index c.index-elements-index.result c.along-test.true c.index-elements-index.is)
     (c.along.invariant ▷ c.print_element.ensures)

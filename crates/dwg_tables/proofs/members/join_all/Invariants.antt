@@ -3,4 +3,4 @@ use Rattle.dwg_tables.proofs.members.join_all.Given as goal
 
 -- the members so far and what is left give all
 abbrev pub invariant-along : goal.invariant-along
-invariant-along g l = AreJoinedSoFar g.V.Joined.join l.told l.names l.place l.members
+invariant-along g l = AreJoinedSoFar g.V.Joined.join l.parsed l.names l.place l.members

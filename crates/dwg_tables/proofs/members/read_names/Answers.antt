@@ -8,12 +8,12 @@ use Rattle.dwg_tables.proofs.members.read_names.Goals as goal
 pub returns-in_default-clause-parsed : goal.returns-in_default-clause-parsed
 unfolding chain
 returns-in_default-clause-parsed g c =
-    one_missing (λ (state : ℕ). reference c.args.base) (λ (name : Reference). 0) 0 0 (length c.args.told.now) _ c.along.names c.parse_ref.result _ _ _
+    one_missing (λ (state : ℕ). reference c.args.base) (λ (name : Reference). 0) 0 0 (length c.args.parsed.now) _ c.along.names c.parse_ref.result _ _ _
     c.along-test.true c.in_default.is c.parse_ref.ensures.parsed c.along.invariant.so_far
 
 pub along-preserved : goal.along-preserved
 along-preserved g c = record {
-  so_far = one_begun (λ (state : ℕ). reference c.args.base) (λ (name : Reference). 0) 0 0 (length c.args.told.now) _ c.along.names _ c.parse_ref.result c.in-Some.name _ _ _
+  so_far = one_begun (λ (state : ℕ). reference c.args.base) (λ (name : Reference). 0) 0 0 (length c.args.parsed.now) _ c.along.names _ c.parse_ref.result c.in-Some.name _ _ _
       c.along-test.true c.in-Ok.ensures.ok c.in-Some.is c.parse_ref.ensures.parsed c.along.invariant.so_far;
   kept = search rules;
 }
@@ -21,4 +21,4 @@ along-preserved g c = record {
 pub returns-clause-parsed : goal.returns-clause-parsed
 unfolding chain
 returns-clause-parsed g c =
-    all_begun (λ (state : ℕ). reference c.args.base) (λ (name : Reference). 0) 0 0 (length c.args.told.now) _ c.along.names _ _ c.along-test.false c.along.invariant.so_far
+    all_begun (λ (state : ℕ). reference c.args.base) (λ (name : Reference). 0) 0 0 (length c.args.parsed.now) _ c.along.names _ _ c.along-test.false c.along.invariant.so_far

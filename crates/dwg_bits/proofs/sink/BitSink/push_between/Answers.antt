@@ -18,7 +18,7 @@ push_words-requires-2-clause-room c =
 pub returns : goal.returns
 returns c =
     record {
-      bits = c.push_words-2.ensures.bits ∙ ap (λ front. front ++ bits_between c.args.bytes.now (c.args.to - c.args.to % 8) c.args.to) c.push_whole.ensures.bits ∙ append_assoc c.args.self.now.written _ _ ∙ ap (λ more. c.args.self.now.written ++ more) (run_and_rest c.args.bytes.now _ c.args.from c.args.to c.requires.ordered c.requires.within (omega arith) refl);
+      bits = c.push_words-2.ensures.bits ∙ ap (λ prefix. prefix ++ bits_between c.args.bytes.now (c.args.to - c.args.to % 8) c.args.to) c.push_whole.ensures.bits ∙ append_assoc c.args.self.now.written _ _ ∙ ap (λ more. c.args.self.now.written ++ more) (run_and_rest c.args.bytes.now _ c.args.from c.args.to c.requires.ordered c.requires.within (omega arith) refl);
       spare =
           omega (
             arith,

@@ -9,4 +9,4 @@ returns-in_err-bits-clause-reads c =
 
 pub returns-clause-reads : goal.returns-clause-reads
 returns-clause-reads c =
-    word_read w64 8 c.in_ok-bits.bits _ _ _ (c.from_le_bytes.ensures ∙ ap (from_le_bytes w64) c.to_be_bytes.ensures) c.in_ok-bits.ensures.front
+    word_read w64 8 c.in_ok-bits.bits _ _ _ (c.from_le_bytes.ensures ∙ ap (from_le_bytes w64) c.to_be_bytes.ensures) c.in_ok-bits.ensures.prefix

@@ -9,4 +9,4 @@ returns-in_err-bits-clause-reads c =
 
 pub returns-clause-reads : goal.returns-clause-reads
 returns-clause-reads c =
-    word_read w32 4 c.in_ok-bits.field-0 _ _ _ (c.from_le_bytes.ensures ∙ ap (from_le_bytes w32) c.to_be_bytes.ensures) c.in_ok-bits.ensures.front
+    word_read w32 4 c.in_ok-bits.field-0 _ _ _ (c.from_le_bytes.ensures ∙ ap (from_le_bytes w32) c.to_be_bytes.ensures) c.in_ok-bits.ensures.prefix

@@ -1,6 +1,6 @@
 use Rattle.std.proofs.Common.{◌≡◌, sym, ◌∙◌, ap, subst}
 use Rattle.std.specs.Io.KnownBytes.{Appends}
-use Rattle.dwg_base.specs.Devices.{AppendsFront}
+use Rattle.dwg_base.specs.Devices.{AppendsPrefix}
 use Rattle.dwg_objmap.specs.Writing.{Ascend, map_bytes}
 use Rattle.dwg_file.specs.Canonical.{canonical_with, carried_by, map_with, others_bytes}
 use Rattle.dwg_file.specs.Contents.{contents_of}
@@ -14,9 +14,9 @@ pub returns-in-Err-clause-bytes : goal.returns-in-Err-clause-bytes
 returns-in-Err-clause-bytes g c =
     let drawing = contents_of c.parts-parts.result.now in
     let carried = carried_by c.self.inside.carried in
-    let front = before_map carried drawing in
+    let prefix = before_map carried drawing in
     let whole = canonical_thirds carried drawing ∙ ap (canonical_with carried) c.parts-parts.ensures.parts ∙ ap (λ (plan : Planned). canonical_with plan.carried plan.drawing) c.self.view_is in
-    first_short _ _ front (map_with carried drawing) (others_bytes drawing.others) _ whole c.in-Err.ensures.bytes
+    first_short _ _ prefix (map_with carried drawing) (others_bytes drawing.others) _ whole c.in-Err.ensures.bytes
 
 pub send_map-requires : goal.send_map-requires
 send_map-requires g c = subst (Ascend 0) (sym (c.as_slice.ensures ∙ c.self.invariant.are_placed)) (canonical_ascends (carried_by c.self.inside.carried) (contents_of c.self.inside.drawing.now) c.self.invariant.ready.is c.self.invariant.ready.valid)
@@ -28,11 +28,11 @@ pub returns-in-Err-send_map-clause-bytes : goal.returns-in-Err-send_map-clause-b
 returns-in-Err-send_map-clause-bytes g c =
     let drawing = contents_of c.parts-parts.result.now in
     let carried = carried_by c.self.inside.carried in
-    let front = before_map carried drawing in
+    let prefix = before_map carried drawing in
     let whole = canonical_thirds carried drawing ∙ ap (canonical_with carried) c.parts-parts.ensures.parts ∙ ap (λ (plan : Planned). canonical_with plan.carried plan.drawing) c.self.view_is in
     let pairs : map_bytes c.as_slice.result.now ≡ map_with carried drawing = ap map_bytes (c.as_slice.ensures ∙ c.self.invariant.are_placed) ∙ ap (map_with carried) (sym c.parts-parts.ensures.parts) in
-    second_short _ _ _ front (map_with carried drawing) (others_bytes drawing.others) _ whole c.in-Ok.ensures.bytes
-    (subst (λ bytes. AppendsFront (g.W.Sink.taken c.send_front.new.sink) (g.W.Sink.taken c.send_map.new.sink) bytes) pairs c.in-Err-send_map.ensures.bytes)
+    second_short _ _ _ prefix (map_with carried drawing) (others_bytes drawing.others) _ whole c.in-Ok.ensures.bytes
+    (subst (λ bytes. AppendsPrefix (g.W.Sink.taken c.send_prefix.new.sink) (g.W.Sink.taken c.send_map.new.sink) bytes) pairs c.in-Err-send_map.ensures.bytes)
 
 pub invariant_of-self-2 : goal.invariant_of-self-2
 invariant_of-self-2 g c = plan_with_more _ _ _ _ _ _ _ c.in-Ok.ensures.room c.self.invariant
@@ -41,8 +41,8 @@ pub returns-clause-bytes : goal.returns-clause-bytes
 returns-clause-bytes g c =
     let drawing = contents_of c.parts-parts.result.now in
     let carried = carried_by c.self.inside.carried in
-    let front = before_map carried drawing in
+    let prefix = before_map carried drawing in
     let whole = canonical_thirds carried drawing ∙ ap (canonical_with carried) c.parts-parts.ensures.parts ∙ ap (λ (plan : Planned). canonical_with plan.carried plan.drawing) c.self.view_is in
     let pairs : map_bytes c.as_slice.result.now ≡ map_with carried drawing = ap map_bytes (c.as_slice.ensures ∙ c.self.invariant.are_placed) ∙ ap (map_with carried) (sym c.parts-parts.ensures.parts) in
-    three_sent _ _ _ _ front (map_with carried drawing) (others_bytes drawing.others) _ c.send_back.result whole c.in-Ok.ensures.bytes
-    (subst (λ bytes. Appends (g.W.Sink.taken c.send_front.new.sink) (g.W.Sink.taken c.send_map.new.sink) bytes) pairs c.in-Ok-send_map.ensures.bytes) c.send_back.ensures.bytes
+    three_sent _ _ _ _ prefix (map_with carried drawing) (others_bytes drawing.others) _ c.send_back.result whole c.in-Ok.ensures.bytes
+    (subst (λ bytes. Appends (g.W.Sink.taken c.send_prefix.new.sink) (g.W.Sink.taken c.send_map.new.sink) bytes) pairs c.in-Ok-send_map.ensures.bytes) c.send_back.ensures.bytes

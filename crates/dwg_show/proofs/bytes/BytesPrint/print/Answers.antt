@@ -1,7 +1,7 @@
 use Rattle.dwg_show.specs.Fields.{field_line}
-use Rattle.dwg_page.proofs.Telling.{◌▷◌}
+use Rattle.dwg_text.proofs.Writing.{◌▷◌}
 use Rattle.dwg_show.proofs.bytes.BytesPrint.print.Goals as goal
 
 pub returns : goal.returns
 unfolding field_line
-returns g c = c.tell.ensures ▷ c.tell-2.ensures ▷ c.tell-3.ensures ▷ c.tell_bytes.ensures ▷ c.tell-4.ensures
+returns g c = c.write.ensures ▷ c.write-2.ensures ▷ c.write-3.ensures ▷ c.write_bytes.ensures ▷ c.write-4.ensures

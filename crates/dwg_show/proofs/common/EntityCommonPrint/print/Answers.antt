@@ -1,5 +1,5 @@
 use Rattle.dwg_show.specs.CommonFields.{entity_common_fields}
-use Rattle.dwg_page.proofs.Telling.{◌▷◌}
+use Rattle.dwg_text.proofs.Writing.{◌▷◌}
 use Rattle.dwg_show.proofs.common.EntityCommonPrint.print.Goals as goal
 
 pub returns : goal.returns

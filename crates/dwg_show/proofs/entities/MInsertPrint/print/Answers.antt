@@ -1,5 +1,5 @@
 use Rattle.dwg_show.specs.BodyFields.{minsert_fields}
-use Rattle.dwg_page.proofs.Telling.{◌▷◌}
+use Rattle.dwg_text.proofs.Writing.{◌▷◌}
 use Rattle.dwg_show.proofs.entities.MInsertPrint.print.Goals as goal
 
 pub returns : goal.returns

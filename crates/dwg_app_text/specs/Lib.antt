@@ -1,2 +1,0 @@
--- The text of the extended data of a drawing.
-pub mod AppText

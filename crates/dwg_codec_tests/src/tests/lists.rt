@@ -1,0 +1,27 @@
+//! Lists with one item more.
+
+use dwg_base::{Items, NoMemory, push_item, vec_with_capacity, with_item};
+use std::alloc::Global;
+
+/// A vector of 3, 5 and 8, each put after those before it.
+fn three_in_vector(alloc: Global) -> Result<Vec<u64>, NoMemory> {
+    let mut items = vec_with_capacity(alloc, 2)?;
+    push_item(&mut items, 3)?;
+    push_item(&mut items, 5)?;
+    with_item(items, 8)
+}
+
+/// A list of 3 and 5, each put after those before it.
+fn two_in_list(alloc: Global) -> Result<Items<u64>, NoMemory> {
+    let mut items = Items::new(alloc);
+    items.add(3)?;
+    items.with(5)
+}
+
+#[test]
+fn an_item_more_stands_after_the_others(rt: HostRuntime) {
+    let items = three_in_vector(rt.alloc()).unwrap_or(Vec::new(rt.alloc()));
+    assert_eq!(rt; items.as_slice(), [3, 5, 8].as_slice());
+    let items = two_in_list(rt.alloc()).unwrap_or(Items::new(rt.alloc()));
+    assert_eq!(rt; items.as_slice(), [3, 5].as_slice());
+}

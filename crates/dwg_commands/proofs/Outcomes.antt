@@ -1,0 +1,199 @@
+-- What the defined outcomes are, by their causes.
+use Rattle.std.proofs.Common.{◌≡◌, refl, ℕ, ◌+◌, ◌≤◌, ◌<◌, List, [], ◌∷◌, ◌++◌, length, Some, None, sym, ap, ◌∙◌, arith, true, false, append-nil, length-append}
+use Rattle.std.proofs.lemmas.Bool.Decides.{nat_tests}
+use Rattle.std.specs.Prelude.{Bool, Option, Result, Ok, Err, IfOk, nat_lt, if◌then◌else◌}
+use Rattle.std.specs.Io.KnownBytes.{Consumes, IsAtEnd}
+use Rattle.dwg_appitems.specs.AppFindings.{app_findings}
+use Rattle.dwg_audit.specs.Findings.{findings}
+use Rattle.dwg_base.specs.Devices.{Came, MOST_BYTES}
+use Rattle.dwg_base.specs.declared.refusal.Refusal.{Refusal}
+use Rattle.dwg_base.specs.Refusals.{first_fault}
+use Rattle.dwg_cert.specs.AcceptTests.{is_accepted}
+use Rattle.dwg_cert.specs.Certified.{certificate_of}
+use Rattle.dwg_cert.specs.WrittenForm.{certificate_bytes}
+use Rattle.dwg_cert.specs.declared.entry.Entry.{Entry}
+use Rattle.dwg_text.specs.Notes.{usage_note, unsound_note, too_long_note, too_large_note}
+use Rattle.dwg_commands.specs.declared.words.Command.{Command}
+use Rattle.dwg_commands.specs.declared.words.Command.TheVariants as commands
+use Rattle.dwg_commands.specs.declared.words.Reading.{Reading}
+use Rattle.dwg_commands.specs.declared.words.Reading.TheVariants.{Sections, Classes, Show, Rewrite, Audit, Recover, Appdata, Certify, Accept, Carry}
+use Rattle.dwg_commands.specs.declared.status.Status.{Status}
+use Rattle.dwg_commands.specs.declared.status.Status.TheVariants.{Done, Found, Usage, TooLong, TooLarge}
+use Rattle.dwg_commands.specs.declared.answer.Answer.{Answer}
+use Rattle.dwg_commands.specs.declared.request.Request.{Request}
+use Rattle.dwg_file.specs.Contents.{Contents}
+use Rattle.dwg_file.specs.DrawingAt.{drawing_at}
+use Rattle.dwg_file.specs.Canonical.{Carried, NO_PICTURE, size_of, size_with, canonical_with}
+use Rattle.dwg_commands.specs.CertifiedInput.{cert_in, drawing_bytes}
+use Rattle.dwg_commands.specs.Lines.{lines_of}
+use Rattle.dwg_commands.specs.Outcome.{noted, printed, refused_or, carried_in, carrying_note, content_in, filed_with, certified, acceptance, accepted, made_answer, drill_answer, audited, items_reported, verdict_status, recovery_notes, recovery_status, recovered_answer, answer_within, outcome_within, outcome_of_input, outcome_read, outcome_of}
+use Rattle.dwg_recover.specs.Recovering.{RecoveredValue, recovered}
+use Rattle.dwg_commands.specs.Words.{reading_in}
+use Rattle.dwg_commands.specs.Requests.{asked}
+use Rattle.dwg_commands.specs.Run.{Feeds, IsDrained}
+use Rattle.dwg_commands.proofs.CommandsRead.{names_reading}
+
+-- a refusal, and an answer after no refusal, come of an input that was read to its end
+refused_or_is_drained : (first : Option Refusal) (answer : Answer) → IsDrained answer.status → IsDrained (refused_or first answer).status
+refused_or_is_drained (Some refusal) answer drained = tt
+refused_or_is_drained None answer drained = drained
+
+-- so does the file of a drawing, with a status that does
+filed_is_drained : (carried : Carried) (drawing : Contents) (note : List ℕ) (status : Status) → IsDrained status → IsDrained (filed_with carried drawing note status).status
+unfolding filed_with
+filed_is_drained carried drawing note status drained = of_test (nat_lt MOST_BYTES (size_with carried drawing))
+  where
+    of_test : (test : Bool)
+        → IsDrained (if test then noted (too_large_note (size_with carried drawing)) (TooLarge (size_with carried drawing)) else record { output = canonical_with carried drawing; note = note; status = status }).status
+    of_test true = tt
+    of_test false = drained
+
+-- and what is recovered
+recovered_is_drained : (value : RecoveredValue) → IsDrained (recovered_answer value).status
+unfolding recovered_answer
+recovered_is_drained value = filed_is_drained NO_PICTURE value.drawing (recovery_notes value.refusal value.losses value.kept) (recovery_status value.refusal) (of_refusal value.refusal)
+  where
+    of_refusal : (refusal : Option Refusal) → IsDrained (recovery_status refusal)
+    of_refusal None = tt
+    of_refusal (Some refusal) = tt
+
+-- and what audits say, by what they found
+verdict_is_drained : {A : Type 0} (found : List A) → IsDrained (verdict_status found)
+verdict_is_drained {A} [] = tt
+verdict_is_drained {A} (finding ∷ more) = tt
+
+audited_is_drained : (drawing : Contents) → IsDrained (audited drawing).status
+unfolding audited
+audited_is_drained drawing = verdict_is_drained (findings drawing.objects)
+
+items_are_drained : (drawing : Contents) → IsDrained (items_reported drawing).status
+unfolding items_reported
+items_are_drained drawing = verdict_is_drained (app_findings drawing.objects)
+
+-- and what is said of a drawing's certificate
+certified_is_drained : (drawing : Contents) → IsDrained (certified drawing).status
+unfolding certified
+certified_is_drained drawing = of_test (is_accepted drawing.objects (certificate_of drawing.objects))
+  where
+    of_test : (test : Bool) → IsDrained (if test then printed (certificate_bytes (certificate_of drawing.objects)) else noted unsound_note Found).status
+    of_test true = tt
+    of_test false = tt
+
+-- and of one before a drawing
+accepted_is_drained : (drawing : Contents) (cert : List Entry) → IsDrained (accepted drawing cert).status
+unfolding accepted
+accepted_is_drained drawing cert = of_test (is_accepted drawing.objects cert)
+  where
+    of_test : (test : Bool) → IsDrained (acceptance test).status
+    of_test true = tt
+    of_test false = tt
+
+-- and so does what a command that reads answers to an input within the limit
+answer_is_drained : (reading : Reading) (bytes : List ℕ) → IsDrained (answer_within reading bytes).status
+unfolding answer_within
+answer_is_drained Sections bytes = tt
+answer_is_drained Classes bytes = tt
+answer_is_drained Show bytes = tt
+answer_is_drained Rewrite bytes = filed_is_drained NO_PICTURE (drawing_at bytes) [] Done tt
+answer_is_drained Audit bytes = audited_is_drained (drawing_at bytes)
+answer_is_drained Recover bytes = recovered_is_drained (recovered bytes)
+answer_is_drained Appdata bytes = items_are_drained (drawing_at bytes)
+answer_is_drained Certify bytes = certified_is_drained (drawing_at bytes)
+answer_is_drained Accept bytes = accepted_is_drained (drawing_at (drawing_bytes bytes)) (cert_in bytes)
+answer_is_drained Carry bytes = filed_is_drained (carried_in bytes) (drawing_at bytes) (carrying_note (content_in bytes)) Done tt
+
+pub outcome_is_drained : (reading : Reading) (bytes : List ℕ) → IsDrained (outcome_within reading bytes).status
+unfolding outcome_within
+outcome_is_drained reading bytes = refused_or_is_drained (first_fault (lines_of reading) bytes) (answer_within reading bytes) (answer_is_drained reading bytes)
+
+-- a source that reported its bytes and is at its end gave them all
+reported_whole : (old new : Option (List ℕ)) (run bytes : List ℕ) → Consumes old new run → IsAtEnd new → old ≡ Some bytes → bytes ≡ run
+reported_whole None new run bytes gave end reported = absurd cc
+reported_whole (Some left) None run bytes gave end reported = absurd gave
+reported_whole (Some left) (Some rest) run bytes gave end reported =
+    let same : bytes ≡ left = cc in
+    same ∙ gave ∙ ap (λ after. run ++ after) end ∙ append-nil run
+
+-- a source that gave more bytes than the limit reported as many
+reported_more : (old new : Option (List ℕ)) (gone bytes : List ℕ) → Consumes old new gone → length gone ≡ MOST_BYTES + 1 → old ≡ Some bytes → MOST_BYTES < length bytes
+reported_more None new gone bytes gave long reported = absurd cc
+reported_more (Some left) None gone bytes gave long reported = absurd gave
+reported_more (Some left) (Some rest) gone bytes gave long reported =
+    let same : bytes ≡ left = cc in
+    omega (arith, long, ap length (same ∙ gave), length-append gone rest)
+
+-- bytes within the limit are answered by the command
+pub outcome_of_few : (reading : Reading) (run : List ℕ) (answer : Answer) → length run ≤ MOST_BYTES → answer ≡ outcome_within reading run → answer ≡ outcome_of_input reading run
+unfolding outcome_of_input
+outcome_of_few reading run answer within is =
+    let short : nat_lt MOST_BYTES (length run) ≡ false = grind (arith, nat_tests) in
+    rw short is
+
+-- more bytes than the limit are too long
+pub outcome_of_many : (reading : Reading) (bytes : List ℕ) (answer : Answer) → MOST_BYTES < length bytes → answer ≡ noted too_long_note TooLong → answer ≡ outcome_of_input reading bytes
+unfolding outcome_of_input
+outcome_of_many reading bytes answer more is =
+    let over : nat_lt MOST_BYTES (length bytes) ≡ true = grind (arith, nat_tests) in
+    rw over is
+
+-- what a source reported is answered by its command, where it was read to its end, within the limit
+pub answered_within : (reading : Reading) (old new : Option (List ℕ)) (run bytes : List ℕ) (answer : Answer) → Consumes old new run → IsAtEnd new → length run ≤ MOST_BYTES
+    → answer ≡ outcome_within reading run → old ≡ Some bytes → answer ≡ outcome_of_input reading bytes
+answered_within reading old new run bytes answer gave end within is reported =
+    outcome_of_few reading run answer within is ∙ ap (outcome_of_input reading) (sym (reported_whole old new run bytes gave end reported))
+
+-- what a source reported is too long, where it gave more than the limit
+pub answered_too_long : (reading : Reading) (old new : Option (List ℕ)) (gone bytes : List ℕ) (answer : Answer) → Consumes old new gone → length gone ≡ MOST_BYTES + 1
+    → answer ≡ noted too_long_note TooLong → old ≡ Some bytes → answer ≡ outcome_of_input reading bytes
+answered_too_long reading old new gone bytes answer gave long is reported = outcome_of_many reading bytes answer (reported_more old new gone bytes gave long reported) is
+
+-- words of no command get the usage note, whatever the input
+pub outcome_of_no_command : (named : Option Command) (bytes : List ℕ) → named ≡ None → noted usage_note Usage ≡ outcome_of named bytes
+unfolding outcome_of
+outcome_of_no_command named bytes none = rw none refl
+
+-- words of a command that reads are answered by what it reads
+read_by : (command : Command) (reading : Reading) (bytes : List ℕ) → reading_in command ≡ Some reading → outcome_of_input reading bytes ≡ outcome_of (Some command) bytes
+unfolding outcome_of
+read_by commands.Sections reading bytes is = ap (λ (some : Option Reading). outcome_read some bytes) (sym is)
+read_by commands.Classes reading bytes is = ap (λ (some : Option Reading). outcome_read some bytes) (sym is)
+read_by commands.Show reading bytes is = ap (λ (some : Option Reading). outcome_read some bytes) (sym is)
+read_by commands.Rewrite reading bytes is = ap (λ (some : Option Reading). outcome_read some bytes) (sym is)
+read_by commands.Audit reading bytes is = ap (λ (some : Option Reading). outcome_read some bytes) (sym is)
+read_by commands.Recover reading bytes is = ap (λ (some : Option Reading). outcome_read some bytes) (sym is)
+read_by commands.Appdata reading bytes is = ap (λ (some : Option Reading). outcome_read some bytes) (sym is)
+read_by commands.Certify reading bytes is = ap (λ (some : Option Reading). outcome_read some bytes) (sym is)
+read_by commands.Accept reading bytes is = ap (λ (some : Option Reading). outcome_read some bytes) (sym is)
+read_by commands.Carry reading bytes is = ap (λ (some : Option Reading). outcome_read some bytes) (sym is)
+read_by (commands.Make n seed) reading bytes is = absurd cc
+read_by (commands.Drill n) reading bytes is = absurd cc
+
+pub outcome_of_reading : (named : Option Command) (command : Command) (reading : Reading) (bytes : List ℕ) → named ≡ Some command → reading_in command ≡ Some reading
+    → outcome_of_input reading bytes ≡ outcome_of named bytes
+outcome_of_reading named command reading bytes names is = read_by command reading bytes is ∙ ap (λ (one : Option Command). outcome_of one bytes) (sym names)
+
+-- and those of the command that makes a drawing, whatever the input
+pub outcome_of_making : (named : Option Command) (n seed : ℕ) (bytes : List ℕ) → named ≡ Some (commands.Make n seed) → made_answer n seed ≡ outcome_of named bytes
+unfolding outcome_of
+outcome_of_making named n seed bytes names = rw names refl
+
+pub outcome_of_drilling : (named : Option Command) (n : ℕ) (bytes : List ℕ) → named ≡ Some (commands.Drill n) → drill_answer n ≡ outcome_of named bytes
+unfolding outcome_of
+outcome_of_drilling named n bytes names = rw names refl
+
+-- what a request asks of any input that its command gets, it asks of the words that name the command
+pub answered_by : {E : Type 0} (named : Option Command) (command : Command) (reading : Reading) (result : Result Request E) (left : Option (List ℕ))
+    → named ≡ Some command → reading_in command ≡ Some reading
+    → IfOk result (λ request. (bytes : List ℕ) → left ≡ Some bytes → asked request ≡ outcome_of_input reading bytes)
+    → IfOk result (λ request. (bytes : List ℕ) → Feeds named left bytes → asked request ≡ outcome_of named bytes)
+answered_by {E} named command reading (Ok request) left names how answered = λ bytes feeds.
+    answered bytes (feeds (names_reading named command reading names how)) ∙ outcome_of_reading named command reading bytes names how
+answered_by {E} named command reading (Err stop) left names how answered = tt
+
+-- and so of the bytes that came
+pub came_by : {E : Type 0} (named : Option Command) (command : Command) (reading : Reading) (result : Result Request E) (left left' : Option (List ℕ))
+    → named ≡ Some command → reading_in command ≡ Some reading
+    → IfOk result (λ request. Came left left' (λ came. (length came ≤ MOST_BYTES + 1) × (asked request ≡ outcome_of_input reading came)))
+    → IfOk result (λ request. Came left left' (λ came. (length came ≤ MOST_BYTES + 1) × (asked request ≡ outcome_of named came)))
+came_by {E} named command reading (Ok request) left left' names how (came, gave, are, (few, is)) = (came, gave, are, (few, is ∙ outcome_of_reading named command reading came names how))
+came_by {E} named command reading (Err stop) left left' names how came = tt

@@ -1,0 +1,18 @@
+-- The exit status that reports how a run ended.
+pub mod Status
+-- The words of the command line, and which commands read the input.
+pub mod Words
+-- What an input is that a certificate and a drawing are.
+pub mod CertifiedInput
+-- The lines of the table of refusals that each command tries.
+pub mod Lines
+-- What the program answers to its words and its input.
+pub mod Outcome
+-- What the program is asked, and which answer that asks for.
+pub mod Requests
+-- What the commands that read answer, said of the header that the input begins with, the classes that it has, the drawing that it spells, and the certificate before one.
+pub mod OutcomeLaws
+-- Which answer is sent of what is made of one before it is sent.
+pub mod Replies
+-- What a run of the program does to its three devices.
+pub mod Run

@@ -1,0 +1,3 @@
+pub mod AuditVerdicts
+pub mod AppVerdicts
+pub mod CheckWords

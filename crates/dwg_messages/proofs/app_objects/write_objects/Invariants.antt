@@ -1,0 +1,12 @@
+use Rattle.std.proofs.Common.{take}
+use Rattle.std.specs.Prelude.{flat_map}
+use Rattle.dwg_object.specs.Objects.{value_of}
+use Rattle.dwg_text.specs.Writing.{WritesText}
+use Rattle.dwg_messages.specs.AppText.{apps_text}
+use Rattle.dwg_messages.proofs.app_objects.write_objects.Given as goal
+
+-- those so far are written
+abbrev pub invariant-along : goal.invariant-along
+invariant-along g l =
+    WritesText l.initial.page l.page (g.W.Sink.taken l.initial.sink) (g.W.Sink.taken l.sink) (g.W.Sink.faults l.initial.sink) (g.W.Sink.faults l.sink)
+    (flat_map (λ object. apps_text (value_of object)) (take l.index l.objects))

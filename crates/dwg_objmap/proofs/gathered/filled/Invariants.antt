@@ -1,7 +1,0 @@
-use Rattle.std.proofs.Common.{take}
-use Rattle.dwg_objmap.specs.Gathered.{HasHandles}
-use Rattle.dwg_objmap.proofs.gathered.filled.Given as goal
-
--- the set has the handles of the pairs so far
-abbrev pub invariant-along : goal.invariant-along
-invariant-along l = HasHandles l.handles (take l.pair-index l.pairs)

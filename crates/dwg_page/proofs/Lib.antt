@@ -1,4 +1,0 @@
-pub mod Telling
-pub mod Words
-pub mod Digits
-pub mod Elements

@@ -1,6 +1,0 @@
-use Rattle.dwg_paths.proofs.ChainWalks.{AreJudged}
-use Rattle.dwg_paths.proofs.chaining.judge_all.Given as goal
-
--- the homes so far are judged
-abbrev pub invariant-along : goal.invariant-along
-invariant-along l = AreJudged l.homes l.next l.ends l.seen.items l.verdicts.items l.home

@@ -1,5 +1,0 @@
-use Rattle.dwg_paths.proofs.ChainLaws.{chain_decided}
-use Rattle.dwg_paths.proofs.laws.chain_laws.Goals as goal
-
-pub returns : goal.returns
-returns g c = record { chain_decided = chain_decided }

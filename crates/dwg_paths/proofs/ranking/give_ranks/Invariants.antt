@@ -1,7 +1,0 @@
-use Rattle.std.proofs.Common.{◌-◌}
-use Rattle.dwg_paths.proofs.RankWalks.{IsGiven}
-use Rattle.dwg_paths.proofs.ranking.give_ranks.Given as goal
-
--- the places that are left lie on the way from the present place
-abbrev pub invariant-along : goal.invariant-along
-invariant-along l = IsGiven l.up l.goals l.initial.known.seen.items l.known.seen.items l.known.ranks.items l.at l.rank (l.end - l.counter)

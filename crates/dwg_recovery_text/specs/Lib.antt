@@ -1,2 +1,0 @@
--- The notes of a recovery.
-pub mod RecoveryNote

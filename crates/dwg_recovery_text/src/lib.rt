@@ -1,6 +1,0 @@
-//! The notes of a recovery.
-#![tactic(auto)]
-
-mod notes;
-
-pub use notes::recovery_note;

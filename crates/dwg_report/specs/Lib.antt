@@ -1,2 +1,0 @@
--- The text of an audit.
-pub mod AuditText

@@ -1,6 +1,0 @@
-//! The text of an audit.
-#![tactic(auto)]
-
-mod audit;
-
-pub use audit::audit_text;

@@ -1,6 +1,0 @@
-use Rattle.std.proofs.Common.{arith}
-use Rattle.dwg_base.proofs.ByteLists.{are_bytes}
-use Rattle.dwg_sections.proofs.header_writer.word_behind.Goals as goal
-
-pub returns-clause-small : goal.returns-clause-small
-returns-clause-small c = are_bytes c.args.front.now (λ i. omega (arith, c.type_inv.front i))
