@@ -46,7 +46,7 @@ int posix_memalign(void **block, size_t alignment, size_t size) {
 __attribute__((constructor)) static void begin(void) {
     const char *at = getenv("FAIL_AT");
     fail_at = at ? strtoul(at, NULL, 10) : 0;
-    /* The functions behind these are looked up before counting begins. */
+    /* The functions after these are looked up before counting begins. */
     free(malloc(1));
     free(realloc(NULL, 1));
     free(aligned_alloc(16, 16));

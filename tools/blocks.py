@@ -3,13 +3,13 @@
 from __future__ import annotations
 
 import enum
+import itertools
 import math
-from dataclasses import dataclass, field
-from functools import lru_cache
-from typing import Callable, Dict, Iterable, List, NamedTuple, Set, Tuple, Union
+from dataclasses import dataclass, field, replace
+from typing import Callable, Dict, Iterable, Iterator, List, NamedTuple, Set, Tuple, Union
 
-from plane import SAME, Affine, Box, Point
-from shapes import Figure, Frame
+from plane import SAME, Affine, Arc, Box, Outline, Point, Step, convex, summed
+from shapes import AT_ONCE, Figure, Frame, Moved
 
 # How much an insert counts by itself, beside the entities of its block: librsvg follows 500,000 of them.
 INSERT_COST = 2
@@ -63,13 +63,51 @@ class Drawn:
         """How much it draws."""
         return 1
 
-    def around(self, frame: Frame) -> Iterable[Point]:
-        """Points around it."""
+    def around(self, frame: Frame) -> Iterable[Step]:
+        """Points and arcs around it."""
         return self.figure.around(frame)
 
-    def reach(self, near: Point) -> float:
-        """How far it is at the most from a place."""
-        return max((math.hypot(x, y) for x, y in self.around(Frame(*near))), default=0.0)
+
+def distance(step: Step) -> float:
+    """How far a point is from the origin, or the farthest of those between whose coordinates an arc lies."""
+    return max(math.hypot(x, y) for x, y in (step.around() if isinstance(step, Arc) else (step,)))
+
+
+class Grid(NamedTuple):
+    """The columns and rows that an insert stands in, and how far one is from the next."""
+
+    columns: int = 1
+    rows: int = 1
+    across: Point = (0.0, 0.0)
+    up: Point = (0.0, 0.0)
+
+    def count(self) -> int:
+        """How often it stands."""
+        return self.columns * self.rows
+
+    def move(self, column: int, row: int) -> Point:
+        """How far a copy is from the first."""
+        return column * self.across[0] + row * self.up[0], column * self.across[1] + row * self.up[1]
+
+    def moves(self) -> Iterator[Point]:
+        """How far each copy is from the first."""
+        return (self.move(column, row) for row in range(self.rows) for column in range(self.columns))
+
+    def corners(self) -> List[Point]:
+        """How far the copies at its corners are, between which all others stand."""
+        return [self.move(column, row) for row in (0, self.rows - 1) for column in (0, self.columns - 1)]
+
+
+@dataclass
+class Copies:
+    """Figures that stand together in a grid; each copy is made when it is asked for."""
+
+    items: List[Drawn]
+    grid: Grid
+
+    def all(self) -> Iterator[Drawn]:
+        """Each figure of each copy."""
+        return (replace(item, figure=Moved(item.figure, move)) for move in self.grid.moves() for item in self.items)
 
 
 @dataclass
@@ -83,10 +121,16 @@ class Insert:
     off: bool
     # How many blocks in each other are drawn, its own counted.
     level: int = 0
-    seats: List[Affine] = field(default_factory=list)
+    # Where the first copy is put, and how far the others are from there.
+    seat: Affine = SAME
+    grid: Grid = Grid()
+
+    def seats(self) -> Iterator[Affine]:
+        """Where each copy is put, told when it is asked for."""
+        return (self.seat.moved_to((self.seat.e + x, self.seat.f + y)) for x, y in self.grid.moves())
 
 
-Item = Union[Drawn, Insert]
+Item = Union[Drawn, Copies, Insert]
 
 
 class Nesting:
@@ -121,7 +165,8 @@ class Nesting:
 class Run:
     """Parts of a block, one after the other, that take at most one colour and one width from an insert, since SVG hands on no more than one.
 
-    Coordinates count from a place near the block's entities. The reach is how far from there anything is, and 1 at least.
+    Coordinates count from a place near the block's entities. The reach is how far from there anything is, and 1 at least; but for arcs, which may be
+    half as far again.
     """
 
     near: Point
@@ -129,6 +174,9 @@ class Run:
     parts: List["Part"] = field(default_factory=list)
     cost: int = INSERT_COST
     reach: float = 1.0
+    # What its figures extend over, and outlines, each when it is asked for.
+    box: Box = field(default_factory=Box)
+    outlines: Dict[bool, Outline] = field(default_factory=dict)
 
     def add(self, part: "Part") -> bool:
         """Takes a part after the others, unless it needs another colour or width of the insert than these."""
@@ -138,8 +186,33 @@ class Run:
         self.takes = Pen(self.takes.colour or takes.colour, self.takes.width or takes.width)
         self.parts.append(part)
         self.cost += part.cost()
-        self.reach = max(self.reach, part.reach(self.near))
+        self.extend(part)
         return True
+
+    def extend(self, part: "Part") -> None:
+        """Takes in how far a part reaches, and what a figure extends over."""
+        frame = Frame(*self.near)
+        if isinstance(part, Used):
+            place, radius = part.disc(frame)
+            self.reach = max(self.reach, math.hypot(*place) + radius)
+            return
+        steps = iter(part.around(frame))
+        for first in steps:
+            some = [first, *itertools.islice(steps, AT_ONCE)]
+            self.box.add(some)
+            self.reach = max(self.reach, max(map(distance, some)))
+
+    def outline(self, is_flat: bool) -> Outline:
+        """Its outline, or that of what is seen of it where a map brings all to one line. It is made once, whatever the maps."""
+        if is_flat not in self.outlines:
+            box, frame = Box(), Frame(*self.near)
+            box.add(self.box.corners())
+            for part in self.parts:
+                if isinstance(part, Used):
+                    box.add(part.around(frame))
+            parts = (part for part in self.parts if isinstance(part, Used) or not is_flat or part.figure.is_seen_aslant())
+            self.outlines[is_flat] = Outline(corners_in(parts, frame, is_flat, box.size()), FINE * box.size())
+        return self.outlines[is_flat]
 
 
 @dataclass
@@ -155,20 +228,23 @@ class Used:
         return self.run.cost
 
     def around(self, frame: Frame) -> List[Point]:
-        """Points around it."""
+        """Points between whose least and greatest coordinates it lies."""
         seat = frame.seat(self.seat)
-        return [(x + seat.e, y + seat.f) for x, y in corners_of(self.run, seat.linear())]
+        return self.run.outline(seat.is_flat()).under(seat)
 
     def disc(self, frame: Frame) -> Tuple[Point, float]:
-        """A place, and how far it is at the most from there."""
+        """A place, and how far it reaches from there."""
         seat = frame.seat(self.seat)
         return (seat.e, seat.f), seat.stretch() * self.run.reach
 
-    def reach(self, near: Point) -> float:
-        """How far it is at the most from a place."""
-        place, radius = self.disc(Frame(*near))
-        return math.hypot(*place) + radius
+    def is_within(self, box: Box, frame: Frame) -> bool:
+        """Whether it is told by its reach alone that it lies in an upright rectangle."""
+        place, reach = self.disc(frame)
+        return box.holds(place, ARCS_BEYOND * reach)
 
+
+# How many times as far as their points arcs may be, which lie between the least and greatest coordinates of these.
+ARCS_BEYOND = math.sqrt(2)
 
 Part = Union[Drawn, Used]
 
@@ -183,10 +259,25 @@ def runs_of(parts: Iterable[Part], near: Point) -> List[Run]:
     return runs
 
 
-@lru_cache(maxsize=1 << 14)
-def corners_of(run: Run, linear: Affine) -> List[Point]:
-    """The corners of the upright rectangle around a run under a map; none where it is empty."""
-    box, frame = Box(), Frame(*run.near, SAME if linear == SAME else linear)
-    for part in run.parts:
-        box.add(part.around(frame))
-    return box.corners()
+# How far corners of a run stand out from its outline that aren't heeded, and so parts of arcs: of its size, and where it has very many of them.
+FINE, COARSE, MANY_CORNERS = 1e-5, 1e-3, 1 << 20
+
+
+def corners_in(parts: Iterable[Part], frame: Frame, is_flat: bool, size: float) -> Iterator[Point]:
+    """Points whose outline is that of parts. Runs under one map stand in as many places as they may; the outline of these tells them all."""
+    count = 0
+    places: Dict[Tuple[Run, Affine], List[Point]] = {}
+    for part in parts:
+        if isinstance(part, Used):
+            seat = frame.seat(part.seat)
+            places.setdefault((part.run, seat.linear()), []).append((seat.e, seat.f))
+            continue
+        for step in part.around(frame):
+            for point in step.along((FINE if count < MANY_CORNERS else COARSE) * size) if isinstance(step, Arc) else (step,):
+                count += 1
+                yield point
+    for (run, linear), along in places.items():
+        outline = run.outline(is_flat or linear.is_flat())
+        corners = outline.corners if count < MANY_CORNERS else outline.fewer
+        count += len(corners)
+        yield from summed(convex(along), convex(linear.at(x, y) for x, y in corners))

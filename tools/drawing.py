@@ -259,7 +259,7 @@ LOOK = 0.2
 
 @dataclass(frozen=True)
 class Patience:
-    """How many seconds a run may compute, and how many it may take in all, however busy the machine is.
+    """How many seconds a run may compute, with all that it begins, and how many it may take in all, however busy the machine is.
 
     Those in which the tool is stopped, with what it runs, don't count.
     """
@@ -297,6 +297,7 @@ def find_program(given: Optional[str] = None) -> str:
     """The program: the one given, else the one that DWG names, else `dwg` beside the folder of the tools, else the one on the PATH."""
     for path, origin in ((given, "--program"), (os.environ.get("DWG"), "DWG")):
         if path:
+            _hush_where_named([path])
             if not is_command(path):
                 raise ToolError(f"{one_line(path)}, which {origin} names, is no program", Exit.NO_PROGRAM)
             return os.path.abspath(path)
@@ -304,6 +305,7 @@ def find_program(given: Optional[str] = None) -> str:
     found = beside if is_command(beside) else shutil.which("dwg")
     if not found:
         raise ToolError("the program dwg isn't found; name it with --program PATH", Exit.NO_PROGRAM)
+    _hush_where_named([found])
     return found
 
 
@@ -330,9 +332,56 @@ class NotBuilt(ToolError):
 _running: Set["subprocess.Popen[bytes]"] = set()
 
 
+@dataclass(frozen=True)
+class _Process:
+    """A process: its number, its session, and how many seconds it has computed, with what it began and has seen end."""
+
+    number: int
+    session: int
+    computed: float
+
+
+def _processes() -> Iterator[_Process]:
+    """The processes that there are; none where the system doesn't tell."""
+    with contextlib.suppress(OSError):
+        for name in filter(str.isdigit, os.listdir("/proc")):
+            with contextlib.suppress(OSError, ValueError, IndexError):
+                yield _process(int(name))
+
+
+def _process(number: int) -> _Process:
+    with open(f"/proc/{number}/stat", "rb") as told:
+        # (its second field is a name, which may have anything)
+        fields = told.read().rpartition(b")")[2].split()
+    return _Process(number, int(fields[3]), sum(map(int, fields[11:15])) / os.sysconf("SC_CLK_TCK"))
+
+
+def _signal(runs: Iterable["subprocess.Popen[bytes]"], number: int) -> None:
+    """Sends a signal to runs and all that they have begun, each of which is a session. One of which the end is known is passed: its number may be
+    another's."""
+    sessions = {ran.pid for ran in runs if ran.returncode is None}
+    for session in sessions:
+        with contextlib.suppress(OSError):
+            os.killpg(session, number)
+    # Some, as `timeout`, make themselves a group of their own in the session.
+    for process in _processes() if sessions else ():
+        if process.session in sessions:
+            with contextlib.suppress(OSError):
+                os.kill(process.number, number)
+
+
 def _end_running() -> None:
-    for ran in list(_running):
-        ran.kill()
+    _signal(list(_running), signal.SIGKILL)
+
+
+def _pause(number: int, _: object) -> None:
+    """Stops as a terminal asks for, with all that runs, which the terminal doesn't stop; and goes on with it."""
+    _signal(list(_running), signal.SIGSTOP)
+    signal.signal(number, signal.SIG_DFL)
+    # (what no shell would wake up again isn't stopped)
+    os.kill(os.getpid(), number)
+    signal.signal(number, _pause)
+    _signal(list(_running), signal.SIGCONT)
 
 
 class Program:
@@ -408,7 +457,7 @@ class Program:
                 try:
                     yield ran
                 except BaseException:
-                    ran.kill()
+                    _signal([ran], signal.SIGKILL)
                     raise
         finally:
             with self._lock:
@@ -422,9 +471,10 @@ class Program:
                 if self._stopped:
                     raise ProgramFailed("stopped")
                 try:
-                    # What has begun and isn't among those that run, no signal's end of the tool would end.
+                    # What has begun and isn't among those that run, no signal's end of the tool would end. A session of its own has all that a
+                    # wrapper begins.
                     with uninterrupted():
-                        ran = subprocess.Popen([self.path, *words], stdin=stdin, stdout=stdout, stderr=stderr)
+                        ran = subprocess.Popen([self.path, *words], stdin=stdin, stdout=stdout, stderr=stderr, start_new_session=True)
                         _running.add(ran)
                     return ran
                 except OSError as fault:
@@ -441,29 +491,28 @@ class Program:
         """Ends all runs, and lets none begin."""
         with self._lock:
             self._stopped = True
-            for ran in _running:
-                ran.kill()
+            _end_running()
 
 
-def _computed_by(process: int) -> float:
-    """How many seconds a process has computed; none where the system doesn't tell."""
-    with contextlib.suppress(OSError, ValueError, IndexError), open(f"/proc/{process}/stat", "rb") as told:
-        # (its second field is a name, which may have anything)
-        fields = told.read().rpartition(b")")[2].split()
-        return (int(fields[11]) + int(fields[12])) / os.sysconf("SC_CLK_TCK")
-    return 0.0
+def _computed_by(session: int) -> float:
+    """How many seconds the processes of a session have computed; none where the system doesn't tell."""
+    return sum(process.computed for process in _processes() if process.session == session)
 
 
 def _awaited(ran: "subprocess.Popen[bytes]", command: str, given: Optional[bytes], patience: Patience) -> Tuple[Optional[bytes], Optional[bytes]]:
     """The output and the notes of a run, which has ended. A look that comes late counts as one that doesn't: the tool was stopped meanwhile."""
-    looks = 0
+    looks, due = 0, 0.0
     while True:
         try:
             return ran.communicate(given, LOOK)
         except subprocess.TimeoutExpired:
             looks, given = looks + 1, None
-        if _computed_by(ran.pid) >= patience.computing:
-            raise TookTooLong(f"`{command}` takes more than {patience.computing:g} seconds")
+        # All processes are looked at for this, and so no sooner than all processors could have computed what is left.
+        if time.monotonic() >= due:
+            left = patience.computing - _computed_by(ran.pid)
+            if left <= 0:
+                raise TookTooLong(f"`{command}` takes more than {patience.computing:g} seconds")
+            due = time.monotonic() + left / (os.cpu_count() or 1)
         if looks * LOOK >= patience.taking:
             raise ProgramFailed(f"`{command}` has no answer in {patience.taking:g} seconds")
 
@@ -771,11 +820,55 @@ def input_name(path: Optional[str]) -> str:
     return "standard input" if path is None or is_standard(path) else one_line(path)
 
 
+def output_name(path: Optional[str]) -> str:
+    """What an output is called in messages."""
+    return "standard output" if path is None or is_standard(path) else one_line(path)
+
+
+class TemporaryFault(OSError):
+    """A temporary file can't be made or written, which says nothing of what is read."""
+
+
+def temporary_name() -> str:
+    """What a temporary file is called in messages."""
+    # (their folder is known once there was one)
+    return f"the temporary file in {one_line(tempfile.tempdir)}" if tempfile.tempdir else "a temporary file"
+
+
+@contextlib.contextmanager
+def of_temporary() -> Iterator[None]:
+    """Has each fault of the system be one of a temporary file."""
+    try:
+        yield
+    except OSError as fault:
+        raise TemporaryFault(fault.errno, fault.strerror, temporary_name()) from None
+
+
+@contextlib.contextmanager
+def temporary_told() -> Iterator[None]:
+    """Tells a fault of a temporary file as a failure of the tool itself."""
+    try:
+        yield
+    except TemporaryFault as fault:
+        raise ToolError(f"{fault.filename}: {fault.strerror}", Exit.FAILURE) from None
+
+
+def temporary_full() -> ToolError:
+    """What is told where the program couldn't write all into a temporary file, as its status says."""
+    return ToolError(f"{temporary_name()} can't be written", Exit.FAILURE)
+
+
+def temporary_file() -> IO[bytes]:
+    """A file without a name; ToolError where there can be none."""
+    with temporary_told(), of_temporary():
+        return tempfile.TemporaryFile()
+
+
 @contextlib.contextmanager
 def opened(path: Optional[str]) -> Iterator[IO[bytes]]:
     """An input as it comes, which isn't a terminal. ToolError with status 4 where it can't be read, or is changed while it is."""
     try:
-        with io.BufferedReader(Patient(0, closefd=False) if path is None or is_standard(path) else Patient(path)) as file:
+        with temporary_told(), io.BufferedReader(Patient(0, closefd=False) if path is None or is_standard(path) else Patient(path)) as file:
             if file.isatty():
                 raise ToolError(f"{input_name(path)} is a terminal, and no drawing comes from there; name a file", Exit.USAGE)
             before = state_of(file)
@@ -793,18 +886,20 @@ def open_input(path: Optional[str]) -> IO[bytes]:
 
 def kept(file: IO[bytes], begin: bytes = b"") -> IO[bytes]:
     """An input, of which the begin is read, as a file that can be read again and again: a regular file, or what a pipe gives, in a file without
-    a name. Of a pipe no more is kept than one byte more than the program takes."""
+    a name, or else TemporaryFault. Of a pipe no more is kept than one byte more than the program takes."""
     if file.fileno() and stat.S_ISREG(os.fstat(file.fileno()).st_mode):
         os.lseek(file.fileno(), 0, os.SEEK_SET)
         return os.fdopen(os.dup(file.fileno()), "rb")
-    found = tempfile.TemporaryFile()
+    with of_temporary():
+        found = tempfile.TemporaryFile()
     left, piece = LIMIT + 1, begin or file.read(1 << 20)
     while piece:
-        found.write(piece)
+        with of_temporary():
+            found.write(piece)
         left -= len(piece)
         piece = file.read(min(left, 1 << 20))
-    found.flush()
-    found.seek(0)
+    with of_temporary():
+        found.seek(0)
     return found
 
 
@@ -871,12 +966,30 @@ def _hush() -> None:
     os.close(nowhere)
 
 
+# What the drawings of all versions begin with, down to the first ones.
+_ANY_VERSION = re.compile(rb"AC[0-9][0-9.]")
+
+
+def _hush_where_drawing() -> None:
+    """Says nothing at all where standard error is a drawing, whoever names that: what is said would stand after its end.
+
+    The descriptor stays, by which an input that it is too is refused.
+    """
+    own = _stream_file(2)
+    if own is None or not own.st_size:
+        return
+    # (it is open to be written, and another descriptor reads it)
+    with contextlib.suppress(OSError), open("/dev/fd/2", "rb") as file:
+        if is_one_file(own, os.fstat(file.fileno())) and _ANY_VERSION.match(file.read(MOST_HEADER)):
+            sys.stderr = open(os.devnull, "w", encoding="utf-8", errors="backslashreplace")
+
+
 def _hush_where_named(words: Sequence[str]) -> None:
-    """Says nothing more where standard error is a file that the words may name, or a drawing in a folder that they name."""
+    """Says nothing more where standard error is a file that the words or DWG may name, or a drawing in a folder that they name."""
     own, path = _stream_file(2), os.path.realpath("/dev/fd/2")
     if own is None:
         return
-    names = [as_file(name) for word in words for name in _names_in(word)]
+    names = [as_file(name) for word in (*words, os.environ.get("DWG", "")) for name in _names_in(word)]
     folders = (os.path.join(os.path.realpath(name), "") for name in names if os.path.isdir(name))
     is_inside = path.lower().endswith(".dwg") and path.startswith(tuple(folders))
     if is_inside or any(is_one_file(own, _status_at(name, 0)) for name in (None, *names)):
@@ -895,8 +1008,7 @@ def refuse_output(path: Optional[str], force: bool, sources: Sequence[Optional[s
     """Refuses an output before any work: one that is an input by any name, or what a standard stream goes to, one that is there, and what `force`
     doesn't replace."""
     refuse_streams(sources, [] if path is None or is_standard(path) else [path])
-    name = "standard output" if path is None or is_standard(path) else one_line(path)
-    there = _status_at(path, 1)
+    name, there = output_name(path), _status_at(path, 1)
     if any(is_one_file(there, _status_at(source, 0)) for source in sources):
         raise ToolError(f"{name} is the input itself; name another output", Exit.EXISTS)
     if path is None or is_standard(path):
@@ -930,11 +1042,11 @@ def output(path: Optional[str], force: bool) -> Iterator[IO[bytes]]:
             whole.finish()
             whole.place()
     except FileExistsError:
-        raise ToolError(f"{one_line(str(path))} is there already", Exit.EXISTS) from None
+        raise ToolError(f"{output_name(path)} is there already", Exit.EXISTS) from None
     except BrokenPipeError:
         raise
     except OSError as fault:
-        raise ToolError(f"the output can't be written: {fault.strerror}", Status.WRITE_FAULT) from None
+        raise ToolError(f"{output_name(path)} can't be written: {fault.strerror}", Status.WRITE_FAULT) from None
 
 
 # ---------------------------------------------------------------------------------------------------------------------
@@ -1481,17 +1593,23 @@ class Drawing:
     @contextlib.contextmanager
     def show(self, lists: Lists = Lists.TEXT) -> Iterator[Tuple[Prefix, Iterator[Object]]]:
         """What the text of `show` says before the objects, and these, one by one; ToolError with the program's status where it refuses."""
-        try:
-            os.lseek(self.file.fileno(), 0, os.SEEK_SET)
-            yield from self._shown(lists)
-        except ToolError as fault:
-            message = str(fault)
-            raise ToolError(f"{self.name}: {message[5:] if message.startswith('dwg: ') else message}", fault.status) from None
+        with temporary_told():
+            try:
+                os.lseek(self.file.fileno(), 0, os.SEEK_SET)
+                yield from self._shown(lists)
+            except ToolError as fault:
+                if fault.status == Status.WRITE_FAULT:
+                    # (the program's output is a pipe, so that it is its notes that have no place)
+                    raise temporary_full() from None
+                message = str(fault)
+                raise ToolError(f"{self.name}: {message[5:] if message.startswith('dwg: ') else message}", fault.status) from None
 
     def _shown(self, lists: Lists) -> Iterator[Tuple[Prefix, Iterator[Object]]]:
         """Yields once, and reads on after that to the end, so that the program's status is told before any fault of the text."""
         bad: Optional[BadText] = None
-        with self.program.lines(["show"], self.file) as lines:
+        with contextlib.ExitStack() as begun:
+            with of_temporary():
+                lines = begun.enter_context(self.program.lines(["show"], self.file))
             first = next(lines, b"")
             taken = itertools.chain([first], lines)
             if first:
@@ -1528,7 +1646,7 @@ ONE_DRAWING: List[Tuple[int, str]] = [
     (Exit.USAGE, "the words aren't understood, or name what isn't there"),
     (Exit.TOO_MUCH_TEXT, "an object has more than 268,435,456 bytes of text by `dwg show`, or all entities of blocks have four times as much"),
     (Exit.NO_PROGRAM, "the program dwg isn't found or gives no answer"),
-    (Exit.FAILURE, "failure of the tool itself"),
+    (Exit.FAILURE, "failure of the tool itself, as where a temporary file can't be written"),
     (Exit.EXISTS, "the output is the input, is there already, or is where standard output or error goes; or standard error is the input, and nothing is said"),
     (Exit.INTERRUPTED, "interrupted"),
     (Exit.CLOSED_PIPE, "nobody reads the output any more"),
@@ -1622,7 +1740,7 @@ def await_streams() -> None:
         stream.detach()
 
 
-_ENDING = (signal.SIGINT, signal.SIGTERM, signal.SIGHUP)
+_ENDING = (signal.SIGINT, signal.SIGTERM, signal.SIGHUP, signal.SIGQUIT)
 
 # Whether this process was interrupted.
 _interrupted: List[bool] = []
@@ -1659,22 +1777,22 @@ def _end(number: int, _: object) -> None:
 
 
 def _take_signals() -> None:
-    """Ends the tool by each signal that isn't ignored already, and lets in an interrupt that waited while Python began."""
-    for number in _ENDING:
+    """Ends or stops the tool by each signal that isn't ignored already, and lets in an interrupt that waited while Python began."""
+    for number in (*_ENDING, signal.SIGTSTP):
         if signal.getsignal(number) != signal.SIG_IGN:
-            signal.signal(number, _end)
+            signal.signal(number, _end if number in _ENDING else _pause)
     signal.pthread_sigmask(signal.SIG_UNBLOCK, {signal.SIGINT})
 
 
 def _await_interrupt() -> None:
-    """Waits a moment for the interrupt that ended the program: Ctrl-C reaches it too, and perhaps before the tool."""
+    """Waits a moment for the interrupt that ended the program: who sends it to both may reach the program before the tool."""
     for _ in range(50):
         if _interrupted:
             raise KeyboardInterrupt
         time.sleep(0.01)
 
 
-def _answered(main: Callable[[], int]) -> int:
+def answered(main: Callable[[], int]) -> int:
     """The status of a tool, whose output is all written; the words that ask for help end it by themselves."""
     try:
         status = int(main())
@@ -1689,7 +1807,7 @@ def _ran(main: Callable[[], int]) -> int:
     status: int = Exit.FAILURE
     try:
         _take_signals()
-        return _answered(main)
+        return answered(main)
     except ToolError as fault:
         tell(str(fault))
         status = fault.status
@@ -1712,6 +1830,7 @@ def run_tool(main: Callable[[], int]) -> NoReturn:
     """Runs a tool and ends with its status, and never by a traceback. Its scripts begin with interrupts blocked, which this lets in."""
     open_missing_streams()
     await_streams()
+    _hush_where_drawing()
     try:
         status = _ran(main)
         _ignore_signals()

@@ -9,7 +9,7 @@ from typing import Iterator, List
 from xml.sax.saxutils import escape
 
 from drawing import DIRECTIONS, decoded
-from plane import Affine, Point, plain, seen, turned
+from plane import Affine, Point, Step, plain, seen, turned
 from shapes import FILLED, Context, Fields, Figure, Frame, Undrawable, checked_map
 
 # All texts are written in one size, to which a map gives theirs, since programs that show SVG lay out very small and very large letters badly;
@@ -100,7 +100,7 @@ class Writing(Figure):
         fitted = f' textLength="{plain(self.wide)}" lengthAdjust="spacingAndGlyphs"' if self.is_fitted else ""
         return f"<text{upright.attribute()}{anchored}{fitted}{FILLED}>{said(self.content)}</text>"
 
-    def around(self, frame: Frame) -> List[Point]:
+    def around(self, frame: Frame) -> List[Step]:
         seat = frame.seat(self.letters)
         if seat.is_flat():
             return []
@@ -108,6 +108,9 @@ class Writing(Figure):
         begin = {"start": 0.0, "middle": -0.5, "end": -1.0}[self.anchor] * length
         corners = [(begin, -DEPTH), (begin + length, -DEPTH), (begin, CAPITAL), (begin + length, CAPITAL)]
         return [seat.at(*corner) for corner in corners]
+
+    def is_seen_aslant(self) -> bool:
+        return False
 
 
 BACKWARD, UPSIDE_DOWN = 2, 4

@@ -2,8 +2,11 @@
 
 from __future__ import annotations
 
+import itertools
 import math
-from typing import Iterable, List, NamedTuple, Optional, Tuple
+from bisect import bisect_left
+from functools import cached_property
+from typing import Iterable, Iterator, List, NamedTuple, Optional, Tuple, Union
 
 Point = Tuple[float, float]
 
@@ -108,6 +111,10 @@ def seen(normal: Tuple[float, ...], elevation: float = 0.0) -> Affine:
 FLAT = 1e-5
 
 
+# How many points tell a turn at the most where it is told by points.
+MOST_ALONG = 512
+
+
 class Arc(NamedTuple):
     """A part of an ellipse: at each angle it is at the centre, the cosine times the first axis and the sine times the second.
 
@@ -146,6 +153,13 @@ class Arc(NamedTuple):
         for first, second in zip(self.first, self.second):
             angles += self.inner(math.atan2(second, first))
         return [self.at(angle) for angle in angles]
+
+    def along(self, height: float) -> Iterator[Point]:
+        """Points on it, between which it stands out by no more than a height from the lines that join them."""
+        size = math.hypot(*self.first, *self.second)
+        step = min(TURN / 4, math.sqrt(8 * height / size)) if size else TURN
+        count = math.ceil(min(abs(self.sweep) / max(step, TURN / MOST_ALONG), MOST_ALONG)) or 1
+        return (self.at(self.begin + self.sweep * part / count) for part in range(count + 1))
 
     def radius(self) -> Optional[float]:
         """The radius of a whole circle, and None of any other arc."""
@@ -207,6 +221,10 @@ class Endless(NamedTuple):
         return ((x + u * begin, y + v * begin), (x + u * end, y + v * end)) if begin <= end else None
 
 
+# What ways are made of: the points that they lead to, and the arcs that they lead along.
+Step = Union[Point, Arc]
+
+
 class Box:
     """The upright rectangle around what is drawn."""
 
@@ -223,11 +241,12 @@ class Box:
     def sides(self, sides: Tuple[float, float, float, float]) -> None:
         self.left, self.right, self.low, self.high = sides
 
-    def add(self, points: Iterable[Point]) -> None:
-        """Takes points in."""
-        for x, y in points:
-            self.left, self.right = min(self.left, x), max(self.right, x)
-            self.low, self.high = min(self.low, y), max(self.high, y)
+    def add(self, steps: Iterable[Step]) -> None:
+        """Takes points and arcs in."""
+        for step in steps:
+            for x, y in step.around() if isinstance(step, Arc) else (step,):
+                self.left, self.right = min(self.left, x), max(self.right, x)
+                self.low, self.high = min(self.low, y), max(self.high, y)
 
     def holds(self, place: Point, reach: float) -> bool:
         """Whether all is inside that is as close to a place."""
@@ -237,3 +256,117 @@ class Box:
     def corners(self) -> List[Point]:
         """The lower left corner and the upper right one; none where nothing is drawn."""
         return [(self.left, self.low), (self.right, self.high)] if self.left <= self.right else []
+
+    def size(self) -> float:
+        """How far two of its points are apart at the most."""
+        return math.hypot(self.right - self.left, self.high - self.low) if self.left <= self.right else 0.0
+
+
+# --- Outlines --------------------------------------------------------------------------------------------------------
+
+
+def convex(points: Iterable[Point]) -> List[Point]:
+    """The corners of the convex outline of points, to the left around them, from the lowest one at the left side on."""
+    ordered = sorted(set(points))
+    if len(ordered) < 3:
+        return ordered
+    return [*half_around(ordered)[:-1], *half_around(ordered[::-1])[:-1]]
+
+
+def half_around(ordered: List[Point]) -> List[Point]:
+    """The corners of the convex outline from the first point to the last, where all others lie between these."""
+    found: List[Point] = []
+    for x, y in ordered:
+        while len(found) > 1:
+            (a, b), (c, d) = found[-2:]
+            if (c - a) * (y - b) > (d - b) * (x - a):
+                break
+            found.pop()
+        found.append((x, y))
+    return found
+
+
+def without_low(corners: List[Point], height: float) -> List[Point]:
+    """The corners of a convex outline without those that stand out by no more than a height from the line between others.
+
+    Corners that are left out stand in the triangle over that line, whose two other sides go along the first and the last edge that it spares.
+    """
+    if len(corners) < 3:
+        return corners
+    kept, first = [corners[0]], edge(corners[0], corners[1])
+    for corner, after in zip(corners[1:], [*corners[2:], corners[0]]):
+        last, across = edge(corner, after), math.dist(kept[-1], after)
+        cosine, sine = first[0] * last[0] + first[1] * last[1], first[0] * last[1] - first[1] * last[0]
+        if cosine <= 0 or across * sine > 2 * height * (cosine + math.hypot(*first) * math.hypot(*last)):
+            kept.append(corner)
+            first = last
+    return kept
+
+
+def edge(begin: Point, end: Point) -> Point:
+    """The direction from one point to another, as long as that is far."""
+    return end[0] - begin[0], end[1] - begin[1]
+
+
+def summed(one: List[Point], other: List[Point]) -> List[Point]:
+    """The convex outline of all sums of a point in each of two convex outlines: their edges, in the order of their directions."""
+    if min(len(one), len(other)) < 2:
+        return [(x + u, y + v) for x, y in one for u, v in other]
+    found, (first, second) = [], ([*angles_of(one), math.inf], [*angles_of(other), math.inf])
+    at = beside = 0
+    while at < len(one) or beside < len(other):
+        (x, y), (u, v) = one[at % len(one)], other[beside % len(other)]
+        found.append((x + u, y + v))
+        is_first = first[at] <= second[beside]
+        at, beside = at + is_first, beside + (not is_first)
+    return found
+
+
+def angles_of(corners: List[Point]) -> List[float]:
+    """The angles of the edges of a convex outline, which never become less along it."""
+    found: List[float] = []
+    for begin, end in zip(corners, [*corners[1:], *corners[:1]]):
+        x, y = edge(begin, end)
+        angle = math.atan2(y, x)
+        # (an edge turns by half a turn at the most, and angles are rounded)
+        found.append(angle + TURN if found and angle < found[-1] - math.pi / 2 else angle)
+    return found
+
+
+# Of how many points an outline is taken at once, from how many corners on those that hardly stand out are left out.
+POINTS_AT_ONCE, FEW_CORNERS = 1 << 12, 16
+
+
+class Outline:
+    """The convex outline of points, taken once: by it is known what they extend over under any map, however many they are.
+
+    Corners that stand out by no more than a height are left out, so that the outline of a circle has some hundreds.
+    """
+
+    def __init__(self, points: Iterable[Point], height: float) -> None:
+        corners: List[Point] = []
+        rest = iter(points)
+        for first in rest:
+            corners = convex(itertools.chain(corners, [first], itertools.islice(rest, max(POINTS_AT_ONCE, len(corners)))))
+        self.corners = corners if len(corners) <= FEW_CORNERS else without_low(corners, height)
+        self._height, self._angles = height, angles_of(self.corners)
+
+    @cached_property
+    def fewer(self) -> List[Point]:
+        """Fewer corners, of which those are left out that stand out by a hundred times as much."""
+        return without_low(self.corners, 100 * self._height)
+
+    def farthest(self, x: float, y: float) -> float:
+        """How far it extends along a direction, times the length of that."""
+        first = self._angles[0]
+        # (the corner where the edges turn to the left beyond the right angle to the direction, and those beside it, as angles are rounded)
+        at = bisect_left(self._angles, first + (math.atan2(x, -y) - first) % TURN)
+        beside = (self.corners[(at + aside) % len(self.corners)] for aside in (-1, 0, 1))
+        return max(u * x + v * y for u, v in beside)
+
+    def under(self, seat: Affine) -> List[Point]:
+        """The corners of the upright rectangle around it under a map; none where there are no points."""
+        if not self.corners:
+            return []
+        (a, b, c, d, x, y), far = seat, self.farthest
+        return [(x - far(-a, -c), y - far(-b, -d)), (x + far(a, c), y + far(b, d))]

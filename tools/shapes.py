@@ -9,7 +9,7 @@ from dataclasses import dataclass
 from typing import Dict, Iterable, Iterator, List, NamedTuple, Optional, Sequence, Set, Tuple, Union
 
 from drawing import Object, Reference, Text, Value, Words, read_field
-from plane import SAME, TURN, Affine, Arc, Endless, Point, circular, pair, plain, seen, unit
+from plane import SAME, TURN, Affine, Arc, Endless, Point, Step, circular, pair, plain, seen, unit
 
 FARTHEST = 1e15
 
@@ -132,9 +132,13 @@ class Figure:
         """The element in pieces, so that a long one is never held as a whole."""
         yield self.element(frame)
 
-    def around(self, frame: Frame) -> Iterable[Point]:
-        """Points between whose least and greatest coordinates it lies; none where nothing can be seen of it."""
+    def around(self, frame: Frame) -> Iterable[Step]:
+        """Points and arcs, in whose convex outline it lies; none where nothing can be seen of it."""
         raise NotImplementedError
+
+    def is_seen_aslant(self) -> bool:
+        """Whether something of it is seen where a map brings all to one line."""
+        return True
 
 
 # What stands in an element that has the colour as its inside and no line.
@@ -150,7 +154,7 @@ class Way:
     """Points and arcs, one after the other."""
 
     begin: Point
-    steps: Iterable[Union[Point, Arc]]
+    steps: Iterable[Step]
     closed: bool = False
 
     def said(self, frame: Frame) -> Iterator[str]:
@@ -164,18 +168,14 @@ class Way:
             yield "".join(said)
         yield "z" if self.closed else ""
 
-    def around(self, frame: Frame) -> Iterator[Point]:
-        """Points around it."""
-        return itertools.chain([frame.put(self.begin)], around(self.steps, frame))
+    def around(self, frame: Frame) -> Iterator[Step]:
+        """Its points and arcs where they come to lie."""
+        return itertools.chain([frame.put(self.begin)], put(self.steps, frame))
 
 
-def around(steps: Iterable[Union[Point, Arc]], frame: Frame) -> Iterator[Point]:
-    """Points around points and arcs."""
-    for step in steps:
-        if isinstance(step, Arc):
-            yield from frame.put_arc(step).around()
-        else:
-            yield frame.put(step)
+def put(steps: Iterable[Step], frame: Frame) -> Iterator[Step]:
+    """Where points and arcs come to lie."""
+    return (frame.put_arc(step) if isinstance(step, Arc) else frame.put(step) for step in steps)
 
 
 @dataclass
@@ -198,7 +198,7 @@ class Trail(Figure):
             yield from way.said(frame)
         yield f'"{FILLED if self.filled else ""}/>'
 
-    def around(self, frame: Frame) -> Iterable[Point]:
+    def around(self, frame: Frame) -> Iterable[Step]:
         return itertools.chain.from_iterable(way.around(frame) for way in self.ways)
 
 
@@ -220,8 +220,8 @@ class Curve(Figure):
             return f'<circle cx="{plain(arc.centre[0])}" cy="{plain(arc.centre[1])}" r="{plain(radius)}"/>'
         return f'<path d="M{pair(arc.at(arc.begin))}{arc.said()}"/>'
 
-    def around(self, frame: Frame) -> List[Point]:
-        return frame.put_arc(self.arc).around()
+    def around(self, frame: Frame) -> List[Step]:
+        return [frame.put_arc(self.arc)]
 
 
 @dataclass
@@ -233,7 +233,7 @@ class Dot(Figure):
     def element(self, frame: Frame) -> str:
         return f'<path class="dot" d="M{pair(frame.put(self.place))}h0"/>'
 
-    def around(self, frame: Frame) -> List[Point]:
+    def around(self, frame: Frame) -> List[Step]:
         return [frame.put(self.place)]
 
 
@@ -244,7 +244,7 @@ class Band(Figure):
     way: Way
     plane: Affine
     width: float
-    edges: Iterable[Union[Point, Arc]]
+    edges: Iterable[Step]
 
     def seat(self, frame: Frame) -> Affine:
         """Where a frame puts the plane, told from the begin of the way."""
@@ -263,8 +263,11 @@ class Band(Figure):
         yield from path
         yield '"/>'
 
-    def around(self, frame: Frame) -> Iterable[Point]:
-        return () if self.seat(frame).is_flat() else around(self.edges, frame)
+    def around(self, frame: Frame) -> Iterable[Step]:
+        return () if self.seat(frame).is_flat() else put(self.edges, frame)
+
+    def is_seen_aslant(self) -> bool:
+        return False
 
 
 @dataclass
@@ -284,8 +287,11 @@ class Moved(Figure):
     def pieces(self, frame: Frame) -> Iterator[str]:
         return self.figure.pieces(self.within(frame))
 
-    def around(self, frame: Frame) -> Iterable[Point]:
+    def around(self, frame: Frame) -> Iterable[Step]:
         return self.figure.around(self.within(frame))
+
+    def is_seen_aslant(self) -> bool:
+        return self.figure.is_seen_aslant()
 
 
 @dataclass
@@ -298,7 +304,7 @@ class Straight(Figure):
         """The line in a frame without a map."""
         return self.line._replace(place=frame.put(self.line.place))
 
-    def around(self, frame: Frame) -> List[Point]:
+    def around(self, frame: Frame) -> List[Step]:
         return [frame.put(self.line.place)]
 
 
@@ -460,7 +466,7 @@ class Segment:
         parts = [at / count for at in range(count + 1)]
         return [self.corner(part, 1) for part in parts] + [self.corner(part, -1) for part in reversed(parts)]
 
-    def edges(self, half: float) -> List[Union[Point, Arc]]:
+    def edges(self, half: float) -> List[Step]:
         """The edges of a segment of one width."""
         if self.arc:
             radius = self.arc.first[0]
@@ -499,7 +505,7 @@ class Segments:
     def __iter__(self) -> Iterator[Segment]:
         return map(self.segment, range(self.count))
 
-    def led(self) -> Iterator[Union[Point, Arc]]:
+    def led(self) -> Iterator[Step]:
         """Where each segment leads: to its end, or along its arc."""
         if self.bulges:
             return (one.arc or one.end for one in self)
@@ -523,7 +529,7 @@ class Steps:
     segments: Segments
     plane: Optional[Affine]
 
-    def __iter__(self) -> Iterator[Union[Point, Arc]]:
+    def __iter__(self) -> Iterator[Step]:
         return self.segments.led() if self.plane is None else seen_steps(self.segments.led(), self.plane)
 
 
@@ -535,10 +541,10 @@ class Edges:
     plane: Affine
     half: float
 
-    def __iter__(self) -> Iterator[Union[Point, Arc]]:
+    def __iter__(self) -> Iterator[Step]:
         return seen_steps(self.flat(), self.plane)
 
-    def flat(self) -> Iterator[Union[Point, Arc]]:
+    def flat(self) -> Iterator[Step]:
         """The same in their plane."""
         yield self.segments.corner(0)
         first: Optional[Segment] = None
@@ -571,7 +577,7 @@ def way_of(segments: Segments, plane: Optional[Affine]) -> Way:
     return Way(begin if plane is None else plane.at(*begin), steps if segments.count > MANY else list(steps), segments.closed)
 
 
-def seen_steps(steps: Iterable[Union[Point, Arc]], plane: Affine) -> Iterator[Union[Point, Arc]]:
+def seen_steps(steps: Iterable[Step], plane: Affine) -> Iterator[Step]:
     """Points and arcs of a plane as they are seen."""
     return (step.under(plane) if isinstance(step, Arc) else plane.at(*step) for step in steps)
 
@@ -610,7 +616,7 @@ class Tapered(Figure):
     def element(self, frame: Frame) -> str:
         return self.outline().element(frame)
 
-    def around(self, frame: Frame) -> Iterable[Point]:
+    def around(self, frame: Frame) -> Iterable[Step]:
         return self.outline().around(frame)
 
 

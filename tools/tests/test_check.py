@@ -707,10 +707,11 @@ class Check(Base):
     @unittest.skipUnless(os.path.exists("/dev/full"), "a full disk, as there is no /dev/full")
     def test_a_full_disk(self) -> None:
         self.some(["a.dwg"])
-        with open("/dev/full", "wb") as full:
-            words = [str(TOOLS / "dwg-check"), "--program", made.PROGRAM, str(self.folder)]
-            ran = subprocess.run(words, stdout=full, stderr=subprocess.PIPE, check=False)
-        self.assertEqual((ran.returncode, ran.stderr), (70, b"dwg-check: No space left on device\n"))
+        for more in ([], ["--json"], ["--print0", "sound"], ["--resume", str(self.folder / "log")]):
+            with open("/dev/full", "wb") as full:
+                words = [str(TOOLS / "dwg-check"), "--program", made.PROGRAM, *more, str(self.folder)]
+                ran = subprocess.run(words, stdout=full, stderr=subprocess.PIPE, check=False)
+            self.assertEqual((ran.returncode, ran.stderr), (70, b"dwg-check: standard output: No space left on device\n"), more)
         ran = tool("dwg-check", "--resume", "/dev/full", self.folder)
         self.assertEqual((ran.returncode, ran.stderr), (73, b"dwg-check: /dev/full is no regular file\n"))
 
@@ -898,6 +899,47 @@ class Logs(Base):
         self.assertEqual((self.resume("--program", second).returncode, self.audits(), len(self.lines())), (0, 0, 6))
         self.assertEqual((self.resume("--program", first).returncode, self.audits(), len(self.lines())), (0, 0, 9))
 
+    def of_rules(self, rules: Any, **more: Any) -> None:
+        """Makes LOG one of other rules, or of none where that is None, whose lines tell otherwise."""
+        head, *rows = self.lines()
+        head = {name: value for name, value in {**head, "rules": rules}.items() if value is not None}
+        self.log.write_bytes(b"".join(json.dumps(line).encode() + b"\n" for line in (head, *({**row, **more} for row in rows))))
+
+    def test_what_other_rules_found_is_checked_anew(self) -> None:
+        """An older dwg-check may have called sound what this one doesn't: its lines stay, and are no verdicts."""
+        program, data = self.counting(), made.made(5)
+        (self.folder / "d" / "a.dwg").write_bytes(data + data)
+        right = ["a.dwg", "trailing bytes", f"{len(data)} from {len(data)}; sound"]
+        for rules in (None, CHECK.RULES - 1, CHECK.RULES + 1, True, str(CHECK.RULES), [CHECK.RULES]):
+            for words in ([], ["--verify"]):
+                self.log.unlink(missing_ok=True)
+                self.resume("--program", program)
+                self.of_rules(rules, verdict="sound", detail="", trailing=0)
+                kept = self.log.read_bytes()
+                self.audits()
+                for audits in (1, 0):
+                    ran = self.resume("--program", program, *words)
+                    self.assertEqual((self.verdicts(ran), ran.stderr, self.audits()), ([right], b"", audits), (rules, words))
+                # After what was there stand a head and a line.
+                self.assertTrue(self.log.read_bytes().startswith(kept))
+                self.assertEqual([line.get("rules") for line in self.lines()[2:]], [CHECK.RULES, None])
+
+    def test_what_failed_by_other_rules_is_tried_again(self) -> None:
+        (path,) = self.some(["d/a.dwg"])
+        self.resume()
+        self.of_rules(None, verdict="failed", detail="`recover` takes more than 300 seconds")
+        self.assertEqual(self.verdicts(self.resume()), [["a.dwg", "sound", ""]])
+
+    def test_a_content_that_other_rules_saw_is_compared(self) -> None:
+        paths = self.some(["d/a.dwg", "d/b.dwg"])
+        self.resume()
+        self.of_rules(None)
+        frame = layout(made.made(5)).frames[20]
+        self.rot(paths[0], frame.place + 4)
+        for _ in range(2):
+            expected = [["a.dwg", "changed", f"damaged: objects 20 at {frame.place}: check"], ["b.dwg", "sound", ""]]
+            self.assertEqual(self.verdicts(self.resume("--verify")), expected)
+
     def rot(self, path: str, place: int) -> None:
         """Changes a byte, and leaves size and time as they are."""
         told = os.stat(path)
@@ -1079,6 +1121,85 @@ class Logs(Base):
             log.close()
             self.assertEqual(len(told), int(cut))
 
+    def overwrite(self, place: int, data: bytes = b"XXXX") -> None:
+        """Writes over bytes of LOG, which has the size then that it had."""
+        with open(self.log, "r+b") as file:
+            file.seek(place)
+            file.write(data)
+
+    def test_log_that_is_overwritten_anywhere(self) -> None:
+        """Also where the line that was added last stands as it was."""
+        said = f"dwg-check: {self.log} was cut or overwritten while it was written; what stood in it or is finished from now on is lost\n".encode()
+        paths = self.some(["d/a.dwg", "d/b.dwg"])
+        pathlib.Path(paths[1]).write_bytes(made.made(6))
+        # The head, and the line of the first drawing, while the second one is checked; and while the last one is.
+        for place, least in ((0, 2), (300, 2), (0, 1)):
+            self.log.unlink(missing_ok=True)
+            line = f'printf XXXX | dd of="$LOG" conv=notrunc bs=1 seek={place} 2>/dev/null; cp "$LOG" "$LOG.left"'
+            writing = program_that(self.folder, "writing", [f'LOG="{self.log}"', f'[ "$1" != audit ] || [ "$(wc -l <"$LOG")" -lt {least} ] || {{ {line}; }}', 'exec "$REAL" "$@"'])
+            ran = tool("dwg-check", "--quiet", "--jobs", "1", "--program", writing, "--resume", self.log, *paths)
+            self.assertEqual((ran.returncode, self.verdicts(ran), ran.stderr), (70, [["a.dwg", "sound", ""], ["b.dwg", "sound", ""]], said), place)
+            # What is there isn't written into any more.
+            self.assertEqual(self.log.read_bytes(), (self.folder / "log.left").read_bytes())
+
+    def kept_log(self, told: List[str], count: int = 2) -> Any:
+        """LOG that is open, with so many lines after its head."""
+        self.log.unlink(missing_ok=True)
+        log = CHECK.Log(str(self.log), told.append)
+        log.begin("0" * 64)
+        for index in range(count):
+            log.kept(CHECK.Row(f"/{index}", "sound", bytes=1, mtime_ns=1))
+        return log
+
+    def test_log_that_is_overwritten_at_its_end_or_without_a_trace(self) -> None:
+        for place in (0, 200, 500):
+            for is_traced in (True, False):
+                told: List[str] = []
+                log = self.kept_log(told)
+                before = os.fstat(log._file.fileno())
+                self.overwrite(place)
+                if not is_traced:
+                    # As where the clock of the file system stood still.
+                    after = os.fstat(log._file.fileno())
+                    self.assertEqual(after.st_size, before.st_size)
+                    log._seen._state = CHECK.state_of_log(log._file)
+                log.close()
+                self.assertEqual((len(told), log.fault), (1, "cut"), (place, is_traced))
+
+    def test_log_that_another_adds_to_or_touches_stands(self) -> None:
+        told: List[str] = []
+        log = self.kept_log(told)
+        with open(self.log, "ab") as file:
+            file.write(b"another\n")
+        log.kept(CHECK.Row("/a", "sound", bytes=1, mtime_ns=1))
+        os.utime(self.log, ns=(1, 1))
+        log.kept(CHECK.Row("/b", "sound", bytes=1, mtime_ns=1))
+        self.log.chmod(0o600)
+        log.close()
+        self.assertEqual((told, log.fault, len(self.log.read_bytes().splitlines())), ([], "", 6))
+
+    def test_log_that_is_touched_all_the_time_is_read_a_few_times(self) -> None:
+        told: List[str] = []
+        log = self.kept_log(told)
+        read, pread = [0], os.pread
+
+        def counted(handle: int, size: int, place: int) -> bytes:
+            found = pread(handle, size, place)
+            read[0] += len(found)
+            return found
+
+        with unittest.mock.patch("os.pread", counted):
+            for index in range(300):
+                os.utime(self.log, ns=(index, index))
+                log.kept(CHECK.Row(f"/more/{index}", "sound", bytes=1, mtime_ns=1))
+            size = self.log.stat().st_size
+            self.assertLess(read[0], (CHECK.MOST_LOOKS + 1) * size)
+            # What isn't looked at meanwhile is at the end.
+            self.overwrite(100)
+            log.kept(CHECK.Row("/last", "sound", bytes=1, mtime_ns=1))
+            log.close()
+        self.assertEqual((len(told), log.fault), (1, "cut"))
+
     def test_log_where_there_are_no_locks(self) -> None:
         check = made.module(TOOLS / "dwg-check", "dwg_check")
         told: List[str] = []
@@ -1162,18 +1283,16 @@ class Previews(Base):
         # By its content, by its place, and read anew.
         for more in ([], [], ["--verify"]):
             self.assertEqual((self.previews(*words, *more), self.audits()), (first, 0))
-        # Lines of which that isn't known are good too: what they lack is looked for, and added.
+        # Lines of older tools, in which it doesn't stand, are checked anew.
         lines = [json.loads(line) for line in log.read_bytes().splitlines()]
         for line in lines:
             line.pop("preview", None)
+            line.pop("rules", None)
         for more in ([], ["--verify"]):
             log.write_bytes(b"".join(json.dumps(line).encode() + b"\n" for line in lines))
-            self.assertEqual((tool("dwg-check", *words, *more, self.folder / "d").stdout, self.audits()), (table, 0))
-            log.write_bytes(b"".join(json.dumps(line).encode() + b"\n" for line in lines))
-            for added in (5, 0):
-                before = log.read_bytes().count(b"\n")
-                self.assertEqual((self.previews(*words, *more), self.audits()), (first, 0))
-                self.assertEqual(log.read_bytes().count(b"\n") - before, added)
+            for audits in (6, 0):
+                self.assertEqual((self.previews(*words, *more), self.audits()), (first, audits))
+            self.assertEqual(tool("dwg-check", *words, *more, self.folder / "d").stdout, table)
 
     def test_lines_of_log_that_tell_it_otherwise_are_damaged(self) -> None:
         right = {"bytes": 30, "pictures": [{"code": 2, "bytes": 20}]}

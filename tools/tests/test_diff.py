@@ -166,7 +166,14 @@ class Diff(common.InFolder):
         other = self.file("other.dwg", made(4, 1))
         with open("/dev/full", "wb") as full:
             ran = subprocess.run([TOOLS / "dwg-diff", good, other], stdout=full, stderr=subprocess.PIPE, check=False, env={**os.environ, "DWG": PROGRAM})
-        self.assertEqual((ran.returncode, ran.stderr), (2, b"dwg-diff: the output can't be written: No space left on device\n"))
+        self.assertEqual((ran.returncode, ran.stderr), (2, b"dwg-diff: standard output can't be written: No space left on device\n"))
+
+    @unittest.skipUnless(os.path.exists("/dev/full"), "a full disk, as there is no /dev/full")
+    def test_help_that_cannot_be_written_is_trouble(self) -> None:
+        for word in ("--help", "--version"):
+            with open("/dev/full", "wb") as full:
+                ran = subprocess.run([TOOLS / "dwg-diff", word], stdout=full, stderr=subprocess.PIPE, check=False)
+            self.assertEqual((ran.returncode, ran.stderr), (2, b"dwg-diff: standard output can't be written: No space left on device\n"), word)
 
     def test_interrupted_and_failing(self) -> None:
         path = self.file("a.dwg", made(20, 1))

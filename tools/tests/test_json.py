@@ -81,7 +81,7 @@ class Json(common.InFolder):
         answer = tool("dwg-json", given=one.file())
         found = {said["object"]: said for said in lines_of(answer)[1:]}
         self.assertEqual([found[f"{handle:X}"]["text"] for handle in handles], list(contents.values()))
-        self.assertEqual(answer.stderr, b"dwg-json: texts with bytes that the code page doesn't have: 1\n")
+        self.assertEqual(answer.stderr, b"dwg-json: standard input: texts with bytes that the code page doesn't have: 1\n")
         self.assertTrue(answer.stdout.isascii() if hasattr(answer.stdout, "isascii") else True)
         cyrillic = spelled.Drawing()
         handle = cyrillic.text("Стена".encode("cp1251"), (0, 0), 1.0)

@@ -5,6 +5,7 @@ from __future__ import annotations
 import fcntl
 import json
 import os
+import re
 import shutil
 import signal
 import struct
@@ -139,6 +140,19 @@ class Time(Checked):
         self.assertEqual((self.resumed(), self.runs()), (failed * 2, 2))
         self.assertEqual((self.resumed(), self.runs()), (failed * 2, 0))
 
+    def test_what_a_wrapper_runs_takes_too_long(self) -> None:
+        self.file("d/a.dwg", b"\x80XX\0" + bytes(range(256)))
+        endless = "sh -c 'while :; do :; done'"
+        for line in (endless, f"{endless} & {endless} & wait", f"set -m; {endless} & wait", f"while :; do sh -c 'i=0; while [ $i -lt 20000 ]; do i=$((i + 1)); done'; done"):
+            self.slow = self.refusing(f'[ "$1" != recover ] || {{ echo $$ >>"{self.count}"; {line}; }}', ":")
+            self.log.unlink(missing_ok=True)
+            said = self.resumed(lines="tool.MOST_SECONDS, tool.MOST_TAKEN = 0.3, 10")
+            self.assertEqual(said, [["failed", "`recover` takes more than 0.3 seconds"]], line)
+            session = int(self.count.read_text())
+            left = [one.number for one in drawing._processes() if one.session == session and is_running(one.number)]
+            self.assertEqual(left, [], line)
+            self.count.unlink()
+
     def test_what_failed_otherwise_is_tried_again(self) -> None:
         self.file("d/a.dwg", b"\x80XX\0" + bytes(range(256)))
         self.slow = self.refusing(f'[ "$1" != recover ] || {{ echo >>"{self.count}"; kill -9 $$; }}')
@@ -184,6 +198,18 @@ class NoLog(Checked):
         told = log.read_bytes()
         self.assertEqual(otherwise("dwg-check", "", "--resume", log, "--program", "/nowhere", self.folder / "d").returncode, 69)
         self.assertEqual(log.read_bytes(), told)
+
+
+class NoMemory(common.InFolder):
+    """Where Python has no memory, a tool says so by a status that it has for that."""
+
+    def test_each_tool(self) -> None:
+        path = self.file("a.dwg", b"AC1015")
+        none = "def none(*_):\n    raise MemoryError\ntool.{name} = none"
+        runs = (("dwg-diff", "compare", [path, path], 2), ("dwg-json", "write", [path], 6), ("dwg-recover", "run_recover", [path, "-"], 6))
+        for name, called, words, status in runs:
+            ran = otherwise(name, none.format(name=called), "--program", "/bin/true", *words)
+            self.assertEqual((ran.returncode, ran.stdout, ran.stderr.decode()), (status, b"", f"{name}: no memory was to be had\n"))
 
 
 class Zeros(Checked):
@@ -250,12 +276,25 @@ tool.main = ended
 """
 
 
+def state_of(number: int) -> str:
+    """The letter of the state of a process, Z of one that isn't there any more."""
+    try:
+        return Path(f"/proc/{number}/stat").read_text().rpartition(")")[2].split()[0]
+    except (FileNotFoundError, ProcessLookupError):
+        return "Z"
+
+
 def is_running(number: int) -> bool:
     """Whether a process runs; one that ended, and of which nobody took note, doesn't."""
-    try:
-        return Path(f"/proc/{number}/stat").read_text().rpartition(")")[2].split()[0] != "Z"
-    except FileNotFoundError:
-        return False
+    return state_of(number) != "Z"
+
+
+def ended(number: int) -> bool:
+    """Whether a process ends in a moment: a signal that is sent need not have come yet."""
+    end = time.monotonic() + 2
+    while is_running(number) and time.monotonic() < end:
+        time.sleep(0.01)
+    return not is_running(number)
 
 
 class Signals(Checked):
@@ -274,10 +313,54 @@ class Signals(Checked):
                 self.assertEqual(int((self.folder / "blocked").read_text().split()[1], 16), 0)
             begun.unlink()
 
+    def begun_by_wrapper(self, *lines: str) -> Tuple[Path, Path]:
+        """A program that is a wrapper, and runs by these lines what never ends; and where that notes its number."""
+        begun = self.folder / "begun"
+        inner = program_that(self.folder, "inner", [f'echo $$ >"{begun}.part"; mv "{begun}.part" "{begun}"', "exec sleep 60"])
+        return self.refusing(f'INNER="{inner}"', *lines, ": it is no last command, which a shell would become"), begun
+
+    def running(self, program: Path, begun: Path, name: str, *words: object) -> Tuple["subprocess.Popen[bytes]", int]:
+        """A tool that runs such a program, in a group of its own, and the number of what that runs."""
+        begun.unlink(missing_ok=True)
+        said = [str(TOOLS / name), "--program", str(program), *map(str, words)]
+        started = subprocess.Popen(said, stdin=subprocess.DEVNULL, stdout=subprocess.PIPE, stderr=subprocess.PIPE, preexec_fn=os.setpgrp)
+        self.addCleanup(started.kill)
+        while not begun.exists():
+            time.sleep(0.01)
+        number = int(begun.read_text())
+        self.addCleanup(lambda: is_running(number) and os.kill(number, signal.SIGKILL))
+        return started, number
+
+    def test_what_a_wrapper_runs_is_ended_too(self) -> None:
+        path = self.drawings(1)[0]
+        ends = ((signal.SIGINT, 130), (signal.SIGTERM, 143), (signal.SIGHUP, 129), (signal.SIGQUIT, 131))
+        # (the second is a group of its own, as by `timeout`)
+        for line in ('"$INNER"', 'set -m; "$INNER" & wait', '( "$INNER" )', 'trap "" INT TERM HUP QUIT; "$INNER"'):
+            for name, words in (("dwg-check", [path]), ("dwg-json", [path]), ("dwg-recover", [path, "-"])):
+                for signalled, status in ends if name == "dwg-check" else ends[:1]:
+                    started, number = self.running(*self.begun_by_wrapper(line), name, *words)
+                    # (to the tool alone: a terminal would send it to its group, in which nothing else is)
+                    os.kill(started.pid, signalled)
+                    said = started.communicate(timeout=30)
+                    self.assertEqual((started.returncode, said), (status, (b"", b"")) if name != "dwg-check" else (status, (said[0], b"")), (line, name))
+                    self.assertTrue(ended(number), (line, name, status))
+
+    def test_what_a_wrapper_runs_is_stopped_too_and_goes_on(self) -> None:
+        started, number = self.running(*self.begun_by_wrapper('"$INNER"'), "dwg-check", self.drawings(1)[0])
+        for sent, state in ((signal.SIGTSTP, "T"), (signal.SIGCONT, "S")) * 2:
+            os.killpg(started.pid, sent)
+            end = time.monotonic() + 20
+            while [state_of(one) for one in (started.pid, number)] != [state] * 2 and time.monotonic() < end:
+                time.sleep(0.02)
+            self.assertEqual([state_of(one) for one in (started.pid, number)], [state] * 2)
+        started.terminate()
+        started.communicate(timeout=30)
+        self.assertEqual((started.returncode, ended(number)), (143, True))
+
     def test_a_second_signal_is_no_fault_of_python(self) -> None:
         # Of one that is ignored while it waits, Python tells by a traceback. One that was ignored from the begin stays so.
         ran = otherwise("dwg-json", HANDLED)
-        self.assertEqual((ran.returncode, ran.stdout, ran.stderr), (0, b"True True False\n", b""))
+        self.assertEqual((ran.returncode, ran.stdout, ran.stderr), (0, b"True True False True\n", b""))
 
 
 class Stream:
@@ -390,10 +473,11 @@ class Streams(Checked):
         os.link(self.path, self.folder / "link")
         self.program = self.refusing()
         (self.folder / "list").write_text(f"{self.path}\n")
+        (self.folder / "program").write_text("#!/bin/sh\nexit 1\n")
 
     def answer(self, script: str) -> Tuple[int, bytes]:
         """The status of a script in which the tools are on the path, and what it prints; no file that is read is another then."""
-        before = {path: path.read_bytes() for path in (self.path, self.other, self.folder / "list")}
+        before = {path: path.read_bytes() for path in (self.path, self.other, self.program, self.folder / "list", self.folder / "program")}
         environment = {**os.environ, "DWG": str(self.program), "PATH": f"{TOOLS}:{os.environ['PATH']}"}
         ran = subprocess.run(["bash", "-c", script], cwd=self.folder, stdin=subprocess.DEVNULL, capture_output=True, check=False, env=environment, timeout=100)
         self.assertEqual({path: path.read_bytes() for path in before}, before, script)
@@ -426,6 +510,33 @@ class Streams(Checked):
         for script, status in scripts.items():
             self.assertEqual(self.answer(script), (status, b""), script)
         self.assertFalse((self.folder / "out").exists() or (self.folder / "log").exists())
+
+    def test_standard_error_that_is_a_drawing_or_the_program(self) -> None:
+        """Whoever names it, and whether or not it is read."""
+        scripts = {
+            "printf 'd/00.dwg\n' | dwg-check - --jobs 0 2>>d/00.dwg": 64,
+            "dwg-check d --nothing 2>>link": 64,
+            "dwg-check none d --nothing 2>>link": 64,
+            "DWG=./d/01.dwg dwg-picture d/00.dwg 2>>d/01.dwg": 69,
+            "dwg-json --output /nowhere/out d/01.dwg 2>>link": 5,
+            "dwg-json none 2>>link": 4,
+            "dwg-diff none none 2>>link": 2,
+            "dwg-recover none out 2>>link": 4,
+            "dwg-check --resume /nowhere/log d/01.dwg 2>>link": 70,
+            "DWG=./program dwg-json d/00.dwg 2>>program": 69,
+            "DWG=./program dwg-json --nothing 2>>program": 64,
+            "dwg-check --program ./program d/00.dwg 2>>program": 69,
+            "dwg-json --program ./program 2>>program <d/00.dwg": 69,
+            "PATH=$PATH:. dwg-json d/00.dwg 2>>$DWG": 3,
+        }
+        for script, status in scripts.items():
+            self.assertEqual(self.answer(script), (status, b""), script)
+        self.assertEqual(self.answer("dwg-check d/01.dwg 2>>link")[0], 1)
+        # In any other file it is said.
+        for script, status in (("dwg-json --nothing 2>>notes", 64), ("dwg-check d --nothing 2>d/new.dwg", 64), ("DWG=./program dwg-json d/00.dwg 2>>notes", 69)):
+            self.assertEqual(self.answer(script), (status, b""), script)
+        said = (self.folder / "notes").read_text().splitlines()
+        self.assertEqual((said[-2].partition(": ")[0], said[-1]), ("dwg-json", "dwg-json: ./program, which DWG names, is no program"))
 
     def test_standard_output_that_is_the_input(self) -> None:
         for script, status in (("dwg-json d/00.dwg >>link", 73), ("dwg-json d/00.dwg -o out >>d/00.dwg", 73), ("dwg-diff d/00.dwg d/01.dwg >>d/01.dwg", 2), ("dwg-check - <list >>list", 73)):
@@ -711,6 +822,26 @@ for name in ("rename", "replace", "link", "unlink", "fsync"):
 """
 
 
+# Lets renames fail by their turn, and no links be made where there are none.
+FAILING = """
+import os
+turn = [0]
+def counted(call):
+    def failing(*words, **more):
+        turn[0] += 1
+        if turn[0] in {turns}:
+            raise OSError(5, "Input/output error")
+        return call(*words, **more)
+    return failing
+for name in ("rename", "replace"):
+    setattr(os, name, counted(getattr(os, name)))
+def unlinked(*_, **__):
+    raise OSError(1, "Operation not permitted")
+if not {has_links}:
+    os.link = unlinked
+"""
+
+
 class Pairs(common.InFolder):
     """An output never stands beside the notes of another, at whatever moment a run ends and however many run at once."""
 
@@ -757,6 +888,30 @@ class Pairs(common.InFolder):
             self.assertEqual((status, self.standing(), sorted(os.listdir(self.folder / "to"))), (1, new, ["out", "out.notes"]))
             self.assertGreater(turn, 5)
             self.assertIn((new[0], None), seen)
+
+    def test_an_output_that_stands_without_its_notes_is_told(self) -> None:
+        """Where neither the new notes nor the old output can take their names, old notes stand nowhere, and it is told where they are."""
+        old, new = self.pairs
+        part = rf"{re.escape(str(self.folder))}/to/\.out[^ ;]*\.part"
+        alone = (new[0], None)
+        cases = {(True, (3,)): old, (True, (3, 4)): alone, (False, (3,)): alone, (False, (2,)): old, (False, (2, 3)): (old[0], None)}
+        for (has_links, turns), standing in cases.items():
+            with self.subTest(has_links=has_links, turns=turns):
+                shutil.rmtree(self.folder / "to")
+                (self.folder / "to").mkdir()
+                self.out.write_bytes(old[0])
+                self.notes.write_bytes(old[1])
+                ran = self.recover(FAILING.format(turns=turns, has_links=has_links), self.sources[1], "--force")
+                self.assertEqual((ran.returncode, ran.stdout, self.standing()), (5, b"", standing), ran.stderr)
+                there = f"; {self.out} is there, the new one, without its notes" if standing[0] == new[0] else ""
+                drawing_left = f"; what was {self.out} before is in (?P<out>{part})" if there and has_links else ""
+                notes_left = f"; what was {self.notes} before is in (?P<notes>{part})" if standing[1] is None else ""
+                told = f"dwg-recover: {self.out}: Input/output error{there}{drawing_left}{notes_left}\n"
+                said = re.fullmatch(told, ran.stderr.decode())
+                assert said is not None, ran.stderr
+                left = {name: Path(path).read_bytes() for name, path in said.groupdict().items()}
+                self.assertEqual(left, {name: data for name, data in zip(("out", "notes"), old) if name in left})
+                self.assertEqual(len(os.listdir(self.folder / "to")), len(left) + len([one for one in standing if one is not None]))
 
     def test_two_runs_at_once(self) -> None:
         # The first waits between its two names, in which time the second comes.

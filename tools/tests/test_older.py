@@ -188,7 +188,7 @@ class Tools(common.InFolder):
 
     def test_picture_tells_kinds_without_a_body(self) -> None:
         ran = tool("dwg-picture", given=PLAN)
-        self.assertEqual((ran.returncode, ran.stderr), (0, b"dwg-picture: not drawn: 1 ELLIPSE (not read by all its fields)\n"))
+        self.assertEqual((ran.returncode, ran.stderr), (0, b"dwg-picture: standard input: not drawn: 1 ELLIPSE (not read by all its fields)\n"))
 
 
 def in_first_body(data: bytes) -> int:

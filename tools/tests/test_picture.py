@@ -5,7 +5,9 @@ from __future__ import annotations
 import contextlib
 import io
 import math
+import os
 import pathlib
+import random
 import re
 import resource
 import shutil
@@ -363,6 +365,107 @@ class Pictures(common.InFolder):
         for found, value in zip(picture.drawn(), expected):
             self.assertAlmostEqual(found, value, delta=1e-4 * size)
 
+    def test_copies_by_many_turns_take_as_many_steps_as_vertices_and_copies(self) -> None:
+        """The vertices of a block aren't gone through again for each turn that it is inserted by, in a block or in the picture."""
+        tapered = lambda one, count: one.polyline([(k % 7, k % 5) for k in range(count)], [1.0] * count, [(1.0, 0.0)] * count, owner=0x30)
+        thin = lambda one, count: one.polyline([(k % 7, k % 5) for k in range(count)], owner=0x30)
+        for put, count in ((thin, 1000), (tapered, 5)):
+            for outer in (0, 0x31):
+                steps = []
+                for copies in (1, 100):
+                    one = spelled.Drawing()
+                    one.block(0x30, b"INNER")
+                    one.block(0x31, b"OUTER")
+                    put(one, count)
+                    for turn in range(copies):
+                        one.insert(0x30, (turn * 100, 0, 0), rotation=turn / 1000, owner=outer)
+                    if outer:
+                        one.insert(outer, (0, 0, 0))
+                    with unittest.mock.patch.object(shapes.Frame, "put", autospec=True, side_effect=shapes.Frame.put) as putting:
+                        self.painted(one)
+                    steps.append(putting.call_count)
+                self.assertLess(steps[1], steps[0] + 100 * 20, (put, outer))
+
+    def test_outlines_are_those_of_all_points(self) -> None:
+        """What an outline extends over under a map is what its points and arcs do, within a ten-thousandth."""
+        chance = random.Random(11)
+        some = lambda: (chance.gauss(0, 1), chance.gauss(0, 3))
+        on_grid = [(float(x), float(y)) for x in range(5) for y in range(5)]
+        cases: List[List[Any]] = [[], [(1.0, 2.0)], [(0.0, 0.0), (0.0, 5.0)], [(3.0, 0.0), (0.0, 0.0), (1.0, 0.0)], on_grid]
+        cases += [[some() for _ in range(9000)], [plane.circular(some(), 2.0)], [plane.circular((0.0, 0.0), 1.0, k, 1.0) for k in range(3)]]
+        cases.append([plane.Arc(some(), some(), some(), 1.0, -2.0)])
+        for steps in cases:
+            exact = plane.Box()
+            exact.add(steps)
+            points = [point for step in steps for point in (step.along(1e-6) if isinstance(step, plane.Arc) else [step])]
+            outline = plane.Outline(points, 1e-5 * exact.size())
+            self.assertLess(len(outline.corners), 1000)
+            for turn in range(40):
+                linear = plane.turned(turn * math.pi / 20).after(plane.Affine(turn % 3 - 1.0, chance.random(), 0.0, 1.0))
+                box = plane.Box()
+                box.add(step.under(linear) if isinstance(step, plane.Arc) else linear.at(*step) for step in steps)
+                self.near(outline.under(linear), box.corners(), 1e-4 * (exact.size() + 1e-9))
+
+    def test_outlines_of_sums(self) -> None:
+        chance = random.Random(12)
+        for count, others in ((1, 1), (1, 5), (2, 2), (2, 9), (9, 2), (30, 30)):
+            for is_flat in (False, True):
+                one, other = ([(chance.random(), 0.0 if is_flat else chance.random()) for _ in range(many)] for many in (count, others))
+                found = plane.convex(plane.summed(plane.convex(one), plane.convex(other)))
+                expected = plane.convex((x + u, y + v) for x, y in one for u, v in other)
+                for angle in range(20):
+                    far = lambda points: max(x * math.cos(angle) + y * math.sin(angle) for x, y in points)
+                    self.assertAlmostEqual(far(found), far(expected), delta=1e-12)
+
+    def test_blocks_in_rows_within_the_frame(self) -> None:
+        """Copies that stand in a grid, in a block that is turned, are within the view, and no more is."""
+        angle = 0.3
+        sine, cosine = math.sin(angle), math.cos(angle)
+
+        def put(one: spelled.Drawing) -> None:
+            one.block(0x30, b"INNER")
+            one.block(0x31, b"OUTER")
+            one.circle((0, 0, 0), 3, owner=0x30)
+            one.polyline([(9 * math.cos(k), 9 * math.sin(k) / 3) for k in range(900)], owner=0x30)
+            one.minsert(0x30, (5, 0, 0), (4, 3), (20.0, 10.0), rotation=0.7, owner=0x31)
+            one.insert(0x31, (0, 0, 0), rotation=angle)
+
+        across, up = (20 * math.cos(0.7), 20 * math.sin(0.7)), (-10 * math.sin(0.7), 10 * math.cos(0.7))
+        points = [
+            (5 + column * across[0] + row * up[0] + x * math.cos(0.7) - y * math.sin(0.7), column * across[1] + row * up[1] + x * math.sin(0.7) + y * math.cos(0.7))
+            for column in range(4) for row in range(3)
+            for x, y in [(9 * math.cos(k), 9 * math.sin(k) / 3) for k in range(900)] + [(3 * math.cos(k / 100), 3 * math.sin(k / 100)) for k in range(629)]
+        ]  # fmt: skip
+        self.is_framed(put, [(cosine * x - sine * y, sine * x + cosine * y) for x, y in points])
+
+    def test_arcs_that_reach_farther_than_their_ends_within_the_frame(self) -> None:
+        """An arc of a block whose farthest point is neither an end nor one of its outermost: it is in the view, whichever way it is turned."""
+        arc = [(8 + 5 * math.cos(k / 1000), 8 + 5 * math.sin(k / 1000), 0.0) for k in range(1571)]
+
+        def put(one: spelled.Drawing) -> None:
+            one.block(0x30, b"B")
+            one.point((0, 0, 0), owner=0x30)
+            one.arc((8, 8, 0), 5, 0, math.pi / 2, owner=0x30)
+            # (what is in the view before: as much as the ends of the arc are away)
+            one.circle((0, 0, 0), math.hypot(13, 8))
+            one.insert(0x30, (0, 0, 0), rotation=math.pi / 4)
+
+        half = math.sqrt(0.5)
+        around = [(math.hypot(13, 8) * math.cos(k / 100), math.hypot(13, 8) * math.sin(k / 100)) for k in range(629)]
+        self.is_framed(put, around + [(half * (x - y), half * (x + y)) for x, y, _ in arc])
+
+    def test_nothing_is_framed_that_is_not_seen_aslant(self) -> None:
+        """Texts and widths of a block that a map brings to one line widen no picture, as they aren't drawn."""
+        one = spelled.Drawing()
+        one.block(0x30, b"B")
+        one.line((0, 0, 0), (1, 0, 0), owner=0x30)
+        one.polyline([(0, 0), (1, 0)], width=50, owner=0x30)
+        one.text(b"much longer than the line is", (0, 0), 5.0, owner=0x30)
+        one.insert(0x30, (0, 0, 0), (1, 0, 1), 0.5)
+        one.insert(0x30, (0, 0, 0), (0, 1, 1), 0.5)
+        # (the line is one along its direction, and a point where that is lost)
+        self.near([self.picture(one).drawn()[2:]], [(math.cos(0.5), math.sin(0.5))], 1e-6)  # type: ignore[list-item]
+
     def test_corners_of_wide_polylines_within_the_frame(self) -> None:
         # The corner of a right angle is as far out as the half width, on both axes; a sharper one is cut off.
         self.is_framed(lambda one: one.polyline([(-4, 0), (0, 0), (0, -4)], width=2), [(-4, -1), (1, 1), (1, -4)])
@@ -493,7 +596,7 @@ class Pictures(common.InFolder):
         one.point((0, 0, 0), owner=0x30)
         one.insert(0x30, (0, 0, 0))
         answer = tool("dwg-picture", given=one.file())
-        told = [f"dwg-picture: not drawn: 1 {kind} (in a block that is inserted)" for kind in ("RAY", "XLINE")]
+        told = [f"dwg-picture: standard input: not drawn: 1 {kind} (in a block that is inserted)" for kind in ("RAY", "XLINE")]
         self.assertEqual((answer.returncode, answer.stderr.decode().splitlines()), (0, told))
         self.assertEqual(len(self.picture(one, "--block", "B").seen), 3)
 
@@ -587,7 +690,7 @@ class Pictures(common.InFolder):
         one.vertex((math.inf, 0, 0), 0x220, handle=0x222)
         answer = tool("dwg-picture", given=one.file())
         whys = ["a number that is none or too large", "a vertex isn't read by all its fields", "fewer than two points"]
-        told = ["dwg-picture: nothing is drawn", *(f"dwg-picture: not drawn: 1 POLYLINE 3D ({why})" for why in whys)]
+        told = ["dwg-picture: standard input: nothing is drawn", *(f"dwg-picture: standard input: not drawn: 1 POLYLINE 3D ({why})" for why in whys)]
         self.assertEqual((answer.returncode, answer.stderr.decode().splitlines()), (0, told))
 
     def test_polylines(self) -> None:
@@ -632,7 +735,7 @@ class Pictures(common.InFolder):
         one.line((0, 0, 0), (4, 1, 0))
         one.text(b"low", (0, 0), 5e-324)
         answer = tool("dwg-picture", given=one.file())
-        self.assertEqual((answer.returncode, answer.stderr), (0, b"dwg-picture: not drawn: 1 TEXT (no height)\n"))
+        self.assertEqual((answer.returncode, answer.stderr), (0, b"dwg-picture: standard input: not drawn: 1 TEXT (no height)\n"))
 
     def test_texts_that_no_terminal_should_have(self) -> None:
         one = spelled.Drawing()
@@ -761,7 +864,7 @@ class Pictures(common.InFolder):
         one.block(0x31, b"EMPTY")
         one.minsert(0x31, (0, 0, 0), (65535, 65535), (1.0, 1.0))
         answer = tool("dwg-picture", given=one.file())
-        self.assertEqual((answer.returncode, answer.stderr), (0, b"dwg-picture: not drawn: 1 MINSERT (more than 1000000 copies in all)\n"))
+        self.assertEqual((answer.returncode, answer.stderr), (0, b"dwg-picture: standard input: not drawn: 1 MINSERT (more than 1000000 copies in all)\n"))
         self.near([found.points[0] for found in Picture(answer.stdout).seen], [(0, 0), (1, 0)])
 
     def bounded(self, one: spelled.Drawing, most: int) -> "subprocess.CompletedProcess[bytes]":
@@ -776,6 +879,10 @@ class Pictures(common.InFolder):
         self.assertLess(len(answer.stdout), most + 2000)
         return answer
 
+    def told(self, *messages: str) -> bytes:
+        """What dwg-picture says of the drawing that `bounded` gives it."""
+        return "".join(f"dwg-picture: {self.folder / 'bounded.dwg'}: {message}\n" for message in messages).encode()
+
     def test_bytes_of_copies(self) -> None:
         one = spelled.Drawing()
         one.block(0x30, b"B")
@@ -786,12 +893,85 @@ class Pictures(common.InFolder):
         one.line((0, 0, 0), (5, 5, 0), colour=5)
         one.minsert(0x30, (0, 0, 0), (2, 2), (1.0, 1.0))
         answer = self.bounded(one, 1 << 20)
-        self.assertEqual(answer.stderr, b"dwg-picture: not drawn: 1 MINSERT (more than 1048576 bytes in all)\n")
+        self.assertEqual(answer.stderr, self.told("not drawn: 1 MINSERT (more than 1048576 bytes in all)"))
         # What would be too much takes nothing of the others away, nor does it widen the picture.
         picture = Picture(answer.stdout)
         self.assertEqual([found.points[1] for found in picture.seen[:2]], [(4, 4), (5, 5)])
         self.assertEqual((len(picture.seen), [found.colour for found in picture.seen[:2]]), (6, ["#00ff00", "#0000ff"]))
         self.near([(picture.drawn()[0], picture.drawn()[2])], [(0, 5)])
+
+    def test_what_fits_is_drawn_in_any_order(self) -> None:
+        """What is too much takes no room from what isn't, whether it stands before that or after it."""
+        put: List[Callable[[spelled.Drawing], object]] = [
+            lambda one: one.attribute(b"x" * 50, b"NO", (0, 0), 2.0, owner=one.minsert(0x30, (0, 0, 0), (60, 60), (1.5, 2.5))),
+            lambda one: one.insert(0x31, (0, 0, 0)),
+            lambda one: one.insert(0x32, (9, 0, 0)),
+        ]
+        for order in ((0, 0, 0, 1, 2), (1, 2, 0, 0, 0), (2, 0, 0, 1, 0), (1, 0, 2, 0, 0)):
+            one = spelled.Drawing()
+            for block in (0x30, 0x31, 0x32):
+                one.block(block, b"B%d" % block)
+            for place in range(100):
+                one.line((place, 0, 0), (place, 1.25, 0), owner=0x31)
+            # (much more than four times its own text)
+            one.polyline([(k, k % 2) for k in range(30)], [1.0] * 30, [(1.0, 0.0)] * 30, owner=0x32)
+            for number in order:
+                put[number](one)
+            with unittest.mock.patch.multiple(TOOL, MOST_WRITTEN=1 << 18, TIMES_WRITTEN=0):
+                reader, picture = self.painted(one)
+            self.assertEqual(dict(reader.undrawn), {"MINSERT (more than 262144 bytes in all)": 3}, order)
+            self.assertEqual(len(picture.seen), 100 + 1 + 29, order)
+
+    def test_copies_that_are_too_many_are_not_made(self) -> None:
+        """Which of its copies a MINSERT can't have is known before any of them is made, by their bytes and by those of attributes."""
+        one = spelled.Drawing()
+        one.block(0x30, b"B")
+        one.line((0, 0, 0), (1, 1.25, 0), owner=0x30)
+        for place in range(20):
+            first = one.minsert(0x30, (place, 0, 0), (50, 50), (1.5, 2.5))
+            if place % 2:
+                one.attribute(b"x", b"T", (0, 0), 2.0, owner=first)
+        one.insert(0x30, (0, 0, 0))
+        with unittest.mock.patch.multiple(TOOL, MOST_WRITTEN=1 << 14, TIMES_WRITTEN=0):
+            with unittest.mock.patch.object(plane.Affine, "moved_to", autospec=True, side_effect=plane.Affine.moved_to) as moving:
+                reader, picture = self.painted(one)
+        self.assertEqual((dict(reader.undrawn), len(picture.seen)), ({"MINSERT (more than 16384 bytes in all)": 20}, 1))
+        self.assertLess(moving.call_count, 20 * 50)
+
+    def test_bytes_told_in_vain(self) -> None:
+        """A block that many others have, each with more than there is room for, isn't told again for each of them."""
+        one = spelled.Drawing()
+        tapered = lambda count, owner: one.polyline([(k, k % 2) for k in range(count)], [1.0] * count, [(1.0, 0.0)] * count, owner=owner)
+        one.block(0x30, b"INNER")
+        tapered(20, 0x30)
+        for block in range(0x200, 0x214):
+            one.block(block, b"B%d" % block)
+        one.last = 0x300
+        for block in range(0x200, 0x214):
+            one.insert(0x30, (0, 0, 0), owner=block)
+            tapered(10, block)
+            one.insert(block, (0, 0, 0))
+            one.insert(block, (5, 0, 0), (2, 2, 1))
+        one.insert(0x30, (0, 0, 0))
+        most = 1 << 17
+        with unittest.mock.patch.multiple(TOOL, MOST_WRITTEN=most, TIMES_WRITTEN=0):
+            with unittest.mock.patch.object(TOOL.Page, "write", autospec=True, side_effect=TOOL.Page.write) as writing:
+                reader, picture = self.painted(one)
+        self.assertEqual((dict(reader.undrawn), len(picture.seen)), ({f"INSERT (more than {most} bytes in all)": 40}, 1 + 19))
+        self.assertLess(sum(len(call[0][1]) for call in writing.call_args_list), 3 * most)
+
+    def test_temporary_files_that_are_full(self) -> None:
+        one = spelled.Drawing()
+        for place in range(3000):
+            one.line((place, 0, 0), (place, 1.25, 0))
+        path, out = self.file("a.dwg", one.file()), self.folder / "out.svg"
+        limited = lambda: resource.setrlimit(resource.RLIMIT_FSIZE, (1 << 14, 1 << 14))
+        for words in ([], ["-o", str(out)]):
+            said = [str(TOOLS / "dwg-picture"), "--program", PROGRAM, str(path), *words]
+            ran = subprocess.run(said, capture_output=True, check=False, preexec_fn=limited, env={**os.environ, "TMPDIR": str(self.folder)})
+            told = f"dwg-picture: the temporary file in {self.folder} can't be written: File too large\n"
+            self.assertEqual((ran.returncode, ran.stdout, ran.stderr.decode()), (70, b"", told))
+            self.assertEqual([found.name for found in self.folder.iterdir()], ["a.dwg"])
 
     def test_bytes_of_scales(self) -> None:
         one = spelled.Drawing()
@@ -801,7 +981,7 @@ class Pictures(common.InFolder):
             one.insert(0x30, (0, place, 0), (1 + place / 200, 1, 1))
         answer = self.bounded(one, 1 << 20)
         # Where scales take too much of it lines are stretched, so that nothing is lost.
-        self.assertEqual(answer.stderr, b"dwg-picture: blocks are inserted by so many scales that some have lines as wide as they are stretched\n")
+        self.assertEqual(answer.stderr, self.told("blocks are inserted by so many scales that some have lines as wide as they are stretched"))
         self.assertEqual(answer.stdout.count(b"<use"), 200)
         self.assertLess(answer.stdout.count(b"<defs>"), 10)
 
@@ -817,7 +997,7 @@ class Pictures(common.InFolder):
         one.line((0, 0, 0), (3, 3, 0))
         answer = self.bounded(one, 1 << 20)
         told = ["2 INSERT (more than 1048576 bytes in all)", "1 LWPOLYLINE (more than 1048576 bytes in all)"]
-        self.assertEqual(answer.stderr.decode().splitlines(), [f"dwg-picture: not drawn: {one}" for one in told])
+        self.assertEqual(answer.stderr, self.told(*(f"not drawn: {one}" for one in told)))
         self.assertEqual(len(Picture(answer.stdout).seen), 5 + 1)
 
     def test_bytes_of_one_way(self) -> None:
@@ -830,7 +1010,7 @@ class Pictures(common.InFolder):
         one.point((0, 0, 0))
         answer = self.bounded(one, 1 << 16)
         told = ["1 INSERT (more than 65536 bytes in all)", "1 LWPOLYLINE (more than 65536 bytes in all)"]
-        self.assertEqual(answer.stderr.decode().splitlines(), [f"dwg-picture: not drawn: {one}" for one in told])
+        self.assertEqual(answer.stderr, self.told(*(f"not drawn: {one}" for one in told)))
         self.assertEqual([found.element.get("class") for found in Picture(answer.stdout).seen], [None, "dot"])
 
     def test_bytes_by_any_limit(self) -> None:
@@ -876,7 +1056,7 @@ class Pictures(common.InFolder):
         path = self.file("a.dwg", one.file())
         limited = lambda: resource.setrlimit(resource.RLIMIT_AS, (1 << 30, 1 << 30))
         ran = subprocess.run([str(TOOLS / "dwg-picture"), "--program", PROGRAM, str(path)], capture_output=True, check=False, preexec_fn=limited)
-        self.assertEqual((ran.returncode, ran.stderr), (0, b"dwg-picture: not drawn: 1 BODY\n"))
+        self.assertEqual((ran.returncode, ran.stderr), (0, f"dwg-picture: {path}: not drawn: 1 BODY\n".encode()))
         self.assertEqual(len(Picture(ran.stdout).seen), 1)
 
     def test_tapered_arcs_are_not_kept_corner_by_corner(self) -> None:
@@ -907,7 +1087,7 @@ class Pictures(common.InFolder):
         self.assertLess(len(one.file()), 12000)
         answer = tool("dwg-picture", given=one.file())
         self.assertEqual(answer.returncode, 0)
-        self.assertRegex(answer.stderr.decode(), r"\Adwg-picture: not drawn: \d+ INSERT \(more than 1000000 copies in all\)\n\Z")
+        self.assertRegex(answer.stderr.decode(), r"\Adwg-picture: standard input: not drawn: \d+ INSERT \(more than 1000000 copies in all\)\n\Z")
         self.assertLess(len(answer.stdout), 20000)
         root = ElementTree.fromstring(answer.stdout)
         # How many elements each definition draws; those that it uses stand before it.
@@ -946,7 +1126,7 @@ class Pictures(common.InFolder):
         for place in range(400):
             one.insert(0x30, (0, place, 0), (1 + place / 400, 1, 1))
         answer = tool("dwg-picture", given=one.file())
-        told = b"dwg-picture: blocks are inserted by so many scales that some have lines as wide as they are stretched\n"
+        told = b"dwg-picture: standard input: blocks are inserted by so many scales that some have lines as wide as they are stretched\n"
         self.assertEqual((answer.returncode, answer.stderr), (0, told))
         # The block is defined for itself and for 250 scales; all other inserts stretch the first of these.
         self.assertEqual((answer.stdout.count(b"<defs>"), answer.stdout.count(b"<path"), answer.stdout.count(b"<use")), (251, 251 * 400, 400))
@@ -987,7 +1167,7 @@ class Pictures(common.InFolder):
         one.insert(0x31, (0, 0, 0), (1e-9, 1e-9, 1))
         one.insert(0x31, (5, 0, 0), (1e9, 1e9, 1))
         answer = tool("dwg-picture", given=one.file())
-        self.assertEqual((answer.returncode, answer.stderr), (0, b"dwg-picture: not drawn: 1 INSERT (a number that is none or too large)\n"))
+        self.assertEqual((answer.returncode, answer.stderr), (0, b"dwg-picture: standard input: not drawn: 1 INSERT (a number that is none or too large)\n"))
         self.near([found.points[0] for found in Picture(answer.stdout).seen], [(0, 0)])
 
     def test_loop_and_missing(self) -> None:
@@ -1004,7 +1184,7 @@ class Pictures(common.InFolder):
         answer = tool("dwg-picture", given=one.file())
         self.assertEqual(answer.returncode, 0)
         expected = ["not drawn: 1 INSERT (an external reference)", "not drawn: 1 INSERT (of a block that isn't there)", "block A inserts itself"]
-        self.assertEqual(answer.stderr.decode().splitlines(), [f"dwg-picture: {line}" for line in expected])
+        self.assertEqual(answer.stderr.decode().splitlines(), [f"dwg-picture: standard input: {line}" for line in expected])
         self.near(Picture(answer.stdout).seen[0].points, [(0, 0), (1, 0)])
 
     def test_deep(self) -> None:
@@ -1018,7 +1198,7 @@ class Pictures(common.InFolder):
         one.insert(0x200, (0, 0, 0))
         answer = tool("dwg-picture", given=one.file())
         self.assertEqual(answer.returncode, 0)
-        self.assertEqual(answer.stderr, b"dwg-picture: not drawn: 1 INSERT (more than 64 deep)\n")
+        self.assertEqual(answer.stderr, b"dwg-picture: standard input: not drawn: 1 INSERT (more than 64 deep)\n")
         self.assertEqual(answer.stdout.count(b"<defs>"), 64)
 
     def drawn_in_any_order(self, prefix: Callable[[spelled.Drawing], object], blocks: Sequence[int]) -> Tuple[List[str], Dict[int, List[float]]]:
@@ -1071,7 +1251,7 @@ class Pictures(common.InFolder):
         self.assertEqual(drawn, {block: sorted(heights) for block, heights in expected.items()})
         # An insert is counted once, however many ways lead to it.
         self.assertGreater(len(beyond), 1)
-        self.assertEqual(said, [f"dwg-picture: not drawn: {len(beyond)} INSERT (more than 64 deep)"])
+        self.assertEqual(said, [f"dwg-picture: standard input: not drawn: {len(beyond)} INSERT (more than 64 deep)"])
 
     def test_loops_in_any_order(self) -> None:
         """Which insert leads back isn't told by what is met first: it is looked for by the handles of blocks."""
@@ -1084,14 +1264,14 @@ class Pictures(common.InFolder):
                 one.insert(inner, (0, 0, 0), owner=block)
 
         said, drawn = self.drawn_in_any_order(ring, [0x30, 0x31, 0x32, 0x33, 0x34, 0x35])
-        self.assertEqual(said, ["dwg-picture: block B30 inserts itself", "dwg-picture: block B34 inserts itself"])
+        self.assertEqual(said, ["dwg-picture: standard input: block B30 inserts itself", "dwg-picture: standard input: block B34 inserts itself"])
         self.assertEqual(drawn, {0x30: [0x30, 0x31, 0x32], 0x31: [0x31, 0x32], 0x32: [0x32], 0x33: [0x32, 0x33], 0x34: [0x34], 0x35: [0x34, 0x35]})
         # What is looked at is the first of its ring, and is never in itself.
-        self.assertEqual(self.drawn_in_any_order(ring, [0x32, 0x31]), (["dwg-picture: block B31 inserts itself"], {0x31: [0x30, 0x31, 0x32], 0x32: [0x30, 0x32]}))
+        self.assertEqual(self.drawn_in_any_order(ring, [0x32, 0x31]), (["dwg-picture: standard input: block B31 inserts itself"], {0x31: [0x30, 0x31, 0x32], 0x32: [0x30, 0x32]}))
         one = spelled.Drawing()
         ring(one)
         answer = tool("dwg-picture", "--block", "b32", given=one.file())
-        self.assertEqual((answer.returncode, answer.stderr), (0, b"dwg-picture: block B32 inserts itself\n"))
+        self.assertEqual((answer.returncode, answer.stderr), (0, b"dwg-picture: standard input: block B32 inserts itself\n"))
         self.assertEqual(len(Picture(answer.stdout).seen), 3)
 
     def test_many_blocks_in_each_other(self) -> None:
@@ -1110,7 +1290,7 @@ class Pictures(common.InFolder):
         path = self.file("a.dwg", one.file())
         ran = test_limits.otherwise("dwg-picture", "", "--program", PROGRAM, path)
         self.assertEqual(ran.returncode, 0, ran.stderr)
-        self.assertRegex(ran.stderr.decode(), r"\Adwg-picture: not drawn: \d+ INSERT \(more than \d+ copies in all\)\n")
+        self.assertRegex(ran.stderr.decode(), rf"\Adwg-picture: {path}: not drawn: \d+ INSERT \(more than \d+ copies in all\)\n")
         self.assertIn(b"<path d=", ran.stdout)
         self.assertLess(len(ran.stdout), 1 << 26)
 
@@ -1250,7 +1430,7 @@ class Pictures(common.InFolder):
         answer = tool("dwg-picture", "--program", cut, given=one.file())
         whys = ["CIRCLE (no centre)", "INSERT (no extrusion)", "LWPOLYLINE (fewer than two points)", "POLYLINE 3D (a vertex isn't read by all its fields)"]
         told = ["nothing is drawn", *(f"not drawn: 1 {why}" for why in [*whys, "SOLID (no extrusion)", "TEXT (no insertion)"])]
-        self.assertEqual((answer.returncode, answer.stderr.decode().splitlines()), (0, [f"dwg-picture: {line}" for line in told]))
+        self.assertEqual((answer.returncode, answer.stderr.decode().splitlines()), (0, [f"dwg-picture: standard input: {line}" for line in told]))
 
     def test_undrawn(self) -> None:
         one = spelled.Drawing()
@@ -1274,8 +1454,8 @@ class Pictures(common.InFolder):
             f"1 LINE {large}", "1 MTEXT", "1 WIPEOUT",
         ]  # fmt: skip
         lines = answer.stderr.decode().splitlines()
-        self.assertEqual(lines[0], "dwg-picture: nothing is drawn")
-        self.assertEqual(lines[1:], [f"dwg-picture: not drawn: {count}" for count in counts])
+        self.assertEqual(lines[0], "dwg-picture: standard input: nothing is drawn")
+        self.assertEqual(lines[1:], [f"dwg-picture: standard input: not drawn: {count}" for count in counts])
 
     def test_made(self) -> None:
         for count, seed in ((1, 7), (50, 3), (400, 11)):

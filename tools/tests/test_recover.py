@@ -3,6 +3,7 @@
 from __future__ import annotations
 
 import collections
+import contextlib
 import itertools
 import json
 import os
@@ -120,6 +121,80 @@ class Recover(unittest.TestCase):
                         RECOVER.place_both(whole, notes, written)
                 self.assertEqual({name: pathlib.Path(folder, name).read_bytes() for name in os.listdir(folder)}, old)
                 self.assertFalse(written.stands)
+
+    def test_a_pair_is_of_one_run_whatever_fails(self) -> None:
+        """Whichever calls fail by which files are named: no output stands beside the notes of another, and where what is away is, that is told."""
+        old: Dict[str, bytes] = {"out": b"o", "out.notes": b"n"}
+        names = [name for count in range(3) for name in itertools.combinations(old, count)]
+        turns = [failing for count in (1, 2) for failing in itertools.combinations(range(1, 7), count)]
+        seen = set()
+        for there, has_links, failing in itertools.product(names, (True, False), turns):
+            with self.subTest(there=there, has_links=has_links, failing=failing), tempfile.TemporaryDirectory() as folder:
+                for name in there:
+                    pathlib.Path(folder, name).write_bytes(old[name])
+                written = RECOVER.Written(os.path.join(folder, "out"))
+                is_whole = placed(written, failing, has_links)
+                standing = {name: pathlib.Path(folder, name).read_bytes() for name in os.listdir(folder) if not name.startswith(".")}
+                pair = tuple(standing.get(name) for name in old)
+                seen.add(pair)
+                self.assertNotIn(pair, [(b"new", b"n"), (b"o", b"new"), (None, b"new")])
+                self.assertEqual(is_whole, pair == (b"new", b"new"))
+                self.assertEqual(written.stands, pair[0] == b"new")
+                if not is_whole:
+                    self.assertEqual("is there, the new one, without its notes" in str(written), pair[0] == b"new")
+                    kept = {pathlib.Path(path).read_bytes() for path in re.findall(r"before is in (\S+\.part)", str(written))}
+                    lost = {old[name] for name in there} - set(pair) - kept
+                    self.assertFalse(lost if has_links else lost - {b"o"}, str(written))
+        self.assertEqual({pair for pair in seen if pair[0] == b"new"}, {(b"new", b"new"), (b"new", None)})
+
+    def test_old_notes_that_are_gone_are_told_so(self) -> None:
+        for name in ("out", "out.notes"):
+            (self.folder / name).write_bytes(b"old")
+        written = RECOVER.Written(str(self.folder / "out"))
+
+        def emptied(file: drawing.WholeFile) -> None:
+            for path in self.folder.glob(".out.notes.*.part"):
+                path.unlink()
+            raise OSError(5, "Input/output error")
+
+        with RECOVER.WholeFile(written.out, True) as whole, RECOVER.WholeFile(written.out + ".notes", True) as notes:
+            with unittest.mock.patch.object(notes, "place", lambda: emptied(notes)), self.assertRaises(OSError):
+                RECOVER.place_both(whole, notes, written)
+        self.assertEqual((written.stands, str(written)), (False, f"what was {self.folder}/out.notes before is gone"))
+
+    def test_what_is_no_recovery_takes_no_name(self) -> None:
+        """A program that says that it is done and isn't: nothing is written, and what was there stays."""
+        self.source.write_bytes(without([0x40]))
+        cut = self.folder / "cut"
+        cut.write_bytes(DATA[:700])
+        odd = {
+            "nothing": ["exit 0"],
+            "nothing, and notes": ['"$REAL" recover >/dev/null; exit 1'],
+            "half of it": ['"$REAL" recover | head -c 500; exit 0'],
+            "no drawing": [f'cat "{cut}"; exit 0'],
+            "no notes": ['"$REAL" recover 2>/dev/null; exit 1'],
+            "notes of another status": ['"$REAL" recover; exit 0'],
+            "notes without an end": ['"$REAL" recover 2>"$0.notes"; grep -v kept "$0.notes" >&2; exit 1'],
+        }
+        for name, lines in odd.items():
+            stand_in = program_that(self.folder, "stand-in", ['[ "$1" = recover ] || exec "$REAL" "$@"', *lines])
+            for out in (self.out, "-"):
+                with self.subTest(name, out=out):
+                    ran = tool("dwg-recover", "--program", stand_in, self.source, out)
+                    self.assertEqual((ran.returncode, ran.stdout, self.out.exists(), self.notes.exists()), (69, b"", False, False), ran.stderr)
+                    self.assertTrue(ran.stderr.startswith(b"dwg-recover: the program dwg gave no answer: "), ran.stderr)
+        self.assertEqual(tool("dwg-recover", "--program", "/bin/true", self.source, self.out).returncode, 69)
+        self.assertEqual((self.out.exists(), self.notes.exists()), (False, False))
+        self.out.write_bytes(b"precious")
+        self.notes.write_bytes(b"precious too")
+        (self.folder / "stand-in.notes").unlink()
+        for name, lines in odd.items():
+            lines = [line.replace("$0.notes", "/dev/null") for line in lines]
+            stand_in = program_that(self.folder, "stand-in", ['[ "$1" = recover ] || exec "$REAL" "$@"', *lines])
+            self.refused(69, "--force", "--program", stand_in, self.source, self.out)
+        # One that has no memory to read it back says so.
+        stand_in = program_that(self.folder, "stand-in", ['[ "$1" != audit ] || exit 6', 'exec "$REAL" "$@"'])
+        self.assertIn(b"no memory was to be had", self.refused(6, "--force", "--program", stand_in, self.source, self.out))
 
     def test_an_older_state_that_is_no_text_is_refused_by_its_first_bytes(self) -> None:
         self.source.write_bytes(DATA)
@@ -502,6 +577,33 @@ object 34 LINE raw 19
                 file.flush()
                 survey = RECOVER.survey_of(RECOVER.Drawing(RECOVER.Program(made.PROGRAM), file.name))
             self.assertEqual({f"{chain.block:X}" for chain in RECOVER.Chains(survey).broken()}, found, f"{handle:X}")
+
+
+def placed(written: Any, failing: Iterable[int], has_links: bool) -> bool:
+    """Whether a new output and new notes took their names, where the calls of these turns fail by which files are named."""
+    turn = itertools.count(1)
+
+    def counted(call: Any) -> Any:
+        def called(*words: Any, **more: Any) -> Any:
+            if next(turn) in failing:
+                raise OSError(5, "Input/output error")
+            return call(*words, **more)
+
+        return called
+
+    with RECOVER.WholeFile(written.out, True) as whole, RECOVER.WholeFile(written.out + ".notes", True) as notes, contextlib.ExitStack() as patched:
+        for file in (whole, notes):
+            file.file.write(b"new")
+            file.finish()
+        for name in ("rename", "replace", "unlink"):
+            patched.enter_context(unittest.mock.patch.object(os, name, counted(getattr(os, name))))
+        if not has_links:
+            patched.enter_context(unittest.mock.patch.object(os, "link", side_effect=OSError(1, "Operation not permitted")))
+        try:
+            RECOVER.place_both(whole, notes, written)
+        except OSError:
+            return False
+    return True
 
 
 def current_mask() -> int:

@@ -130,10 +130,53 @@ class Outputs(common.InFolder):
                 said = [str(TOOLS / name), "--program", made.PROGRAM, *map(str, words(path, self.folder / "out"))]
                 ran = subprocess.run(said, capture_output=True, check=False, preexec_fn=limited_to(size))
                 if size < 9000:
-                    self.assertEqual((ran.returncode, ran.stdout), (5, b""), (name, size, ran.stderr))
+                    # (a picture goes to a temporary file first, and where nothing at all can be written there is none)
+                    status = 70 if name == "dwg-picture" or (name == "dwg-json" and not size) else 5
+                    self.assertEqual((ran.returncode, ran.stdout), (status, b""), (name, size, ran.stderr))
                 for left in ("out", "out.notes"):
                     (self.folder / left).unlink() if ran.returncode < 2 and (self.folder / left).exists() else None
                 self.assertEqual(os.listdir(self.folder), ["a.dwg"], (name, size))
+
+    def test_an_output_that_cannot_be_written_is_named(self) -> None:
+        path = self.file("a.dwg", drawn(30, 1))
+        for name in ("dwg-json", "dwg-picture"):
+            out = self.folder / "no" / "o\tut"
+            ran = tool(name, *WRITERS[name](path, out))
+            said = f"{name}: {self.folder}/no/o\\tut can't be written: No such file or directory\n"
+            self.assertEqual((ran.returncode, ran.stderr.decode()), (5, said))
+            if os.path.exists("/dev/full"):
+                ran = in_bash(f'{name} "$1" >/dev/full', path)
+                self.assertEqual((ran.returncode, ran.stderr.decode()), (5, f"{name}: standard output can't be written: No space left on device\n"))
+        if os.path.exists("/dev/full"):
+            ran = in_bash('dwg-recover "$1" - >/dev/full', path)
+            self.assertEqual((ran.returncode, ran.stderr.decode()), (5, "dwg-recover: standard output can't be written: No space left on device\n"))
+
+    def test_a_temporary_file_that_cannot_be_written_is_told_as_one(self) -> None:
+        """What is full is told, and no input or output is called bad for it."""
+        path, text = self.file("a.dwg", drawn(300, 1)), self.file("text", b"drawing of too few words")
+        (self.folder / "temporary").mkdir()
+        name = f"the temporary file in {self.folder}/temporary"
+        piped = [
+            ("dwg-json", ["-"], 70, path), ("dwg-picture", ["-"], 70, path), ("dwg-diff", ["-", path], 2, path),
+            ("dwg-recover", ["-", self.folder / "out"], 70, path), ("dwg-recover", ["--before", "-", path, self.folder / "out"], 70, path),
+            ("dwg-recover", [path, "-"], 70, None),
+            # The notes of the program are in one too.
+            ("dwg-json", [text], 70, None), ("dwg-diff", [path, text], 2, None),
+        ]  # fmt: skip
+        for tool_name, words, status, given in piped:
+            with self.subTest(tool_name, words=words):
+                said = [str(TOOLS / tool_name), "--program", made.PROGRAM, *map(str, words)]
+                environment = {**os.environ, "TMPDIR": f"{self.folder}/temporary"}
+                data = given.read_bytes() if given else b""
+                ran = subprocess.run(said, input=data, capture_output=True, check=False, preexec_fn=limited_to(20), env=environment)
+                self.assertEqual((ran.returncode, ran.stdout), (status, b""), ran.stderr)
+                self.assertRegex(ran.stderr.decode(), rf"\A{tool_name}: {re.escape(name)}( can't be written|: File too large)\n\Z")
+        # So is one that can't be made.
+        said = [str(TOOLS / "dwg-json"), "--program", made.PROGRAM, str(path)]
+        ran = subprocess.run(said, capture_output=True, check=False, preexec_fn=limited_to(0))
+        self.assertEqual((ran.returncode, ran.stdout), (70, b""), ran.stderr)
+        self.assertTrue(ran.stderr.startswith(b"dwg-json: a temporary file: No usable temporary directory found in "), ran.stderr)
+        self.assertEqual(sorted(os.listdir(self.folder)), ["a.dwg", "temporary", "text"])
 
     def test_a_folder_that_is_moved_keeps_no_temporary_file(self) -> None:
         path = self.file("a.dwg", drawn(3, 1))
@@ -377,7 +420,7 @@ class Ends(common.InFolder):
             ran = tool(name, *words(path))
             said = ran.stderr + (b"" if name in ("dwg-recover", "dwg-picture") else ran.stdout)
             self.assertFalse(set(letters) - set("\n]0;t") & set(said.decode()), (name, said))
-        self.assertEqual(tool("dwg-picture", path).stderr, b"dwg-picture: nothing is drawn\ndwg-picture: not drawn: 1 \\x1b]0;t\\x07\\n\\xc2\\x9b\n")
+        self.assertEqual(tool("dwg-picture", path).stderr, f"dwg-picture: {path}: nothing is drawn\ndwg-picture: {path}: not drawn: 1 \\x1b]0;t\\x07\\n\\xc2\\x9b\n".encode())
         self.assertIn(b"its first is %X, of kind \\x1b]0;t\\x07\\n\\xc2\\x9b, which" % odd, tool("dwg-recover", path, "-").stderr)
 
 
