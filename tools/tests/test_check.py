@@ -1178,6 +1178,18 @@ class Logs(Base):
         log.close()
         self.assertEqual((told, log.fault, len(self.log.read_bytes().splitlines())), ([], "", 6))
 
+    def test_log_to_which_another_adds_half_a_line_keeps_its_own(self) -> None:
+        told: List[str] = []
+        log = self.kept_log(told)
+        with open(self.log, "ab") as file:
+            file.write(b"half")
+        log.kept(CHECK.Row("/a", "sound", bytes=1, mtime_ns=1))
+        log.kept(CHECK.Row("/b", "sound", bytes=1, mtime_ns=1))
+        log.close()
+        lines = self.log.read_bytes().splitlines()
+        self.assertEqual((told, log.fault, len(lines), lines[3]), ([], "", 6, b"half"))
+        self.assertEqual([json.loads(line)["path"] for line in lines[4:]], ["/a", "/b"])
+
     def test_log_that_is_touched_all_the_time_is_read_a_few_times(self) -> None:
         told: List[str] = []
         log = self.kept_log(told)

@@ -354,6 +354,8 @@ class Recover(unittest.TestCase):
         self.out.rmdir()
         self.assertEqual(tool("dwg-recover", self.source, self.out).returncode, 1)
         self.refused(73, self.source, self.out)
+        # Notes of a pair have none beside them.
+        self.assertNotIn(b"no notes", self.refused(73, self.source, self.notes))
         self.assertEqual(tool("dwg-recover", "--force", self.source, self.out).returncode, 1)
 
     def test_nothing_kept(self) -> None:
