@@ -40,7 +40,7 @@ fn judge_item<L: Ledger>(
     if is_met(objects, known, one, steps) {
         return Ok(());
     }
-    found.add(AppFinding {
+    found.try_push(AppFinding {
         handle,
         index,
         item,
@@ -63,7 +63,7 @@ fn judge_items<L: Ledger>(
     ensures found { OnOk result (found.new ≡ found.old ++ found_by.items_findings (map value_of objects.now) handle index 0 items.now) }
     ensures steps { TakeAtMost (length objects.now) (sum_by item_references items.now) steps.old steps.new }
 {
-    'along: for place in 0..items.len() {
+    'items: for place in 0..items.len() {
         judge_item(
             objects,
             known,
@@ -123,7 +123,7 @@ fn judge_apps<L: Ledger>(
     ensures found { OnOk result (found.new ≡ found.old ++ found_by.apps_findings (map value_of objects.now) handle 0 apps.now) }
     ensures steps { TakeAtMost (length objects.now) (sum_by app_references apps.now) steps.old steps.new }
 {
-    'along: for index in 0..apps.len() {
+    'apps: for index in 0..apps.len() {
         judge_app(
             alloc,
             objects,
@@ -151,7 +151,7 @@ fn judge_all<L: Ledger>(
     ensures steps { TakeAtMost (length objects.now) (all_item_references (map value_of objects.now)) steps.old steps.new }
 {
     let mut found = Items::new(alloc);
-    'along: for place in 0..objects.len() {
+    'objects: for place in 0..objects.len() {
         let object = &objects[place];
         judge_apps(
             alloc,
@@ -170,7 +170,7 @@ fn judge_all<L: Ledger>(
 /// of kind LAYER, or an object whose handle isn't null and isn't that of an object. The findings stand in order of handle, application
 /// data and item. Raw objects, and application data whose bytes are no items, have none. A step is one probe of the index of handles:
 /// each item that refers is looked up once at the most, and a lookup takes as many probes as the count of objects has binary digits.
-/// Memory is taken for that index, for the items of one application data at a time, and for the findings; the only refusal is want of it.
+/// Memory is taken for that index, for the items of one application data at a time, and for the findings. Err: out of memory.
 pub fn app_audit<L: Ledger>(
     alloc: Global,
     objects: &[Object<'_>],

@@ -156,7 +156,7 @@ fn read_long(cursor: &mut BitCursor<'_>) -> Option<AppItem>
     Some(AppItem::Long { value })
 }
 
-/// Reads what follows a code byte. None exactly where no prefix of the rest spells it; the only refusal is out of memory.
+/// Reads what follows a code byte. None exactly where no prefix of the rest spells it. Err: out of memory.
 #[tactic(auto, using(crate::proofs::ItemReading::none_after))]
 fn read_after(
     alloc: Global,
@@ -181,8 +181,7 @@ fn read_after(
     }
 }
 
-/// Reads an item: its code byte, and what follows it. None exactly where no prefix of the rest spells one; the only refusal is
-/// out of memory.
+/// Reads an item: its code byte, and what follows it. None exactly where no prefix of the rest spells one. Err: out of memory.
 #[tactic(auto, unfolding(crate::specs::Items::item))]
 fn read_item(alloc: Global, cursor: &mut BitCursor<'_>) -> Result<Option<AppItem>, NoMemory>
     ensures parsed { IfOk result (λ found. item.parse (rest cursor.old) ≡ option_map (λ value. (value, rest cursor.new)) found) }
@@ -209,8 +208,7 @@ fn first_bytes(bytes: &[u8]) -> &[u8]
     &bytes[..LONGEST]
 }
 
-/// Reads the item at the begin of bytes, and says how many it is. None exactly where no item is there; the only refusal is want
-/// of memory.
+/// Reads the item at the begin of bytes, and says how many it is. None exactly where no item is there. Err: out of memory.
 ///
 /// It looks at no more bytes than an item can have, so their bits are counted in a `u64` however many bytes there are.
 fn read_prefix(alloc: Global, bytes: &[u8]) -> Result<Option<(AppItem, usize)>, NoMemory>
@@ -224,8 +222,8 @@ fn read_prefix(alloc: Global, bytes: &[u8]) -> Result<Option<(AppItem, usize)>, 
     Ok(Some((item, (cursor.place / 8) as usize)))
 }
 
-/// Reads the items that bytes are. None exactly where they are no items one after the other; the only refusal is want of
-/// memory, which is taken only for items that are there. What is read can be written, and is written by the same bytes.
+/// Reads the items that bytes are. None exactly where they are no items one after the other. Err: out of memory, which is taken
+/// only for items that are there. What is read can be written, and is written by the same bytes.
 pub fn read_items(alloc: Global, bytes: &[u8]) -> Result<Option<Items<AppItem>>, NoMemory>
     ensures items { IfOk result (λ found. IfSome found (λ all. AreItems all bytes.now)) }
     ensures computed { IfOk result (λ found. found ≡ items_in bytes.now) }
@@ -235,11 +233,11 @@ pub fn read_items(alloc: Global, bytes: &[u8]) -> Result<Option<Items<AppItem>>,
 {
     let mut found = Items::new(alloc);
     let mut place = 0;
-    'along: while place < bytes.len() {
+    'items: while place < bytes.len() {
         let Some((item, count)) = read_prefix(alloc, bytes_after(bytes, place))? else {
             return Ok(None);
         };
-        found.add(item)?;
+        found.try_push(item)?;
         place += count;
     }
     Ok(Some(found))

@@ -158,7 +158,7 @@ pub fn write_items(all: &[AppItem], sink: &mut BitSink)
     ensures are { AreItems all.now (items_bytes all.now) }
     ensures computed { items_in (items_bytes all.now) ≡ Some all.now }
 {
-    'along: for one in all {
+    'items: for one in all {
         write_item(one, sink);
     }
 }
@@ -172,7 +172,7 @@ pub fn items_length(all: &[AppItem]) -> u64
     ensures bits { length (short_all item all.now) ≡ 8 * result }
 {
     let mut bytes = 0;
-    'along: for one in all {
+    'items: for one in all {
         bytes += item_length(one);
     }
     bytes

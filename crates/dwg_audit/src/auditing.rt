@@ -93,7 +93,7 @@ fn judge_all(
 {
     let mut found = Items::new(alloc);
     push_control(objects, &mut found)?;
-    'along: for place in 0..objects.len() {
+    'objects: for place in 0..objects.len() {
         judge(
             objects,
             &tables.known,

@@ -29,7 +29,7 @@ fn count_holder(
     requires room { AreBothOpen (map value_of objects.now) (length (slots (value_of holder.now))) claimed.old }
     ensures { AddsBoth (map value_of objects.now) known.now (value_of holder.now) (slots (value_of holder.now)) claimed.old claimed.new }
 {
-    'along: for i in 0..held.len() {
+    'slots: for i in 0..held.len() {
         count_slot(
             objects,
             known,
@@ -55,7 +55,7 @@ pub(crate) fn count_claims(
     ensures { IfOk result (AreBothCounted (map value_of objects.now) known.now) }
 {
     let mut claimed = Claimed::none(alloc, objects.len())?;
-    'along: for place in 0..objects.len() {
+    'objects: for place in 0..objects.len() {
         let held = slots_at(objects, table, place);
         let places = places_at(objects, table, place);
         count_holder(objects, known, &objects[place], held, places, &mut claimed);

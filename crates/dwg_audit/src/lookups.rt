@@ -9,7 +9,7 @@ ghost use Rattle.dwg_graph.specs.Places.{Ascend, handles_of};
 ghost use Rattle.dwg_graph.specs.Slots.{slots};
 ghost use Rattle.dwg_object.specs.Objects.{ObjectValue, value_of};
 
-use dwg_base::{Handle, Items, NoMemory, push_item, vec_with_capacity};
+use dwg_base::{Handle, Items, NoMemory, vec_with_capacity};
 use dwg_graph::{Index, Slot, SpaceHandles, next_of, owner_of, with_slots};
 use dwg_object::Object;
 use dwg_steps::Steps;
@@ -116,11 +116,11 @@ fn find_all<T: Names, L: Ledger>(
     let mut places = vec_with_capacity(alloc, names.len())?;
     let mut last = None;
     let mut place = None;
-    'along: for name in names {
+    'names: for name in names {
         let handle = name.handle();
         place = find_or_same(index, handle, last, place, steps);
         last = Some(handle);
-        push_item(&mut places, place)?;
+        places.push(place)?;
     }
     Ok(places)
 }
@@ -144,18 +144,15 @@ fn with_object(
     ensures { IfOk result (λ more. (objects : List ObjectValue) → AreGathered objects known.now gathered → AreGathered (objects ++ value_of object.now ∷ []) known.now more) }
 {
     let ObjectReferences {
-        owners,
-        next,
+        mut owners,
+        mut next,
         slots,
-        starts,
+        mut starts,
     } = gathered;
     let slots = with_slots(slots, object)?;
-    let mut owners = owners;
-    let mut next = next;
-    let mut starts = starts;
-    push_item(&mut owners, owner_of(object, *known))?;
-    push_item(&mut next, next_of(object))?;
-    push_item(&mut starts, slots.as_slice().len())?;
+    owners.push(owner_of(object, *known))?;
+    next.push(next_of(object))?;
+    starts.push(slots.as_slice().len())?;
     Ok(ObjectReferences {
         owners,
         next,
@@ -170,7 +167,7 @@ fn none_gathered(alloc: Global, count: usize) -> Result<ObjectReferences, NoMemo
     ensures { IfOk result (λ gathered. (known : _) → AreGathered [] known gathered) }
 {
     let mut starts = vec_with_capacity(alloc, count + 1)?;
-    push_item(&mut starts, 0)?;
+    starts.push(0)?;
     Ok(ObjectReferences {
         owners: vec_with_capacity(alloc, count)?,
         next: vec_with_capacity(alloc, count)?,
@@ -188,7 +185,7 @@ fn gather(
     ensures { IfOk result (AreGathered (map value_of objects.now) known.now) }
 {
     let mut gathered = none_gathered(alloc, objects.len())?;
-    'along: for object in objects {
+    'objects: for object in objects {
         gathered = with_object(gathered, object, known)?;
     }
     Ok(gathered)

@@ -9,7 +9,7 @@ ghost use Rattle.dwg_graph.specs.Slots.{slots};
 ghost use Rattle.dwg_object.specs.Objects.{value_of};
 
 use crate::lookups::{SlotTable, places_at, slots_at};
-use dwg_base::{NoMemory, push_item};
+use dwg_base::NoMemory;
 use dwg_chains::ChainEnds;
 use dwg_graph::{Slot, SpaceHandles, home_of, is_root};
 use dwg_kinds::{Field, number_of};
@@ -26,8 +26,8 @@ pub(crate) fn root_marks(
     ensures { IfOk result (λ marks. marks.items ≡ root_table (map value_of objects.now) known.now) }
 {
     let mut marks = Vec::new(alloc);
-    'along: for object in objects {
-        push_item(&mut marks, is_root(object, known))?;
+    'objects: for object in objects {
+        marks.push(is_root(object, known))?;
     }
     Ok(marks)
 }
@@ -44,8 +44,8 @@ pub(crate) fn homes(
     ensures { IfOk result (λ places. places.items ≡ home_table (map value_of objects.now) known.now) }
 {
     let mut places = Vec::new(alloc);
-    'along: for (place, object) in objects.iter().enumerate() {
-        push_item(&mut places, home_of(objects, known, object, owners[place]))?;
+    'objects: for (place, object) in objects.iter().enumerate() {
+        places.push(home_of(objects, known, object, owners[place]))?;
     }
     Ok(places)
 }
@@ -62,7 +62,7 @@ fn place_of(field: Field, held: &[Slot], places: &[Option<usize>]) -> Option<usi
     requires { length places.now ≡ length held.now }
     ensures { (handles : List ℕ) → places.now ≡ slot_places handles held.now → result ≡ place_of handles field held.now }
 {
-    'along: for i in 0..held.len() {
+    'slots: for i in 0..held.len() {
         if is_of(field, &held[i]) {
             return places[i];
         }
@@ -113,10 +113,10 @@ pub(crate) fn end_places(
     ensures { IfOk result (λ places. places.items ≡ end_table (map value_of objects.now)) }
 {
     let mut ends = Vec::new(alloc);
-    'along: for place in 0..objects.len() {
+    'objects: for place in 0..objects.len() {
         let held = slots_at(objects, table, place);
         let places = places_at(objects, table, place);
-        push_item(&mut ends, ends_at(&objects[place], held, places))?;
+        ends.push(ends_at(&objects[place], held, places))?;
     }
     Ok(ends)
 }

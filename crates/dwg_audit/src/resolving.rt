@@ -53,7 +53,7 @@ fn push_unmet(
         position: slot.position,
         target: slot.target,
     };
-    found.add(finding)
+    found.try_push(finding)
 }
 
 /// Finds a slot that doesn't meet its need, where it is an application's, or where it isn't.
@@ -91,7 +91,7 @@ fn push_slots(
     requires held { HoldsFields (value_of object.now) }
     ensures { OnOk result (found.new ≡ found.old ++ flat_map (unmet (map value_of objects.now) (value_of object.now)) (chosen applications (slots (value_of object.now)))) }
 {
-    'along: for i in 0..held.len() {
+    'slots: for i in 0..held.len() {
         push_chosen(
             objects,
             object,

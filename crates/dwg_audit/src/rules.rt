@@ -28,7 +28,7 @@ pub(crate) fn push_unless(
     if holds {
         return Ok(());
     }
-    found.add(finding)
+    found.try_push(finding)
 }
 
 /// Finds an object of which a claim is asked and that isn't claimed as it should be. Err: out of memory.
@@ -61,7 +61,7 @@ pub(crate) fn push_unclaimed(
         position: counts.all,
         target: owner_of(object, *known),
     };
-    found.add(finding)
+    found.try_push(finding)
 }
 
 /// The last entity that a block names, null where it names none, or both ends are null.
@@ -106,7 +106,7 @@ pub(crate) fn push_unchained(
         position: 0,
         target: last_of(object),
     };
-    found.add(finding)
+    found.try_push(finding)
 }
 
 /// Finds an object whose owners don't lead to a root. Err: out of memory.
@@ -131,5 +131,5 @@ pub(crate) fn push_lost(
         position: 0,
         target: owner_of(object, *known),
     };
-    found.add(finding)
+    found.try_push(finding)
 }

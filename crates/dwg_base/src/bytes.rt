@@ -23,10 +23,8 @@ impl ByteRun {
     pub fn from_slice(alloc: Global, bytes: &[u8]) -> Result<ByteRun, NoMemory>
         ensures { IfOk result (λ run. run ≡ bytes.now) }
     {
-        match Vec::from_slice(alloc, bytes) {
-            Ok(bytes) => Ok(ByteRun { bytes }),
-            Err(_) => Err(NoMemory),
-        }
+        let bytes = Vec::from_slice(alloc, bytes)?;
+        Ok(ByteRun { bytes })
     }
 
     /// The bytes of a `Vec`, without taking memory.

@@ -6,6 +6,7 @@ ghost use Rattle.std.specs.Io.KnownBytes.{ReadConsumes, WriteAppends};
 ghost use Rattle.dwg_base.specs.Devices.{Counts, Sends};
 
 use crate::slices::bytes_after;
+use std::alloc::{AllocError, AllocFailed};
 
 /// One call of a device failed.
 #[derive(Clone, Copy, Debug, PartialEq, Eq)]
@@ -14,6 +15,19 @@ pub struct Failed;
 /// No memory was to be had.
 #[derive(Clone, Copy, Debug, PartialEq, Eq)]
 pub struct NoMemory;
+
+impl From<AllocError> for NoMemory {
+    fn from(_error: AllocError) -> NoMemory {
+        NoMemory
+    }
+}
+
+/// What could not be stored is let go.
+impl<T: Drop> From<AllocFailed<T>> for NoMemory {
+    fn from(_error: AllocFailed<T>) -> NoMemory {
+        NoMemory
+    }
+}
 
 /// A sink failed before it took all bytes.
 #[derive(Clone, Copy, Debug, PartialEq, Eq)]

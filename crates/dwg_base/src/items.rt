@@ -1,6 +1,6 @@
 //! Lists of one type.
 
-ghost use Rattle.std.specs.Prelude.{◌≡◌, List, [], ◌∷◌, ◌++◌, OnOk, IfOk, IfErr, OnErr};
+ghost use Rattle.std.specs.Prelude.{◌≡◌, List, [], ◌∷◌, ◌++◌, OnOk, IfErr, OnErr};
 
 use crate::device::NoMemory;
 use std::alloc::Global;
@@ -56,22 +56,11 @@ impl<T> Items<T> {
 }
 
 impl<T: Drop> Items<T> {
-    /// Puts an item at the end. Err: out of memory.
-    pub fn add(&mut self, item: T) -> Result<(), NoMemory>
+    /// Puts an item at the end. Err: out of memory, which lets the item go.
+    pub fn try_push(&mut self, item: T) -> Result<(), NoMemory>
         ensures { OnOk result (self.new ≡ self.old ++ item ∷ []) }
     {
-        match self.push(item) {
-            Ok(()) => Ok(()),
-            Err(_) => Err(NoMemory),
-        }
-    }
-
-    /// The list and one item more at its end. Err: out of memory.
-    pub fn with(self, item: T) -> Result<Items<T>, NoMemory>
-        ensures { IfOk result (λ more. more ≡ self ++ item ∷ []) }
-    {
-        let mut more = self;
-        more.add(item)?;
-        Ok(more)
+        self.items.push(item)?;
+        Ok(())
     }
 }

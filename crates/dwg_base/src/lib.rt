@@ -1,4 +1,4 @@
-//! Devices, byte runs and refusals: what all crates of `dwg` stand on.
+//! What all crates of `dwg` stand on: devices and reading them to their end, byte runs, lists, handles, versions, and refusals.
 #![tactic(auto)]
 
 mod bytes;
@@ -17,7 +17,7 @@ pub use device::{Failed, NoMemory, Sink, Source, WriteFault, put_all};
 pub use handle::Handle;
 pub use intake::{Intake, LIMIT, read_all};
 pub use items::Items;
-pub use lists::{push_item, vec_with_capacity, with_item};
+pub use lists::vec_with_capacity;
 pub use memory::{MemSink, MemSource};
 pub use refusal::{Fault, Refusal, part_word, reason_word};
 pub use slices::{bytes_after, bytes_with_range};

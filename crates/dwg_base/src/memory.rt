@@ -123,17 +123,15 @@ impl MemSink {
         requires { 1 ≤ most }
         ensures { IfOk result (λ sink. sink ≡ record { taken = []; room = room; most = most; fails = fails; calls = 0; faults = 0 }) }
     {
-        match Vec::with_capacity(alloc, room) {
-            Ok(bytes) => Ok(MemSink {
-                bytes,
-                room,
-                most,
-                fails,
-                calls: 0,
-                faults: 0,
-            }),
-            Err(_) => Err(NoMemory),
-        }
+        let bytes = Vec::with_capacity(alloc, room)?;
+        Ok(MemSink {
+            bytes,
+            room,
+            most,
+            fails,
+            calls: 0,
+            faults: 0,
+        })
     }
 
     /// The bytes taken so far.

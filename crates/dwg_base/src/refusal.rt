@@ -1,7 +1,11 @@
 //! Refusals: which line of the table of refusals failed, and where.
 
 ghost use Rattle.std.specs.Prelude.{◌≡◌, ◌≤◌};
+ghost use Rattle.dwg_base.specs.declared.refusal.Fault.TheVariants.{NoMemory, Refused};
 ghost use Rattle.dwg_base.specs.Refusals.{part_word_of, reason_word_of};
+
+use crate::device::NoMemory;
+use std::alloc::AllocFailed;
 
 /// The first line of the table of refusals that fails.
 #[derive(Clone, Copy, Debug, PartialEq, Eq)]
@@ -21,6 +25,31 @@ pub enum Fault {
     NoMemory,
     /// The input fails a line of the table.
     Refused(Refusal),
+}
+
+impl From<NoMemory> for Fault {
+    ghost from_gives = { λ _ fault. fault ≡ NoMemory };
+
+    fn from(_error: NoMemory) -> Fault {
+        Fault::NoMemory
+    }
+}
+
+impl From<Refusal> for Fault {
+    ghost from_gives = { λ refusal fault. fault ≡ Refused refusal };
+
+    fn from(refusal: Refusal) -> Fault {
+        Fault::Refused(refusal)
+    }
+}
+
+/// What could not be stored is let go.
+impl<T: Drop> From<AllocFailed<T>> for Fault {
+    ghost from_gives = { λ _ fault. fault ≡ NoMemory };
+
+    fn from(_error: AllocFailed<T>) -> Fault {
+        Fault::NoMemory
+    }
 }
 
 /// The part of the input that a line of the table speaks of.

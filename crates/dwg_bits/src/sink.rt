@@ -117,7 +117,7 @@ impl BitSink {
         ensures { Extends self.old self.new (bits_between bytes.now from to) }
     {
         let mut place = from;
-        'along: while place < to {
+        'words: while place < to {
             let count = next_count(to - place);
             self.push(number_at(bytes, place, count), count);
             place += u64::from(count);

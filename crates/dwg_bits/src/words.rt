@@ -69,7 +69,7 @@ fn by_bytes(bytes: &[u8], from: u64, to: u64) -> u64
 {
     let mut value = 0;
     let mut place = from;
-    'along: while place < to {
+    'bytes: while place < to {
         let count = (8 - place % 8).min(to - place) as u32;
         value = joined(value, in_byte(bytes, place, count), count);
         place += u64::from(count);

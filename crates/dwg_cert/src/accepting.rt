@@ -28,7 +28,7 @@ fn are_handles(entries: &[Entry], objects: &[Object<'_>]) -> bool
     if entries.len() != objects.len() {
         return false;
     }
-    'along: for i in 0..entries.len() {
+    'entries: for i in 0..entries.len() {
         if entries[i].handle != objects[i].handle() {
             return false;
         }
@@ -41,7 +41,7 @@ fn are_right(objects: &[Object<'_>], checker: &Checker<'_, '_>) -> bool
     requires { checker.now.objects ≡ map value_of objects.now }
     ensures { result ≡ list_all (is_right checker.now.objects checker.now.cert) checker.now.objects }
 {
-    'along: for place in 0..objects.len() {
+    'objects: for place in 0..objects.len() {
         if !checker.is_right(place, &objects[place]) {
             return false;
         }

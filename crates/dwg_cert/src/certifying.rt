@@ -1,4 +1,4 @@
-//! Indexed up the certificate of a drawing's objects.
+//! Drawing up the certificate of a drawing's objects.
 
 ghost use Rattle.std.specs.Prelude.{◌≡◌, ◌↔◌, ◌<◌, ◌+◌, ◌^◌, length, map, is_some, IfOk, IfSome, IsTrue, Some};
 ghost use Rattle.std.specs.List.{AllByRecursion, slice_get};
@@ -18,7 +18,7 @@ use crate::accepting::accepts;
 use crate::certificate::Certificate;
 use crate::entry::Entry;
 use crate::placing::{Indexed, Tables};
-use dwg_base::{Handle, Items, NoMemory, push_item, vec_with_capacity};
+use dwg_base::{Handle, Items, NoMemory, vec_with_capacity};
 use dwg_object::Object;
 use std::alloc::Global;
 
@@ -118,8 +118,8 @@ fn entries(
     ensures { IfOk result (λ entries. entries ≡ drawn drawing.now) }
 {
     let mut entries = vec_with_capacity(alloc, drawing.objects.len())?;
-    'along: for (place, object) in drawing.objects.iter().enumerate() {
-        push_item(&mut entries, entry(drawing, tables, object, place))?;
+    'objects: for (place, object) in drawing.objects.iter().enumerate() {
+        entries.push(entry(drawing, tables, object, place))?;
     }
     Ok(Items::from_vec(entries))
 }

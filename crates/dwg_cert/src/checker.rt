@@ -292,7 +292,7 @@ impl<'d, 'o> Checker<'d, 'o> {
         requires few { length (slots (value_of object.now)) < 2 ^ 58 }
         ensures { result ≡ list_all (is_met self.now.objects (value_of object.now)) (slots (value_of object.now)) }
     {
-        'along: for i in 0..slot_count(object) {
+        'slots: for i in 0..slot_count(object) {
             if !self.is_met(object, &slot_at(object, i)) {
                 return false;
             }

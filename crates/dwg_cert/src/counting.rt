@@ -57,7 +57,7 @@ pub(crate) fn count_members(
     ensures { IfOk result (λ counts. counts.items ≡ member_counts (map value_of objects.now)) }
 {
     let mut counts = zeroed(alloc, objects.len())?;
-    'along: for place in 0..objects.len() {
+    'objects: for place in 0..objects.len() {
         count_member(objects, known, index, place, &mut counts);
     }
     Ok(counts)
@@ -78,7 +78,7 @@ fn count_holder(
     requires room { AreBothOpen (map value_of objects.now) (length (slots (value_of holder.now))) claimed.old }
     ensures { AddsBoth (map value_of objects.now) known.now (value_of holder.now) (slots (value_of holder.now)) claimed.old claimed.new }
 {
-    'along: for i in 0..slot_count(holder) {
+    'slots: for i in 0..slot_count(holder) {
         let slot = slot_at(holder, i);
         let target = place_of(index, slot.target);
         count_slot(objects, known, holder, &slot, target, claimed);
@@ -98,7 +98,7 @@ pub(crate) fn count_claims(
     ensures { IfOk result (AreBothCounted (map value_of objects.now) known.now) }
 {
     let mut claimed = Claimed::none(alloc, objects.len())?;
-    'along: for holder in objects {
+    'holders: for holder in objects {
         count_holder(objects, known, index, holder, &mut claimed);
     }
     Ok(claimed)

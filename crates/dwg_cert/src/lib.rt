@@ -1,15 +1,15 @@
-//! Certificates: what one holds, when one is accepted, and the bytes that it is written as.
+//! Certificates: what one holds, when one is accepted, and the bytes that it is written as. They know nothing of the audit.
 #![tactic(auto)]
 
 mod acceptance;
 mod accepting;
+mod byte_layout;
 mod certificate;
 mod certifying;
 mod checker;
 mod counting;
 mod ends;
 mod entry;
-mod form;
 mod laws;
 mod lookup;
 mod placing;

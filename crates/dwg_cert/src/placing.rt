@@ -14,7 +14,7 @@ ghost use Rattle.dwg_object.specs.Objects.{value_of};
 
 use crate::ends::{BlockEnds, ends_of};
 use crate::lookup::place_of;
-use dwg_base::{Handle, NoMemory, push_item};
+use dwg_base::{Handle, NoMemory};
 use dwg_chains::ranks;
 use dwg_graph::{Index, SpaceHandles, is_member, is_root, next_of, owner_of, spaces};
 use dwg_object::Object;
@@ -85,8 +85,8 @@ impl<'d, 'o> Indexed<'d, 'o> {
         ensures { IfOk result (λ places. places.items ≡ owner_table self.now (spaces self.now)) }
     {
         let mut places = Vec::new(alloc);
-        'along: for object in self.objects {
-            push_item(&mut places, self.place_of(owner_of(object, self.known)))?;
+        'objects: for object in self.objects {
+            places.push(self.place_of(owner_of(object, self.known)))?;
         }
         Ok(places)
     }
@@ -96,8 +96,8 @@ impl<'d, 'o> Indexed<'d, 'o> {
         ensures { IfOk result (λ places. places.items ≡ next_table self.now) }
     {
         let mut places = Vec::new(alloc);
-        'along: for object in self.objects {
-            push_item(&mut places, self.place_of(next_of(object)))?;
+        'objects: for object in self.objects {
+            places.push(self.place_of(next_of(object)))?;
         }
         Ok(places)
     }
@@ -107,8 +107,8 @@ impl<'d, 'o> Indexed<'d, 'o> {
         ensures { IfOk result (λ marks. marks.items ≡ root_table self.now (spaces self.now)) }
     {
         let mut marks = Vec::new(alloc);
-        'along: for object in self.objects {
-            push_item(&mut marks, is_root(object, &self.known))?;
+        'objects: for object in self.objects {
+            marks.push(is_root(object, &self.known))?;
         }
         Ok(marks)
     }
@@ -160,8 +160,8 @@ impl<'d, 'o> Indexed<'d, 'o> {
         ensures { IfOk result (λ marks. marks.items ≡ map (is_last self.now) self.now) }
     {
         let mut marks = Vec::new(alloc);
-        'along: for (place, object) in self.objects.iter().enumerate() {
-            push_item(&mut marks, self.is_last(object, owners[place]))?;
+        'objects: for (place, object) in self.objects.iter().enumerate() {
+            marks.push(self.is_last(object, owners[place]))?;
         }
         Ok(marks)
     }

@@ -5,10 +5,12 @@ ghost use Rattle.dwg_base.specs.Refusals.{first_fault, Answers, Reports, IsFault
 ghost use Rattle.dwg_cert.specs.WrittenForm.{MAGIC, BeginsWithCertificate, size_of};
 ghost use Rattle.dwg_cert.specs.CertificateLines.{CERTIFICATE_LINES, count_at, number_at, unstored, entry_stated_at, entry_fails, least_handle, short_line, begin_line, length_line, tried_certificate};
 
+use crate::byte_layout::{
+    CHAIN_PLACE, COUNT_PLACE, ENTRIES_PLACE, ENTRY_SIZE, MAGIC_BYTES, RANK_PLACE,
+};
 use crate::certificate::Certificate;
 use crate::entry::Entry;
-use crate::form::{CHAIN_PLACE, COUNT_PLACE, ENTRIES_PLACE, ENTRY_SIZE, MAGIC_BYTES, RANK_PLACE};
-use dwg_base::{Fault, Handle, Items, Refusal};
+use dwg_base::{Fault, Handle, Items, Refusal, vec_with_capacity};
 use std::alloc::Global;
 
 // The lines of the table, in the order in which they are tried.
@@ -139,11 +141,9 @@ fn read_entries(alloc: Global, bytes: &[u8], count: usize) -> Result<Items<Entry
     ensures answers { Answers result (tried_certificate bytes.now) }
     ensures of_table { IfErr result IsFaultOfTable }
 {
-    let Ok(mut entries) = Vec::with_capacity(alloc, count) else {
-        return Err(Fault::NoMemory);
-    };
+    let mut entries = vec_with_capacity(alloc, count)?;
     let mut least = 0;
-    'along: for index in 0..count {
+    'entries: for index in 0..count {
         let Some(entry) = read_entry(bytes, index, least) else {
             return Err(Fault::Refused(Refusal {
                 line: ENTRY_LINE,
@@ -152,10 +152,7 @@ fn read_entries(alloc: Global, bytes: &[u8], count: usize) -> Result<Items<Entry
             }));
         };
         least = entry.handle.value() + 1;
-        match entries.push(entry) {
-            Ok(()) => {}
-            Err(_) => return Err(Fault::NoMemory),
-        }
+        entries.push(entry)?;
     }
     Ok(Items::from_vec(entries))
 }
@@ -180,10 +177,7 @@ pub fn read_certificate(alloc: Global, bytes: &[u8]) -> Result<ReadCertificate, 
         return Err(Fault::Refused(refusal));
     }
     let count = count(bytes) as usize;
-    let entries = match read_entries(alloc, bytes, count) {
-        Ok(entries) => entries,
-        Err(fault) => return Err(fault),
-    };
+    let entries = read_entries(alloc, bytes, count)?;
     Ok(ReadCertificate {
         certificate: Certificate::build(entries),
         end: ENTRIES_PLACE + ENTRY_SIZE * count,

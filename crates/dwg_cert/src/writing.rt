@@ -8,9 +8,9 @@ ghost use Rattle.dwg_bits.specs.Sink.{Extends};
 ghost use Rattle.dwg_cert.specs.Certificates.{IsSmallEntry, HaveHandles};
 ghost use Rattle.dwg_cert.specs.WrittenForm.{BeginsWithCertificate, certificate_bytes, entry_bytes, size_of, stored};
 
+use crate::byte_layout::{ENTRIES_PLACE, ENTRY_SIZE, MAGIC_BYTES};
 use crate::certificate::Certificate;
 use crate::entry::Entry;
-use crate::form::{ENTRIES_PLACE, ENTRY_SIZE, MAGIC_BYTES};
 use dwg_bits::BitSink;
 
 /// How many bytes a certificate is written as: 16, and 24 for each entry (a rule of this project). The caller sees to it that
@@ -74,7 +74,7 @@ fn write_entries(entries: &[Entry], sink: &mut BitSink)
     ensures written { Extends sink.old sink.new (bits (flat_map entry_bytes entries.now)) }
     ensures handles { HaveHandles entries.now }
 {
-    'along: for entry in entries {
+    'entries: for entry in entries {
         write_entry(entry, sink);
     }
 }

@@ -39,7 +39,7 @@ fn follow(
         Some(first) => first,
         None => return false,
     };
-    'along: while is_new(homes, home, at, seen) {
+    'members: while is_new(homes, home, at, seen) {
         set_mark(seen, at, true);
         if is_at(ends.last, at) {
             return true;
@@ -87,7 +87,7 @@ fn judge_all(
     ensures verdict_places { length verdicts.new.items ≡ length homes.now }
     ensures judged { (home : ℕ) → home < length homes.now → IsJudged homes.now next.now seen.new.items home (ends_at ends.now home) (marked verdicts.new.items home) }
 {
-    'along: for home in 0..homes.len() {
+    'homes: for home in 0..homes.len() {
         let verdict = judge(homes, next, home, ends_at(ends, home), seen);
         set_mark(verdicts, home, verdict);
     }
@@ -116,7 +116,7 @@ fn drop_all_unseen(homes: &[Option<usize>], seen: &[bool], verdicts: &mut Vec<bo
     ensures places { length verdicts.new.items ≡ length verdicts.old.items }
     ensures seen { (home : ℕ) → IsTrue (marked verdicts.new.items home) ↔ (IsTrue (marked verdicts.old.items home) × AreSeen homes.now seen.now home) }
 {
-    'along: for place in 0..homes.len() {
+    'homes: for place in 0..homes.len() {
         drop_unseen(homes, seen, place, verdicts);
     }
 }

@@ -1,4 +1,4 @@
-//! Paths and chains over tables of places: how far each place is from a goal, and which places have a chain of their members.
+//! Paths, ranks and chains over any type, with their laws; and over tables of places, where they are found in linear time.
 #![tactic(auto)]
 
 mod chaining;

@@ -52,7 +52,7 @@ fn walk(
 {
     let mut at = start;
     let mut count = 0usize;
-    'along: while !is_marked(seen, at) {
+    'places: while !is_marked(seen, at) {
         set_mark(seen, at, true);
         if is_marked(goals, at) {
             return Some(Way {
@@ -97,7 +97,7 @@ fn give_ranks(up: &[Option<usize>], goals: &[bool], start: usize, way: &Way, kno
 {
     let mut at = start;
     let mut rank = way.rank;
-    'along: for _ in 0..way.places {
+    'places: for _ in 0..way.places {
         set_rank(&mut known.ranks, at, rank);
         if is_marked(goals, at) {
             return;
@@ -146,7 +146,7 @@ pub fn ranks(
         seen: no_marks(alloc, up.len())?,
         ranks: no_numbers(alloc, up.len())?,
     };
-    'along: for place in 0..up.len() {
+    'places: for place in 0..up.len() {
         settle(up, goals, place, &mut known);
     }
     Ok(known.ranks)

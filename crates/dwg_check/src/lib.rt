@@ -1,4 +1,5 @@
-//! Check words: what a section, a map page or an object frame carries of its own bytes.
+//! Check words: what a section, a map page or an object frame carries of its own bytes; of any span of the input; and that each
+//! short damage is seen.
 #![tactic(auto)]
 
 ghost use Rattle.std.specs.Prelude.{◌≡◌, ◌≤◌};
@@ -27,7 +28,7 @@ pub fn check(start: u16, bytes: &[u8]) -> u16
 {
     let mut word = start;
     let mut at = 0;
-    'along: while 8 <= bytes.len() - at {
+    'words: while 8 <= bytes.len() - at {
         word = after_eight(word, bytes, at);
         at += 8;
     }

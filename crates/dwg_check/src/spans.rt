@@ -23,7 +23,7 @@ fn words_of(alloc: Global, bytes: &[u8]) -> Result<Vec<u16>, NoMemory>
         Ok(()) => {}
         Err(_) => return Err(NoMemory),
     }
-    'along: for byte in bytes {
+    'bytes: for byte in bytes {
         word = after_byte(word, *byte);
         match words.push(word) {
             Ok(()) => {}

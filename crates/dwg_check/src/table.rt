@@ -259,7 +259,7 @@ pub(crate) fn after_rest(word: u16, bytes: &[u8], at: usize) -> u16
     ensures { result ≡ check_word word (drop at bytes.now) }
 {
     let mut after = word;
-    'along: for place in at..bytes.len() {
+    'bytes: for place in at..bytes.len() {
         after = after_byte(after, bytes[place]);
     }
     after

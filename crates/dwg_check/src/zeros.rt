@@ -99,7 +99,7 @@ fn after_power(power: usize, word: u16) -> u16
 {
     let mut after = 0;
     let mut rest = word;
-    'along: for bit in 0..16usize {
+    'bits: for bit in 0..16usize {
         after ^= part(power, bit, rest);
         rest /= 2;
     }
@@ -128,7 +128,7 @@ pub(crate) fn after_zeros<L: Ledger>(word: u16, zeros: u64, steps: &mut Steps<L>
     let mut after = word;
     let mut left = zeros % PERIOD;
     let mut power = 0;
-    'along: while 0 < left {
+    'powers: while 0 < left {
         after = after_bit(power, after, left, steps);
         left /= 2;
         power += 1;

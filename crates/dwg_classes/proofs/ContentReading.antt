@@ -1,8 +1,8 @@
 -- Reading a content class by class: what is read so far, and what is left.
-use Rattle.std.proofs.Common.{◌≡◌, refl, sym, ◌∙◌, ap, ap₂, subst, inl, inr, ℕ, ◌+◌, ◌*◌, ◌<◌, ◌≤◌, Bool, List, [], ◌∷◌, ◌++◌, length, arith}
+use Rattle.std.proofs.Common.{◌≡◌, refl, sym, ◌∙◌, ap, ap₂, subst, ℕ, ◌+◌, ◌*◌, ◌<◌, ◌≤◌, Bool, List, [], ◌∷◌, ◌++◌, length, arith}
 use Rattle.std.specs.Prelude.{Some, Ok, Err}
 use Rattle.std.proofs.lemmas.List.{append_assoc, length-append}
-use Rattle.dwg_base.specs.Refusals.{Answers, IfRefused, IsFaultOfTable, IsOfTable}
+use Rattle.dwg_base.specs.Refusals.{Answers, IfRefused}
 use Rattle.dwg_base.specs.declared.refusal.Refusal.{Refusal}
 use Rattle.dwg_base.specs.declared.refusal.Fault.{Fault}
 use Rattle.dwg_base.specs.declared.refusal.Fault.TheVariants.{NoMemory, Refused}
@@ -83,12 +83,3 @@ answers_ok place content classes are = (tried_ok place content classes).1 are
 pub answers_err : (place : ℕ) (content : List ℕ) (fault : Fault) → IfRefused fault (RefusesClass place content) → Answers (Err fault) (tried_classes place content)
 answers_err place content NoMemory refuses = tt
 answers_err place content (Refused refusal) refuses = (tried_err place content refusal).1 refuses
-
--- which is by a line of the table
-failed_of_table : (place index first : ℕ) (rest : List Bool) (refusal : Refusal) → ClassFails place index first rest refusal → IsOfTable refusal
-failed_of_table place index first rest refusal (inl (same, none)) = subst IsOfTable (sym same) (record { least = omega arith; most = omega arith })
-failed_of_table place index first rest refusal (inr number) = subst IsOfTable (sym number.0) (record { least = omega arith; most = omega arith })
-
-pub refused_of_table : (place : ℕ) (content : List ℕ) (fault : Fault) → IfRefused fault (RefusesClass place content) → IsFaultOfTable fault
-refused_of_table place content NoMemory refuses = tt
-refused_of_table place content (Refused refusal) refuses = failed_of_table place (length refuses.before) (length refuses.prefix) refuses.rest refusal refuses.fails

@@ -44,10 +44,8 @@ fn note(firsts: &mut BTreeMap<u16, ClassHint>, class: &Class) -> Result<(), NoMe
     if firsts.contains_key(&class.number) {
         return Ok(());
     }
-    match firsts.insert(class.number, hint_of(class)) {
-        Ok(_) => Ok(()),
-        Err(_) => Err(NoMemory),
-    }
+    firsts.insert(class.number, hint_of(class))?;
+    Ok(())
 }
 
 /// What the first class of each number says.
@@ -55,7 +53,7 @@ fn firsts_of(alloc: Global, classes: &[Class]) -> Result<BTreeMap<u16, ClassHint
     ensures { IfOk result (AreFirsts classes.now) }
 {
     let mut firsts = BTreeMap::new(alloc);
-    'along: for class in classes {
+    'classes: for class in classes {
         note(&mut firsts, class)?;
     }
     Ok(firsts)

@@ -1,12 +1,13 @@
-//! The classes of a drawing: what stands after the type numbers from 500 on (Open Design Specification, "Classes").
+//! The classes of a drawing, read and written: what stands after the type numbers from 500 on (Open Design Specification,
+//! "Classes").
 #![tactic(auto)]
 
 mod class;
+mod class_parts;
 mod finding;
 mod hinting;
 mod hints;
 mod laws;
-mod parts;
 mod reading;
 mod writing;
 

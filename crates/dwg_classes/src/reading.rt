@@ -11,7 +11,7 @@ ghost use Rattle.dwg_classes.specs.ClassLines.{ClassFails, RefusesClass, tried_c
 ghost use Rattle.dwg_classes.specs.WrittenClasses.{AreWritable};
 
 use crate::class::Class;
-use crate::parts::{read_name, read_number, read_proxy};
+use crate::class_parts::{read_name, read_number, read_proxy};
 use dwg_base::{Fault, Items, NoMemory, Refusal};
 use dwg_bits::BitCursor;
 use std::alloc::Global;
@@ -28,8 +28,8 @@ const SPELLING_LINE: u8 = 19;
 /// The line of the table of refusals on a number below 500.
 const NUMBER_LINE: u8 = 20;
 
-/// Reads a class, whatever its number. None exactly where no prefix of the rest spells one; the only refusal is out of memory,
-/// which is taken only for bytes that are there.
+/// Reads a class, whatever its number. None exactly where no prefix of the rest spells one. Err: out of memory, which is taken only
+/// for bytes that are there.
 #[tactic(auto, unfolding(crate::specs::Class::any_class))]
 fn read_class(alloc: Global, cursor: &mut BitCursor<'_>) -> Result<Option<Class>, NoMemory>
     ensures parsed { IfOk result (λ found. any_class.parse (rest cursor.old) ≡ option_map (λ class. (class, rest cursor.new)) found) }
@@ -95,10 +95,8 @@ fn next_class(
     ensures same_end { cursor.new.end ≡ cursor.old.end }
 {
     let first = cursor.at();
-    let class = match read_class(alloc, cursor) {
-        Ok(Some(class)) => class,
-        Ok(None) => return Err(refused(SPELLING_LINE, index, place, first)),
-        Err(NoMemory) => return Err(Fault::NoMemory),
+    let Some(class) = read_class(alloc, cursor)? else {
+        return Err(refused(SPELLING_LINE, index, place, first));
     };
     if class.number < LEAST_NUMBER {
         return Err(refused(NUMBER_LINE, index, place, first));
@@ -111,7 +109,7 @@ fn next_class(
 ///
 /// A refusal has the index of a class, from 0, and the place of the byte in which it begins: at least 29 bits are left, but no
 /// prefix of them spells a class, whatever its number; or one does whose number is below 500. Each class is tried whole before
-/// the next. Memory is taken only for what is there, and want of it reports nothing of the content.
+/// the next. Memory is taken only for what is there; running out of it says nothing of the content.
 pub fn read_classes(alloc: Global, content: &[u8], place: u64) -> Result<Items<Class>, Fault>
     requires content { length content.now < 2 ^ 32 }
     requires place { place < 2 ^ 62 }
@@ -124,16 +122,10 @@ pub fn read_classes(alloc: Global, content: &[u8], place: u64) -> Result<Items<C
 {
     let mut cursor = BitCursor::new(content, 0, 8 * content.len() as u64);
     let mut classes = Items::new(alloc);
-    'along: while cursor.left() >= LEAST_BITS {
+    'classes: while cursor.left() >= LEAST_BITS {
         let index = classes.as_slice().len() as u64;
-        let class = match next_class(alloc, &mut cursor, place, index) {
-            Ok(class) => class,
-            Err(fault) => return Err(fault),
-        };
-        match classes.push(class) {
-            Ok(()) => {}
-            Err(_) => return Err(Fault::NoMemory),
-        }
+        let class = next_class(alloc, &mut cursor, place, index)?;
+        classes.try_push(class)?;
     }
     Ok(classes)
 }

@@ -79,7 +79,7 @@ pub fn classes_bits(classes: &[Class]) -> u64
     ensures values { AreValues numbered_class classes.now }
 {
     let mut bits = 0;
-    'along: for class in classes {
+    'classes: for class in classes {
         bits += class_bits(class);
     }
     bits
@@ -91,7 +91,7 @@ fn write_all(classes: &[Class], sink: &mut BitSink)
     requires room { length (short_all numbered_class classes.now) ≤ sink.old.spare }
     ensures { Extends sink.old sink.new (short_all numbered_class classes.now) }
 {
-    'along: for class in classes {
+    'classes: for class in classes {
         write_class(class, sink);
     }
 }

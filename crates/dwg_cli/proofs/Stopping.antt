@@ -2,7 +2,7 @@
 use Rattle.std.proofs.Common.{◌≡◌, subst, sym, inl, inr}
 use Rattle.dwg_commands.specs.declared.status.Status.{Status}
 use Rattle.dwg_commands.specs.declared.status.Status.TheVariants.{Done, Found, Usage, Refused, ReadFault, WriteFault, NoMemory, TooLong, TooLarge}
-use Rattle.dwg_commands.specs.declared.answer.Answer.{Answer}
+use Rattle.dwg_commands.specs.declared.outcome.Outcome.{Outcome}
 use Rattle.dwg_commands.specs.Run.{IsSettled, IsStopped, DeliversPrefix, Sent, Sinks}
 
 -- a status that is settled isn't one at which the run stopped
@@ -18,10 +18,10 @@ settled_goes_on TooLong settled stopped = stopped
 settled_goes_on (TooLarge size) settled stopped = stopped
 
 -- a run that stopped as it sent its answer left a prefix of what was reported
-pub stopped_is_cut : (answer reported : Answer) (status : Status) (before after : Sinks) → answer ≡ reported → IsSettled answer.status → Sent answer status before after → IsStopped status
+pub stopped_is_cut : (answer reported : Outcome) (status : Status) (before after : Sinks) → answer ≡ reported → IsSettled answer.status → Sent answer status before after → IsStopped status
     → DeliversPrefix reported before.output after.output before.notes after.notes
 stopped_is_cut answer reported status before after is settled sent stopped =
     elim sent.1 [
       | inl whole ↦ absurd (settled_goes_on status (subst IsSettled (sym whole.0) settled) stopped)
-      | inr broken ↦ subst (λ (one : Answer). DeliversPrefix one before.output after.output before.notes after.notes) is broken.1
+      | inr broken ↦ subst (λ (one : Outcome). DeliversPrefix one before.output after.output before.notes after.notes) is broken.1
     ]

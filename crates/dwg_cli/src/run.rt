@@ -9,7 +9,7 @@ ghost use Rattle.dwg_commands.specs.Outcome.{outcome};
 ghost use Rattle.dwg_commands.specs.Run.{Feeds, AnswersTo, IsSettled, IsStopped, IsFailed, IsDrained, Delivers, DeliversPrefix, StopsAtFault};
 
 use dwg_base::{Sink, Source, put_all};
-use dwg_commands::{Status, Stop, answer_request, request_for};
+use dwg_commands::{Status, Stop, job_for, run_job};
 use dwg_text::read_fault_note;
 use std::alloc::Global;
 
@@ -84,8 +84,8 @@ pub fn run<R: Source, W: Sink, N: Sink>(
         (bytes : List ℕ) → Feeds (command_of (words_of words.now)) (R.left input.old) bytes →
         (result ≡ (outcome (words_of words.now) bytes).status) ⊎ (result ≡ Status.NoMemory) }
 {
-    match request_for(alloc, words, input) {
-        Ok(request) => answer_request(alloc, &request, output, notes),
+    match job_for(alloc, words, input) {
+        Ok(job) => run_job(alloc, &job, output, notes),
         Err(Stop::ReadFault) => report_read_fault(notes),
         Err(Stop::NoMemory) => Status::NoMemory,
     }

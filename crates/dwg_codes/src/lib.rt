@@ -1,4 +1,4 @@
-//! The bit codes of the drawing format: one type a code, each with the bits that it reads and writes (Open Design
+//! The bit codes of the drawing format: one type a code, which reads each of its spellings and writes a shortest one (Open Design
 //! Specification, "Bit codes").
 #![tactic(auto)]
 

@@ -14,8 +14,8 @@ use dwg_base::{Items, NoMemory};
 use dwg_bits::{BitCursor, BitSink};
 use std::alloc::Global;
 
-/// Reads so many values, one after the other. None, with nothing moved, exactly where one of them isn't spelled; the only
-/// refusal is out of memory, which moves nothing either and is taken only for values that are there.
+/// Reads so many values, one after the other. None, with nothing moved, exactly where one of them isn't spelled. Err: out of
+/// memory, which moves nothing either and is taken only for values that are there.
 #[tactic(auto, using(crate::proofs::ListReading::none_yet, crate::proofs::ListReading::list_read))]
 pub fn read_list<C: BitCode>(
     alloc: Global,
@@ -36,19 +36,19 @@ where
 {
     let mut ahead = *cursor;
     let mut found = Items::new(alloc);
-    'along: for _ in 0..count {
+    'values: for _ in 0..count {
         let Some(item) = C::read(context, &mut ahead) else {
             return Ok(None);
         };
-        found.add(item)?;
+        found.try_push(item)?;
     }
     *cursor = ahead;
     Ok(Some(found))
 }
 
-/// Reads values to the end: another follows while at least `least` bits are left, and no value has fewer. None, with
-/// nothing moved, exactly where one of them isn't spelled; the only refusal is out of memory, which moves nothing either
-/// and is taken only for values that are there.
+/// Reads values to the end: another follows while at least `least` bits are left, and no value has fewer. None, with nothing moved,
+/// exactly where one of them isn't spelled. Err: out of memory, which moves nothing either and is taken only for values that are
+/// there.
 #[tactic(auto, using(crate::proofs::ListReading::none_yet))]
 pub fn read_to_end<C: BitCode>(
     alloc: Global,
@@ -70,11 +70,11 @@ where
 {
     let mut found = Items::new(alloc);
     let mut ahead = *cursor;
-    'along: while least <= ahead.left() {
+    'values: while least <= ahead.left() {
         let Some(value) = C::read(context, &mut ahead) else {
             return Ok(None);
         };
-        found.add(value)?;
+        found.try_push(value)?;
     }
     *cursor = ahead;
     Ok(Some(found))
@@ -88,7 +88,7 @@ pub fn list_length<C: BitCode>(context: &C::Context, values: &[C::Value]) -> u64
     ensures { result ≡ length (short_all (C.grammar context.now) values.now) }
 {
     let mut bits = 0;
-    'along: for item in values {
+    'values: for item in values {
         bits += C::length(context, item);
     }
     bits
@@ -101,7 +101,7 @@ pub fn write_list<C: BitCode>(context: &C::Context, values: &[C::Value], sink: &
     requires room { length (short_all (C.grammar context.now) values.now) ≤ sink.old.spare }
     ensures { Extends sink.old sink.new (short_all (C.grammar context.now) values.now) }
 {
-    'along: for value in values {
+    'values: for value in values {
         C::write(context, value, sink);
     }
 }

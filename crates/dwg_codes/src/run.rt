@@ -32,8 +32,8 @@ fn take_bytes(alloc: Global, count: u32, cursor: &mut BitCursor<'_>) -> Result<V
     }
 }
 
-/// Reads so many bytes. None, with nothing moved, exactly where fewer are left; the only refusal is out of memory, which
-/// moves nothing either and is taken only for bytes that are there.
+/// Reads so many bytes. None, with nothing moved, exactly where fewer are left. Err: out of memory, which moves nothing either and
+/// is taken only for bytes that are there.
 #[tactic(auto, using(crate::proofs::RunReading::run_values))]
 pub fn read_bytes(
     alloc: Global,

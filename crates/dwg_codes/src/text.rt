@@ -13,8 +13,8 @@ use dwg_base::{ByteRun, NoMemory};
 use dwg_bits::{BitCursor, BitSink};
 use std::alloc::Global;
 
-/// Reads a text: at most 65,535 bytes. None, with nothing moved, exactly where no prefix of the rest spells one; the only
-/// refusal is out of memory, which moves nothing either and is taken only for bytes that are there.
+/// Reads a text: at most 65,535 bytes. None, with nothing moved, exactly where no prefix of the rest spells one. Err: out of
+/// memory, which moves nothing either and is taken only for bytes that are there.
 pub fn read_text(alloc: Global, cursor: &mut BitCursor<'_>) -> Result<Option<ByteRun>, NoMemory>
     ensures reads { IfOk result (λ found. Reads tv found (rest cursor.old) (rest cursor.new)) }
     ensures value { IfOk result (λ found. IfSome found (λ run. length run ≤ 65535)) }

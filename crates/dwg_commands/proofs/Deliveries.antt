@@ -5,7 +5,7 @@ use Rattle.std.specs.Prelude.{nat_lt, if◌then◌else◌}
 use Rattle.dwg_base.specs.Devices.{MOST_BYTES}
 use Rattle.dwg_commands.specs.declared.status.Status.{Status}
 use Rattle.dwg_commands.specs.declared.status.Status.TheVariants.{TooLarge}
-use Rattle.dwg_commands.specs.declared.answer.Answer.{Answer}
+use Rattle.dwg_commands.specs.declared.outcome.Outcome.{Outcome}
 use Rattle.dwg_commands.specs.Outcome.{noted, filed_with}
 use Rattle.dwg_file.specs.Canonical.{Carried, canonical_with, size_with}
 use Rattle.dwg_file.specs.Contents.{Contents}
@@ -14,8 +14,8 @@ use Rattle.dwg_text.specs.Notes.{too_large_note}
 use Rattle.dwg_commands.specs.Run.{Sent, Sinks}
 
 -- an answer that is another
-pub sent_same : (answer reported : Answer) (status : Status) (before after : Sinks) → answer ≡ reported → Sent answer status before after → Sent reported status before after
-sent_same answer reported status before after is sent = subst (λ (one : Answer). Sent one status before after) is sent
+pub sent_same : (answer reported : Outcome) (status : Status) (before after : Sinks) → answer ≡ reported → Sent answer status before after → Sent reported status before after
+sent_same answer reported status before after is sent = subst (λ (one : Outcome). Sent one status before after) is sent
 
 -- the file of a drawing that is within the limit, and of one that isn't
 pub sent_within : (carried : Carried) (drawing : Contents) (other : Planned) (note : List ℕ) (ends status : Status) (before after : Sinks) → size_with carried drawing ≤ MOST_BYTES

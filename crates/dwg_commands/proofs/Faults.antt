@@ -11,7 +11,7 @@ use Rattle.dwg_commands.specs.declared.words.Reading.TheVariants.{Classes, Rewri
 use Rattle.dwg_file.specs.FileLines.{ALL_LINES, classes_section_row, classes_row}
 use Rattle.dwg_commands.specs.CertifiedInput.{drawing_bytes, drawing_row}
 use Rattle.dwg_commands.specs.Lines.{lines_of}
-use Rattle.dwg_commands.specs.Replies.{IsRefused}
+use Rattle.dwg_commands.specs.Pendings.{IsRefused}
 
 -- a refusal of one row or of those after it is that of the row or of more rows after it
 by_row : (here after longer : Option Refusal) (refusal : Refusal) → (after ≡ Some refusal → longer ≡ Some refusal) → option_or here after ≡ Some refusal → option_or here longer ≡ Some refusal

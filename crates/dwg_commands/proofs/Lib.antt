@@ -10,8 +10,8 @@ pub mod DrillWords
 pub mod Drills
 pub mod SectionLemmas
 pub mod ShortDamage
-pub mod ItemAnswers
+pub mod ItemLaws
 pub mod OwnCertificate
-pub mod CertificateReplies
-pub mod CarryAnswers
-pub mod CertificateAnswers
+pub mod CertificateOutcomes
+pub mod CarryLaws
+pub mod CertificateLaws

@@ -21,17 +21,18 @@ use Rattle.dwg_graph.specs.Sound.{IsSound}
 use Rattle.dwg_recover.specs.Recovering.{RecoveredValue, recovered}
 use Rattle.dwg_recover.specs.Reported.{RecoveredIsValid, SpelledIsAnswered, DamagedIsAnswered}
 use Rattle.dwg_messages.specs.RecoveryNote.{recovery_note}
-use Rattle.dwg_messages.specs.AuditText.{audit_text, finding_line, verdict}
+use Rattle.dwg_messages.specs.AuditText.{audit_text, finding_line}
+use Rattle.dwg_messages.specs.Verdict.{verdict}
 use Rattle.dwg_show.specs.DrawingText.{show_text}
 use Rattle.dwg_text.specs.Lines.{line}
 use Rattle.dwg_text.specs.Notes.{too_large_note}
-use Rattle.dwg_commands.specs.declared.answer.Answer.{Answer}
+use Rattle.dwg_commands.specs.declared.outcome.Outcome.{Outcome}
 use Rattle.dwg_commands.specs.declared.status.Status.{Status}
 use Rattle.dwg_commands.specs.declared.status.Status.TheVariants.{Done, Found, TooLarge}
 use Rattle.dwg_commands.specs.declared.words.Reading.{Reading}
 use Rattle.dwg_commands.specs.declared.words.Reading.TheVariants.{Show, Rewrite, Audit, Recover}
 use Rattle.dwg_commands.specs.Lines.{lines_of}
-use Rattle.dwg_commands.specs.Outcome.{noted, refused_or, printed, filed, filed_with, written, audited, verdict_status, recovery_notes, recovery_status, recovered_answer, answer_within, outcome_within, outcome_of}
+use Rattle.dwg_commands.specs.Outcome.{noted, refused_or, printed, filed, filed_with, written, audited, verdict_status, recovery_notes, recovery_status, recovered_outcome, outcome_passing, outcome_within, outcome_of}
 use Rattle.dwg_commands.specs.OutcomeLaws.{IsInput, SpellsNone, said, Rewrites, ReportsSound, NoDrawingIsRefused, ShowPrintsDrawing, RewriteWritesDrawing, RewriteReportsSize, AuditReportsSound, RecoverRewritesDrawing, RecoverWritesFrames}
 use Rattle.dwg_commands.specs.Words.{command_of, reading_of, reads}
 use Rattle.dwg_commands.proofs.CommandsRead.{reads_back}
@@ -73,14 +74,14 @@ unfolding command_of reading_of
 recover_said bytes input = of_input Recover bytes input
 
 -- where none of a command's lines fails, or one does, its answer is this
-pub passed : (reading : Reading) (bytes : List ℕ) → first_fault (lines_of reading) bytes ≡ None → outcome_within reading bytes ≡ answer_within reading bytes
+pub passed : (reading : Reading) (bytes : List ℕ) → first_fault (lines_of reading) bytes ≡ None → outcome_within reading bytes ≡ outcome_passing reading bytes
 unfolding outcome_within
-passed reading bytes holds = ap (λ (first : Option Refusal). refused_or first (answer_within reading bytes)) holds
+passed reading bytes holds = ap (λ (first : Option Refusal). refused_or first (outcome_passing reading bytes)) holds
 
 pub refused : (reading : Reading) (bytes : List ℕ) (refusal : Refusal) → first_fault (lines_of reading) bytes ≡ Some refusal
-    → outcome_within reading bytes ≡ refused_or (Some refusal) (answer_within reading bytes)
+    → outcome_within reading bytes ≡ refused_or (Some refusal) (outcome_passing reading bytes)
 unfolding outcome_within
-refused reading bytes refusal fails = ap (λ (first : Option Refusal). refused_or first (answer_within reading bytes)) fails
+refused reading bytes refusal fails = ap (λ (first : Option Refusal). refused_or first (outcome_passing reading bytes)) fails
 
 -- an input that spells no drawing fails a line
 pub first_failing : DrawingLaws → (bytes : List ℕ) → IsInput bytes → SpellsNone bytes → (refusal : Refusal) × (first_fault ALL_LINES bytes ≡ Some refusal)
@@ -105,13 +106,13 @@ read_is laws drawing bytes are spelled = laws.one bytes (drawing_at bytes) drawi
 
 -- `show` prints its text
 pub show_prints_drawing : DrawingLaws → ShowPrintsDrawing
-unfolding answer_within
+unfolding outcome_passing
 show_prints_drawing laws drawing bytes input spelled =
     show_said bytes input ∙ passed Show bytes (laws.passes bytes drawing input.are spelled) ∙ ap (λ one. printed (show_text one)) (read_is laws drawing bytes input.are spelled)
 
 -- `rewrite` answers its file, whatever its size
 rewrite_is_written : DrawingLaws → (drawing : Contents) (bytes : List ℕ) → IsInput bytes → Spelled drawing bytes → said (codes "rewrite") bytes ≡ written drawing
-unfolding answer_within
+unfolding outcome_passing
 rewrite_is_written laws drawing bytes input spelled =
     rewrite_said bytes input ∙ passed Rewrite bytes (laws.passes bytes drawing input.are spelled) ∙ ap written (read_is laws drawing bytes input.are spelled)
 
@@ -156,7 +157,7 @@ written_rewrites laws files drawing valid small =
 pub rewrite_writes_drawing : DrawingLaws → FileLaws → RewriteWritesDrawing
 rewrite_writes_drawing laws files drawing bytes input spelled small =
     let valid = laws.valid bytes drawing input.are input.within spelled in
-    subst (λ (answer : Answer). Rewrites drawing answer)
+    subst (λ (answer : Outcome). Rewrites drawing answer)
     (sym (rewrite_is_written laws drawing bytes input spelled ∙ filed_within drawing [] Done small)) (written_rewrites laws files drawing valid small)
 
 -- and of a larger one reports its size
@@ -164,11 +165,11 @@ pub rewrite_reports_size : DrawingLaws → RewriteReportsSize
 rewrite_reports_size laws drawing bytes input spelled large = rewrite_is_written laws drawing bytes input spelled ∙ filed_large drawing [] Done large
 
 -- an answer that prints findings
-printed_so : (drawing : Contents) (found : List Finding) (answer : Answer) → found ≡ findings drawing.objects → answer ≡ record { output = audit_text found; note = []; status = verdict_status found }
+printed_so : (drawing : Contents) (found : List Finding) (answer : Outcome) → found ≡ findings drawing.objects → answer ≡ record { output = audit_text found; note = []; status = verdict_status found }
     → answer ≡ record { output = audit_text (findings drawing.objects); note = []; status = answer.status }
 printed_so drawing found answer are is =
     is ∙ ap (λ (all : List Finding). record { output = audit_text all; note = []; status = verdict_status found }) are
-    ∙ ap (λ (status : Status). record { output = audit_text (findings drawing.objects); note = []; status = status }) (sym (ap (λ (a : Answer). a.status) is))
+    ∙ ap (λ (status : Status). record { output = audit_text (findings drawing.objects); note = []; status = status }) (sym (ap (λ (a : Outcome). a.status) is))
 
 -- the text of findings is not the verdict on none: it begins with another letter
 begins_otherwise : (finding : Finding) (more : List Finding) → audit_text (finding ∷ more) ≡ line (codes "audit yes") → ⊥
@@ -178,20 +179,20 @@ begins_otherwise finding more same =
     omega (arith, letters)
 
 -- a verdict over findings, of which there are none exactly where a drawing is sound
-verdict_reports : (drawing : Contents) (found : List Finding) (answer : Answer) → found ≡ findings drawing.objects → answer ≡ record { output = audit_text found; note = []; status = verdict_status found }
+verdict_reports : (drawing : Contents) (found : List Finding) (answer : Outcome) → found ≡ findings drawing.objects → answer ≡ record { output = audit_text found; note = []; status = verdict_status found }
     → (found ≡ []) ↔ IsSound drawing.objects → ReportsSound drawing answer
 unfolding audit_text verdict
 verdict_reports drawing [] answer found is sound = record {
-  sound = (λ done. sound.0 refl, λ holds. ap (λ (a : Answer). a.status) is);
+  sound = (λ done. sound.0 refl, λ holds. ap (λ (a : Outcome). a.status) is);
   unsound = λ fails. absurd (fails (sound.0 refl));
   prints = printed_so drawing [] answer found is;
-  yes = (λ prints. sound.0 refl, λ holds. ap (λ (a : Answer). a.output) is);
+  yes = (λ prints. sound.0 refl, λ holds. ap (λ (a : Outcome). a.output) is);
 }
 verdict_reports drawing (finding ∷ more) answer found is sound = record {
-  sound = (λ done. absurd (differ (sym done ∙ ap (λ (a : Answer). a.status) is)), λ holds. absurd (some (sound.1 holds)));
-  unsound = λ fails. ap (λ (a : Answer). a.status) is;
+  sound = (λ done. absurd (differ (sym done ∙ ap (λ (a : Outcome). a.status) is)), λ holds. absurd (some (sound.1 holds)));
+  unsound = λ fails. ap (λ (a : Outcome). a.status) is;
   prints = printed_so drawing (finding ∷ more) answer found is;
-  yes = (λ prints. absurd (begins_otherwise finding more (sym (ap (λ (a : Answer). a.output) is) ∙ prints)), λ holds. absurd (some (sound.1 holds)));
+  yes = (λ prints. absurd (begins_otherwise finding more (sym (ap (λ (a : Outcome). a.output) is) ∙ prints)), λ holds. absurd (some (sound.1 holds)));
 }
   where
     differ : Done ≡ Found → ⊥
@@ -202,7 +203,7 @@ verdict_reports drawing (finding ∷ more) answer found is sound = record {
 
 -- `audit` reports whether the drawing is sound
 pub audit_reports_sound : DrawingLaws → ValidIsAuditable → NothingIsFoundIfSound → AuditReportsSound
-unfolding answer_within audited
+unfolding outcome_passing audited
 audit_reports_sound laws auditable sound drawing bytes input spelled =
     let valid = laws.valid bytes drawing input.are input.within spelled in
     let is : said (codes "audit") bytes ≡ audited drawing =
@@ -210,20 +211,20 @@ audit_reports_sound laws auditable sound drawing bytes input spelled =
     verdict_reports drawing (findings drawing.objects) (said (codes "audit") bytes) refl is (sound drawing.objects (auditable drawing valid).ascending)
 
 -- `recover` tries no line
-pub recover_is : (bytes : List ℕ) → IsInput bytes → said (codes "recover") bytes ≡ recovered_answer (recovered bytes)
-unfolding answer_within
+pub recover_is : (bytes : List ℕ) → IsInput bytes → said (codes "recover") bytes ≡ recovered_outcome (recovered bytes)
+unfolding outcome_passing
 recover_is bytes input = recover_said bytes input ∙ passed Recover bytes refl
 
 -- of what is recovered whole it answers the file
 pub recover_rewrites_drawing : DrawingLaws → SpelledIsAnswered → RecoverRewritesDrawing
-unfolding recovered_answer
+unfolding recovered_outcome
 recover_rewrites_drawing laws answered drawing bytes input spelled =
-    recover_is bytes input ∙ ap recovered_answer (answered drawing bytes spelled input.are) ∙ sym (rewrite_is_written laws drawing bytes input spelled)
+    recover_is bytes input ∙ ap recovered_outcome (answered drawing bytes spelled input.are) ∙ sym (rewrite_is_written laws drawing bytes input spelled)
 
 -- and of what is recovered of a damaged input, the file and the note
 pub damaged_is : (value : RecoveredValue) (refusal : Refusal) → value.refusal ≡ Some refusal
-    → recovered_answer value ≡ filed value.drawing (recovery_note refusal value.losses value.kept) Found
-unfolding recovered_answer
+    → recovered_outcome value ≡ filed value.drawing (recovery_note refusal value.losses value.kept) Found
+unfolding recovered_outcome
 damaged_is value refusal is = ap (λ first. filed value.drawing (recovery_notes first value.losses value.kept) (recovery_status first)) is
 
 pub recover_writes_frames : DrawingLaws → RecoveredIsValid → DamagedIsAnswered → RecoverWritesFrames

@@ -19,22 +19,22 @@ use Rattle.dwg_commands.specs.declared.words.Reading.{Reading}
 use Rattle.dwg_commands.specs.declared.words.Reading.TheVariants.{Sections, Classes, Show, Rewrite, Audit, Recover, Appdata, Certify, Accept, Carry}
 use Rattle.dwg_commands.specs.declared.status.Status.{Status}
 use Rattle.dwg_commands.specs.declared.status.Status.TheVariants.{Done, Found, Usage, TooLong, TooLarge}
-use Rattle.dwg_commands.specs.declared.answer.Answer.{Answer}
-use Rattle.dwg_commands.specs.declared.request.Request.{Request}
+use Rattle.dwg_commands.specs.declared.outcome.Outcome.{Outcome}
+use Rattle.dwg_commands.specs.declared.job.Job.{Job}
 use Rattle.dwg_file.specs.Contents.{Contents}
 use Rattle.dwg_file.specs.DrawingAt.{drawing_at}
 use Rattle.dwg_file.specs.Canonical.{Carried, NO_PICTURE, size_of, size_with, canonical_with}
 use Rattle.dwg_commands.specs.CertifiedInput.{cert_in, drawing_bytes}
 use Rattle.dwg_commands.specs.Lines.{lines_of}
-use Rattle.dwg_commands.specs.Outcome.{noted, printed, refused_or, carried_in, carrying_note, content_in, filed_with, certified, acceptance, accepted, made_answer, drill_answer, audited, items_reported, verdict_status, recovery_notes, recovery_status, recovered_answer, answer_within, outcome_within, outcome_of_input, outcome_read, outcome_of}
+use Rattle.dwg_commands.specs.Outcome.{noted, printed, refused_or, carried_in, carrying_note, content_in, filed_with, certified, acceptance, accepted, made_outcome, drill_outcome, audited, items_reported, verdict_status, recovery_notes, recovery_status, recovered_outcome, outcome_passing, outcome_within, outcome_of_input, outcome_read, outcome_of}
 use Rattle.dwg_recover.specs.Recovering.{RecoveredValue, recovered}
 use Rattle.dwg_commands.specs.Words.{reading_in}
-use Rattle.dwg_commands.specs.Requests.{asked}
+use Rattle.dwg_commands.specs.Jobs.{asked}
 use Rattle.dwg_commands.specs.Run.{Feeds, IsDrained}
 use Rattle.dwg_commands.proofs.CommandsRead.{names_reading}
 
 -- a refusal, and an answer after no refusal, come of an input that was read to its end
-refused_or_is_drained : (first : Option Refusal) (answer : Answer) → IsDrained answer.status → IsDrained (refused_or first answer).status
+refused_or_is_drained : (first : Option Refusal) (answer : Outcome) → IsDrained answer.status → IsDrained (refused_or first answer).status
 refused_or_is_drained (Some refusal) answer drained = tt
 refused_or_is_drained None answer drained = drained
 
@@ -49,8 +49,8 @@ filed_is_drained carried drawing note status drained = of_test (nat_lt MOST_BYTE
     of_test false = drained
 
 -- and what is recovered
-recovered_is_drained : (value : RecoveredValue) → IsDrained (recovered_answer value).status
-unfolding recovered_answer
+recovered_is_drained : (value : RecoveredValue) → IsDrained (recovered_outcome value).status
+unfolding recovered_outcome
 recovered_is_drained value = filed_is_drained NO_PICTURE value.drawing (recovery_notes value.refusal value.losses value.kept) (recovery_status value.refusal) (of_refusal value.refusal)
   where
     of_refusal : (refusal : Option Refusal) → IsDrained (recovery_status refusal)
@@ -89,8 +89,8 @@ accepted_is_drained drawing cert = of_test (is_accepted drawing.objects cert)
     of_test false = tt
 
 -- and so does what a command that reads answers to an input within the limit
-answer_is_drained : (reading : Reading) (bytes : List ℕ) → IsDrained (answer_within reading bytes).status
-unfolding answer_within
+answer_is_drained : (reading : Reading) (bytes : List ℕ) → IsDrained (outcome_passing reading bytes).status
+unfolding outcome_passing
 answer_is_drained Sections bytes = tt
 answer_is_drained Classes bytes = tt
 answer_is_drained Show bytes = tt
@@ -104,7 +104,7 @@ answer_is_drained Carry bytes = filed_is_drained (carried_in bytes) (drawing_at 
 
 pub outcome_is_drained : (reading : Reading) (bytes : List ℕ) → IsDrained (outcome_within reading bytes).status
 unfolding outcome_within
-outcome_is_drained reading bytes = refused_or_is_drained (first_fault (lines_of reading) bytes) (answer_within reading bytes) (answer_is_drained reading bytes)
+outcome_is_drained reading bytes = refused_or_is_drained (first_fault (lines_of reading) bytes) (outcome_passing reading bytes) (answer_is_drained reading bytes)
 
 -- a source that reported its bytes and is at its end gave them all
 reported_whole : (old new : Option (List ℕ)) (run bytes : List ℕ) → Consumes old new run → IsAtEnd new → old ≡ Some bytes → bytes ≡ run
@@ -123,27 +123,27 @@ reported_more (Some left) (Some rest) gone bytes gave long reported =
     omega (arith, long, ap length (same ∙ gave), length-append gone rest)
 
 -- bytes within the limit are answered by the command
-pub outcome_of_few : (reading : Reading) (run : List ℕ) (answer : Answer) → length run ≤ MOST_BYTES → answer ≡ outcome_within reading run → answer ≡ outcome_of_input reading run
+pub outcome_of_few : (reading : Reading) (run : List ℕ) (answer : Outcome) → length run ≤ MOST_BYTES → answer ≡ outcome_within reading run → answer ≡ outcome_of_input reading run
 unfolding outcome_of_input
 outcome_of_few reading run answer within is =
     let short : nat_lt MOST_BYTES (length run) ≡ false = grind (arith, nat_tests) in
     rw short is
 
 -- more bytes than the limit are too long
-pub outcome_of_many : (reading : Reading) (bytes : List ℕ) (answer : Answer) → MOST_BYTES < length bytes → answer ≡ noted too_long_note TooLong → answer ≡ outcome_of_input reading bytes
+pub outcome_of_many : (reading : Reading) (bytes : List ℕ) (answer : Outcome) → MOST_BYTES < length bytes → answer ≡ noted too_long_note TooLong → answer ≡ outcome_of_input reading bytes
 unfolding outcome_of_input
 outcome_of_many reading bytes answer more is =
     let over : nat_lt MOST_BYTES (length bytes) ≡ true = grind (arith, nat_tests) in
     rw over is
 
 -- what a source reported is answered by its command, where it was read to its end, within the limit
-pub answered_within : (reading : Reading) (old new : Option (List ℕ)) (run bytes : List ℕ) (answer : Answer) → Consumes old new run → IsAtEnd new → length run ≤ MOST_BYTES
+pub answered_within : (reading : Reading) (old new : Option (List ℕ)) (run bytes : List ℕ) (answer : Outcome) → Consumes old new run → IsAtEnd new → length run ≤ MOST_BYTES
     → answer ≡ outcome_within reading run → old ≡ Some bytes → answer ≡ outcome_of_input reading bytes
 answered_within reading old new run bytes answer gave end within is reported =
     outcome_of_few reading run answer within is ∙ ap (outcome_of_input reading) (sym (reported_whole old new run bytes gave end reported))
 
 -- what a source reported is too long, where it gave more than the limit
-pub answered_too_long : (reading : Reading) (old new : Option (List ℕ)) (gone bytes : List ℕ) (answer : Answer) → Consumes old new gone → length gone ≡ MOST_BYTES + 1
+pub answered_too_long : (reading : Reading) (old new : Option (List ℕ)) (gone bytes : List ℕ) (answer : Outcome) → Consumes old new gone → length gone ≡ MOST_BYTES + 1
     → answer ≡ noted too_long_note TooLong → old ≡ Some bytes → answer ≡ outcome_of_input reading bytes
 answered_too_long reading old new gone bytes answer gave long is reported = outcome_of_many reading bytes answer (reported_more old new gone bytes gave long reported) is
 
@@ -173,27 +173,27 @@ pub outcome_of_reading : (named : Option Command) (command : Command) (reading :
 outcome_of_reading named command reading bytes names is = read_by command reading bytes is ∙ ap (λ (one : Option Command). outcome_of one bytes) (sym names)
 
 -- and those of the command that makes a drawing, whatever the input
-pub outcome_of_making : (named : Option Command) (n seed : ℕ) (bytes : List ℕ) → named ≡ Some (commands.Make n seed) → made_answer n seed ≡ outcome_of named bytes
+pub outcome_of_making : (named : Option Command) (n seed : ℕ) (bytes : List ℕ) → named ≡ Some (commands.Make n seed) → made_outcome n seed ≡ outcome_of named bytes
 unfolding outcome_of
 outcome_of_making named n seed bytes names = rw names refl
 
-pub outcome_of_drilling : (named : Option Command) (n : ℕ) (bytes : List ℕ) → named ≡ Some (commands.Drill n) → drill_answer n ≡ outcome_of named bytes
+pub outcome_of_drilling : (named : Option Command) (n : ℕ) (bytes : List ℕ) → named ≡ Some (commands.Drill n) → drill_outcome n ≡ outcome_of named bytes
 unfolding outcome_of
 outcome_of_drilling named n bytes names = rw names refl
 
--- what a request asks of any input that its command gets, it asks of the words that name the command
-pub answered_by : {E : Type 0} (named : Option Command) (command : Command) (reading : Reading) (result : Result Request E) (left : Option (List ℕ))
+-- what a job asks of any input that its command gets, it asks of the words that name the command
+pub answered_by : {E : Type 0} (named : Option Command) (command : Command) (reading : Reading) (result : Result Job E) (left : Option (List ℕ))
     → named ≡ Some command → reading_in command ≡ Some reading
-    → IfOk result (λ request. (bytes : List ℕ) → left ≡ Some bytes → asked request ≡ outcome_of_input reading bytes)
-    → IfOk result (λ request. (bytes : List ℕ) → Feeds named left bytes → asked request ≡ outcome_of named bytes)
-answered_by {E} named command reading (Ok request) left names how answered = λ bytes feeds.
+    → IfOk result (λ job. (bytes : List ℕ) → left ≡ Some bytes → asked job ≡ outcome_of_input reading bytes)
+    → IfOk result (λ job. (bytes : List ℕ) → Feeds named left bytes → asked job ≡ outcome_of named bytes)
+answered_by {E} named command reading (Ok job) left names how answered = λ bytes feeds.
     answered bytes (feeds (names_reading named command reading names how)) ∙ outcome_of_reading named command reading bytes names how
 answered_by {E} named command reading (Err stop) left names how answered = tt
 
 -- and so of the bytes that came
-pub came_by : {E : Type 0} (named : Option Command) (command : Command) (reading : Reading) (result : Result Request E) (left left' : Option (List ℕ))
+pub came_by : {E : Type 0} (named : Option Command) (command : Command) (reading : Reading) (result : Result Job E) (left left' : Option (List ℕ))
     → named ≡ Some command → reading_in command ≡ Some reading
-    → IfOk result (λ request. Came left left' (λ came. (length came ≤ MOST_BYTES + 1) × (asked request ≡ outcome_of_input reading came)))
-    → IfOk result (λ request. Came left left' (λ came. (length came ≤ MOST_BYTES + 1) × (asked request ≡ outcome_of named came)))
-came_by {E} named command reading (Ok request) left left' names how (came, gave, are, (few, is)) = (came, gave, are, (few, is ∙ outcome_of_reading named command reading came names how))
+    → IfOk result (λ job. Came left left' (λ came. (length came ≤ MOST_BYTES + 1) × (asked job ≡ outcome_of_input reading came)))
+    → IfOk result (λ job. Came left left' (λ came. (length came ≤ MOST_BYTES + 1) × (asked job ≡ outcome_of named came)))
+came_by {E} named command reading (Ok job) left left' names how (came, gave, are, (few, is)) = (came, gave, are, (few, is ∙ outcome_of_reading named command reading came names how))
 came_by {E} named command reading (Err stop) left left' names how came = tt

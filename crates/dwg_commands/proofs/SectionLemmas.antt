@@ -19,11 +19,11 @@ use Rattle.dwg_sections.specs.HeaderLaws.{HeaderIsRead, PassingBytesBeginWithHea
 use Rattle.dwg_sections.specs.HeaderLines.{HEADER_LINES, header_at, place_of}
 use Rattle.dwg_text.specs.Classes.{classes_text}
 use Rattle.dwg_text.specs.Sections.{sections_text}
-use Rattle.dwg_commands.specs.declared.answer.Answer.{Answer}
+use Rattle.dwg_commands.specs.declared.outcome.Outcome.{Outcome}
 use Rattle.dwg_commands.specs.declared.words.Reading.{Reading}
 use Rattle.dwg_commands.specs.declared.words.Reading.TheVariants.{Sections, Classes}
 use Rattle.dwg_commands.specs.Lines.{lines_of}
-use Rattle.dwg_commands.specs.Outcome.{printed, answer_within, outcome_within}
+use Rattle.dwg_commands.specs.Outcome.{printed, outcome_passing, outcome_within}
 use Rattle.dwg_commands.specs.OutcomeLaws.{IsInput, HasClasses, RefusesBy, said, SectionsPrintsHeader, NoHeaderIsRefused, ClassesPrintsClasses, NoClassesAreRefused}
 use Rattle.dwg_commands.specs.Words.{command_of, reading_of}
 use Rattle.dwg_commands.proofs.OutcomeLaws.{of_input, passed, refused}
@@ -48,7 +48,7 @@ unfolding command_of reading_of
 classes_said bytes input = of_input Classes bytes input
 
 -- where none of a command's lines fails there is something, or else one of them does
-refuses : (reading : Reading) (bytes : List ℕ) (answer : Answer) → answer ≡ outcome_within reading bytes → (first_fault (lines_of reading) bytes ≡ None → ⊥) → RefusesBy (lines_of reading) bytes answer
+refuses : (reading : Reading) (bytes : List ℕ) (answer : Outcome) → answer ≡ outcome_within reading bytes → (first_fault (lines_of reading) bytes ≡ None → ⊥) → RefusesBy (lines_of reading) bytes answer
 refuses reading bytes answer is some = of_first (first_fault (lines_of reading) bytes) refl
   where
     of_first : (first : Option Refusal) → first_fault (lines_of reading) bytes ≡ first → RefusesBy (lines_of reading) bytes answer
@@ -57,7 +57,7 @@ refuses reading bytes answer is some = of_first (first_fault (lines_of reading) 
 
 -- `sections` prints the header
 pub sections_prints_header : PartLaws → SectionsPrintsHeader
-unfolding answer_within
+unfolding outcome_passing
 sections_prints_header laws header bytes input begins =
     let read = laws.header bytes header begins in
     sections_said bytes input ∙ passed Sections bytes read.0 ∙ ap (λ (one : FileHeader). printed (sections_text one)) (sym read.1)
@@ -102,7 +102,7 @@ lines_hold laws classes bytes has =
 
 -- `classes` prints them
 pub classes_prints_classes : PartLaws → ClassesPrintsClasses
-unfolding answer_within
+unfolding outcome_passing
 classes_prints_classes laws classes bytes input has =
     classes_said bytes input ∙ passed Classes bytes (lines_hold laws classes bytes has)
     ∙ ap (λ (tried : Tried (List Class)). printed (classes_text (result_unwrap_or tried []))) (classes_are_tried laws classes bytes has)

@@ -8,11 +8,13 @@ pub mod CertifiedInput
 pub mod Lines
 -- What the program answers to its words and its input.
 pub mod Outcome
--- What the program is asked, and which answer that asks for.
-pub mod Requests
+-- What the program is asked, and which outcome that asks for.
+pub mod Jobs
 -- What the commands that read answer, said of the header that the input begins with, the classes that it has, the drawing that it spells, and the certificate before one.
 pub mod OutcomeLaws
--- Which answer is sent of what is made of one before it is sent.
-pub mod Replies
+-- Which text is sent of what it is made of, and how the run ends then.
+pub mod PrintedOutputs
+-- Which outcome is sent of what is made of one before it is sent.
+pub mod Pendings
 -- What a run of the program does to its three devices.
 pub mod Run

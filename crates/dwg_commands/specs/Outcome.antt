@@ -30,7 +30,7 @@ use Rattle.dwg_commands.specs.declared.words.Reading.{Reading}
 use Rattle.dwg_commands.specs.declared.words.Reading.TheVariants.{Sections, Classes, Show, Rewrite, Audit, Recover, Appdata, Certify, Accept, Carry}
 use Rattle.dwg_commands.specs.declared.status.Status.{Status}
 use Rattle.dwg_commands.specs.declared.status.Status.TheVariants.{Done, Found, Usage, Refused, TooLong, TooLarge}
-use Rattle.dwg_commands.specs.declared.answer.Answer.{Answer}
+use Rattle.dwg_commands.specs.declared.outcome.Outcome.{Outcome}
 use Rattle.dwg_commands.specs.Words.{command_of, reading_in}
 use Rattle.dwg_file.specs.Contents.{Contents}
 use Rattle.dwg_file.specs.DrawingAt.{classes_at, drawing_at}
@@ -40,50 +40,50 @@ use Rattle.dwg_commands.specs.CertifiedInput.{cert_in, drawing_bytes}
 use Rattle.dwg_commands.specs.Lines.{lines_of}
 
 -- nothing on the output, one note, and a status
-abbrev pub noted : List ℕ → Status → Answer
+abbrev pub noted : List ℕ → Status → Outcome
 noted note status = record { output = []; note = note; status = status }
 
 -- the output, no note
-abbrev pub printed : List ℕ → Answer
+abbrev pub printed : List ℕ → Outcome
 printed output = record { output = output; note = []; status = Done }
 
 -- the first refusal of the command's lines, where there is one, and otherwise its answer
-abbrev pub refused_or : Option Refusal → Answer → Answer
+abbrev pub refused_or : Option Refusal → Outcome → Outcome
 refused_or (Some refusal) answer = noted (refusal_note refusal) (Refused refusal)
 refused_or None answer = answer
 
 -- an answer over the canonical file of a drawing with a preview, unless that would be longer than the limit
-abbrev pub unless_large : Carried → Contents → Answer → Answer
+abbrev pub unless_large : Carried → Contents → Outcome → Outcome
 unless_large carried drawing answer =
     if nat_lt MOST_BYTES (size_with carried drawing) then noted (too_large_note (size_with carried drawing)) (TooLarge (size_with carried drawing)) else answer
 
 -- the canonical file of a drawing with a preview, with a note and a status
-unfoldable pub filed_with : Carried → Contents → List ℕ → Status → Answer
+unfoldable pub filed_with : Carried → Contents → List ℕ → Status → Outcome
 filed_with carried drawing note status = unless_large carried drawing (record { output = canonical_with carried drawing; note = note; status = status })
 
 -- that without a picture
-abbrev pub filed : Contents → List ℕ → Status → Answer
+abbrev pub filed : Contents → List ℕ → Status → Outcome
 filed drawing note status = filed_with NO_PICTURE drawing note status
 
 -- the canonical file of a drawing
-abbrev pub written : Contents → Answer
+abbrev pub written : Contents → Outcome
 written drawing = filed drawing [] Done
 
 -- an answer over a made drawing, unless it is asked for a size that no such drawing has
-abbrev pub unless_no_size : ℕ → Answer → Answer
+abbrev pub unless_no_size : ℕ → Outcome → Outcome
 unless_no_size n answer = if n == 0 || nat_lt MOST_ENTITIES n then noted size_note Usage else answer
 
 -- the canonical file of the drawing that two numbers make
-unfoldable pub made_answer : ℕ → ℕ → Answer
-made_answer n seed = unless_no_size n (written (made n seed))
+unfoldable pub made_outcome : ℕ → ℕ → Outcome
+made_outcome n seed = unless_no_size n (written (made n seed))
 
 -- what a drill over the drawing of a number finds out
-unfoldable pub drilled_answer : ℕ → Answer
-drilled_answer n = unless_large NO_PICTURE (made n DRILL_SEED) (printed (drill_text (drilled n)))
+unfoldable pub drilled_outcome : ℕ → Outcome
+drilled_outcome n = unless_large NO_PICTURE (made n DRILL_SEED) (printed (drill_text (drilled n)))
 
 -- what `drill` answers: the size note where there is no such drawing
-unfoldable pub drill_answer : ℕ → Answer
-drill_answer n = unless_no_size n (drilled_answer n)
+unfoldable pub drill_outcome : ℕ → Outcome
+drill_outcome n = unless_no_size n (drilled_outcome n)
 
 -- how an audit with these findings ends
 abbrev pub verdict_status : {A : Type 0} → List A → Status
@@ -91,11 +91,11 @@ verdict_status {A} [] = Done
 verdict_status {A} (finding ∷ more) = Found
 
 -- the findings of a drawing and the verdict
-unfoldable pub audited : Contents → Answer
+unfoldable pub audited : Contents → Outcome
 audited drawing = record { output = audit_text (findings drawing.objects); note = []; status = verdict_status (findings drawing.objects) }
 
 -- the application data of a drawing's objects, item by item, what these items refer to and isn't there, and the verdict
-unfoldable pub items_reported : Contents → Answer
+unfoldable pub items_reported : Contents → Outcome
 items_reported drawing = record {
   output = appdata_text drawing.objects (app_findings drawing.objects);
   note = [];
@@ -112,11 +112,11 @@ recovery_status None = Done
 recovery_status (Some refusal) = Found
 
 -- the canonical file of what is recovered
-unfoldable pub recovered_answer : RecoveredValue → Answer
-recovered_answer value = filed value.drawing (recovery_notes value.refusal value.losses value.kept) (recovery_status value.refusal)
+unfoldable pub recovered_outcome : RecoveredValue → Outcome
+recovered_outcome value = filed value.drawing (recovery_notes value.refusal value.losses value.kept) (recovery_status value.refusal)
 
 -- the certificate of a drawing's objects, where it is accepted: exactly where the drawing is sound
-unfoldable pub certified : Contents → Answer
+unfoldable pub certified : Contents → Outcome
 certified drawing =
     if is_accepted drawing.objects (certificate_of drawing.objects) then printed (certificate_bytes (certificate_of drawing.objects))
     else noted unsound_note Found
@@ -128,11 +128,11 @@ acceptance_line is = if is then accept_yes else accept_no
 abbrev pub acceptance_status : Bool → Status
 acceptance_status is = if is then Done else Found
 
-abbrev pub acceptance : Bool → Answer
+abbrev pub acceptance : Bool → Outcome
 acceptance is = record { output = acceptance_line is; note = []; status = acceptance_status is }
 
 -- whether a certificate is one of a drawing's objects
-unfoldable pub accepted : Contents → List Entry → Answer
+unfoldable pub accepted : Contents → List Entry → Outcome
 accepted drawing cert = acceptance (is_accepted drawing.objects cert)
 
 -- the content of the preview section that stands where the file header of an input says, if one does
@@ -153,38 +153,38 @@ carrying_note None = preview_dropped_note
 carrying_note (Some content) = []
 
 -- what a command that reads answers to an input within the limit in which none of its lines fails
-unfoldable pub answer_within : Reading → List ℕ → Answer
-answer_within Sections bytes = printed (sections_text (header_at bytes))
-answer_within Classes bytes = printed (classes_text (classes_at bytes))
-answer_within Show bytes = printed (show_text (drawing_at bytes))
-answer_within Rewrite bytes = written (drawing_at bytes)
-answer_within Audit bytes = audited (drawing_at bytes)
-answer_within Recover bytes = recovered_answer (recovered bytes)
-answer_within Appdata bytes = items_reported (drawing_at bytes)
-answer_within Certify bytes = certified (drawing_at bytes)
-answer_within Accept bytes = accepted (drawing_at (drawing_bytes bytes)) (cert_in bytes)
-answer_within Carry bytes = filed_with (carried_in bytes) (drawing_at bytes) (carrying_note (content_in bytes)) Done
+unfoldable pub outcome_passing : Reading → List ℕ → Outcome
+outcome_passing Sections bytes = printed (sections_text (header_at bytes))
+outcome_passing Classes bytes = printed (classes_text (classes_at bytes))
+outcome_passing Show bytes = printed (show_text (drawing_at bytes))
+outcome_passing Rewrite bytes = written (drawing_at bytes)
+outcome_passing Audit bytes = audited (drawing_at bytes)
+outcome_passing Recover bytes = recovered_outcome (recovered bytes)
+outcome_passing Appdata bytes = items_reported (drawing_at bytes)
+outcome_passing Certify bytes = certified (drawing_at bytes)
+outcome_passing Accept bytes = accepted (drawing_at (drawing_bytes bytes)) (cert_in bytes)
+outcome_passing Carry bytes = filed_with (carried_in bytes) (drawing_at bytes) (carrying_note (content_in bytes)) Done
 
 -- what it answers to any input within the limit
-unfoldable pub outcome_within : Reading → List ℕ → Answer
-outcome_within reading bytes = refused_or (first_fault (lines_of reading) bytes) (answer_within reading bytes)
+unfoldable pub outcome_within : Reading → List ℕ → Outcome
+outcome_within reading bytes = refused_or (first_fault (lines_of reading) bytes) (outcome_passing reading bytes)
 
 -- what it answers to any input
-unfoldable pub outcome_of_input : Reading → List ℕ → Answer
+unfoldable pub outcome_of_input : Reading → List ℕ → Outcome
 outcome_of_input reading bytes = if nat_lt MOST_BYTES (length bytes) then noted too_long_note TooLong else outcome_within reading bytes
 
 -- what a command that reads answers; where none does, that is the usage note
-abbrev pub outcome_read : Option Reading → List ℕ → Answer
+abbrev pub outcome_read : Option Reading → List ℕ → Outcome
 outcome_read None bytes = noted usage_note Usage
 outcome_read (Some reading) bytes = outcome_of_input reading bytes
 
 -- what a command answers: one that makes a drawing by its numbers, and every other by what it reads
-unfoldable pub outcome_of : Option Command → List ℕ → Answer
+unfoldable pub outcome_of : Option Command → List ℕ → Outcome
 outcome_of None bytes = noted usage_note Usage
-outcome_of (Some (commands.Make n seed)) bytes = made_answer n seed
-outcome_of (Some (commands.Drill n)) bytes = drill_answer n
+outcome_of (Some (commands.Make n seed)) bytes = made_outcome n seed
+outcome_of (Some (commands.Drill n)) bytes = drill_outcome n
 outcome_of (Some command) bytes = outcome_read (reading_in command) bytes
 
 -- what the program answers: output bytes, note bytes and status
-abbrev pub outcome : List (List ℕ) → List ℕ → Answer
+abbrev pub outcome : List (List ℕ) → List ℕ → Outcome
 outcome words bytes = outcome_of (command_of words) bytes

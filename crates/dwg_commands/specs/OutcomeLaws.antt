@@ -42,7 +42,7 @@ use Rattle.dwg_text.specs.Classes.{classes_text}
 use Rattle.dwg_text.specs.Lines.{line}
 use Rattle.dwg_text.specs.Notes.{preview_dropped_note, refusal_note, too_large_note, unsound_note}
 use Rattle.dwg_text.specs.Sections.{sections_text}
-use Rattle.dwg_commands.specs.declared.answer.Answer.{Answer}
+use Rattle.dwg_commands.specs.declared.outcome.Outcome.{Outcome}
 use Rattle.dwg_commands.specs.declared.status.Status.TheVariants.{Done, Found, Refused, TooLarge}
 use Rattle.dwg_commands.specs.Outcome.{outcome}
 
@@ -56,17 +56,17 @@ abbrev pub SpellsNone : List ℕ → Type 0
 SpellsNone bytes = (drawing : Contents) → Spelled drawing bytes → ⊥
 
 -- what the program answers to one word
-abbrev pub said : List ℕ → List ℕ → Answer
+abbrev pub said : List ℕ → List ℕ → Outcome
 said word bytes = outcome (word ∷ []) bytes
 
 -- the first of these lines that fails on an input is answered, and nothing is printed
-pub record RefusesBy (lines : List RefusalRow) (bytes : List ℕ) (answer : Answer) : Type 0 where
+pub record RefusesBy (lines : List RefusalRow) (bytes : List ℕ) (answer : Outcome) : Type 0 where
   pub refusal : Refusal
   pub first : first_fault lines bytes ≡ Some refusal
   pub answers : answer ≡ record { output = []; note = refusal_note refusal; status = Refused refusal }
 
 -- the first of all lines is
-abbrev pub Refuses : List ℕ → Answer → Type 0
+abbrev pub Refuses : List ℕ → Outcome → Type 0
 Refuses bytes answer = RefusesBy ALL_LINES bytes answer
 
 -- `sections` prints the file header that an input begins with
@@ -112,7 +112,7 @@ ShowPrintsDrawing =
     (drawing : Contents) (bytes : List ℕ) → IsInput bytes → Spelled drawing bytes → said (codes "show") bytes ≡ record { output = show_text drawing; note = []; status = Done }
 
 -- an answer writes the canonical file of a drawing: it spells that drawing and no other, and is rewritten as it is
-pub record Rewrites (drawing : Contents) (answer : Answer) : Type 0 where
+pub record Rewrites (drawing : Contents) (answer : Outcome) : Type 0 where
   pub answers : answer ≡ record { output = canonical drawing; note = []; status = Done }
   pub spells : Spelled drawing answer.output
   pub no_other : (other : Contents) → Spelled other answer.output → other ≡ drawing
@@ -129,7 +129,7 @@ RewriteReportsSize =
     → said (codes "rewrite") bytes ≡ record { output = []; note = too_large_note (size_of drawing); status = TooLarge (size_of drawing) }
 
 -- an answer writes the canonical file of a drawing with a preview and this note: it spells that drawing and no other, and is carried as it is, without a note
-pub record Carries (carried : Carried) (drawing : Contents) (note : List ℕ) (answer : Answer) : Type 0 where
+pub record Carries (carried : Carried) (drawing : Contents) (note : List ℕ) (answer : Outcome) : Type 0 where
   pub answers : answer ≡ record { output = canonical_with carried drawing; note = note; status = Done }
   pub spells : Spelled drawing answer.output
   pub no_other : (other : Contents) → Spelled other answer.output → other ≡ drawing
@@ -158,7 +158,7 @@ abbrev pub NoneIsCarried : Type 0
 NoneIsCarried = (bytes : List ℕ) → IsInput bytes → SpellsNone bytes → Refuses bytes (said (codes "carry") bytes)
 
 -- an answer reports whether the references of a drawing hold together: its status does, it prints the findings, which are the line `audit yes` alone exactly where they do, and it notes nothing
-pub record ReportsSound (drawing : Contents) (answer : Answer) : Type 0 where
+pub record ReportsSound (drawing : Contents) (answer : Outcome) : Type 0 where
   pub sound : (answer.status ≡ Done) ↔ IsSound drawing.objects
   pub unsound : (IsSound drawing.objects → ⊥) → answer.status ≡ Found
   pub prints : answer ≡ record { output = audit_text (findings drawing.objects); note = []; status = answer.status }
@@ -173,7 +173,7 @@ abbrev pub RecoverRewritesDrawing : Type 0
 RecoverRewritesDrawing = (drawing : Contents) (bytes : List ℕ) → IsInput bytes → Spelled drawing bytes → said (codes "recover") bytes ≡ said (codes "rewrite") bytes
 
 -- an answer writes the canonical file of what is recovered of an input, a valid drawing whose objects are those of frames that stand in it, where that is within the limit, and notes the first line that fails
-pub record Recovers (bytes : List ℕ) (answer : Answer) : Type 0 where
+pub record Recovers (bytes : List ℕ) (answer : Outcome) : Type 0 where
   pub value : RecoveredValue
   pub recovers : value ≡ recovered bytes
   pub valid : IsValidAnswer bytes value
@@ -191,7 +191,7 @@ abbrev pub RecoverWritesFrames : Type 0
 RecoverWritesFrames = (bytes : List ℕ) → IsInput bytes → SpellsNone bytes → Recovers bytes (said (codes "recover") bytes)
 
 -- the answer that refuses an input
-abbrev pub refuses_for : Refusal → Answer
+abbrev pub refuses_for : Refusal → Outcome
 refuses_for refusal = record { output = []; note = refusal_note refusal; status = Refused refusal }
 
 -- `show`, `rewrite` and `audit` refuse an input for the check word of the object of a frame and print nothing; what `recover` recovers has every other object; where that is within the limit it writes its canonical file, and notes that refusal and the loss of that object alone, and else it reports the size
@@ -224,7 +224,7 @@ abbrev pub NoItemsAreReported : Type 0
 NoItemsAreReported = (bytes : List ℕ) → IsInput bytes → SpellsNone bytes → Refuses bytes (said (codes "appdata") bytes)
 
 -- an answer prints the items of a drawing's extended data and then those whose references lead nowhere; its status reports whether there are any, and it notes nothing
-pub record ReportsItems (drawing : Contents) (answer : Answer) : Type 0 where
+pub record ReportsItems (drawing : Contents) (answer : Outcome) : Type 0 where
   pub prints : answer ≡ record { output = appdata_text drawing.objects (app_findings drawing.objects); note = []; status = answer.status }
   pub met : (answer.status ≡ Done) ↔ ((finding : AppFinding) → IsAppFinding drawing.objects finding → ⊥)
   pub unmet : (finding : AppFinding) → IsAppFinding drawing.objects finding → answer.status ≡ Found
@@ -260,7 +260,7 @@ NoDrawingAfterIsRefused =
     (bytes : List ℕ) (cert : List Entry) (rest : List ℕ) → IsInput bytes → BeginsWithCertificate bytes cert rest → SpellsNone rest → Refuses rest (said (codes "accept") bytes)
 
 -- an answer reports whether a certificate is one of a drawing's objects: its status does, it prints the line that says so, and it notes nothing; and where it is one, the references of the drawing hold together
-pub record ReportsAccepted (drawing : Contents) (cert : List Entry) (answer : Answer) : Type 0 where
+pub record ReportsAccepted (drawing : Contents) (cert : List Entry) (answer : Outcome) : Type 0 where
   pub accepted : (answer.status ≡ Done) ↔ Accepts drawing.objects cert
   pub yes : Accepts drawing.objects cert → answer ≡ record { output = line (codes "accept yes"); note = []; status = Done }
   pub no : (Accepts drawing.objects cert → ⊥) → answer ≡ record { output = line (codes "accept no"); note = []; status = Found }

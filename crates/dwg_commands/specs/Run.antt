@@ -6,7 +6,7 @@ use Rattle.dwg_text.specs.Notes.{read_fault_note}
 use Rattle.dwg_commands.specs.declared.words.Command.{Command}
 use Rattle.dwg_commands.specs.declared.status.Status.{Status}
 use Rattle.dwg_commands.specs.declared.status.Status.TheVariants.{Done, Found, Usage, Refused, ReadFault, WriteFault, NoMemory, TooLong, TooLarge}
-use Rattle.dwg_commands.specs.declared.answer.Answer.{Answer}
+use Rattle.dwg_commands.specs.declared.outcome.Outcome.{Outcome}
 use Rattle.dwg_commands.specs.Words.{IsReading}
 use Rattle.dwg_commands.specs.Outcome.{outcome}
 
@@ -59,12 +59,12 @@ abbrev pub IsDrainedSource : Option (List ℕ) → Option (List ℕ) → Type 0
 IsDrainedSource old new = IfSome old (λ _. new ≡ Some [])
 
 -- output and notes took the whole answer
-pub record Delivers (answer : Answer) (output output' notes notes' : Option (List ℕ)) : Type 0 where
+pub record Delivers (answer : Outcome) (output output' notes notes' : Option (List ℕ)) : Type 0 where
   pub printed : Appends output output' answer.output
   pub noted : Appends notes notes' answer.note
 
 -- the output took a prefix of the answer's, and the notes a prefix of its note, which is nothing unless the output is whole
-abbrev pub DeliversPrefix : Answer → Option (List ℕ) → Option (List ℕ) → Option (List ℕ) → Option (List ℕ) → Type 0
+abbrev pub DeliversPrefix : Outcome → Option (List ℕ) → Option (List ℕ) → Option (List ℕ) → Option (List ℕ) → Type 0
 DeliversPrefix answer output output' notes notes' =
     (AppendsPrefix output output' answer.output × Appends notes notes' [])
     ⊎ (Appends output output' answer.output × AppendsPrefix notes notes' answer.note)
@@ -99,7 +99,7 @@ sinks taken faults output notes_taken note_faults notes = record {
 }
 
 -- how an answer that is sent ends: its status, where both sinks took it; else at a write fault, where one of them failed, or out of memory; and counts of faults never fall
-abbrev pub Sent : Answer → Status → Sinks → Sinks → Type 0
+abbrev pub Sent : Outcome → Status → Sinks → Sinks → Type 0
 Sent answer status before after = NeverFall × (IsWhole ⊎ IsBroken)
   where
     NeverFall : Type 0

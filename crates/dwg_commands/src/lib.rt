@@ -1,24 +1,28 @@
-//! What the program answers: the words of its command line, what they and the input ask for, the answer, and how it is sent to
-//! output and notes.
+//! What each command answers, and what that is for a drawing: the words of the command line, what they and the input ask for, the
+//! outcome, and how it is sent to output and notes.
 #![tactic(auto)]
 
-mod answer;
-mod answering;
-mod carrying;
-mod certifying;
-mod items;
+mod appdata;
+mod audit;
+mod carry;
+mod certificates;
+mod drawings;
+mod job;
 mod laws;
-mod making;
-mod reading;
-mod reply;
-mod request;
+mod made;
+mod outcome;
+mod pending;
+mod printed_output;
+mod recover;
+mod running;
+mod sections;
 mod sending;
 mod status;
 mod words;
 
-pub use answer::Answer;
-pub use answering::answer_request;
+pub use job::{Job, Stop, job_for};
 pub use laws::outcome_laws;
-pub use request::{Request, Stop, request_for};
+pub use outcome::Outcome;
+pub use running::run_job;
 pub use status::Status;
 pub use words::{Command, Reading, read_words};

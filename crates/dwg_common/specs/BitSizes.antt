@@ -7,7 +7,7 @@ use Rattle.dwg_grammar.specs.Versions.{given, in_version}
 use Rattle.dwg_common.specs.declared.app_data.AppData.{AppData}
 use Rattle.dwg_common.specs.AppList.{app_list}
 use Rattle.dwg_common.specs.Pictures.{graphic}
-use Rattle.dwg_common.specs.declared.layout.Layout.{Layout}
+use Rattle.dwg_common.specs.declared.bit_layout.Layout.{Layout}
 
 -- in AC1014 RL, which is the bit size of the layout; in AC1015 nothing
 abbrev pub bit_size : Layout → Grammar Bool ⊤

@@ -10,7 +10,7 @@ use Rattle.dwg_grammar.specs.Grammar.{Grammar, IsCode, AnyLetters}
 use Rattle.dwg_grammar.specs.Reference.{Reference}
 use Rattle.dwg_common.specs.declared.app_data.AppData.{AppData}
 use Rattle.dwg_common.specs.declared.entity.Links.{Links}
-use Rattle.dwg_common.specs.declared.layout.Layout.{Layout}
+use Rattle.dwg_common.specs.declared.bit_layout.Layout.{Layout}
 use Rattle.dwg_common.specs.BitSizes.{bit_size}
 use Rattle.dwg_common.specs.Layouts.{NEWER, WritesAlike, older}
 use Rattle.dwg_common.specs.declared.entity.EntityCommon.{EntityCommon}

@@ -8,7 +8,7 @@ use Rattle.dwg_grammar.specs.Grammar.{Grammar}
 use Rattle.dwg_common.specs.declared.entity.EntityCommon.{EntityCommon}
 use Rattle.dwg_common.specs.declared.entity.Links.{Links}
 use Rattle.dwg_common.specs.declared.app_data.AppData.{AppData}
-use Rattle.dwg_common.specs.declared.layout.Layout.{Layout}
+use Rattle.dwg_common.specs.declared.bit_layout.Layout.{Layout}
 use Rattle.dwg_common.specs.AppList.{app_list}
 use Rattle.dwg_common.specs.BitSizes.{bit_size}
 use Rattle.dwg_common.specs.Pictures.{graphic}

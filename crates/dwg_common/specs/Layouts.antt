@@ -1,7 +1,7 @@
 -- How the bits of a part of an object are laid out: in which version, and with which bit size. A rule of this project.
 use Rattle.std.specs.Prelude.{◌≡◌, ◌↔◌, ℕ, length}
 use Rattle.dwg_base.specs.declared.version.Version.TheVariants.{Ac1014, Ac1015}
-use Rattle.dwg_common.specs.declared.layout.Layout.{Layout}
+use Rattle.dwg_common.specs.declared.bit_layout.Layout.{Layout}
 use Rattle.dwg_grammar.specs.Bodies.{BodyGrammar}
 
 -- in AC1015, where no part gives the bit size

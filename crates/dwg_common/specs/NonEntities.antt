@@ -5,7 +5,7 @@ use Rattle.dwg_grammar.specs.Combinators.{seq}
 use Rattle.dwg_grammar.specs.Reference.{Reference}
 use Rattle.dwg_common.specs.declared.app_data.AppData.{AppData}
 use Rattle.dwg_common.specs.declared.object.ObjectCommon.{ObjectCommon}
-use Rattle.dwg_common.specs.declared.layout.Layout.{Layout}
+use Rattle.dwg_common.specs.declared.bit_layout.Layout.{Layout}
 use Rattle.dwg_common.specs.AppList.{app_list}
 use Rattle.dwg_common.specs.BitSizes.{bit_size}
 use Rattle.dwg_grammar.specs.Bodies.{BodyGrammar}

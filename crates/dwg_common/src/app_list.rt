@@ -7,7 +7,7 @@ ghost use Rattle.dwg_common.specs.Parsing.{Keeps, Parses};
 ghost use Rattle.dwg_common.specs.AppList.{IsAppData, app_item, app_list, item_short};
 
 use crate::app_data::AppData;
-use crate::parts::{parse_bytes, parse_code, parse_ref};
+use crate::part_reading::{parse_bytes, parse_code, parse_ref};
 use dwg_base::{Handle, Items, NoMemory};
 use dwg_bits::{BitCursor, BitSink};
 use dwg_codes::{BitCode, CodeBS, bytes_length, write_bytes};
@@ -36,7 +36,7 @@ fn read_item(
     Ok(Some(AppData { application, bytes }))
 }
 
-/// Reads items up to their mark. None exactly where no prefix of the rest spells them; the only refusal is out of memory.
+/// Reads items up to their mark. None exactly where no prefix of the rest spells them. Err: out of memory.
 #[tactic(auto, unfolding(crate::specs::AppList::app_list, dwg_grammar::specs::Combinators::until), using(crate::proofs::UntilReading::after_none))]
 pub(crate) fn read_items(
     alloc: Global,
@@ -47,7 +47,7 @@ pub(crate) fn read_items(
     ensures kept { Keeps cursor.old cursor.new }
 {
     let mut found = Items::new(alloc);
-    'along: loop {
+    'items: loop {
         let Some(size) = parse_code::<CodeBS>(&(), cursor) else {
             return Ok(None);
         };
@@ -90,7 +90,7 @@ fn item_fits(item: &AppData, base: Handle) -> bool
 pub(crate) fn app_fits(app: &[AppData], base: Handle) -> bool
     ensures { IsTrue result ↔ (app_list base).IsValue app.now }
 {
-    'along: for item in app {
+    'items: for item in app {
         if !item_fits(item, base) {
             return false;
         }
@@ -119,7 +119,7 @@ pub(crate) fn app_length(app: &[AppData], base: Handle) -> u64
     ensures { result ≡ length ((app_list base).short app.now) }
 {
     let mut bits = 0;
-    'along: for item in app {
+    'items: for item in app {
         bits += item_bits(item, base);
     }
     bits + CodeBS::length(&(), &MARK)
@@ -145,7 +145,7 @@ pub(crate) fn write_app(app: &[AppData], base: Handle, sink: &mut BitSink)
     requires room { length ((app_list base).short app.now) ≤ sink.old.spare }
     ensures { Extends sink.old sink.new ((app_list base).short app.now) }
 {
-    'along: for item in app {
+    'items: for item in app {
         write_item(item, base, sink);
     }
     CodeBS::write(&(), &MARK, sink);

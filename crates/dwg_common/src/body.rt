@@ -6,9 +6,9 @@ ghost use Rattle.dwg_bits.specs.Sink.{Extends};
 ghost use Rattle.dwg_grammar.specs.Bodies.{BodyGrammar, IsBody, ReadsBody, IsLawfulBody};
 ghost use Rattle.dwg_common.specs.Layouts.{NEWER, WritesAlike, older};
 ghost use Rattle.dwg_common.specs.Parsing.{Keeps, ParsesBody};
-ghost use Rattle.dwg_common.specs.declared.layout.Layout.{Layout};
+ghost use Rattle.dwg_common.specs.declared.bit_layout.Layout.{Layout};
 
-use crate::layout::Layout;
+use crate::bit_layout::Layout;
 use dwg_base::{Handle, NoMemory};
 use dwg_bits::{BitCursor, BitSink};
 use std::alloc::Global;
@@ -75,9 +75,9 @@ pub trait BodyCode: Sized {
     // bits of the same references spell the same.
     ghost laws: { (layout : Layout) (base : ℕ) → layout.size < 2 ^ 32 → base < 2 ^ 63 → IsBody base (grammar layout base) };
 
-    /// Reads the value that prefixes of the main bits and of the reference bits spell in the object of the handle `base`, and
-    /// moves after those prefixes. None, with nothing moved, exactly where no prefixes spell one. The only refusal is want of
-    /// memory, which is taken only for what is there.
+    /// Reads the value that prefixes of the main bits and of the reference bits spell in the object of the handle `base`, and moves
+    /// after those prefixes. None, with nothing moved, exactly where no prefixes spell one. Err: out of memory, which is taken only
+    /// for what is there.
     final fn read_in(
         alloc: Global,
         layout: Layout,
@@ -104,9 +104,9 @@ pub trait BodyCode: Sized {
         Ok(Some(value))
     }
 
-    /// Reads the value that prefixes of the main bits and of the reference bits spell in the object of the handle `base`, and
-    /// moves after those prefixes. None, with nothing moved, exactly where no prefixes spell one. The only refusal is want of
-    /// memory, which is taken only for what is there.
+    /// Reads the value that prefixes of the main bits and of the reference bits spell in the object of the handle `base`, and moves
+    /// after those prefixes. None, with nothing moved, exactly where no prefixes spell one. Err: out of memory, which is taken only
+    /// for what is there.
     final fn read(
         alloc: Global,
         main: &mut BitCursor<'_>,

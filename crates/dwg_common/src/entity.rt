@@ -4,8 +4,8 @@ ghost use Rattle.dwg_common.specs.CommonLaws.{entity_is_body, entity_narrower, e
 ghost use Rattle.dwg_common.specs.Entities.{entity_common};
 
 use crate::app_data::AppData;
+use crate::bit_layout::Layout;
 use crate::body::{BodyCode, BodyCode14, Lengths};
-use crate::layout::Layout;
 use crate::look::{look_bits, look_fits, read_look, write_look};
 use crate::named::{names_bits, names_fit, read_named, write_names};
 use crate::start::{read_start, start_bits, start_fits, write_start};

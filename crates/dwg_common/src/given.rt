@@ -5,7 +5,7 @@ ghost use Rattle.dwg_bits.specs.Sink.{Extends};
 ghost use Rattle.dwg_grammar.specs.Versions.{NOWHERE, given, ref_since_1015};
 ghost use Rattle.dwg_common.specs.Parsing.{Keeps, Parses};
 
-use crate::parts::parse_code;
+use crate::part_reading::parse_code;
 use dwg_base::{Handle, Version};
 use dwg_bits::{BitCursor, BitSink};
 use dwg_codes::BitCode;

@@ -6,7 +6,7 @@ ghost use Rattle.dwg_bits.specs.Sink.{Extends};
 ghost use Rattle.dwg_common.specs.Parsing.{Keeps, Parses};
 ghost use Rattle.dwg_common.specs.Pictures.{graphic};
 
-use crate::parts::parse_code;
+use crate::part_reading::parse_code;
 use crate::sized::{parse_sized_by, sized_bits_by, sized_fits, write_sized_by};
 use dwg_base::{ByteRun, NoMemory};
 use dwg_bits::{BitCursor, BitSink};

@@ -2,7 +2,7 @@
 
 ghost use Rattle.std.specs.Prelude.{◌^◌, ◌<◌, ℕ};
 ghost use Rattle.dwg_grammar.specs.Bodies.{IsFreeBody};
-ghost use Rattle.dwg_common.specs.declared.layout.Layout.{Layout};
+ghost use Rattle.dwg_common.specs.declared.bit_layout.Layout.{Layout};
 ghost use Rattle.dwg_common.specs.Entities.{entity_common};
 ghost use Rattle.dwg_common.specs.NonEntities.{object_common};
 

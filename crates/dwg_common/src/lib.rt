@@ -1,9 +1,10 @@
-//! The common parts of objects, and what a body is to those who read and write one (Open Design Specification, "Common
-//! entity data" and "Common non-entity object format").
+//! The common parts of objects in both versions, what a body is to those who read and write one, and its rows of fields (Open
+//! Design Specification, "Common entity data" and "Common non-entity object format").
 #![tactic(auto)]
 
 mod app_data;
 mod app_list;
+mod bit_layout;
 mod bit_size;
 mod body;
 mod counts;
@@ -11,12 +12,11 @@ mod entity;
 mod given;
 mod graphic;
 mod laws;
-mod layout;
 mod links;
 mod look;
 mod named;
 mod object;
-mod parts;
+mod part_reading;
 mod points;
 mod rows;
 mod sized;
@@ -26,6 +26,7 @@ mod tv;
 mod two_refs;
 
 pub use app_data::AppData;
+pub use bit_layout::Layout;
 pub use body::{BodyCode, BodyCode14, Lengths, body_laws, older_laws};
 pub use counts::{TOO_MANY, count_bits, count_fits, write_count};
 pub use entity::{EntityCommon, Links};
@@ -34,9 +35,8 @@ pub use given::{
     write_ref_since,
 };
 pub use laws::common_laws;
-pub use layout::Layout;
 pub use object::ObjectCommon;
-pub use parts::{parse_bytes, parse_code, parse_ref, parse_refs, parse_when};
+pub use part_reading::{parse_bytes, parse_code, parse_ref, parse_refs, parse_when};
 pub use points::{
     Code2DD, Code2RD, known_extrusion, known_place, known_thickness, point_with_range,
 };

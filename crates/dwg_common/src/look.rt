@@ -10,7 +10,7 @@ ghost use Rattle.dwg_common.specs.EntityReading.{look_read};
 
 use crate::entity::{EntityCommon, Look};
 use crate::given::{length_given, parse_given, write_given};
-use crate::parts::parse_code;
+use crate::part_reading::parse_code;
 use crate::start::is_by_layer;
 use dwg_base::Version;
 use dwg_bits::{BitCursor, BitSink};

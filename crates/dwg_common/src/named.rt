@@ -10,7 +10,7 @@ ghost use Rattle.dwg_common.specs.Parsing.{Keeps, Parses};
 
 use crate::entity::{AfterDictionary, EntityCommon, Links, Look, Named, Start};
 use crate::links::CodeLinks;
-use crate::parts::{parse_code, parse_refs, parse_when};
+use crate::part_reading::{parse_code, parse_refs, parse_when};
 use crate::two_refs::two_refs_fit;
 use dwg_base::{Handle, NoMemory, Version};
 use dwg_bits::{BitCursor, BitSink};

@@ -5,11 +5,11 @@ ghost use Rattle.dwg_common.specs.NonEntities.{object_common};
 
 use crate::app_data::AppData;
 use crate::app_list::{app_fits, app_length, read_items, write_app};
+use crate::bit_layout::Layout;
 use crate::bit_size::{bit_size_bits, read_bit_size, write_bit_size};
 use crate::body::{BodyCode, BodyCode14, Lengths};
 use crate::counts::TOO_MANY;
-use crate::layout::Layout;
-use crate::parts::{parse_code, parse_ref, parse_refs};
+use crate::part_reading::{parse_code, parse_ref, parse_refs};
 use dwg_base::{Handle, Items, NoMemory};
 use dwg_bits::{BitCursor, BitSink};
 use dwg_codes::{BitCode, CodeBL};

@@ -7,7 +7,7 @@ ghost use Rattle.dwg_grammar.specs.Versions.{extrusion, thickness};
 ghost use Rattle.dwg_grammar.specs.Points.{IsPoint2, rd2, dd2};
 ghost use Rattle.dwg_common.specs.Parsing.{Keeps, Parses};
 
-use crate::parts::parse_code;
+use crate::part_reading::parse_code;
 use dwg_base::Version;
 use dwg_bits::{BitCursor, BitSink};
 use dwg_codes::{BitCode, CodeDD, CodeRD, Point2, Point3};

@@ -8,7 +8,7 @@ ghost use Rattle.dwg_grammar.specs.Combinators.{counted};
 ghost use Rattle.dwg_common.specs.Parsing.{Keeps, Parses};
 
 use crate::counts::count_fits;
-use crate::parts::{parse_bytes, parse_code};
+use crate::part_reading::{parse_bytes, parse_code};
 use dwg_base::{ByteRun, NoMemory};
 use dwg_bits::{BitCursor, BitSink};
 use dwg_codes::{BitCode, CodeBL, bytes_length, write_bytes};

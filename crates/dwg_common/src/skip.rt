@@ -12,7 +12,7 @@ ghost use Rattle.dwg_common.specs.Parsing.{Keeps};
 ghost use Rattle.dwg_common.specs.Pictures.{graphic};
 ghost use Rattle.dwg_common.specs.Skipping.{FindsSize, Skips};
 
-use crate::parts::{parse_code, parse_ref};
+use crate::part_reading::{parse_code, parse_ref};
 use dwg_base::Handle;
 use dwg_bits::BitCursor;
 use dwg_codes::{CodeB, CodeBS, CodeRL};
@@ -46,7 +46,7 @@ fn skip_items(cursor: &mut BitCursor<'_>, base: Handle) -> Option<()>
     ensures skipped { Skips (app_list base) result cursor.old cursor.new }
     ensures kept { Keeps cursor.old cursor.new }
 {
-    'along: loop {
+    'items: loop {
         let Some(size) = parse_code::<CodeBS>(&(), cursor) else {
             return None;
         };

@@ -7,13 +7,13 @@ ghost use Rattle.dwg_common.specs.Entities.{bylayer_of, entity_mode, entity_star
 ghost use Rattle.dwg_common.specs.EntityReading.{start_read};
 
 use crate::app_list::{app_fits, app_length, read_items, write_app};
+use crate::bit_layout::Layout;
 use crate::bit_size::{bit_size_bits, read_bit_size, write_bit_size};
 use crate::counts::TOO_MANY;
 use crate::entity::{EntityCommon, Start};
 use crate::given::{length_given, parse_given, write_given};
 use crate::graphic::{graphic_bits, graphic_fits, read_graphic, write_graphic};
-use crate::layout::Layout;
-use crate::parts::parse_code;
+use crate::part_reading::parse_code;
 use dwg_base::{Handle, NoMemory, Version};
 use dwg_bits::{BitCursor, BitSink};
 use dwg_codes::{BitCode, CodeB, CodeBB, CodeBL};

@@ -5,7 +5,7 @@ ghost use Rattle.dwg_grammar.specs.References.{two_refs};
 ghost use Rattle.dwg_grammar.proofs.ReferenceParts.{two_is_part};
 ghost use Rattle.dwg_common.specs.Parsing.{Keeps, Parses};
 
-use crate::parts::parse_code;
+use crate::part_reading::parse_code;
 use dwg_base::Handle;
 use dwg_bits::{BitCursor, BitSink};
 use dwg_codes::BitCode;

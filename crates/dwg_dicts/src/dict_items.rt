@@ -30,7 +30,7 @@ pub(crate) fn read_items(
     ensures refs_kept { Keeps refs.old refs.new }
 {
     let mut found = Items::new(alloc);
-    'along: for _ in 0..count {
+    'items: for _ in 0..count {
         let Some(name) = parse_tv(alloc, main)? else {
             return Ok(None);
         };
@@ -61,7 +61,7 @@ fn item_fits(item: &DictItem, base: Handle) -> bool
 pub(crate) fn items_fit(items: &[DictItem], base: Handle) -> bool
     ensures { IsTrue result ↔ AreItems base items.now }
 {
-    'along: for item in items {
+    'items: for item in items {
         if !item_fits(item, base) {
             return false;
         }
@@ -76,7 +76,7 @@ pub(crate) fn names_bits(items: &[DictItem]) -> u64
     ensures { result ≡ length (short_all tv (names_of items.now)) }
 {
     let mut bits = 0;
-    'along: for item in items {
+    'items: for item in items {
         bits += tv_bits(item.name.as_slice());
     }
     bits
@@ -90,7 +90,7 @@ pub(crate) fn targets_bits(items: &[DictItem], base: Handle) -> u64
     ensures { result ≡ length (short_all (reference base) (targets_of items.now)) }
 {
     let mut bits = 0;
-    'along: for item in items {
+    'items: for item in items {
         bits += ref_bits(item.target, base);
     }
     bits
@@ -102,7 +102,7 @@ pub(crate) fn write_names(items: &[DictItem], sink: &mut BitSink)
     requires room { length (short_all tv (names_of items.now)) ≤ sink.old.spare }
     ensures { Extends sink.old sink.new (short_all tv (names_of items.now)) }
 {
-    'along: for item in items {
+    'items: for item in items {
         write_tv(item.name.as_slice(), sink);
     }
 }
@@ -114,7 +114,7 @@ pub(crate) fn write_targets(items: &[DictItem], base: Handle, sink: &mut BitSink
     requires room { length (short_all (reference base) (targets_of items.now)) ≤ sink.old.spare }
     ensures { Extends sink.old sink.new (short_all (reference base) (targets_of items.now)) }
 {
-    'along: for item in items {
+    'items: for item in items {
         write_ref(item.target, base, sink);
     }
 }

@@ -79,10 +79,8 @@ fn fault_of(alloc: Global, file: &[u8]) -> Result<Option<Refusal>, NoMemory>
 fn owned(alloc: Global, run: ByteRun) -> Result<Vec<u8>, NoMemory>
     ensures { IfOk result (λ file. file.items ≡ run) }
 {
-    match Vec::from_slice(alloc, run.as_slice()) {
-        Ok(file) => Ok(file),
-        Err(_) => Err(NoMemory),
-    }
+    let file = Vec::from_slice(alloc, run.as_slice())?;
+    Ok(file)
 }
 
 /// Drills over the file of a drawing of so many entities. The file is read again and audited, and then changed in its place. Err: out of memory.
@@ -118,10 +116,10 @@ fn drill_file(alloc: Global, entities: u32, file: ByteRun) -> Result<DrillReport
     })
 }
 
-/// Drills (a rule of this project): makes a drawing of so many entities, writes its canonical file, reads that again and audits what
-/// was read, and reads the file once more with its middle byte changed to its complement. Size exactly where the count is out of
-/// range, TooLarge exactly where the file has more bytes than a file may have, with their count; the only other refusal is want of
-/// memory.
+/// Drills (a rule of this project): makes a drawing of so many entities, writes its canonical file, reads that again and audits
+/// what was read, and reads the file once more with its middle byte changed to its complement. Size exactly where the count is out
+/// of range, TooLarge exactly where the file has more bytes than a file may have, with their count; the only other refusal is out
+/// of memory.
 pub fn drill(alloc: Global, n: u32) -> Result<DrillReport, DrillFault>
     ensures report { IfOk result (λ report. report ≡ drilled n) }
     ensures of_table { IfOk result (λ report. IfSome report.fault IsOfTable) }
@@ -132,12 +130,7 @@ pub fn drill(alloc: Global, n: u32) -> Result<DrillReport, DrillFault>
 {
     make_laws();
     canonical_laws();
-    let file = match make_file(alloc, n) {
-        Ok(file) => file,
-        Err(fault) => return Err(fault),
-    };
-    match drill_file(alloc, n, file) {
-        Ok(report) => Ok(report),
-        Err(NoMemory) => Err(DrillFault::NoMemory),
-    }
+    let file = make_file(alloc, n)?;
+    let report = drill_file(alloc, n, file)?;
+    Ok(report)
 }

@@ -57,10 +57,8 @@ fn write_drawing(alloc: Global, drawing: &Drawing<'_>) -> Result<ByteRun, DrillF
         Err(PlanFault::TooLarge { size }) => return Err(DrillFault::TooLarge { size }),
         Err(PlanFault::NoMemory) => return Err(DrillFault::NoMemory),
     };
-    match send(alloc, &mut plan) {
-        Ok(file) => Ok(file),
-        Err(NoMemory) => Err(DrillFault::NoMemory),
-    }
+    let file = send(alloc, &mut plan)?;
+    Ok(file)
 }
 
 /// The canonical file of the drawing of a drill. Size exactly where the count is out of range, TooLarge exactly where the file has
@@ -72,12 +70,6 @@ pub(crate) fn make_file(alloc: Global, n: u32) -> Result<ByteRun, DrillFault>
     ensures size_reported { (n ≡ 0) ⊎ (MOST_ENTITIES < n) → IsErrOf result DrillFault.Size }
     ensures too_large { (size : ℕ) → result ≡ Err (DrillFault.TooLarge size) → (0 < n) × (n ≤ MOST_ENTITIES) × (MOST_BYTES < size_of (made n DRILL_SEED)) × (size ≡ size_of (made n DRILL_SEED)) }
 {
-    let drawing = match make_drawing(alloc, n) {
-        Ok(drawing) => drawing,
-        Err(fault) => return Err(fault),
-    };
-    match write_drawing(alloc, &drawing) {
-        Ok(file) => Ok(file),
-        Err(fault) => Err(fault),
-    }
+    let drawing = make_drawing(alloc, n)?;
+    write_drawing(alloc, &drawing)
 }

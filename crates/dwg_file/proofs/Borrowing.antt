@@ -7,7 +7,7 @@ use Rattle.std.proofs.lemmas.List.Sorted.{All-permutation}
 use Rattle.dwg_object.specs.declared.object.Object.{Object}
 use Rattle.dwg_object.specs.Objects.{IsBorrowedObject}
 use Rattle.dwg_file.specs.Borrowed.{IsBorrowedSection}
-use Rattle.dwg_file.specs.declared.parts.Other.{Other}
+use Rattle.dwg_file.specs.declared.drawing_parts.Other.{Other}
 
 -- one more
 all_more : {X : Type 0} (P : X → Type 0) (xs more : List X) (x : X) → more ≡ xs ++ x ∷ [] → All P xs → P x → All P more

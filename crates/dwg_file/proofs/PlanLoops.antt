@@ -4,7 +4,7 @@ use Rattle.std.specs.Prelude.{map, flat_map}
 use Rattle.std.specs.List.{AllByRecursion}
 use Rattle.std.proofs.lemmas.List.{append-nil, drop_more, drop_all}
 use Rattle.std.specs.Prelude.{Option}
-use Rattle.dwg_file.specs.WriteBuffer.{IsGiven, GivesPrefix}
+use Rattle.dwg_file.specs.WriteBuffer.{WritesWhole, WritesPrefix}
 use Rattle.dwg_file.proofs.GivenBytes.{waits, given_both, cut_before, cut_after}
 
 -- what is left from a place on is the item there and what is left after it
@@ -34,7 +34,7 @@ module _ {X V : Type 0} (value : X → V) (piece : V → List ℕ) where
   -- pieces are given up to those of items that are left
   pub record AreGiven (all left : List X) (old now : Option (List ℕ)) (waited waiting : List ℕ) : Type 0 where
     pub done : List ℕ
-    pub given : IsGiven old now waited waiting done
+    pub given : WritesWhole old now waited waiting done
     pub whole : done ++ pieces left ≡ pieces all
 
   -- at the begin all are left
@@ -43,7 +43,7 @@ module _ {X V : Type 0} (value : X → V) (piece : V → List ℕ) where
 
   -- with one more given, those after it are left
   pub one_given : (all : List X) (i : ℕ) (item : X) (old mid new : Option (List ℕ)) (waited between waiting : List ℕ) → i < length all → item ≡ get_or all i item
-      → IsGiven mid new between waiting (piece (value item)) → AreGiven all (drop i all) old mid waited between → AreGiven all (drop (i + 1) all) old new waited waiting
+      → WritesWhole mid new between waiting (piece (value item)) → AreGiven all (drop i all) old mid waited between → AreGiven all (drop (i + 1) all) old new waited waiting
   one_given all i item old mid new waited between waiting inside here more so_far = record {
     done = so_far.done ++ piece (value item);
     given = given_both old mid new waited between waiting so_far.done (piece (value item)) (so_far.done ++ piece (value item)) refl so_far.given more;
@@ -54,16 +54,16 @@ module _ {X V : Type 0} (value : X → V) (piece : V → List ℕ) where
 
   -- where one is cut off, all are
   pub one_cut : (all : List X) (i : ℕ) (item : X) (old mid new : Option (List ℕ)) (waited between : List ℕ) → i < length all → item ≡ get_or all i item
-      → GivesPrefix mid new between (piece (value item)) → AreGiven all (drop i all) old mid waited between → GivesPrefix old new waited (pieces all)
+      → WritesPrefix mid new between (piece (value item)) → AreGiven all (drop i all) old mid waited between → WritesPrefix old new waited (pieces all)
   one_cut all i item old mid new waited between inside here cut so_far =
       cut_after old mid new waited between so_far.done (pieces (drop i all)) (pieces all) so_far.whole so_far.given
       (cut_before mid new between (piece (value item)) (pieces (drop (i + 1) all)) (pieces (drop i all)) (ap pieces (sym (left_at all i item inside here))) cut)
 
   -- where none is left, all are given
   pub all_given : (all : List X) (i : ℕ) (old new : Option (List ℕ)) (waited waiting : List ℕ) → length all ≤ i → AreGiven all (drop i all) old new waited waiting
-      → IsGiven old new waited waiting (pieces all)
+      → WritesWhole old new waited waiting (pieces all)
   all_given all i old new waited waiting past so_far =
-      subst (IsGiven old new waited waiting) (sym (append-nil so_far.done) ∙ ap (λ rest. so_far.done ++ pieces rest) (sym (drop_all i all past)) ∙ so_far.whole) so_far.given
+      subst (WritesWhole old new waited waiting) (sym (append-nil so_far.done) ∙ ap (λ rest. so_far.done ++ pieces rest) (sym (drop_all i all past)) ∙ so_far.whole) so_far.given
 
   -- what holds of all that are left holds of the first of them, and of those after it
   pub holds_here : (P : V → Type 0) (all : List X) (i : ℕ) (item : X) → i < length all → item ≡ get_or all i item → AllByRecursion P (map value (drop i all))

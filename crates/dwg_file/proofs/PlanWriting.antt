@@ -14,7 +14,7 @@ use Rattle.dwg_object.specs.Objects.{ObjectValue}
 use Rattle.dwg_file.specs.Contents.{Contents}
 use Rattle.dwg_file.specs.Canonical.{Carried, canonical_with, class_content, frames_bytes, header_with, map_with, others_bytes, others_place_with, preview_at, preview_place, variables_place}
 use Rattle.dwg_file.proofs.CanonicalHeader.{length_of_located}
-use Rattle.dwg_file.specs.WriteBuffer.{IsGiven, GivesPrefix, Gives}
+use Rattle.dwg_file.specs.WriteBuffer.{WritesWhole, WritesPrefix, Writes}
 use Rattle.dwg_file.proofs.GivenBytes.{given_both, gives_both, cut_before, cut_after}
 use Rattle.dwg_file.specs.Plans.{before_map, sections_bytes}
 
@@ -37,18 +37,18 @@ prefix_pieces carried drawing header objects heads all =
     ap₂ (λ (one : FileHeader) (some : List ObjectValue). header_bytes one ++ sections_bytes carried drawing ++ frames_bytes drawing.version some) heads all
 
 -- three pieces that are given one after the other: where one is cut off, so are all
-pub first_cut : (a b : Option (List ℕ)) (waited x y z whole : List ℕ) → x ++ y ++ z ≡ whole → GivesPrefix a b waited x → GivesPrefix a b waited whole
+pub first_cut : (a b : Option (List ℕ)) (waited x y z whole : List ℕ) → x ++ y ++ z ≡ whole → WritesPrefix a b waited x → WritesPrefix a b waited whole
 first_cut a b waited x y z whole same cut = cut_before a b waited x (y ++ z) whole (sym (append_assoc x y z) ∙ same) cut
 
-pub second_cut : (a b c : Option (List ℕ)) (waited one x y z whole : List ℕ) → x ++ y ++ z ≡ whole → IsGiven a b waited one x → GivesPrefix b c one y → GivesPrefix a c waited whole
+pub second_cut : (a b c : Option (List ℕ)) (waited one x y z whole : List ℕ) → x ++ y ++ z ≡ whole → WritesWhole a b waited one x → WritesPrefix b c one y → WritesPrefix a c waited whole
 second_cut a b c waited one x y z whole same given cut = cut_before a c waited (x ++ y) z whole same (cut_after a b c waited one x y (x ++ y) refl given cut)
 
-pub third_cut : (a b c d : Option (List ℕ)) (waited one two x y z whole : List ℕ) → x ++ y ++ z ≡ whole → IsGiven a b waited one x → IsGiven b c one two y → GivesPrefix c d two z → GivesPrefix a d waited whole
+pub third_cut : (a b c d : Option (List ℕ)) (waited one two x y z whole : List ℕ) → x ++ y ++ z ≡ whole → WritesWhole a b waited one x → WritesWhole b c one two y → WritesPrefix c d two z → WritesPrefix a d waited whole
 third_cut a b c d waited one two x y z whole same first second cut =
     cut_after a c d waited two (x ++ y) z whole same (given_both a b c waited one two x y (x ++ y) refl first second) cut
 
-pub three_given : {T E : Type 0} (a b c d : Option (List ℕ)) (waited one two waiting x y z whole : List ℕ) (result : Result T E) → x ++ y ++ z ≡ whole → IsGiven a b waited one x
-    → IsGiven b c one two y → Gives c d two waiting z result → Gives a d waited waiting whole result
+pub three_given : {T E : Type 0} (a b c d : Option (List ℕ)) (waited one two waiting x y z whole : List ℕ) (result : Result T E) → x ++ y ++ z ≡ whole → WritesWhole a b waited one x
+    → WritesWhole b c one two y → Writes c d two waiting z result → Writes a d waited waiting whole result
 three_given a b c d waited one two waiting x y z whole result same first second last =
     gives_both a c d waited two waiting (x ++ y) z whole result same (given_both a b c waited one two x y (x ++ y) refl first second) last
 

@@ -1,8 +1,8 @@
 -- What a drawing borrows of the input that it was read from. A rule of this project.
 use Rattle.std.specs.List.{All}
 use Rattle.dwg_object.specs.Objects.{IsBorrowedObject, IsLentPart}
-use Rattle.dwg_file.specs.declared.parts.Other.{Other}
-use Rattle.dwg_file.specs.declared.parts.Parts.{Parts}
+use Rattle.dwg_file.specs.declared.drawing_parts.Other.{Other}
+use Rattle.dwg_file.specs.declared.drawing_parts.Parts.{Parts}
 
 -- an unknown section whose bytes are lent
 abbrev pub IsBorrowedSection : Other → Type 0

@@ -4,8 +4,8 @@ use Rattle.dwg_base.specs.declared.version.Version.{Version}
 use Rattle.dwg_classes.specs.declared.class.Class.{Class}
 use Rattle.dwg_codes.specs.Parts.{part_bytes}
 use Rattle.dwg_object.specs.Objects.{ObjectValue, value_of}
-use Rattle.dwg_file.specs.declared.parts.Other.{Other}
-use Rattle.dwg_file.specs.declared.parts.Parts.{Parts}
+use Rattle.dwg_file.specs.declared.drawing_parts.Other.{Other}
+use Rattle.dwg_file.specs.declared.drawing_parts.Parts.{Parts}
 
 -- an unknown section
 pub record OtherValue : Type 0 where

@@ -16,7 +16,7 @@ use Rattle.dwg_object.specs.Objects.ObjectValue.{TypedValue, PlainValue, RawValu
 use Rattle.dwg_sections.specs.declared.framed.Framed.TheVariants.{Variables, Classes}
 use Rattle.dwg_sections.specs.FileHeader.{header_bytes}
 use Rattle.dwg_sections.specs.Framed.{framed_bytes}
-use Rattle.dwg_file.specs.declared.layout.Layout.{Layout}
+use Rattle.dwg_file.specs.declared.file_layout.Layout.{Layout}
 use Rattle.dwg_file.specs.Canonical.{Carried, IsCarried, class_content, frames_bytes, placed, preview_at, variables_place, classes_place, preview_place, objects_place_with, map_place_with, others_place_with, header_with, size_with}
 use Rattle.dwg_preview.specs.Previews.{prefix_bytes}
 use Rattle.dwg_file.specs.Contents.{Contents}

@@ -13,14 +13,14 @@ pub record Reaches (old new : Option (List ℕ)) (bytes waiting : List ℕ) : Ty
   pub taken : Appends old new sent
   pub whole : bytes ≡ sent ++ waiting
 
--- after those that waited these bytes are given: the sink took both but for what waits then
-abbrev pub IsGiven : Option (List ℕ) → Option (List ℕ) → List ℕ → List ℕ → List ℕ → Type 0
-IsGiven old new waited waiting bytes = Reaches old new (waited ++ bytes) waiting
+-- these bytes are written whole after those that waited: the sink took both but for what waits then
+abbrev pub WritesWhole : Option (List ℕ) → Option (List ℕ) → List ℕ → List ℕ → List ℕ → Type 0
+WritesWhole old new waited waiting bytes = Reaches old new (waited ++ bytes) waiting
 
 -- they are cut off: the sink took a prefix of both
-abbrev pub GivesPrefix : Option (List ℕ) → Option (List ℕ) → List ℕ → List ℕ → Type 0
-GivesPrefix old new waited bytes = AppendsPrefix old new (waited ++ bytes)
+abbrev pub WritesPrefix : Option (List ℕ) → Option (List ℕ) → List ℕ → List ℕ → Type 0
+WritesPrefix old new waited bytes = AppendsPrefix old new (waited ++ bytes)
 
--- a call that gives bytes to a sink: they are given at Ok, and cut off at Err
-abbrev pub Gives : {T E : Type 0} → Option (List ℕ) → Option (List ℕ) → List ℕ → List ℕ → List ℕ → Result T E → Type 0
-Gives old new waited waiting bytes result = MatchResult result (λ _. IsGiven old new waited waiting bytes) (λ _. GivesPrefix old new waited bytes)
+-- a call that writes bytes: they are written whole at Ok, and cut off at Err
+abbrev pub Writes : {T E : Type 0} → Option (List ℕ) → Option (List ℕ) → List ℕ → List ℕ → List ℕ → Result T E → Type 0
+Writes old new waited waiting bytes result = MatchResult result (λ _. WritesWhole old new waited waiting bytes) (λ _. WritesPrefix old new waited bytes)

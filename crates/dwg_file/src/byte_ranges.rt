@@ -5,7 +5,7 @@ ghost use Rattle.std.specs.BTreeMap.{insert_entry};
 ghost use Rattle.std.specs.Ordering.{nat_cmp};
 ghost use Rattle.dwg_file.specs.ByteRanges.{Run, AreRuns, IsRow, IsAfter, begins_before, first_after, meets, shares};
 
-use dwg_base::{NoMemory, with_item};
+use dwg_base::NoMemory;
 use std::alloc::Global;
 use std::collections::BTreeMap;
 use std::marker::Model;
@@ -127,10 +127,8 @@ fn with_other(
     ensures { IfOk result (λ more. more.entries ≡ insert_entry nat_cmp runs.entries last first) }
 {
     let mut runs = runs;
-    match runs.insert(last, first) {
-        Ok(_) => Ok(runs),
-        Err(_) => Err(NoMemory),
-    }
+    runs.insert(last, first)?;
+    Ok(runs)
 }
 
 impl ByteRanges {
@@ -171,18 +169,18 @@ impl ByteRanges {
     }
 
     /// The runs and one more, from a place to another, that shares no byte with them. Err: out of memory.
-    pub fn add(self, from: u64, end: u64) -> Result<ByteRanges, NoMemory>
+    pub fn with_run(self, from: u64, end: u64) -> Result<ByteRanges, NoMemory>
         requires some { from < end }
         requires apart { shares self from end ≡ false }
         ensures { IfOk result (λ more. (other to : ℕ) → shares more other to ≡ (shares self other to || meets other to (end - 1, from))) }
     {
         let ByteRanges {
-            row,
+            mut row,
             end: last,
             others,
         } = self;
         if last <= from {
-            let row = with_item(row, (end - 1, from))?;
+            row.push((end - 1, from))?;
             return Ok(ByteRanges { row, end, others });
         }
         let others = with_other(others, end - 1, from)?;

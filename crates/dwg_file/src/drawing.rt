@@ -1,6 +1,6 @@
 //! Drawings that are valid.
 
-use crate::parts::Parts;
+use crate::drawing_parts::Parts;
 use std::marker::Model;
 
 /// A drawing whose parts are valid: what its canonical file spells again.
@@ -14,7 +14,7 @@ pub struct Drawing<'a> {
 impl<'a> Model for Drawing<'a> {
     ghost use Rattle.dwg_file.specs.Contents.{contents_of};
     ghost use Rattle.dwg_file.specs.Valid.{IsValid};
-    ghost use Rattle.dwg_file.specs.declared.parts.Parts as declared;
+    ghost use Rattle.dwg_file.specs.declared.drawing_parts.Parts as declared;
 
     ghost Value = { declared.Parts };
 

@@ -9,8 +9,8 @@ ghost use Rattle.dwg_file.specs.Canonical.{class_content, frames_bytes, placed, 
 ghost use Rattle.dwg_file.specs.Contents.{other_value};
 ghost use Rattle.dwg_file.specs.Plans.{CanBeFramed, FitsIn, room_of_frame};
 
-use crate::parts::Other;
-use dwg_base::{Items, NoMemory, Version, push_item, vec_with_capacity};
+use crate::drawing_parts::Other;
+use dwg_base::{Items, NoMemory, Version, vec_with_capacity};
 use dwg_classes::{Class, classes_bits};
 use dwg_codes::ms_bytes;
 use dwg_object::{Object, frame_length};
@@ -32,7 +32,7 @@ pub(crate) fn others_length(others: &[Other<'_>]) -> u64
     ensures { result ≡ length (others_bytes (map other_value others.now)) }
 {
     let mut length = 0;
-    'along: for other in others {
+    'others: for other in others {
         length += other.bytes.as_slice().len() as u64;
     }
     length
@@ -80,12 +80,12 @@ pub(crate) fn place_objects(
     let mut pairs = vec_with_capacity(alloc, objects.len())?;
     let mut place = from;
     let mut part = 0;
-    'along: for object in objects {
+    'objects: for object in objects {
         let pair = Pair {
             handle: object.handle(),
             place,
         };
-        push_item(&mut pairs, pair)?;
+        pairs.push(pair)?;
         let frame = frame_length(object, version);
         part = room_of_frame(object, version, frame).max(part);
         place += frame;

@@ -11,7 +11,7 @@ ghost use Rattle.dwg_file.specs.FrameReading.{AreRanges, AnswersPair, HasRead, G
 ghost use Rattle.dwg_file.specs.ByteRanges.{meets, shares};
 
 use crate::byte_ranges::ByteRanges;
-use dwg_base::{Fault, Handle, Items, NoMemory, Refusal, Version, vec_with_capacity, with_item};
+use dwg_base::{Fault, Handle, Items, NoMemory, Refusal, Version, vec_with_capacity};
 use dwg_classes::Hints;
 use dwg_object::{Found, Object, read_span, span_at};
 use dwg_objmap::Pair;
@@ -86,8 +86,7 @@ pub struct ObjectFrame {
 /// which AC1014 has, three.
 const LEAST_FRAME: usize = 7;
 
-/// A list with room for the objects of so many pairs, and for no more than an input of so many bytes can hold. The only refusal is
-/// out of memory.
+/// A list with room for the objects of so many pairs, and for no more than an input of so many bytes can hold. Err: out of memory.
 fn room_for_objects<'a>(
     alloc: Global,
     pairs: usize,
@@ -116,18 +115,18 @@ fn with_frame<'a>(read: Frames<'a>, pair: &Pair, found: Found<'a>) -> Result<Fra
 {
     let Frames {
         taken,
-        frames,
-        objects,
+        mut frames,
+        mut objects,
     } = read;
     let (from, end) = (pair.place, found.end);
-    let objects = with_item(objects, found.object)?;
-    let taken = taken.add(from, end)?;
+    objects.push(found.object)?;
+    let taken = taken.with_run(from, end)?;
     let frame = ObjectFrame {
         handle: pair.handle,
         from,
         end,
     };
-    let frames = frames.with(frame)?;
+    frames.try_push(frame)?;
     Ok(Frames {
         taken,
         frames,
@@ -149,14 +148,9 @@ fn next_frame<'a>(
     ensures goes_on { (earlier : List FoundFrame) (handles : List ℕ) → HasRead hints.now bytes.now earlier handles read.entry → GoesOn hints.now bytes.now earlier handles pair.now (tried_pair bytes.now earlier index pair.now) result }
     ensures of_table { IfErr result IsFaultOfTable }
 {
-    let found = match frame_of_pair(alloc, &read.taken, bytes, pair, index, hints) {
-        Ok(found) => found,
-        Err(fault) => return Err(fault),
-    };
-    match with_frame(read, pair, found) {
-        Ok(more) => Ok(more),
-        Err(NoMemory) => Err(Fault::NoMemory),
-    }
+    let found = frame_of_pair(alloc, &read.taken, bytes, pair, index, hints)?;
+    let more = with_frame(read, pair, found)?;
+    Ok(more)
 }
 
 /// Reads the frames of pairs, in their order, and their objects.
@@ -172,21 +166,15 @@ pub(crate) fn read_frames<'a>(
     ensures lent { IfOk result (λ read. All IsBorrowedObject read.objects.items) }
     ensures of_table { IfErr result IsFaultOfTable }
 {
-    let objects = match room_for_objects(alloc, pairs.len(), bytes.len()) {
-        Ok(objects) => objects,
-        Err(NoMemory) => return Err(Fault::NoMemory),
-    };
+    let objects = room_for_objects(alloc, pairs.len(), bytes.len())?;
     let mut read = Frames {
         taken: ByteRanges::new(alloc),
         frames: Items::new(alloc),
         objects,
     };
-    'along: for index in 0..pairs.len() {
+    'pairs: for index in 0..pairs.len() {
         let pair = &pairs[index];
-        read = match next_frame(alloc, read, bytes, pair, index as u64, hints) {
-            Ok(more) => more,
-            Err(fault) => return Err(fault),
-        };
+        read = next_frame(alloc, read, bytes, pair, index as u64, hints)?;
     }
     Ok(read)
 }

@@ -24,7 +24,7 @@ fn are_sorted(objects: &[Object<'_>]) -> bool
     ensures { IsTrue result ↔ IsNonDecreasingBy (λ object. handle_of (value_of object)) objects.now }
 {
     let mut last = 0;
-    'along: for object in objects {
+    'objects: for object in objects {
         let handle = object.handle().value();
         if handle < last {
             return false;
@@ -44,10 +44,8 @@ fn sorted_by_places<'a>(objects: Vec<Object<'a>>) -> Result<Vec<Object<'a>>, NoM
         return Ok(objects);
     }
     let mut objects = objects;
-    match objects.sort_by_cached_key(|object| object.handle().value()) {
-        Ok(()) => Ok(objects),
-        Err(_) => Err(NoMemory),
-    }
+    objects.sort_by_cached_key(|object| object.handle().value())?;
+    Ok(objects)
 }
 
 /// The objects in ascending order of their handles, in n log n steps, without taking memory. Those that stand so stay where they
@@ -105,19 +103,11 @@ pub(crate) fn read_objects<'a>(
     ensures lent { IfOk result (λ read. All IsBorrowedObject read.objects) }
     ensures of_table { IfErr result IsFaultOfTable }
 {
-    let hints = match Hints::build(alloc, classes) {
-        Ok(hints) => hints,
-        Err(NoMemory) => return Err(Fault::NoMemory),
-    };
-    let read = match read_frames(alloc, bytes, pairs, &hints) {
-        Ok(read) => read,
-        Err(fault) => return Err(fault),
-    };
-    match ordered_by_places(read.objects) {
-        Ok(objects) => Ok(FramedObjects {
-            objects,
-            frames: read.frames,
-        }),
-        Err(NoMemory) => Err(Fault::NoMemory),
-    }
+    let hints = Hints::build(alloc, classes)?;
+    let read = read_frames(alloc, bytes, pairs, &hints)?;
+    let objects = ordered_by_places(read.objects)?;
+    Ok(FramedObjects {
+        objects,
+        frames: read.frames,
+    })
 }

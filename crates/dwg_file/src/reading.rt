@@ -16,10 +16,10 @@ ghost use Rattle.dwg_file.specs.ReadAs.{ReadsAs};
 ghost use Rattle.dwg_file.specs.Spelled.{Spelled};
 
 use crate::drawing::Drawing;
+use crate::drawing_parts::Parts;
 use crate::frames::ObjectFrame;
 use crate::laws::drawing_laws;
 use crate::objects::{FramedObjects, read_objects};
-use crate::parts::Parts;
 use crate::sections::{classes_of_file, others_of_file, pairs_of_file, variables_of_file};
 use dwg_base::{Fault, Items};
 use dwg_classes::Class;
@@ -43,14 +43,9 @@ fn objects_of_file<'a>(
     ensures refused { IfErr result (λ fault. Reports fault (first_fault (map_row ∷ frames_row ∷ []) bytes.now)) }
     ensures of_table { IfErr result IsFaultOfTable }
 {
-    let pairs = match pairs_of_file(alloc, bytes, header) {
-        Ok(pairs) => pairs,
-        Err(fault) => return Err(fault),
-    };
-    match read_objects(alloc, bytes, pairs.as_slice(), classes) {
-        Ok(read) => Ok(read),
-        Err(fault) => Err(fault),
-    }
+    let pairs = pairs_of_file(alloc, bytes, header)?;
+    let read = read_objects(alloc, bytes, pairs.as_slice(), classes)?;
+    Ok(read)
 }
 
 /// The parts of a drawing, and the frames of its objects in map order.
@@ -75,22 +70,10 @@ fn parts_after<'a>(
     ensures refused { IfErr result (λ fault. Reports fault (first_fault ALL_LINES bytes.now)) }
     ensures of_table { IfErr result IsFaultOfTable }
 {
-    let content = match variables_of_file(bytes, header) {
-        Ok(content) => content,
-        Err(refusal) => return Err(Fault::Refused(refusal)),
-    };
-    let classes = match classes_of_file(alloc, bytes, header) {
-        Ok(classes) => classes,
-        Err(fault) => return Err(fault),
-    };
-    let framed = match objects_of_file(alloc, bytes, header, classes.as_slice()) {
-        Ok(framed) => framed,
-        Err(fault) => return Err(fault),
-    };
-    let others = match others_of_file(alloc, bytes, header) {
-        Ok(others) => others,
-        Err(fault) => return Err(fault),
-    };
+    let content = variables_of_file(bytes, header)?;
+    let classes = classes_of_file(alloc, bytes, header)?;
+    let framed = objects_of_file(alloc, bytes, header, classes.as_slice())?;
+    let others = others_of_file(alloc, bytes, header)?;
     let FramedObjects { objects, frames } = framed;
     let parts = Parts {
         version: header.version,
@@ -103,25 +86,6 @@ fn parts_after<'a>(
         objects,
     };
     Ok(FramedParts { parts, frames })
-}
-
-/// Reads the parts of the drawing that an input spells, and the frames of its objects.
-fn read_parts<'a>(alloc: Global, bytes: &'a [u8]) -> Result<FramedParts<'a>, Fault>
-    requires { length bytes.now ≤ MOST_BYTES }
-    ensures read { IfOk result (λ read. ReadsAs (contents_of read.parts) bytes.now) }
-    ensures lent { IfOk result (λ read. IsBorrowed read.parts) }
-    ensures frames { IfOk result (λ read. read.frames ≡ map frame_of (result_unwrap_or (frames_tried bytes.now) [])) }
-    ensures refused { IfErr result (λ fault. Reports fault (first_fault ALL_LINES bytes.now)) }
-    ensures of_table { IfErr result IsFaultOfTable }
-{
-    let header = match read_file_header(alloc, bytes) {
-        Ok(header) => header,
-        Err(fault) => return Err(fault),
-    };
-    match parts_after(alloc, bytes, &header) {
-        Ok(read) => Ok(read),
-        Err(fault) => Err(fault),
-    }
 }
 
 /// A drawing that was read, and the frames of its objects.
@@ -152,20 +116,19 @@ pub fn read_with_frames<'a>(alloc: Global, bytes: &'a [u8]) -> Result<FramedDraw
     ensures of_table { IfErr result IsFaultOfTable }
 {
     drawing_laws();
-    match read_parts(alloc, bytes) {
-        Ok(read) => Ok(FramedDrawing {
-            drawing: Drawing::build(read.parts),
-            frames: read.frames,
-        }),
-        Err(fault) => Err(fault),
-    }
+    let header = read_file_header(alloc, bytes)?;
+    let read = parts_after(alloc, bytes, &header)?;
+    Ok(FramedDrawing {
+        drawing: Drawing::build(read.parts),
+        frames: read.frames,
+    })
 }
 
 /// Reads the drawing that an input spells. It is refused by the first of all lines that fails: those on the file header, the
 /// header variables, the section of the classes, the classes one by one, the whole map page by page, the frames pair by
 /// pair in map order, and the unknown sections (Open Design Specification, "R13 to R2000 file layout").
 ///
-/// The objects come in ascending order of handle. What memory is taken is for what the input holds, and want of it reports
+/// The objects come in ascending order of handle. What memory is taken is for what the input holds; running out of it says
 /// nothing of the input.
 pub fn read_drawing<'a>(alloc: Global, bytes: &'a [u8]) -> Result<Drawing<'a>, Fault>
     requires { length bytes.now ≤ MOST_BYTES }
@@ -180,8 +143,6 @@ pub fn read_drawing<'a>(alloc: Global, bytes: &'a [u8]) -> Result<Drawing<'a>, F
     ensures refused { IfErr result (λ fault. Reports fault (first_fault ALL_LINES bytes.now)) }
     ensures of_table { IfErr result IsFaultOfTable }
 {
-    match read_with_frames(alloc, bytes) {
-        Ok(read) => Ok(read.drawing),
-        Err(fault) => Err(fault),
-    }
+    let read = read_with_frames(alloc, bytes)?;
+    Ok(read.drawing)
 }

@@ -12,8 +12,8 @@ ghost use Rattle.dwg_file.specs.Contents.{other_value};
 ghost use Rattle.dwg_file.specs.FileLines.{section_place, variables_row, classes_section_row, classes_tried, classes_row, map_tried, sections_row};
 ghost use Rattle.dwg_file.specs.ReadAs.{sections_at};
 
-use crate::others::{refusal_of_others, whole_others};
-use crate::parts::Other;
+use crate::drawing_parts::Other;
+use crate::unknown_sections::{refusal_of_others, whole_others};
 use dwg_base::{Fault, Items, NoMemory, Refusal};
 use dwg_classes::{Class, read_classes};
 use dwg_objmap::{Pair, read_map};
@@ -55,10 +55,8 @@ pub fn classes_of_file(
     ensures of_table { IfErr result IsFaultOfTable }
 {
     let place = header.place_of(CLASSES_NUMBER).unwrap_or(0);
-    match read_framed(bytes, place, Framed::Classes) {
-        Ok(content) => read_classes(alloc, content, u64::from(place) + CONTENT_PLACE as u64),
-        Err(refusal) => Err(Fault::Refused(refusal)),
-    }
+    let content = read_framed(bytes, place, Framed::Classes)?;
+    read_classes(alloc, content, u64::from(place) + CONTENT_PLACE as u64)
 }
 
 /// The pairs of the map of the file.
@@ -95,8 +93,6 @@ pub(crate) fn others_of_file<'a>(
     if let Some(refusal) = refusal_of_others(bytes, locators) {
         return Err(Fault::Refused(refusal));
     }
-    match whole_others(alloc, bytes, locators) {
-        Ok(others) => Ok(others),
-        Err(NoMemory) => Err(Fault::NoMemory),
-    }
+    let others = whole_others(alloc, bytes, locators)?;
+    Ok(others)
 }

@@ -3,7 +3,7 @@
 
 ghost use Rattle.std.specs.Prelude.{◌≡◌, ◌+◌, ◌<◌, ◌≤◌, ◌++◌, [], length, vec_capacity, IfOk};
 ghost use Rattle.dwg_base.specs.Devices.{Counts, Sends};
-ghost use Rattle.dwg_file.specs.WriteBuffer.{Gives};
+ghost use Rattle.dwg_file.specs.WriteBuffer.{Writes};
 
 use dwg_base::{NoMemory, Sink, WriteFault, append_bytes, put_all, vec_with_capacity};
 use std::alloc::Global;
@@ -36,15 +36,15 @@ impl Model for WriteBuffer {
 
     ghost Value = { List ℕ };
 
-    ghost view = { λ gathering. gathering.bytes.items };
+    ghost view = { λ buffer. buffer.bytes.items };
 
-    ghost invariant = { λ gathering. (LEAST_PIECE ≤ vec_capacity gathering.bytes) × (length gathering.bytes.items < LEAST_PIECE) };
+    ghost invariant = { λ buffer. (LEAST_PIECE ≤ vec_capacity buffer.bytes) × (length buffer.bytes.items < LEAST_PIECE) };
 }
 
 impl WriteBuffer {
-    /// None that wait. The memory of a piece is taken here, and none later; the only refusal is want of it.
+    /// None that wait. The memory of a piece is taken here, and none later. Err: out of memory.
     pub(crate) fn new(alloc: Global) -> Result<WriteBuffer, NoMemory>
-        ensures { IfOk result (λ gathering. gathering ≡ []) }
+        ensures { IfOk result (λ buffer. buffer ≡ []) }
     {
         let bytes = vec_with_capacity(alloc, LEAST_PIECE)?;
         Ok(WriteBuffer { bytes })
@@ -59,17 +59,17 @@ impl WriteBuffer {
 
     /// Sends all that wait, in one piece. After a fault none wait any more.
     pub(crate) fn flush<W: Sink>(&mut self, sink: &mut W) -> Result<(), WriteFault>
-        ensures gives { Gives (W.taken sink.old) (W.taken sink.new) self.old self.new [] result }
+        ensures writes { Writes (W.taken sink.old) (W.taken sink.new) self.old self.new [] result }
         ensures counts { Counts (W.faults sink.old) (W.faults sink.new) result }
         ensures none { self.new ≡ [] }
     {
         send(&mut self.bytes, sink)
     }
 
-    /// Gives bytes: they wait after those that waited, or these are filled up with the first of them and go out together. What is
+    /// Writes bytes: they wait after those that waited, or these are filled up with the first of them and go out together. What is
     /// left of the bytes then waits, or goes out as it is held, where it has as many bytes.
-    pub(crate) fn give<W: Sink>(&mut self, bytes: &[u8], sink: &mut W) -> Result<(), WriteFault>
-        ensures gives { Gives (W.taken sink.old) (W.taken sink.new) self.old self.new bytes.now result }
+    pub(crate) fn write<W: Sink>(&mut self, bytes: &[u8], sink: &mut W) -> Result<(), WriteFault>
+        ensures writes { Writes (W.taken sink.old) (W.taken sink.new) self.old self.new bytes.now result }
         ensures counts { Counts (W.faults sink.old) (W.faults sink.new) result }
     {
         let free = LEAST_PIECE - self.bytes.len();

@@ -6,8 +6,8 @@ use Rattle.std.specs.Option.{option_map}
 use Rattle.std.proofs.lemmas.List.{append_assoc, append-nil, drop_more, length-map}
 use Rattle.std.proofs.Math.ListN.{drop_of_length-le}
 use Rattle.std.proofs.lemmas.Option.{same_Some, slice_get_within}
-use Rattle.dwg_graph.specs.declared.walk.Walk.{Walk}
-use Rattle.dwg_graph.specs.declared.walk.Walk.TheVariants.{Found, Left, Gathered, OutOfMemory}
+use Rattle.dwg_graph.specs.declared.slot_walk.Walk.{Walk}
+use Rattle.dwg_graph.specs.declared.slot_walk.Walk.TheVariants.{Found, Left, Gathered, OutOfMemory}
 use Rattle.dwg_graph.specs.declared.slot.Slot.{Slot}
 use Rattle.dwg_graph.specs.SlotWalks.{IsAfter, IsGathered, Passes, PassesField, PassesFields, pass}
 use Rattle.dwg_graph.specs.Slots.{FieldReferences, slots_from, slots_of}

@@ -2,7 +2,7 @@
 use Rattle.std.proofs.Common.{◌≡◌, refl, ap, ℕ, ◌+◌, ◌*◌, ◌<◌, ◌≤◌, ◌^◌, Bool, true, false, List, [], ◌∷◌, ◌++◌, length, Option, Some, None, arith, length-append}
 use Rattle.dwg_base.specs.declared.version.Version.{Version}
 use Rattle.dwg_base.specs.declared.version.Version.TheVariants.{Ac1014, Ac1015}
-use Rattle.dwg_common.specs.declared.layout.Layout.{Layout}
+use Rattle.dwg_common.specs.declared.bit_layout.Layout.{Layout}
 use Rattle.std.proofs.lemmas.List.{length-map}
 use Rattle.std.specs.Option.{option_map, option_map_or}
 use Rattle.dwg_grammar.specs.Codes.{bs}

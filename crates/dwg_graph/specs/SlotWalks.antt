@@ -1,7 +1,7 @@
 -- Walks along a list of slots: a search for one by its place, or a gathering of all. A rule of this project.
 use Rattle.std.specs.Prelude.{◌≡◌, ⊤, ℕ, zero, suc, List, [], ◌∷◌, ◌++◌}
-use Rattle.dwg_graph.specs.declared.walk.Walk.{Walk}
-use Rattle.dwg_graph.specs.declared.walk.Walk.TheVariants.{Found, Left, Gathered, OutOfMemory}
+use Rattle.dwg_graph.specs.declared.slot_walk.Walk.{Walk}
+use Rattle.dwg_graph.specs.declared.slot_walk.Walk.TheVariants.{Found, Left, Gathered, OutOfMemory}
 use Rattle.dwg_graph.specs.declared.slot.Slot.{Slot}
 use Rattle.dwg_graph.specs.Slots.{FieldReferences, slots_of}
 

@@ -45,10 +45,8 @@ impl Claimed {
 pub fn zeroed(alloc: Global, count: usize) -> Result<Vec<u64>, NoMemory>
     ensures { IfOk result (λ counts. counts.items ≡ replicate count 0) }
 {
-    match vec![in alloc; 0; count] {
-        Ok(counts) => Ok(counts),
-        Err(_) => Err(NoMemory),
-    }
+    let counts = vec![in alloc; 0; count]?;
+    Ok(counts)
 }
 
 /// One where a test holds, else nothing.

@@ -5,7 +5,7 @@ ghost use Rattle.std.specs.List.{slice_index_or};
 ghost use Rattle.dwg_graph.specs.Places.{Ascend, CanStand, IsPlaceOf, handles_of};
 ghost use Rattle.dwg_object.specs.Objects.{value_of};
 
-use dwg_base::{Handle, NoMemory, push_item, vec_with_capacity};
+use dwg_base::{Handle, NoMemory, vec_with_capacity};
 use dwg_object::Object;
 use dwg_steps::Steps;
 use std::alloc::Global;
@@ -84,7 +84,7 @@ fn place_of<L: Ledger>(
 {
     let mut from = span.from;
     let mut width = span.width;
-    'along: while 0 < width {
+    'halves: while 0 < width {
         let half = width / 2;
         let here = handles[from + half];
         steps.tick();
@@ -106,8 +106,8 @@ fn gather(alloc: Global, objects: &[Object<'_>]) -> Result<Vec<Handle>, NoMemory
     ensures { IfOk result (λ handles. handles.items ≡ handles_of (map value_of objects.now)) }
 {
     let mut handles = vec_with_capacity(alloc, objects.len())?;
-    'along: for object in objects {
-        push_item(&mut handles, object.handle())?;
+    'objects: for object in objects {
+        handles.push(object.handle())?;
     }
     Ok(handles)
 }

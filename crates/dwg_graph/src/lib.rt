@@ -1,4 +1,4 @@
-//! What the references of a drawing's objects make of them: slots, owners, and where the object of a handle stands.
+//! What the references of a drawing's objects make of them: slots, owners, the index of handles, and when they hold together.
 #![tactic(auto)]
 
 mod claims;
@@ -8,8 +8,8 @@ mod needs;
 mod owner;
 mod roles;
 mod slot;
+mod slot_walk;
 mod slots;
-mod walk;
 
 pub use claims::{ClaimCounts, Claimed, count_slot, increment, is_claimed, is_exempt, zeroed};
 pub use index::Index;

@@ -150,7 +150,7 @@ pub fn control_count(objects: &[Object<'_>]) -> u64
     ensures { result ≡ length (block_controls (map value_of objects.now)) }
 {
     let mut count: u64 = 0;
-    'along: for object in objects {
+    'objects: for object in objects {
         count += one_if(spaces_in(object));
     }
     count
@@ -161,7 +161,7 @@ pub fn control_count(objects: &[Object<'_>]) -> u64
 fn first_spaces(objects: &[Object<'_>]) -> Option<SpaceHandles>
     ensures { result ≡ first_of (block_controls (map value_of objects.now)) }
 {
-    'along: for object in objects {
+    'objects: for object in objects {
         if let Some(reported) = spaces_in(object) {
             return Some(reported);
         }

@@ -8,7 +8,7 @@ ghost use Rattle.dwg_graph.specs.Slots as tables;
 ghost use Rattle.dwg_object.specs.Objects.{value_of};
 
 use crate::slot::Slot;
-use crate::walk::Walk;
+use crate::slot_walk::Walk;
 use dwg_base::{Items, NoMemory};
 use dwg_common::{EntityCommon, ObjectCommon};
 use dwg_entities::Insert;
@@ -168,8 +168,7 @@ pub fn slot_at(object: &Object<'_>, i: u64) -> Slot
     }
 }
 
-/// Slots, and after them all those of an object in the order of `slot_at`, which are walked over once. The only refusal is want of
-/// memory.
+/// Slots, and after them all those of an object in the order of `slot_at`, which are walked over once. Err: out of memory.
 #[tactic(auto, unfolding(crate::specs::SlotWalks::IsAfter))]
 pub fn with_slots(slots: Items<Slot>, object: &Object<'_>) -> Result<Items<Slot>, NoMemory>
     ensures { IfOk result (λ all. all ≡ slots ++ tables.slots (value_of object.now)) }

@@ -5,7 +5,7 @@ use Rattle.dwg_grammar.specs.Grammar.{BeginsWith, Reads}
 use Rattle.dwg_grammar.specs.Reference.{OwnSpells}
 use Rattle.dwg_grammar.specs.ReferenceCodes.{own_handle}
 use Rattle.dwg_grammar.proofs.OwnLemmas.{own_spelled}
-use Rattle.dwg_handles.specs.declared.parts.ReferenceParts.{ReferenceParts}
+use Rattle.dwg_handles.specs.declared.reference_parts.ReferenceParts.{ReferenceParts}
 use Rattle.dwg_handles.specs.PartsCode.{AreParts, IsOwn, parts}
 use Rattle.dwg_handles.proofs.PartsReading.{parts_bits, parts_spelled, parts_spells, parts_resolved}
 

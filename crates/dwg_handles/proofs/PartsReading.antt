@@ -11,7 +11,7 @@ use Rattle.dwg_grammar.proofs.CodeLemmas.{unique_of_code}
 use Rattle.dwg_grammar.proofs.CombinatorLemmas.{any_letters_closed, fixed_is_code, seq_is_code, struct_is_code}
 use Rattle.dwg_grammar.proofs.CountedLemmas.{fixed_spelled, fixed_spells, byte_counts_is_code}
 use Rattle.dwg_grammar.specs.ReferenceCodes.{byte_counts}
-use Rattle.dwg_handles.specs.declared.parts.ReferenceParts.{ReferenceParts}
+use Rattle.dwg_handles.specs.declared.reference_parts.ReferenceParts.{ReferenceParts}
 use Rattle.dwg_handles.specs.PartsCode.{AreParts, parts}
 
 -- the bits of parts

@@ -6,7 +6,7 @@ use Rattle.dwg_grammar.specs.Grammar.{BeginsWith, Reads}
 use Rattle.dwg_grammar.specs.Reference.{Reference, GivesTarget, reaches}
 use Rattle.dwg_grammar.specs.ReferenceCodes.{counted_number, reference_of, reference, number_after}
 use Rattle.dwg_grammar.proofs.ReferenceLemmas.{reference_spelled, reference_short}
-use Rattle.dwg_handles.specs.declared.parts.ReferenceParts.{ReferenceParts}
+use Rattle.dwg_handles.specs.declared.reference_parts.ReferenceParts.{ReferenceParts}
 use Rattle.dwg_handles.specs.PartsCode.{AreParts, parts}
 use Rattle.dwg_handles.proofs.PartsReading.{parts_bits, parts_spelled, parts_spells, parts_resolved}
 

@@ -2,7 +2,7 @@
 use Rattle.std.specs.Prelude.{◌≡◌, ◌*◌, ◌^◌, ◌<◌, ◌≤◌, Bool}
 use Rattle.dwg_grammar.specs.Grammar.{Grammar}
 use Rattle.dwg_grammar.specs.Combinators.{fixed, seq, image}
-use Rattle.dwg_handles.specs.declared.parts.ReferenceParts.{ReferenceParts}
+use Rattle.dwg_handles.specs.declared.reference_parts.ReferenceParts.{ReferenceParts}
 use Rattle.dwg_grammar.specs.ReferenceCodes.{byte_counts}
 
 -- the parts lie in their ranges

@@ -4,9 +4,9 @@
 mod laws;
 mod list;
 mod own;
-mod parts;
 mod reference;
 mod reference_code;
+mod reference_parts;
 
 pub use laws::reference_laws;
 pub use list::{read_refs, read_refs_to_end, refs_bits, refs_fit, write_refs};

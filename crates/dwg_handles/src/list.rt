@@ -19,9 +19,8 @@ use std::alloc::Global;
 /// The least count of bits that a reference has: its code and its count of bytes.
 const LEAST: u64 = 8;
 
-/// Reads so many references of the object of the handle `base`, one after the other. None, with nothing moved, exactly
-/// where one of them isn't spelled; the only refusal is out of memory, which moves nothing either and is taken only for
-/// references that are there.
+/// Reads so many references of the object of the handle `base`, one after the other. None, with nothing moved, exactly where one of
+/// them isn't spelled. Err: out of memory, which moves nothing either and is taken only for references that are there.
 pub fn read_refs(
     alloc: Global,
     cursor: &mut BitCursor<'_>,
@@ -38,9 +37,8 @@ pub fn read_refs(
     read_list::<CodeH>(alloc, &base, count, cursor)
 }
 
-/// Reads references of the object of the handle `base` until fewer than eight bits are left. None, with nothing moved,
-/// exactly where one of them isn't spelled; the only refusal is out of memory, which moves nothing either and is taken
-/// only for references that are there.
+/// Reads references of the object of the handle `base` until fewer than eight bits are left. None, with nothing moved, exactly
+/// where one of them isn't spelled. Err: out of memory, which moves nothing either and is taken only for references that are there.
 #[tactic(auto, using(dwg_grammar::proofs::ReferenceLemmas::reference_least))]
 pub fn read_refs_to_end(
     alloc: Global,

@@ -6,7 +6,7 @@ ghost use Rattle.dwg_bits.specs.Sink.{Extends};
 ghost use Rattle.dwg_grammar.specs.Grammar.{Reads};
 ghost use Rattle.dwg_grammar.specs.ReferenceCodes.{own_handle};
 
-use crate::parts::{ReferenceParts, parts_bits, write_parts};
+use crate::reference_parts::{ReferenceParts, parts_bits, write_parts};
 use dwg_base::Handle;
 use dwg_bits::{BitCursor, BitSink};
 

@@ -8,8 +8,8 @@ ghost use Rattle.dwg_grammar.specs.Reference.{reaches};
 ghost use Rattle.dwg_grammar.specs.ReferenceCodes.{number_after, reference};
 ghost use Rattle.dwg_grammar.proofs.ReferenceLemmas.{reference_is_code};
 
-use crate::parts::{ReferenceParts, parts_bits, write_parts};
 use crate::reference::Ref;
+use crate::reference_parts::{ReferenceParts, parts_bits, write_parts};
 use dwg_base::Handle;
 use dwg_bits::{BitCursor, BitSink};
 use dwg_codes::BitCode;

@@ -1,4 +1,5 @@
-//! Kinds of objects: what stands after a type number (Open Design Specification, "R13 to R2000 file layout, object data").
+//! Kinds of objects: what stands after a type number, which fields a kind has and what these need (Open Design Specification,
+//! "R13 to R2000 file layout, object data").
 #![tactic(auto)]
 
 mod field;

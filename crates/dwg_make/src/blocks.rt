@@ -120,9 +120,9 @@ pub(crate) fn make_model_space(
 ) -> Result<(), NoMemory>
     ensures { OnOk result (making.new ≡ making.old ++ model_space count) }
 {
-    making.add(model_header(alloc, count)?)?;
-    making.add(model_begin(alloc)?)?;
-    making.add(model_end(alloc))?;
+    making.push(model_header(alloc, count)?)?;
+    making.push(model_begin(alloc)?)?;
+    making.push(model_end(alloc))?;
     Ok(())
 }
 
@@ -164,8 +164,8 @@ fn paper_end(alloc: Global) -> Object<'static>
 pub(crate) fn make_paper_space(alloc: Global, making: &mut Making) -> Result<(), NoMemory>
     ensures { OnOk result (making.new ≡ making.old ++ paper_space) }
 {
-    making.add(paper_header(alloc)?)?;
-    making.add(paper_begin(alloc)?)?;
-    making.add(paper_end(alloc))?;
+    making.push(paper_header(alloc)?)?;
+    making.push(paper_begin(alloc)?)?;
+    making.push(paper_end(alloc))?;
     Ok(())
 }

@@ -32,7 +32,7 @@ fn layer_control(alloc: Global) -> Result<Object<'static>, NoMemory>
     ensures { IfOk result (λ object. value_of object ≡ layer_control) }
 {
     let mut entries = one(alloc, soft_owner(0x10))?;
-    entries.add(soft_owner(0x17))?;
+    entries.try_push(soft_owner(0x17))?;
     let body = Body::LayerControl(LayerControl { entries });
     Ok(other_object(alloc, 50, 0x2, 0, body))
 }
@@ -75,10 +75,10 @@ fn appid_control(alloc: Global) -> Result<Object<'static>, NoMemory>
 pub(crate) fn make_controls(alloc: Global, making: &mut Making) -> Result<(), NoMemory>
     ensures { OnOk result (making.new ≡ making.old ++ controls) }
 {
-    making.add(block_control(alloc)?)?;
-    making.add(layer_control(alloc)?)?;
-    making.add(style_control(alloc)?)?;
-    making.add(ltype_control(alloc)?)?;
-    making.add(appid_control(alloc)?)?;
+    making.push(block_control(alloc)?)?;
+    making.push(layer_control(alloc)?)?;
+    making.push(style_control(alloc)?)?;
+    making.push(ltype_control(alloc)?)?;
+    making.push(appid_control(alloc)?)?;
     Ok(())
 }

@@ -57,8 +57,8 @@ fn record_of_three(alloc: Global) -> Result<Object<'static>, NoMemory>
 pub(crate) fn make_dictionaries(alloc: Global, making: &mut Making) -> Result<(), NoMemory>
     ensures { OnOk result (making.new ≡ making.old ++ dictionaries) }
 {
-    making.add(dictionary_of(alloc, 0xC, 0, b"NOTES", 0xD)?)?;
-    making.add(dictionary_of(alloc, 0xD, 0xC, b"FIRST", 0xE)?)?;
-    making.add(record_of_three(alloc)?)?;
+    making.push(dictionary_of(alloc, 0xC, 0, b"NOTES", 0xD)?)?;
+    making.push(dictionary_of(alloc, 0xD, 0xC, b"FIRST", 0xE)?)?;
+    making.push(record_of_three(alloc)?)?;
     Ok(())
 }

@@ -15,7 +15,7 @@ use crate::further::make_further;
 use crate::lists::no_bytes;
 use crate::making::Making;
 use crate::tables::make_entries;
-use crate::tag::{make_block, make_insert};
+use crate::tag_block::{make_block, make_insert};
 use dwg_base::{Items, NoMemory, Version};
 use dwg_codes::BytePart;
 use dwg_file::{Drawing, Parts};

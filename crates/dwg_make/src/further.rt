@@ -51,13 +51,9 @@ fn label_of(alloc: Global, number: u32) -> Result<String, AllocError>
 fn text_of(alloc: Global, number: u32, draw: &Draw) -> Result<Text, NoMemory>
     ensures { IfOk result (λ text. text ≡ plain_text (flat_point draw.now.w2 draw.now.w3) draw.now.w4 (codes "T" ++ decimal number)) }
 {
-    match label_of(alloc, number) {
-        Ok(label) => {
-            let bytes = ByteRun::from_vec(label.into_bytes());
-            Ok(plain_text(flat_point(draw.w2, draw.w3), draw.w4, bytes))
-        }
-        Err(_) => Err(NoMemory),
-    }
+    let label = label_of(alloc, number)?;
+    let bytes = ByteRun::from_vec(label.into_bytes());
+    Ok(plain_text(flat_point(draw.w2, draw.w3), draw.w4, bytes))
 }
 
 /// The polyline of four points. Err: out of memory.
@@ -65,10 +61,10 @@ fn polyline_of(alloc: Global, draw: &Draw) -> Result<LwPolyline, NoMemory>
     ensures { IfOk result (λ polyline. bodies.LwPolyline polyline ≡ further_body 5 0 draw.now.w2 draw.now.w3 draw.now.w4 draw.now.w5 draw.now.w6 draw.now.w7 draw.now.w8 draw.now.w9) }
 {
     let mut points = Items::new(alloc);
-    points.add(flat_point(draw.w2, draw.w3))?;
-    points.add(flat_point(draw.w4, draw.w5))?;
-    points.add(flat_point(draw.w6, draw.w7))?;
-    points.add(flat_point(draw.w8, draw.w9))?;
+    points.try_push(flat_point(draw.w2, draw.w3))?;
+    points.try_push(flat_point(draw.w4, draw.w5))?;
+    points.try_push(flat_point(draw.w6, draw.w7))?;
+    points.try_push(flat_point(draw.w8, draw.w9))?;
     Ok(LwPolyline {
         flag: 0,
         width: None,
@@ -176,9 +172,9 @@ pub(crate) fn make_further(
     ensures { OnOk result (making.new ≡ making.old ++ map (further_entity count seed) (range_with_len 1 count)) }
 {
     let mut random = Random::new(seed);
-    'along: for done in 0..count {
+    'entities: for done in 0..count {
         let draw = random.draw();
-        making.add(entity_of(alloc, count, done + 1, &draw)?)?;
+        making.push(entity_of(alloc, count, done + 1, &draw)?)?;
     }
     Ok(())
 }

@@ -13,7 +13,7 @@ mod objects;
 mod random;
 mod references;
 mod tables;
-mod tag;
+mod tag_block;
 mod texts;
 
 pub use drawing::{MakeFault, make};

@@ -16,5 +16,7 @@ pub(crate) fn no_bytes(alloc: Global) -> ByteRun
 pub(crate) fn one<T: Drop>(alloc: Global, item: T) -> Result<Items<T>, NoMemory>
     ensures { IfOk result (λ list. list ≡ item ∷ []) }
 {
-    Items::new(alloc).with(item)
+    let mut list = Items::new(alloc);
+    list.try_push(item)?;
+    Ok(list)
 }

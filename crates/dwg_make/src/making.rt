@@ -34,11 +34,10 @@ impl Making {
     }
 
     /// Puts an object at the end. Err: out of memory.
-    pub(crate) fn add(&mut self, object: Object<'static>) -> Result<(), NoMemory>
+    pub(crate) fn push(&mut self, object: Object<'static>) -> Result<(), NoMemory>
         ensures { OnOk result (self.new ≡ self.old ++ value_of object.entry ∷ []) }
     {
-        self.objects.add(object)?;
-        Ok(())
+        self.objects.try_push(object)
     }
 
     /// All that were made.

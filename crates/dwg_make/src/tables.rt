@@ -120,9 +120,9 @@ fn continuous(alloc: Global) -> Result<Object<'static>, NoMemory>
 fn make_linetypes(alloc: Global, making: &mut Making) -> Result<(), NoMemory>
     ensures { OnOk result (making.new ≡ making.old ++ by_block ∷ by_layer ∷ continuous ∷ []) }
 {
-    making.add(by_block(alloc)?)?;
-    making.add(by_layer(alloc)?)?;
-    making.add(continuous(alloc)?)?;
+    making.push(by_block(alloc)?)?;
+    making.push(by_layer(alloc)?)?;
+    making.push(continuous(alloc)?)?;
     Ok(())
 }
 
@@ -131,10 +131,10 @@ fn make_linetypes(alloc: Global, making: &mut Making) -> Result<(), NoMemory>
 pub(crate) fn make_entries(alloc: Global, making: &mut Making) -> Result<(), NoMemory>
     ensures { OnOk result (making.new ≡ making.old ++ table_entries) }
 {
-    making.add(layer_of(alloc, 0x10, b"0", 7)?)?;
-    making.add(standard_style(alloc)?)?;
-    making.add(own_appid(alloc)?)?;
+    making.push(layer_of(alloc, 0x10, b"0", 7)?)?;
+    making.push(standard_style(alloc)?)?;
+    making.push(own_appid(alloc)?)?;
     make_linetypes(alloc, making)?;
-    making.add(layer_of(alloc, 0x17, b"WALLS", 1)?)?;
+    making.push(layer_of(alloc, 0x17, b"WALLS", 1)?)?;
     Ok(())
 }

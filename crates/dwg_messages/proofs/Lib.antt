@@ -1,3 +1,2 @@
-pub mod AuditVerdicts
-pub mod AppVerdicts
+pub mod Verdicts
 pub mod CheckWords

@@ -1,5 +1,5 @@
 -- The text of the extended data of a drawing. A rule of this project.
-use Rattle.std.specs.Prelude.{ℕ, ◌+◌, List, [], ◌∷◌, ◌++◌, length, codes, decimal, flat_map, Option, Some, None}
+use Rattle.std.specs.Prelude.{ℕ, ◌+◌, List, ◌++◌, length, codes, decimal, flat_map, Option, Some, None}
 use Rattle.dwg_appitems.specs.AppFindings.{apps_of, items_in}
 use Rattle.dwg_appitems.specs.declared.finding.AppFinding.{AppFinding}
 use Rattle.dwg_appitems.specs.declared.item.AppItem.{AppItem}
@@ -10,6 +10,7 @@ use Rattle.dwg_object.specs.Objects.{ObjectValue, handle_of}
 use Rattle.dwg_text.specs.Numbered.{numbered}
 use Rattle.dwg_text.specs.Values.{upper_digits, word_text, point3_text, reference_text, bytes_text}
 use Rattle.dwg_text.specs.Lines.{line, truth, quoted}
+use Rattle.dwg_messages.specs.Verdict.{verdict}
 
 -- the code of an item as it is printed: one thousand more than its code byte
 abbrev pub code_text : ℕ → List ℕ
@@ -57,14 +58,9 @@ app_finding_line finding =
     line (codes "finding " ++ upper_digits finding.handle ++ codes " app " ++ decimal finding.index ++ codes " " ++ decimal finding.item
     ++ codes " " ++ upper_digits finding.target)
 
--- whether what items refer to is there: yes where nothing is found, else no with the count of findings
-unfoldable pub app_verdict : List AppFinding → List ℕ
-app_verdict [] = line (codes "appdata yes")
-app_verdict (finding ∷ more) = line (codes "appdata no " ++ decimal (length (finding ∷ more)))
-
--- the findings in their order, and the verdict
+-- the findings in their order, and the verdict: whether what items refer to is there
 unfoldable pub findings_text : List AppFinding → List ℕ
-findings_text findings = flat_map app_finding_line findings ++ app_verdict findings
+findings_text findings = flat_map app_finding_line findings ++ verdict (codes "appdata") findings
 
 -- the application data of all objects, the findings in their order, and the verdict
 unfoldable pub appdata_text : List ObjectValue → List AppFinding → List ℕ

@@ -1,16 +1,13 @@
 -- The text of an audit. A rule of this project.
-use Rattle.std.specs.Prelude.{ℕ, List, [], ◌∷◌, ◌++◌, length, codes, decimal, flat_map, Option, Some, None, true}
-use Rattle.std.specs.Fmt.{digits}
+use Rattle.std.specs.Prelude.{ℕ, List, ◌++◌, codes, decimal, flat_map, Option, Some, None}
 use Rattle.dwg_audit.specs.declared.finding.Finding.{Finding}
 use Rattle.dwg_audit.specs.declared.finding.Rule.{Rule}
 use Rattle.dwg_audit.specs.declared.finding.Rule.TheVariants as rules
 use Rattle.dwg_kinds.specs.declared.field.Field.{Field}
 use Rattle.dwg_kinds.specs.Needs.{field_name}
 use Rattle.dwg_text.specs.Lines.{line}
-
--- a handle: upper-case hexadecimal digits without leading zeros, 0 for null
-abbrev pub handle_text : ℕ → List ℕ
-handle_text handle = digits 16 true handle
+use Rattle.dwg_text.specs.Values.{upper_digits}
+use Rattle.dwg_messages.specs.Verdict.{verdict}
 
 -- the word of a rule
 unfoldable pub rule_word : Rule → List ℕ
@@ -28,14 +25,9 @@ field_text (Some field) = field_name field
 -- what a finding says
 unfoldable pub finding_line : Finding → List ℕ
 finding_line finding =
-    line (codes "finding " ++ handle_text finding.handle ++ codes " " ++ rule_word finding.rule ++ codes " " ++ field_text finding.field
-    ++ codes " " ++ decimal finding.position ++ codes " " ++ handle_text finding.target)
+    line (codes "finding " ++ upper_digits finding.handle ++ codes " " ++ rule_word finding.rule ++ codes " " ++ field_text finding.field
+    ++ codes " " ++ decimal finding.position ++ codes " " ++ upper_digits finding.target)
 
--- whether the references hold together: yes where nothing is found, else no with the count of findings
-unfoldable pub verdict : List Finding → List ℕ
-verdict [] = line (codes "audit yes")
-verdict (finding ∷ more) = line (codes "audit no " ++ decimal (length (finding ∷ more)))
-
--- the findings in their order, and the verdict
+-- the findings in their order, and the verdict: whether the references hold together
 unfoldable pub audit_text : List Finding → List ℕ
-audit_text findings = flat_map finding_line findings ++ verdict findings
+audit_text findings = flat_map finding_line findings ++ verdict (codes "audit") findings

@@ -1,14 +1,14 @@
 -- The text of a drill. A rule of this project.
-use Rattle.std.specs.Prelude.{ℕ, List, ◌++◌, ◌-◌, codes, decimal, length, replicate, Option, Some, None, true}
-use Rattle.std.specs.Fmt.{digits}
+use Rattle.std.specs.Prelude.{ℕ, List, ◌++◌, ◌-◌, codes, decimal, length, replicate, Option, Some, None}
 use Rattle.dwg_base.specs.declared.refusal.Refusal.{Refusal}
 use Rattle.dwg_drill.specs.declared.report.DrillReport.{DrillReport}
 use Rattle.dwg_text.specs.Lines.{line}
 use Rattle.dwg_text.specs.Notes.{refusal_words}
+use Rattle.dwg_text.specs.Values.{upper_digits}
 
 -- a check word: four upper-case hexadecimal digits
 unfoldable pub check_text : ℕ → List ℕ
-check_text word = replicate (4 - length (digits 16 true word)) 48 ++ digits 16 true word
+check_text word = replicate (4 - length (upper_digits word)) 48 ++ upper_digits word
 
 -- the first fault of a changed file: which part, where, and why; a word where there is none
 unfoldable pub fault_text : Option Refusal → List ℕ

@@ -1,5 +1,7 @@
 -- What is printed of a certificate before a drawing.
 pub mod Acceptance
+-- The line by which an audit ends.
+pub mod Verdict
 -- The text of an audit.
 pub mod AuditText
 -- The notes of a recovery.

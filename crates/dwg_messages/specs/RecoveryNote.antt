@@ -1,16 +1,16 @@
 -- The notes of a recovery. A rule of this project.
-use Rattle.std.specs.Prelude.{ℕ, List, [], ◌++◌, length, codes, decimal, flat_map, true, if◌then◌else◌}
-use Rattle.std.specs.Fmt.{digits}
+use Rattle.std.specs.Prelude.{ℕ, List, [], ◌++◌, length, codes, decimal, flat_map, if◌then◌else◌}
 use Rattle.dwg_base.specs.declared.refusal.Refusal.{Refusal}
 use Rattle.dwg_recover.specs.declared.loss.Kept.{Kept}
 use Rattle.dwg_recover.specs.declared.loss.Loss.{Loss}
 use Rattle.dwg_recover.specs.declared.loss.Loss.TheVariants as losses
 use Rattle.dwg_text.specs.Lines.{line}
 use Rattle.dwg_text.specs.Notes.{refusal_note}
+use Rattle.dwg_text.specs.Values.{upper_digits}
 
 -- an object and its place: the handle in upper-case hexadecimal digits without leading zeros, 0 for null
 abbrev pub object_at : ℕ → ℕ → List ℕ
-object_at handle place = codes "object " ++ digits 16 true handle ++ codes " at " ++ decimal place
+object_at handle place = codes "object " ++ upper_digits handle ++ codes " at " ++ decimal place
 
 -- what is lost
 unfoldable pub loss_line : Loss → List ℕ

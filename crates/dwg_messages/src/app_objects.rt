@@ -1,6 +1,6 @@
 //! The application data of objects, and the text of all.
 
-ghost use Rattle.std.specs.Prelude.{◌≡◌, ◌≤◌, flat_map, IsErrOf, OnOk, map};
+ghost use Rattle.std.specs.Prelude.{◌≡◌, ◌≤◌, IsErrOf, OnOk, map};
 ghost use Rattle.dwg_appitems.specs.AppFindings.{apps_of};
 ghost use Rattle.dwg_base.specs.Devices.{LAST_COUNT, Rose, Sends};
 ghost use Rattle.dwg_object.specs.Objects.{handle_of, value_of};
@@ -8,14 +8,15 @@ ghost use Rattle.dwg_text.specs.Numbered.{numbered};
 ghost use Rattle.dwg_text.specs.Writing.{WritesText};
 ghost use Rattle.dwg_messages.specs.AppText as texts;
 
-use crate::app_findings::write_findings;
-use crate::app_items::{write_bytes_line, write_items, write_line};
+use crate::app_findings::write_app_findings;
+use crate::app_items::write_bytes_line;
+use crate::paragraphs::{Paragraph, write_all};
 use dwg_appitems::{AppFinding, AppItem, apps_of, read_items};
 use dwg_base::{Handle, NoMemory, Sink};
 use dwg_common::AppData;
 use dwg_handles::Ref;
 use dwg_object::Object;
-use dwg_text::{Count, Hexadecimal, ShowFault, TextWriter};
+use dwg_text::{Count, Hexadecimal, ShowFault, TextWriter, write_line};
 use std::alloc::Global;
 
 /// Writes whose application data of which number it is, and of which application.
@@ -23,37 +24,37 @@ fn write_prefix<W: Sink>(
     handle: Handle,
     index: u64,
     application: &Ref,
-    page: &mut TextWriter,
+    writer: &mut TextWriter,
     sink: &mut W,
 )
-    ensures { WritesText page.old page.new (W.taken sink.old) (W.taken sink.new) (W.faults sink.old) (W.faults sink.new) (texts.app_prefix handle index application.now) }
+    ensures { WritesText writer.old writer.new (W.taken sink.old) (W.taken sink.new) (W.faults sink.old) (W.faults sink.new) (texts.app_prefix handle index application.now) }
 {
-    page.write("app ", sink);
-    page.write_value(&Hexadecimal(handle.value()), sink);
-    page.write(" ", sink);
-    page.write_value(&Count(index), sink);
-    page.write(" ", sink);
-    page.write_value(application, sink);
-    page.write(" ", sink);
+    writer.write("app ", sink);
+    writer.write_value(&Hexadecimal(handle.value()), sink);
+    writer.write(" ", sink);
+    writer.write_value(&Count(index), sink);
+    writer.write(" ", sink);
+    writer.write_value(application, sink);
+    writer.write(" ", sink);
 }
 
 /// Writes how many items there are, and the items.
-fn write_counted<W: Sink>(items: &[AppItem], page: &mut TextWriter, sink: &mut W)
-    ensures { WritesText page.old page.new (W.taken sink.old) (W.taken sink.new) (W.faults sink.old) (W.faults sink.new) (texts.items_text items.now) }
+fn write_counted<W: Sink>(items: &[AppItem], writer: &mut TextWriter, sink: &mut W)
+    ensures { WritesText writer.old writer.new (W.taken sink.old) (W.taken sink.new) (W.faults sink.old) (W.faults sink.new) (texts.items_text items.now) }
 {
-    write_line("", &Count(items.len() as u64), page, sink);
-    write_items(items, page, sink);
+    write_line("", &Count(items.len() as u64), writer, sink);
+    write_all(items, writer, sink);
 }
 
 /// Writes what bytes are: items, or bytes that are no items. The items are read for that, and given back.
 #[tactic(auto, unfolding(crate::specs::AppText::app_after))]
-fn write_after<W: Sink>(bytes: &[u8], page: &mut TextWriter, sink: &mut W)
-    ensures { WritesText page.old page.new (W.taken sink.old) (W.taken sink.new) (W.faults sink.old) (W.faults sink.new) (texts.app_after bytes.now) }
+fn write_after<W: Sink>(bytes: &[u8], writer: &mut TextWriter, sink: &mut W)
+    ensures { WritesText writer.old writer.new (W.taken sink.old) (W.taken sink.new) (W.faults sink.old) (W.faults sink.new) (texts.app_after bytes.now) }
 {
-    match read_items(page.alloc, bytes) {
-        Ok(Some(items)) => write_counted(items.as_slice(), page, sink),
-        Ok(None) => write_bytes_line("raw ", bytes, page, sink),
-        Err(NoMemory) => page.fail_no_memory(),
+    match read_items(writer.alloc, bytes) {
+        Ok(Some(items)) => write_counted(items.as_slice(), writer, sink),
+        Ok(None) => write_bytes_line("raw ", bytes, writer, sink),
+        Err(NoMemory) => writer.fail_no_memory(),
     }
 }
 
@@ -63,42 +64,34 @@ fn write_app<W: Sink>(
     handle: Handle,
     index: u64,
     app: &AppData,
-    page: &mut TextWriter,
+    writer: &mut TextWriter,
     sink: &mut W,
 )
-    ensures { WritesText page.old page.new (W.taken sink.old) (W.taken sink.new) (W.faults sink.old) (W.faults sink.new) (texts.app_text handle index app.now) }
+    ensures { WritesText writer.old writer.new (W.taken sink.old) (W.taken sink.new) (W.faults sink.old) (W.faults sink.new) (texts.app_text handle index app.now) }
 {
-    if page.fault.is_some() {
+    if writer.fault.is_some() {
         return;
     }
-    write_prefix(handle, index, &app.application, page, sink);
-    write_after(app.bytes.as_slice(), page, sink);
+    write_prefix(handle, index, &app.application, writer, sink);
+    write_after(app.bytes.as_slice(), writer, sink);
 }
 
 /// Writes application data, one after the other.
 #[tactic(auto, using(dwg_text::proofs::Writing::writes_nothing))]
-fn write_apps<W: Sink>(handle: Handle, apps: &[AppData], page: &mut TextWriter, sink: &mut W)
-    ensures { WritesText page.old page.new (W.taken sink.old) (W.taken sink.new) (W.faults sink.old) (W.faults sink.new) (numbered (texts.app_text handle) 0 apps.now) }
+fn write_apps<W: Sink>(handle: Handle, apps: &[AppData], writer: &mut TextWriter, sink: &mut W)
+    ensures { WritesText writer.old writer.new (W.taken sink.old) (W.taken sink.new) (W.faults sink.old) (W.faults sink.new) (numbered (texts.app_text handle) 0 apps.now) }
 {
-    'along: for index in 0..apps.len() {
-        write_app(handle, index as u64, &apps[index], page, sink);
+    'apps: for index in 0..apps.len() {
+        write_app(handle, index as u64, &apps[index], writer, sink);
     }
 }
 
-/// Writes the application data of an object.
-fn write_object<W: Sink>(object: &Object<'_>, page: &mut TextWriter, sink: &mut W)
-    ensures { WritesText page.old page.new (W.taken sink.old) (W.taken sink.new) (W.faults sink.old) (W.faults sink.new) (texts.apps_text (value_of object.now)) }
-{
-    write_apps(object.handle(), apps_of(object), page, sink);
-}
+/// The application data of an object.
+impl Paragraph for Object<'_> {
+    ghost written = { λ object. texts.apps_text (value_of object) };
 
-/// Writes the application data of objects, one after the other.
-#[tactic(auto, using(dwg_text::proofs::Writing::writes_nothing))]
-fn write_objects<W: Sink>(objects: &[Object<'_>], page: &mut TextWriter, sink: &mut W)
-    ensures { WritesText page.old page.new (W.taken sink.old) (W.taken sink.new) (W.faults sink.old) (W.faults sink.new) (flat_map texts.apps_text (map value_of objects.now)) }
-{
-    'along: for index in 0..objects.len() {
-        write_object(&objects[index], page, sink);
+    fn write<W: Sink>(&self, writer: &mut TextWriter, sink: &mut W) {
+        write_apps(self.handle(), apps_of(self), writer, sink);
     }
 }
 
@@ -120,8 +113,8 @@ pub fn appdata<W: Sink>(
     ensures no_memory { IsErrOf result ShowFault.NoMemory → W.faults sink.new ≡ W.faults sink.old }
     ensures write_fault { IsErrOf result ShowFault.WriteFault → Rose (W.faults sink.old) (W.faults sink.new) }
 {
-    let mut page = TextWriter::new(alloc);
-    write_objects(objects, &mut page, sink);
-    write_findings(findings, &mut page, sink);
-    page.end(sink)
+    let mut writer = TextWriter::new(alloc);
+    write_all(objects, &mut writer, sink);
+    write_app_findings(findings, &mut writer, sink);
+    writer.end(sink)
 }

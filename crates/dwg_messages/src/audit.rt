@@ -1,13 +1,17 @@
 //! The text of an audit.
 
-ghost use Rattle.std.specs.Prelude.{◌≡◌, ◌++◌, IfOk, OnOk, codes, decimal, string_bytes};
+ghost use Rattle.std.specs.Prelude.{◌≡◌, ◌≤◌, IsErrOf, OnOk};
+ghost use Rattle.dwg_base.specs.Devices.{LAST_COUNT, Rose, Sends};
 ghost use Rattle.dwg_messages.specs.AuditText as texts;
-ghost use Rattle.dwg_text.specs.Lines.{line};
+ghost use Rattle.dwg_text.specs.Writing.{WritesText};
 
+use crate::paragraphs::{Paragraph, write_all};
+use crate::verdict::write_verdict;
 use dwg_audit::{Finding, Rule};
-use dwg_base::{ByteRun, Handle, NoMemory};
+use dwg_base::Sink;
 use dwg_kinds::{Field, field_word};
-use std::alloc::{AllocError, Global};
+use dwg_text::{Count, Hexadecimal, ShowFault, TextWriter};
+use std::alloc::Global;
 
 /// The word of a rule.
 #[tactic(auto, unfolding(crate::specs::AuditText::rule_word))]
@@ -34,78 +38,48 @@ fn field_text(field: Option<Field>) -> &'static str
     }
 }
 
-/// Appends a handle. Err: out of memory.
-fn push_handle(text: &mut String, handle: Handle) -> Result<(), AllocError>
-    ensures { OnOk result (string_bytes text.new ≡ string_bytes text.old ++ texts.handle_text handle) }
-{
-    let number = handle.value();
-    write!(text, "{number:X}")
-}
+impl Paragraph for Finding {
+    ghost written = { texts.finding_line };
 
-/// Appends which rule fails, and by which field. Err: out of memory.
-fn push_failure(text: &mut String, finding: &Finding) -> Result<(), AllocError>
-    ensures { OnOk result (string_bytes text.new ≡ string_bytes text.old ++ texts.rule_word finding.now.rule ++ codes " " ++ texts.field_text finding.now.field) }
-{
-    text.push_str(rule_word(finding.rule))?;
-    text.push_str(" ")?;
-    text.push_str(field_text(finding.field))
-}
-
-/// Appends what a finding says, as a line. Err: out of memory.
-#[tactic(auto, unfolding(crate::specs::AuditText::finding_line))]
-fn push_finding(text: &mut String, finding: &Finding) -> Result<(), AllocError>
-    ensures { OnOk result (string_bytes text.new ≡ string_bytes text.old ++ texts.finding_line finding.now) }
-{
-    let position = finding.position;
-    text.push_str("finding ")?;
-    push_handle(text, finding.handle)?;
-    text.push_str(" ")?;
-    push_failure(text, finding)?;
-    write!(text, " {position} ")?;
-    push_handle(text, finding.target)?;
-    text.push_str("\n")
-}
-
-/// Appends how many findings there are, as a line. Err: out of memory.
-fn push_count(text: &mut String, count: usize) -> Result<(), AllocError>
-    ensures { OnOk result (string_bytes text.new ≡ string_bytes text.old ++ line (codes "audit no " ++ decimal count)) }
-{
-    write!(text, "audit no {count}")?;
-    text.push_str("\n")
-}
-
-/// Appends whether the references hold together, as a line: with the count of findings where they don't. Err: out of memory.
-#[tactic(auto, using(crate::proofs::AuditVerdicts::verdict_of_none, crate::proofs::AuditVerdicts::verdict_of_some))]
-fn push_verdict(text: &mut String, findings: &[Finding]) -> Result<(), AllocError>
-    ensures { OnOk result (string_bytes text.new ≡ string_bytes text.old ++ texts.verdict findings.now) }
-{
-    let count = findings.len();
-    if count > 0 {
-        push_count(text, count)
-    } else {
-        text.push_str("audit yes\n")
+    fn write<W: Sink>(&self, writer: &mut TextWriter, sink: &mut W) {
+        writer.write("finding ", sink);
+        writer.write_value(&Hexadecimal(self.handle.value()), sink);
+        writer.write(" ", sink);
+        writer.write(rule_word(self.rule), sink);
+        writer.write(" ", sink);
+        writer.write(field_text(self.field), sink);
+        writer.write(" ", sink);
+        writer.write_value(&Count(self.position), sink);
+        writer.write(" ", sink);
+        writer.write_value(&Hexadecimal(self.target.value()), sink);
+        writer.write("\n", sink);
     }
 }
 
-/// The findings in their order, and the verdict. Err: out of memory.
-#[tactic(auto, unfolding(crate::specs::AuditText::audit_text))]
-fn text_of(alloc: Global, findings: &[Finding]) -> Result<String, AllocError>
-    ensures { IfOk result (λ text. string_bytes text ≡ texts.audit_text findings.now) }
+/// Writes the findings in their order, and the verdict.
+fn write_findings<W: Sink>(findings: &[Finding], writer: &mut TextWriter, sink: &mut W)
+    ensures { WritesText writer.old writer.new (W.taken sink.old) (W.taken sink.new) (W.faults sink.old) (W.faults sink.new) (texts.audit_text findings.now) }
 {
-    let mut text = String::new(alloc);
-    for finding in findings {
-        push_finding(&mut text, finding)?;
-    }
-    push_verdict(&mut text, findings)?;
-    Ok(text)
+    write_all(findings, writer, sink);
+    write_verdict("audit", findings, writer, sink);
 }
 
-/// The findings in their order, a line each, and the verdict. Err: out of memory.
-pub fn audit_text(alloc: Global, findings: &[Finding]) -> Result<ByteRun, NoMemory>
-    ensures { IfOk result (λ text. text ≡ texts.audit_text findings.now) }
+/// Writes the text of an audit, a piece at a time: the findings in their order, a line each, and the verdict. A write fault comes only
+/// where the sink's count of faults rose; the only other refusal is out of memory. After either the sink took a prefix of the text.
+#[tactic(auto, unfolding(dwg_text::specs::Writing::WritesTextBy))]
+pub fn print_findings<W: Sink>(
+    alloc: Global,
+    findings: &[Finding],
+    sink: &mut W,
+) -> Result<(), ShowFault>
+    ensures bytes { Sends (W.taken sink.old) (W.taken sink.new) (texts.audit_text findings.now) result }
+    ensures never_falls { W.faults sink.old ≤ W.faults sink.new }
+    ensures stands { W.faults sink.old ≡ LAST_COUNT → W.faults sink.new ≡ LAST_COUNT }
+    ensures ok { OnOk result (W.faults sink.new ≡ W.faults sink.old) }
+    ensures no_memory { IsErrOf result ShowFault.NoMemory → W.faults sink.new ≡ W.faults sink.old }
+    ensures write_fault { IsErrOf result ShowFault.WriteFault → Rose (W.faults sink.old) (W.faults sink.new) }
 {
-    match text_of(alloc, findings) {
-        Ok(text) => Ok(ByteRun::from_vec(text.into_bytes())),
-        Err(_) => Err(NoMemory),
-    }
+    let mut writer = TextWriter::new(alloc);
+    write_findings(findings, &mut writer, sink);
+    writer.end(sink)
 }

@@ -1,81 +1,90 @@
 //! What is printed of a drill.
 
-ghost use Rattle.std.specs.Prelude.{◌≡◌, ◌++◌, IfOk, IfSome, OnOk, codes, decimal, string_bytes};
+ghost use Rattle.std.specs.Prelude.{◌≡◌, ◌≤◌, ◌++◌, IfSome, IsErrOf, OnOk, codes, decimal};
+ghost use Rattle.dwg_base.specs.Devices.{LAST_COUNT, Rose, Sends};
 ghost use Rattle.dwg_base.specs.Refusals.{IsOfTable};
 ghost use Rattle.dwg_messages.specs.DrillText as texts;
 ghost use Rattle.dwg_text.specs.Lines.{line};
+ghost use Rattle.dwg_text.specs.Writing.{WritesText};
 
-use dwg_base::{ByteRun, NoMemory, Refusal};
+use dwg_base::{Refusal, Sink};
 use dwg_drill::DrillReport;
-use dwg_text::push_refusal_words;
+use dwg_text::{Count, ShowFault, TextWriter, Value, refusal_words, write_line};
 use std::alloc::{AllocError, Global};
 
-/// Appends how large the drawing is, a line for its entities, its objects and its bytes. Err: out of memory.
-fn push_sizes(text: &mut String, report: &DrillReport) -> Result<(), AllocError>
-    ensures { OnOk result (string_bytes text.new ≡ string_bytes text.old ++ line (codes "drill " ++ decimal report.now.entities) ++ line (codes "objects " ++ decimal report.now.objects) ++ line (codes "bytes " ++ decimal report.now.size)) }
-{
-    let entities = report.entities;
-    let objects = report.objects;
-    let size = report.size;
-    write!(text, "drill {entities}\nobjects {objects}\nbytes {size}")?;
-    text.push_str("\n")
+/// A check word, as it is printed.
+#[derive(Clone, Copy)]
+struct CheckWord(u16);
+
+impl Value for CheckWord {
+    ghost printed = { λ word. texts.check_text word.0 };
+
+    #[tactic(auto, using(crate::proofs::CheckWords::check_padded))]
+    fn push(&self, text: &mut String) -> Result<(), AllocError> {
+        let word = self.0;
+        write!(text, "{word:04X}")
+    }
 }
 
-/// Appends a check word. Err: out of memory.
-#[tactic(auto, using(crate::proofs::CheckWords::check_padded))]
-fn push_check(text: &mut String, word: u16) -> Result<(), AllocError>
-    ensures { OnOk result (string_bytes text.new ≡ string_bytes text.old ++ texts.check_text word) }
-{
-    write!(text, "{word:04X}")
-}
-
-/// Appends the first fault of a changed file. Err: out of memory.
+/// Writes the first fault of a changed file.
 #[tactic(auto, unfolding(crate::specs::DrillText::fault_text))]
-fn push_fault(text: &mut String, fault: Option<Refusal>) -> Result<(), AllocError>
+fn write_fault<W: Sink>(fault: Option<Refusal>, writer: &mut TextWriter, sink: &mut W)
     requires of_table { IfSome fault IsOfTable }
-    ensures { OnOk result (string_bytes text.new ≡ string_bytes text.old ++ texts.fault_text fault) }
+    ensures { WritesText writer.old writer.new (W.taken sink.old) (W.taken sink.new) (W.faults sink.old) (W.faults sink.new) (texts.fault_text fault) }
 {
     match fault {
-        None => text.push_str("none"),
-        Some(refusal) => push_refusal_words(text, refusal),
+        None => writer.write("none", sink),
+        Some(refusal) => writer.write_made(refusal_words(writer.alloc, refusal), sink),
     }
 }
 
-/// Appends what became of the changed file, as a line. Err: out of memory.
-fn push_changed(text: &mut String, middle: u64, fault: Option<Refusal>) -> Result<(), AllocError>
+/// Writes what became of the changed file, as a line.
+fn write_changed<W: Sink>(
+    middle: u64,
+    fault: Option<Refusal>,
+    writer: &mut TextWriter,
+    sink: &mut W,
+)
     requires of_table { IfSome fault IsOfTable }
-    ensures { OnOk result (string_bytes text.new ≡ string_bytes text.old ++ line (codes "changed " ++ decimal middle ++ codes " " ++ texts.fault_text fault)) }
+    ensures { WritesText writer.old writer.new (W.taken sink.old) (W.taken sink.new) (W.faults sink.old) (W.faults sink.new) (line (codes "changed " ++ decimal middle ++ codes " " ++ texts.fault_text fault)) }
 {
-    write!(text, "changed {middle} ")?;
-    push_fault(text, fault)?;
-    text.push_str("\n")
+    writer.write("changed ", sink);
+    writer.write_value(&Count(middle), sink);
+    writer.write(" ", sink);
+    write_fault(fault, writer, sink);
+    writer.write("\n", sink);
 }
 
-/// The lines of a drill. Err: out of memory.
-#[tactic(auto, unfolding(crate::specs::DrillText::drill_text))]
-fn text_of(alloc: Global, report: &DrillReport) -> Result<String, AllocError>
+/// Writes what a drill found out.
+fn write_report<W: Sink>(report: &DrillReport, writer: &mut TextWriter, sink: &mut W)
     requires of_table { IfSome report.now.fault IsOfTable }
-    ensures { IfOk result (λ text. string_bytes text ≡ texts.drill_text report.now) }
+    ensures { WritesText writer.old writer.new (W.taken sink.old) (W.taken sink.new) (W.faults sink.old) (W.faults sink.new) (texts.drill_text report.now) }
 {
-    let findings = report.findings;
-    let mut text = String::new(alloc);
-    push_sizes(&mut text, report)?;
-    text.push_str("check ")?;
-    push_check(&mut text, report.check)?;
-    text.push_str("\n")?;
-    push_changed(&mut text, report.middle, report.fault)?;
-    write!(text, "findings {findings}")?;
-    text.push_str("\n")?;
-    Ok(text)
+    write_line("drill ", &report.entities, writer, sink);
+    write_line("objects ", &Count(report.objects), writer, sink);
+    write_line("bytes ", &Count(report.size), writer, sink);
+    write_line("check ", &CheckWord(report.check), writer, sink);
+    write_changed(report.middle, report.fault, writer, sink);
+    write_line("findings ", &Count(report.findings), writer, sink);
 }
 
-/// What a drill found out, a line for each. Err: out of memory.
-pub fn drill_text(alloc: Global, report: &DrillReport) -> Result<ByteRun, NoMemory>
+/// Writes the text of a drill, a piece at a time: what it found out, a line for each. A write fault comes only where the sink's count
+/// of faults rose; the only other refusal is out of memory. After either the sink took a prefix of the text.
+#[tactic(auto, unfolding(dwg_text::specs::Writing::WritesTextBy))]
+pub fn print_drill<W: Sink>(
+    alloc: Global,
+    report: &DrillReport,
+    sink: &mut W,
+) -> Result<(), ShowFault>
     requires of_table { IfSome report.now.fault IsOfTable }
-    ensures { IfOk result (λ text. text ≡ texts.drill_text report.now) }
+    ensures bytes { Sends (W.taken sink.old) (W.taken sink.new) (texts.drill_text report.now) result }
+    ensures never_falls { W.faults sink.old ≤ W.faults sink.new }
+    ensures stands { W.faults sink.old ≡ LAST_COUNT → W.faults sink.new ≡ LAST_COUNT }
+    ensures ok { OnOk result (W.faults sink.new ≡ W.faults sink.old) }
+    ensures no_memory { IsErrOf result ShowFault.NoMemory → W.faults sink.new ≡ W.faults sink.old }
+    ensures write_fault { IsErrOf result ShowFault.WriteFault → Rose (W.faults sink.old) (W.faults sink.new) }
 {
-    match text_of(alloc, report) {
-        Ok(text) => Ok(ByteRun::from_vec(text.into_bytes())),
-        Err(_) => Err(NoMemory),
-    }
+    let mut writer = TextWriter::new(alloc);
+    write_report(report, &mut writer, sink);
+    writer.end(sink)
 }

@@ -7,10 +7,12 @@ mod app_items;
 mod app_objects;
 mod audit;
 mod drill;
+mod paragraphs;
 mod recovery;
+mod verdict;
 
 pub use acceptance::{accept_no, accept_yes};
 pub use app_objects::appdata;
-pub use audit::audit_text;
-pub use drill::drill_text;
-pub use recovery::recovery_note;
+pub use audit::print_findings;
+pub use drill::print_drill;
+pub use recovery::print_recovery;

@@ -1,167 +1,127 @@
 //! What a recovery notes: why the input spells no drawing, what is lost, and what is kept.
 
-ghost use Rattle.std.specs.Prelude.{◌≡◌, ◌++◌, codes, decimal, flat_map, IfOk, OnOk, string_bytes};
-ghost use Rattle.dwg_text.specs.Lines.{line};
+ghost use Rattle.std.specs.Prelude.{◌≡◌, ◌≤◌, ◌++◌, codes, decimal, IsErrOf, OnOk};
+ghost use Rattle.dwg_base.specs.Devices.{LAST_COUNT, Rose, Sends};
 ghost use Rattle.dwg_base.specs.Refusals.{IsOfTable};
 ghost use Rattle.dwg_messages.specs.RecoveryNote as texts;
+ghost use Rattle.dwg_text.specs.Lines.{line};
+ghost use Rattle.dwg_text.specs.Writing.{WritesText};
 
-use dwg_base::{ByteRun, Handle, NoMemory, Refusal};
+use crate::paragraphs::{Paragraph, write_all};
+use dwg_base::{Handle, Refusal, Sink};
 use dwg_recover::{Kept, Loss};
-use dwg_text::push_refusal;
-use std::alloc::{AllocError, Global};
+use dwg_text::{Count, Hexadecimal, ShowFault, TextWriter, Value, refusal_line, write_line};
+use std::alloc::Global;
 
-/// Appends an object and its place. Err: out of memory.
-fn push_object(text: &mut String, handle: Handle, place: u64) -> Result<(), AllocError>
-    ensures { OnOk result (string_bytes text.new ≡ string_bytes text.old ++ texts.object_at handle place) }
+/// Writes a line: what stands before a value, the value, and a place.
+fn write_placed<T: Value, W: Sink>(
+    prefix: &str,
+    value: &T,
+    place: u64,
+    writer: &mut TextWriter,
+    sink: &mut W,
+)
+    ensures { WritesText writer.old writer.new (W.taken sink.old) (W.taken sink.new) (W.faults sink.old) (W.faults sink.new) (line (prefix.now ++ T.printed value.now ++ codes " at " ++ decimal place)) }
 {
-    let number = handle.value();
-    write!(text, "object {number:X} at {place}")
+    writer.write(prefix, sink);
+    writer.write_value(value, sink);
+    writer.write(" at ", sink);
+    writer.write_value(&Count(place), sink);
+    writer.write("\n", sink);
 }
 
-/// Appends the object of a pair that is lost, as a line. Err: out of memory.
-#[tactic(auto, unfolding(crate::specs::RecoveryNote::loss_line))]
-fn push_lost_object(text: &mut String, handle: Handle, place: u64) -> Result<(), AllocError>
-    ensures { OnOk result (string_bytes text.new ≡ string_bytes text.old ++ texts.loss_line (Loss.Object handle place)) }
+/// Writes the object of a pair that is lost.
+fn write_lost_object<W: Sink>(handle: Handle, place: u64, writer: &mut TextWriter, sink: &mut W)
+    ensures { WritesText writer.old writer.new (W.taken sink.old) (W.taken sink.new) (W.faults sink.old) (W.faults sink.new) (texts.loss_line (Loss.Object handle place)) }
 {
-    text.push_str("lost: ")?;
-    push_object(text, handle, place)?;
-    text.push_str("\n")
+    write_placed(
+        "lost: object ",
+        &Hexadecimal(handle.value()),
+        place,
+        writer,
+        sink,
+    );
 }
 
-/// Appends a number and a place, and ends the line. Err: out of memory.
-fn push_numbered(text: &mut String, number: u64, place: u64) -> Result<(), AllocError>
-    ensures { OnOk result (string_bytes text.new ≡ string_bytes text.old ++ line (decimal number ++ codes " at " ++ decimal place)) }
-{
-    match writeln!(text, "{number} at {place}") {
-        Ok(()) => Ok(()),
-        Err(fault) => Err(fault),
+impl Paragraph for Loss {
+    ghost written = { texts.loss_line };
+
+    #[tactic(auto, unfolding(crate::specs::RecoveryNote::loss_line))]
+    fn write<W: Sink>(&self, writer: &mut TextWriter, sink: &mut W) {
+        match self {
+            Loss::Header => writer.write("lost: file header\n", sink),
+            Loss::Variables => writer.write("lost: header variables\n", sink),
+            Loss::Classes => writer.write("lost: classes\n", sink),
+            Loss::Section { number, place } => {
+                write_placed("lost: section ", number, *place, writer, sink);
+            }
+            Loss::Page { index, place } => {
+                write_placed("lost: map page ", &Count(*index), *place, writer, sink);
+            }
+            Loss::MapEnd { place } => {
+                write_line("lost: map end at ", &Count(*place), writer, sink);
+            }
+            Loss::Object { handle, place } => write_lost_object(*handle, *place, writer, sink),
+        }
     }
 }
 
-/// Appends the unknown section that is lost, as a line. Err: out of memory.
-#[tactic(auto, unfolding(crate::specs::RecoveryNote::loss_line))]
-fn push_lost_section(text: &mut String, number: u64, place: u64) -> Result<(), AllocError>
-    ensures { OnOk result (string_bytes text.new ≡ string_bytes text.old ++ texts.loss_line (Loss.Section number place)) }
-{
-    text.push_str("lost: section ")?;
-    match push_numbered(text, number, place) {
-        Ok(()) => Ok(()),
-        Err(fault) => Err(fault),
+/// A frame that is kept without a pair; one that is kept for a pair has no line.
+impl Paragraph for Kept {
+    ghost written = { texts.found_line };
+
+    #[tactic(auto, using(dwg_text::proofs::Writing::writes_nothing), unfolding(crate::specs::RecoveryNote::found_line))]
+    fn write<W: Sink>(&self, writer: &mut TextWriter, sink: &mut W) {
+        if self.mapped {
+            return;
+        }
+        write_placed(
+            "found: object ",
+            &Hexadecimal(self.handle.value()),
+            self.from,
+            writer,
+            sink,
+        );
     }
 }
 
-/// Appends the page of the map that is lost, as a line. Err: out of memory.
-#[tactic(auto, unfolding(crate::specs::RecoveryNote::loss_line))]
-fn push_lost_page(text: &mut String, index: u64, place: u64) -> Result<(), AllocError>
-    ensures { OnOk result (string_bytes text.new ≡ string_bytes text.old ++ texts.loss_line (Loss.Page index place)) }
+/// Writes what a recovery notes.
+fn write_recovery<W: Sink>(
+    refusal: Refusal,
+    losses: &[Loss],
+    kept: &[Kept],
+    writer: &mut TextWriter,
+    sink: &mut W,
+)
+    requires { IsOfTable refusal }
+    ensures { WritesText writer.old writer.new (W.taken sink.old) (W.taken sink.new) (W.faults sink.old) (W.faults sink.new) (texts.recovery_note refusal losses.now kept.now) }
 {
-    text.push_str("lost: map page ")?;
-    push_numbered(text, index, place)
+    writer.write_made(refusal_line(writer.alloc, refusal), sink);
+    write_all(losses, writer, sink);
+    write_all(kept, writer, sink);
+    write_line("kept ", &Count(kept.len() as u64), writer, sink);
 }
 
-/// Appends the end of the map that is lost, as a line. Err: out of memory.
-#[tactic(auto, unfolding(crate::specs::RecoveryNote::loss_line))]
-fn push_lost_end(text: &mut String, place: u64) -> Result<(), AllocError>
-    ensures { OnOk result (string_bytes text.new ≡ string_bytes text.old ++ texts.loss_line (Loss.MapEnd place)) }
-{
-    match writeln!(text, "lost: map end at {place}") {
-        Ok(()) => Ok(()),
-        Err(fault) => Err(fault),
-    }
-}
-
-/// Appends what is lost, as a line. Err: out of memory.
-#[tactic(auto, unfolding(crate::specs::RecoveryNote::loss_line))]
-fn push_loss(text: &mut String, loss: &Loss) -> Result<(), AllocError>
-    ensures { OnOk result (string_bytes text.new ≡ string_bytes text.old ++ texts.loss_line loss.now) }
-{
-    match loss {
-        Loss::Header => text.push_str("lost: file header\n"),
-        Loss::Variables => text.push_str("lost: header variables\n"),
-        Loss::Classes => text.push_str("lost: classes\n"),
-        Loss::Section { number, place } => push_lost_section(text, u64::from(*number), *place),
-        Loss::Page { index, place } => push_lost_page(text, *index, *place),
-        Loss::MapEnd { place } => push_lost_end(text, *place),
-        Loss::Object { handle, place } => push_lost_object(text, *handle, *place),
-    }
-}
-
-/// Appends a frame that is kept without a pair, as a line; one that is kept for a pair has none. Err: out of memory.
-#[tactic(auto, unfolding(crate::specs::RecoveryNote::found_line))]
-fn push_found(text: &mut String, kept: &Kept) -> Result<(), AllocError>
-    ensures { OnOk result (string_bytes text.new ≡ string_bytes text.old ++ texts.found_line kept.now) }
-{
-    if kept.mapped {
-        return Ok(());
-    }
-    text.push_str("found: ")?;
-    push_object(text, kept.handle, kept.from)?;
-    text.push_str("\n")
-}
-
-/// Appends the losses in their order, a line each. Err: out of memory.
-fn push_losses(text: &mut String, losses: &[Loss]) -> Result<(), AllocError>
-    ensures { OnOk result (string_bytes text.new ≡ string_bytes text.old ++ flat_map texts.loss_line losses.now) }
-{
-    for loss in losses {
-        push_loss(text, loss)?;
-    }
-    Ok(())
-}
-
-/// Appends how many objects are kept, as a line. Err: out of memory.
-#[tactic(auto, unfolding(crate::specs::RecoveryNote::count_line))]
-fn push_count(text: &mut String, count: usize) -> Result<(), AllocError>
-    ensures { OnOk result (string_bytes text.new ≡ string_bytes text.old ++ texts.count_line count) }
-{
-    match writeln!(text, "kept {count}") {
-        Ok(()) => Ok(()),
-        Err(fault) => Err(fault),
-    }
-}
-
-/// Appends the frames that are kept without a pair, a line each. Err: out of memory.
-fn push_kept(text: &mut String, kept: &[Kept]) -> Result<(), AllocError>
-    ensures { OnOk result (string_bytes text.new ≡ string_bytes text.old ++ flat_map texts.found_line kept.now) }
-{
-    for frame in kept {
-        push_found(text, frame)?;
-    }
-    Ok(())
-}
-
-/// The lines of a recovery. Err: out of memory.
-#[tactic(auto, unfolding(crate::specs::RecoveryNote::recovery_note))]
-fn text_of(
+/// Writes the note of a recovery, a piece at a time: why the input spells no drawing, the losses in their order, the frames that are kept
+/// without a pair in order of place, and how many objects are kept, a line each. A write fault comes only where the sink's count of
+/// faults rose; the only other refusal is out of memory. After either the sink took a prefix of the note.
+#[tactic(auto, unfolding(dwg_text::specs::Writing::WritesTextBy))]
+pub fn print_recovery<W: Sink>(
     alloc: Global,
     refusal: Refusal,
     losses: &[Loss],
     kept: &[Kept],
-) -> Result<String, AllocError>
+    sink: &mut W,
+) -> Result<(), ShowFault>
     requires { IsOfTable refusal }
-    ensures { IfOk result (λ text. string_bytes text ≡ texts.recovery_note refusal losses.now kept.now) }
+    ensures bytes { Sends (W.taken sink.old) (W.taken sink.new) (texts.recovery_note refusal losses.now kept.now) result }
+    ensures never_falls { W.faults sink.old ≤ W.faults sink.new }
+    ensures stands { W.faults sink.old ≡ LAST_COUNT → W.faults sink.new ≡ LAST_COUNT }
+    ensures ok { OnOk result (W.faults sink.new ≡ W.faults sink.old) }
+    ensures no_memory { IsErrOf result ShowFault.NoMemory → W.faults sink.new ≡ W.faults sink.old }
+    ensures write_fault { IsErrOf result ShowFault.WriteFault → Rose (W.faults sink.old) (W.faults sink.new) }
 {
-    let mut text = String::new(alloc);
-    push_refusal(alloc, &mut text, refusal)?;
-    push_losses(&mut text, losses)?;
-    push_kept(&mut text, kept)?;
-    push_count(&mut text, kept.len())?;
-    Ok(text)
-}
-
-/// Why an input spells no drawing, the losses in their order, the frames that are kept without a pair in order of place, and how
-/// many objects are kept, a line each. Err: out of memory.
-pub fn recovery_note(
-    alloc: Global,
-    refusal: Refusal,
-    losses: &[Loss],
-    kept: &[Kept],
-) -> Result<ByteRun, NoMemory>
-    requires { IsOfTable refusal }
-    ensures { IfOk result (λ text. text ≡ texts.recovery_note refusal losses.now kept.now) }
-{
-    match text_of(alloc, refusal, losses, kept) {
-        Ok(text) => Ok(ByteRun::from_vec(text.into_bytes())),
-        Err(_) => Err(NoMemory),
-    }
+    let mut writer = TextWriter::new(alloc);
+    write_recovery(refusal, losses, kept, &mut writer, sink);
+    writer.end(sink)
 }

@@ -8,7 +8,7 @@ use Rattle.std.proofs.lemmas.List.{append_assoc, append_cancel_left, length-appe
 use Rattle.std.proofs.lemmas.Option.{none-some}
 use Rattle.dwg_common.specs.BitSizes.{SpellsSize, sized_prefix}
 use Rattle.dwg_common.specs.declared.app_data.AppData.{AppData}
-use Rattle.dwg_common.specs.declared.layout.Layout.{Layout}
+use Rattle.dwg_common.specs.declared.bit_layout.Layout.{Layout}
 use Rattle.dwg_common.proofs.SizeLemmas.{entity_spells_size, object_spells_size, one_size, sized_prefix_is_code}
 use Rattle.dwg_bits.specs.Bits.{bits}
 use Rattle.dwg_bits.specs.Cursor.{bits_between}

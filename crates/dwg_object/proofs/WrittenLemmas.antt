@@ -3,7 +3,7 @@ use Rattle.std.proofs.Common.{◌≡◌, refl, sym, ◌∙◌, ap, subst, ℕ, �
 use Rattle.dwg_base.specs.declared.version.Version.{Version}
 use Rattle.dwg_base.specs.declared.version.Version.TheVariants.{Ac1014, Ac1015}
 use Rattle.dwg_common.specs.CommonLaws.{entity_narrower, object_narrower, entity_sizes_alike, object_sizes_alike}
-use Rattle.dwg_common.specs.declared.layout.Layout.{Layout}
+use Rattle.dwg_common.specs.declared.bit_layout.Layout.{Layout}
 use Rattle.dwg_object.specs.declared.common.Common.TheVariants.{Entity, Object}
 use Rattle.std.proofs.lemmas.List.{append_assoc, length-append}
 use Rattle.dwg_bits.specs.Bits.{bits}

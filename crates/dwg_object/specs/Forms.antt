@@ -4,7 +4,7 @@ use Rattle.dwg_base.specs.declared.version.Version.{Version}
 use Rattle.dwg_base.specs.declared.version.Version.TheVariants.{Ac1014, Ac1015}
 use Rattle.dwg_common.specs.BitSizes.{SpellsSize}
 use Rattle.dwg_common.specs.Layouts.{NEWER, older}
-use Rattle.dwg_common.specs.declared.layout.Layout.{Layout}
+use Rattle.dwg_common.specs.declared.bit_layout.Layout.{Layout}
 use Rattle.dwg_bits.specs.Bits.{bits}
 use Rattle.dwg_classes.specs.declared.class.Class.{Class}
 use Rattle.dwg_classes.specs.Hints.{hint_at}

@@ -7,7 +7,7 @@ ghost use Rattle.dwg_object.specs.Forms.{common_part, layout_in};
 ghost use Rattle.dwg_object.specs.Objects.{is_of_entity};
 ghost use Rattle.dwg_object.specs.Written.{common_main, common_refs};
 
-use crate::layout::layout_in;
+use crate::object_layout::layout_in;
 use dwg_base::{Handle, NoMemory, Version};
 use dwg_bits::{BitCursor, BitSink};
 use dwg_common::{BodyCode, EntityCommon, Layout, Lengths, ObjectCommon};

@@ -98,13 +98,11 @@ pub fn read_span<'a>(
     let Some(head) = head_of(version, body) else {
         return Err(Fault::Refused(frame_refusal(HEAD_LINE, index, span.from)));
     };
-    match read_after_head(alloc, body, &head, hints, version) {
-        Ok(object) => Ok(Found {
-            object,
-            end: span.end,
-        }),
-        Err(NoMemory) => Err(Fault::NoMemory),
-    }
+    let object = read_after_head(alloc, body, &head, hints, version)?;
+    Ok(Found {
+        object,
+        end: span.end,
+    })
 }
 
 /// Reads the frame at a place of the input, of the pair of this index, by the rules of a version, whatever the input begins with. It is refused where the place is after the input,
@@ -128,13 +126,7 @@ pub fn read_frame<'a>(
     ensures tried { AnswersFrame result (tried_frame version place index bytes.now) }
     ensures of_table { IfErr result IsFaultOfTable }
 {
-    let span = match span_at(bytes, place, index) {
-        Ok(span) => span,
-        Err(refusal) => return Err(Fault::Refused(refusal)),
-    };
-    let hints = match Hints::build(alloc, classes) {
-        Ok(hints) => hints,
-        Err(NoMemory) => return Err(Fault::NoMemory),
-    };
+    let span = span_at(bytes, place, index)?;
+    let hints = Hints::build(alloc, classes)?;
     read_span(alloc, bytes, &span, index, &hints, version)
 }

@@ -1,4 +1,5 @@
-//! Objects and their frames (Open Design Specification, "R13 to R2000 file layout, object data").
+//! Objects in their three forms, Typed, Plain and Raw, and their frames (Open Design Specification, "R13 to R2000 file layout,
+//! object data").
 #![tactic(auto)]
 
 mod body;
@@ -6,8 +7,8 @@ mod common;
 mod frame;
 mod head;
 mod laws;
-mod layout;
 mod object;
+mod object_layout;
 mod part;
 mod reading;
 mod span;

@@ -19,8 +19,8 @@ ghost use Rattle.dwg_object.specs.OwnBits.{HasOwn};
 use crate::body::Body;
 use crate::common::Common;
 use crate::head::{Head, HeadAt, head_of};
-use crate::layout::layout_in;
 use crate::object::{Object, Plain, Raw, Typed};
+use crate::object_layout::layout_in;
 use dwg_base::{Handle, Items, NoMemory, Version};
 use dwg_bits::{BitCursor, BitPart, BitSpan};
 use dwg_classes::{Class, Hints};
@@ -80,7 +80,7 @@ fn size_of(version: Version, body: &[u8], found: &HeadAt, entity: bool) -> Optio
 }
 
 /// Reads the common part of a body of a kind. None exactly where the body isn't cut into head, common part, own bits and
-/// references; the only refusal is out of memory.
+/// references. Err: out of memory.
 fn read_prefix<'a>(
     alloc: Global,
     body: &'a [u8],
@@ -128,8 +128,8 @@ struct Rest<'a> {
     refs: Items<Ref>,
 }
 
-/// Reads what stands after the common part of a body in its Plain form. None exactly where the kind is unknown or what stands
-/// there are no references; the only refusal is out of memory.
+/// Reads what stands after the common part of a body in its Plain form. None exactly where the kind is unknown or what stands there
+/// are no references. Err: out of memory.
 fn read_rest<'a>(
     alloc: Global,
     prefix: &CommonStart<'a>,
@@ -179,8 +179,7 @@ fn plain_object<'a>(found: &HeadAt, common: Common, after: Rest<'a>) -> Object<'
     })
 }
 
-/// The object of a body that has no Typed form: in its Plain form where it has that, else as its bytes. The only refusal is want of
-/// memory.
+/// The object of a body that has no Typed form: in its Plain form where it has that, else as its bytes. Err: out of memory.
 fn read_untyped<'a>(
     alloc: Global,
     body: &'a [u8],
@@ -234,8 +233,7 @@ fn read_kind<'a>(
     }
 }
 
-/// Reads a body that begins with this head, in the strongest form that it has under the classes of its drawing. The only refusal
-/// is out of memory.
+/// Reads a body that begins with this head, in the strongest form that it has under the classes of its drawing. Err: out of memory.
 pub(crate) fn read_after_head<'a>(
     alloc: Global,
     body: &'a [u8],
@@ -253,9 +251,9 @@ pub(crate) fn read_after_head<'a>(
     read_kind(alloc, body, version, found, kind)
 }
 
-/// Reads a body of fewer than 2^60 bytes by the rules of a version, in the strongest form that it has under the classes of its drawing: with its
-/// common part and the body of its kind, or with its common part and its references, or as its bytes, whichever of these comes
-/// first. None exactly where the body has no head; the only refusal is out of memory.
+/// Reads a body of fewer than 2^60 bytes by the rules of a version, in the strongest form that it has under the classes of its
+/// drawing: with its common part and the body of its kind, or with its common part and its references, or as its bytes, whichever
+/// of these comes first. None exactly where the body has no head. Err: out of memory.
 pub fn read_body_hinted<'a>(
     alloc: Global,
     body: &'a [u8],

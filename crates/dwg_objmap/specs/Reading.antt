@@ -4,7 +4,7 @@ use Rattle.dwg_base.specs.Refusals.{Tried}
 use Rattle.dwg_base.specs.declared.refusal.Fault.{Fault}
 use Rattle.dwg_base.specs.declared.refusal.Fault.TheVariants.{NoMemory, Refused}
 use Rattle.dwg_objmap.specs.declared.pair.Pair.{Pair}
-use Rattle.dwg_objmap.specs.declared.page.Page.{Page}
+use Rattle.dwg_objmap.specs.declared.page_places.Page.{Page}
 
 -- a step answers what is tried: it goes on from what it read, or its refusal is the one that is tried; out of memory reports nothing
 abbrev pub GoesOn : {S V : Type 0} → Result S Fault → Tried V → (S → Tried V) → Type 0

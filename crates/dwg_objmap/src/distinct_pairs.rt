@@ -41,10 +41,8 @@ fn insert(handles: &mut BTreeSet<u64>, handle: u64) -> Result<bool, NoMemory>
     ensures new { IfOk result (λ new. new ≡ not (set.contains nat_cmp handles.old handle)) }
     ensures more { OnOk result ((other : ℕ) → set.contains nat_cmp handles.new other ≡ (nat_eq handle other || set.contains nat_cmp handles.old other)) }
 {
-    match handles.insert(handle) {
-        Ok(new) => Ok(new),
-        Err(_) => Err(NoMemory),
-    }
+    let new = handles.insert(handle)?;
+    Ok(new)
 }
 
 /// The set, which has no handle yet, with those of the pairs. Err: out of memory.
@@ -53,7 +51,7 @@ fn filled(handles: BTreeSet<u64>, pairs: &[Pair]) -> Result<BTreeSet<u64>, NoMem
     ensures all { IfOk result (λ all. HasHandles all pairs.now) }
 {
     let mut handles = handles;
-    'along: for pair in pairs {
+    'pairs: for pair in pairs {
         let _new = insert(&mut handles, pair.handle.value())?;
     }
     Ok(handles)
@@ -97,8 +95,8 @@ impl DistinctPairs {
         }
     }
 
-    /// The pairs and one more after them. None exactly where one of them has its handle; the only refusal is out of memory.
-    pub fn add(self, pair: &Pair) -> Result<Option<DistinctPairs>, NoMemory>
+    /// The pairs and one more after them. None exactly where one of them has its handle. Err: out of memory.
+    pub fn with_pair(self, pair: &Pair) -> Result<Option<DistinctPairs>, NoMemory>
         ensures new { IfOk result (λ added. is_some added ≡ not (has_handle self pair.now.handle)) }
         ensures added { IfOk result (λ added. IfSome added (λ more. more ≡ self ++ pair.now ∷ [])) }
     {
@@ -110,29 +108,25 @@ impl DistinctPairs {
         } = self;
         let handle = pair.handle.value();
         if ascends_with(ascending, highest, handle) {
-            return match pairs.push(*pair) {
-                Ok(()) => Ok(Some(DistinctPairs {
-                    pairs,
-                    highest: handle,
-                    ascending: true,
-                    handles,
-                })),
-                Err(_) => Err(NoMemory),
-            };
+            pairs.try_push(*pair)?;
+            return Ok(Some(DistinctPairs {
+                pairs,
+                highest: handle,
+                ascending: true,
+                handles,
+            }));
         }
         let mut handles = all_handles(ascending, highest, handles, pairs.as_slice())?;
         if !insert(&mut handles, handle)? {
             return Ok(None);
         }
-        match pairs.push(*pair) {
-            Ok(()) => Ok(Some(DistinctPairs {
-                pairs,
-                highest,
-                ascending: false,
-                handles,
-            })),
-            Err(_) => Err(NoMemory),
-        }
+        pairs.try_push(*pair)?;
+        Ok(Some(DistinctPairs {
+            pairs,
+            highest,
+            ascending: false,
+            handles,
+        }))
     }
 
     /// The pairs, without taking memory.

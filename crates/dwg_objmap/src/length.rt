@@ -6,8 +6,8 @@ ghost use Rattle.dwg_objmap.specs.Pairs.{IsPair};
 ghost use Rattle.dwg_objmap.specs.Writing.{MOST_PAGE, Ascend, map_bytes};
 ghost use Rattle.dwg_objmap.specs.MapLength.{size_added, length_after};
 
+use crate::page_writing::{MOST_PAGE, pair_bytes};
 use crate::pair::{Pair, origin};
-use crate::writing::{MOST_PAGE, pair_bytes};
 
 /// What was counted of a map so far.
 #[derive(Clone, Copy)]
@@ -88,7 +88,7 @@ pub fn map_length(pairs: &[Pair]) -> u64
         size: 0,
         last: origin(),
     };
-    'along: for pair in pairs {
+    'pairs: for pair in pairs {
         count = count_pair(&count, pair);
     }
     count_end(&count)

@@ -1,19 +1,20 @@
-//! The object map: where the frame of each object stands (Open Design Specification, "Object map").
+//! The object map, read and written: where the frame of each object stands; and the pairs of a page by itself (Open Design
+//! Specification, "Object map").
 #![tactic(auto)]
 
+mod damaged_pages;
 mod distinct_pairs;
 mod laws;
 mod length;
-mod page;
+mod map_reading;
+mod page_places;
+mod page_writing;
 mod pair;
-mod reading;
-mod walking;
-mod writing;
 
+pub use damaged_pages::{page_holds, page_pairs, page_size};
 pub use laws::{map_laws, map_writing_laws, page_laws};
 pub use length::map_length;
-pub use page::Page;
+pub use map_reading::{read_map, read_page};
+pub use page_places::Page;
+pub use page_writing::PageWriter;
 pub use pair::Pair;
-pub use reading::{read_map, read_page};
-pub use walking::{page_holds, page_pairs, page_size};
-pub use writing::PageWriter;

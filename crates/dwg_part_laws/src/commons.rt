@@ -1,7 +1,7 @@
 //! The common parts of entities and of other objects.
 
 ghost use Rattle.std.specs.Prelude.{ℕ};
-ghost use Rattle.dwg_common.specs.declared.layout.Layout.{Layout};
+ghost use Rattle.dwg_common.specs.declared.bit_layout.Layout.{Layout};
 ghost use Rattle.dwg_part_laws.specs.AsDefined.{IsDefinedBy};
 ghost use Rattle.dwg_common.specs.Entities.{entity_common};
 ghost use Rattle.dwg_common.specs.NonEntities.{object_common};

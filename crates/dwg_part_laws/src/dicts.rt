@@ -1,7 +1,7 @@
 //! The bodies of controls, dictionaries and records.
 
 ghost use Rattle.std.specs.Prelude.{ℕ};
-ghost use Rattle.dwg_common.specs.declared.layout.Layout.{Layout};
+ghost use Rattle.dwg_common.specs.declared.bit_layout.Layout.{Layout};
 ghost use Rattle.dwg_part_laws.specs.AsDefined.{IsDefinedBy};
 ghost use Rattle.dwg_dicts.specs.Dictionaries.{dictionary_body};
 ghost use Rattle.dwg_dicts.specs.Entries.{appid_control_body, layer_control_body, style_control_body};

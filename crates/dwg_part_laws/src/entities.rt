@@ -1,7 +1,7 @@
 //! The bodies of texts, attributes, inserts, and of what begins and ends blocks and sequences.
 
 ghost use Rattle.std.specs.Prelude.{ℕ};
-ghost use Rattle.dwg_common.specs.declared.layout.Layout.{Layout};
+ghost use Rattle.dwg_common.specs.declared.bit_layout.Layout.{Layout};
 ghost use Rattle.dwg_part_laws.specs.AsDefined.{IsDefinedBy};
 ghost use Rattle.dwg_entities.specs.AttdefBody.{attdef_body};
 ghost use Rattle.dwg_entities.specs.AttribBody.{attrib_body};

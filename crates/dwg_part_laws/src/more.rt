@@ -1,7 +1,7 @@
 //! The bodies of the kinds that AC1015 alone has.
 
 ghost use Rattle.std.specs.Prelude.{ℕ};
-ghost use Rattle.dwg_common.specs.declared.layout.Layout.{Layout};
+ghost use Rattle.dwg_common.specs.declared.bit_layout.Layout.{Layout};
 ghost use Rattle.dwg_part_laws.specs.AsDefined.{IsDefinedBy};
 ghost use Rattle.dwg_more.specs.Ellipses.{ellipse_body};
 ghost use Rattle.dwg_more.specs.Faces.{face_body};

@@ -1,7 +1,7 @@
 //! The bodies of shapes.
 
 ghost use Rattle.std.specs.Prelude.{ℕ};
-ghost use Rattle.dwg_common.specs.declared.layout.Layout.{Layout};
+ghost use Rattle.dwg_common.specs.declared.bit_layout.Layout.{Layout};
 ghost use Rattle.dwg_part_laws.specs.AsDefined.{IsDefinedBy};
 ghost use Rattle.dwg_shapes.specs.Arcs.{arc_body};
 ghost use Rattle.dwg_shapes.specs.Circles.{circle_body};

@@ -56,7 +56,7 @@ fn all_lie_between(content: &[u8], count: u8, from: u64, end: u64) -> bool
     requires { 1 + 9 * count ≤ length content.now }
     ensures { IsTrue result ↔ ((i : ℕ) → i < count → LiesBetween from end (entry_at content.now (1 + 9 * i))) }
 {
-    'along: for i in 0..count {
+    'entries: for i in 0..count {
         if !lies_between(content, ENTRIES_PLACE + ENTRY_SIZE * i as usize, from, end) {
             return false;
         }

@@ -58,7 +58,7 @@ fn write_entries(content: &[u8], count: u8, from: u32, to: u32, sink: &mut BitSi
     ensures puts { Puts sink.old sink.new (entries_moved from to count content.now 1) }
     ensures spare { sink.old.spare ≤ sink.new.spare + 72 * count }
 {
-    'along: for i in 0..count {
+    'entries: for i in 0..count {
         write_entry(
             content,
             ENTRIES_PLACE + ENTRY_SIZE * i as usize,

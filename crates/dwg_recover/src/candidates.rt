@@ -8,7 +8,7 @@ ghost use Rattle.dwg_recover.specs.Placing.{IsPlaced};
 
 use crate::frame::{Frame, own_of_span};
 use crate::kept::KeptFrames;
-use dwg_base::{NoMemory, with_item};
+use dwg_base::NoMemory;
 use dwg_check::SpanChecks;
 use dwg_object::span_at;
 use dwg_objmap::Pair;
@@ -50,13 +50,14 @@ fn candidate<L: Ledger>(
 }
 
 /// Frames and one more, where there is one. Err: out of memory.
-fn with_candidate(frames: Vec<Frame>, frame: Option<Frame>) -> Result<Vec<Frame>, NoMemory>
+fn with_candidate(mut frames: Vec<Frame>, frame: Option<Frame>) -> Result<Vec<Frame>, NoMemory>
     ensures { IfOk result (λ more. more.items ≡ frames.items ++ cons_option frame []) }
 {
-    match frame {
-        Some(frame) => with_item(frames, frame),
-        None => Ok(frames),
-    }
+    let Some(frame) = frame else {
+        return Ok(frames);
+    };
+    frames.push(frame)?;
+    Ok(frames)
 }
 
 /// The frames of pairs, in map order. Err: out of memory.
@@ -72,7 +73,7 @@ fn candidates<L: Ledger>(
     ensures steps { steps.new ≤ steps.old + 15 * length pairs.now }
 {
     let mut frames = Vec::new(alloc);
-    'along: for index in 0..pairs.len() {
+    'pairs: for index in 0..pairs.len() {
         frames = with_candidate(
             frames,
             candidate(bytes, checks, index as u64, &pairs[index], steps),
@@ -86,10 +87,8 @@ pub(crate) fn in_place_order(alloc: Global, frames: Vec<Frame>) -> Result<Vec<Fr
     ensures { IfOk result (λ ordered. (most : ℕ) → AllByRecursion (IsPlaced most) frames.items → ordered.items ≡ in_place_order most frames.items) }
 {
     let mut frames = frames;
-    match frames.sort_by_key(|frame| frame.from) {
-        Ok(()) => Ok(frames),
-        Err(_) => Err(NoMemory),
-    }
+    frames.sort_by_key(|frame| frame.from)?;
+    Ok(frames)
 }
 
 /// The frames kept, and the next in order of place where it is kept. Err: out of memory.
@@ -113,7 +112,7 @@ fn keep_all(alloc: Global, ordered: Vec<Frame>) -> Result<KeptFrames, NoMemory>
     ensures { IfOk result (λ kept. kept ≡ mapped_of ordered.items) }
 {
     let mut kept = KeptFrames::new(alloc);
-    'along: for frame in ordered {
+    'frames: for frame in ordered {
         kept = keep_mapped(kept, frame)?;
     }
     Ok(kept)

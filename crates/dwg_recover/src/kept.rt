@@ -6,7 +6,7 @@ ghost use Rattle.std.specs.BTreeSet as set;
 ghost use Rattle.dwg_recover.specs.Frames.{is_number};
 
 use crate::frame::Frame;
-use dwg_base::{Handle, NoMemory, with_item};
+use dwg_base::{Handle, NoMemory};
 use dwg_file::ByteRanges;
 use std::alloc::Global;
 use std::collections::BTreeSet;
@@ -43,10 +43,8 @@ fn with_number(numbers: BTreeSet<u64>, number: u64) -> Result<BTreeSet<u64>, NoM
     ensures { IfOk result (λ more. (other : ℕ) → set.contains nat_cmp more other ≡ (nat_eq number other || set.contains nat_cmp numbers other)) }
 {
     let mut numbers = numbers;
-    match numbers.insert(number) {
-        Ok(_) => Ok(numbers),
-        Err(_) => Err(NoMemory),
-    }
+    numbers.insert(number)?;
+    Ok(numbers)
 }
 
 /// A set and the number of a pair, where there is one. Err: out of memory.
@@ -126,17 +124,17 @@ impl KeptFrames {
         ensures { IfOk result (λ more. more ≡ self ++ frame ∷ []) }
     {
         let KeptFrames {
-            frames,
+            mut frames,
             taken,
             handles,
             pairs,
             end,
         } = self;
-        let taken = taken.add(frame.from, frame.end)?;
+        let taken = taken.with_run(frame.from, frame.end)?;
         let handles = with_number(handles, frame.handle.value())?;
         let pairs = with_pair(pairs, frame.pair)?;
         let end = later(end, frame.end);
-        let frames = with_item(frames, frame)?;
+        frames.push(frame)?;
         Ok(KeptFrames {
             frames,
             taken,

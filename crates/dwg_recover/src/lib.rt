@@ -8,12 +8,12 @@ mod kept;
 mod laws;
 mod loss;
 mod losses;
+mod map_walk;
 mod objects;
 mod recovery;
 mod scan;
 mod sections;
 mod uncounted;
-mod walk;
 
 pub use damage::short_damage_laws;
 pub use laws::{answer_laws, intact_laws, part_laws, recovered_laws};

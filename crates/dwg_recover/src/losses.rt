@@ -13,7 +13,7 @@ use dwg_sections::Locator;
 
 /// Losses and one more, if it is one. Err: out of memory.
 pub(crate) fn with_loss_if(
-    losses: Items<Loss>,
+    mut losses: Items<Loss>,
     lost: bool,
     loss: Loss,
 ) -> Result<Items<Loss>, NoMemory>
@@ -22,7 +22,8 @@ pub(crate) fn with_loss_if(
     if !lost {
         return Ok(losses);
     }
-    losses.with(loss)
+    losses.try_push(loss)?;
+    Ok(losses)
 }
 
 /// Losses and others after them. Err: out of memory.
@@ -30,15 +31,15 @@ pub(crate) fn with_losses(losses: Items<Loss>, others: &[Loss]) -> Result<Items<
     ensures { IfOk result (λ more. more ≡ losses ++ others.now) }
 {
     let mut losses = losses;
-    'along: for loss in others {
-        losses.add(*loss)?;
+    'losses: for loss in others {
+        losses.try_push(*loss)?;
     }
     Ok(losses)
 }
 
 /// Losses and the unknown section of a locator, where it passes the end of the input. Err: out of memory.
 fn with_lost_section(
-    losses: Items<Loss>,
+    mut losses: Items<Loss>,
     bytes: &[u8],
     locator: &Locator,
 ) -> Result<Items<Loss>, NoMemory>
@@ -47,10 +48,11 @@ fn with_lost_section(
     if !is_cut(bytes, locator) {
         return Ok(losses);
     }
-    losses.with(Loss::Section {
+    losses.try_push(Loss::Section {
         number: locator.number,
         place: u64::from(locator.place),
-    })
+    })?;
+    Ok(losses)
 }
 
 /// Losses and the unknown sections of locators that pass the end of the input. Err: out of memory.
@@ -62,7 +64,7 @@ pub(crate) fn with_lost_sections(
     ensures { IfOk result (λ more. more ≡ losses ++ lost_sections bytes.now locators.now) }
 {
     let mut losses = losses;
-    'along: for locator in locators {
+    'locators: for locator in locators {
         losses = with_lost_section(losses, bytes, locator)?;
     }
     Ok(losses)
@@ -71,7 +73,7 @@ pub(crate) fn with_lost_sections(
 /// Losses and the pair of a number, where no frame was kept for it. Err: out of memory.
 #[tactic(auto, unfolding(crate::specs::Frames::lost_pairs))]
 fn with_lost_pair(
-    losses: Items<Loss>,
+    mut losses: Items<Loss>,
     kept: &KeptFrames,
     number: u64,
     pair: &Pair,
@@ -81,10 +83,11 @@ fn with_lost_pair(
     if kept.is_kept_pair(number) {
         return Ok(losses);
     }
-    losses.with(Loss::Object {
+    losses.try_push(Loss::Object {
         handle: pair.handle,
         place: pair.place,
-    })
+    })?;
+    Ok(losses)
 }
 
 /// Losses and the pairs that no frame was kept for, in map order. Err: out of memory.
@@ -96,7 +99,7 @@ pub(crate) fn with_lost_pairs(
     ensures { IfOk result (λ more. more ≡ losses ++ lost_pairs kept.now 0 pairs.now) }
 {
     let mut losses = losses;
-    'along: for index in 0..pairs.len() {
+    'pairs: for index in 0..pairs.len() {
         losses = with_lost_pair(losses, kept, index as u64, &pairs[index])?;
     }
     Ok(losses)

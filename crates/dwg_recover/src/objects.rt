@@ -10,7 +10,7 @@ ghost use Rattle.dwg_recover.specs.Recovering.{object_of};
 
 use crate::frame::Frame;
 use crate::kept::KeptFrames;
-use dwg_base::{NoMemory, Version, vec_with_capacity, with_item};
+use dwg_base::{NoMemory, Version, vec_with_capacity};
 use dwg_classes::Hints;
 use dwg_object::{Object, read_body_hinted, span_at, span_body};
 use std::alloc::Global;
@@ -64,8 +64,8 @@ fn read_objects<'a>(
     ensures { IfOk result (λ objects. map value_of objects.items ≡ map (object_of hints.now bytes.now) frames.now) }
 {
     let mut objects = vec_with_capacity(alloc, frames.len())?;
-    'along: for index in 0..frames.len() {
-        objects = with_item(objects, object_of(alloc, bytes, hints, &frames[index])?)?;
+    'frames: for index in 0..frames.len() {
+        objects.push(object_of(alloc, bytes, hints, &frames[index])?)?;
     }
     Ok(objects)
 }
@@ -95,9 +95,12 @@ pub(crate) fn with_frame<'a>(
     ensures frames { IfOk result (λ more. more.frames ≡ kept.entry.frames ++ found.entry.frame ∷ []) }
     ensures objects { IfOk result (λ more. more.objects.items ≡ kept.entry.objects.items ++ found.entry.object ∷ []) }
 {
-    let KeptObjects { frames, objects } = kept;
+    let KeptObjects {
+        frames,
+        mut objects,
+    } = kept;
     let FrameObject { frame, object } = found;
-    let objects = with_item(objects, object)?;
+    objects.push(object)?;
     let frames = frames.keep(frame)?;
     Ok(KeptObjects { frames, objects })
 }

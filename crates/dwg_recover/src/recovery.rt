@@ -27,11 +27,11 @@ use crate::kept::KeptFrames;
 use crate::laws::recovered_laws;
 use crate::loss::{Kept, Loss};
 use crate::losses::{with_loss_if, with_losses, with_lost_pairs, with_lost_sections};
+use crate::map_walk::{Walked, walk};
 use crate::objects::KeptObjects;
 use crate::scan::scan;
 use crate::sections::{classes_at, header_of, place_located, section_found, variables_at};
-use crate::walk::{Walked, walk};
-use dwg_base::{Fault, Items, NoMemory, Refusal, Version, with_item};
+use dwg_base::{Fault, Items, NoMemory, Refusal, Version};
 use dwg_check::SpanChecks;
 use dwg_classes::Class;
 use dwg_file::{
@@ -74,8 +74,8 @@ fn all_kept(alloc: Global, frames: &[Frame]) -> Result<Items<Kept>, NoMemory>
     ensures { IfOk result (λ kept. kept ≡ map kept_of frames.now) }
 {
     let mut kept = Items::new(alloc);
-    'along: for frame in frames {
-        kept.add(kept_of(frame))?;
+    'frames: for frame in frames {
+        kept.try_push(kept_of(frame))?;
     }
     Ok(kept)
 }
@@ -90,8 +90,7 @@ fn reported(alloc: Global, bytes: &[u8], frames: Vec<Frame>) -> Result<Items<Kep
     all_kept(alloc, ordered.as_slice())
 }
 
-/// The pages of the map that are walked over, and their pairs; where the header is lost there are none. The only refusal is want
-/// of memory.
+/// The pages of the map that are walked over, and their pairs; where the header is lost there are none. Err: out of memory.
 fn walk_of(alloc: Global, bytes: &[u8], header: &Option<FileHeader>) -> Result<Walked, NoMemory>
     requires { header.now ≡ header_of bytes.now }
     ensures pairs { IfOk result (λ walked. walked.pairs ≡ pairs_read bytes.now) }
@@ -103,10 +102,8 @@ fn walk_of(alloc: Global, bytes: &[u8], header: &Option<FileHeader>) -> Result<W
             losses: Items::new(alloc),
         });
     };
-    match walk(alloc, bytes, u64::from(place)) {
-        Ok(walked) => Ok(walked),
-        Err(NoMemory) => Err(NoMemory),
-    }
+    let walked = walk(alloc, bytes, u64::from(place))?;
+    Ok(walked)
 }
 
 /// Where the two framed sections are found.
@@ -169,10 +166,8 @@ fn losses_of(
     let losses = with_loss_if(losses, places.classes.is_none(), Loss::Classes)?;
     let losses = with_lost_sections(losses, bytes, locators_of(header))?;
     let losses = with_losses(losses, walked.losses.as_slice())?;
-    match with_lost_pairs(losses, mapped, walked.pairs.as_slice()) {
-        Ok(losses) => Ok(losses),
-        Err(NoMemory) => Err(NoMemory),
-    }
+    let losses = with_lost_pairs(losses, mapped, walked.pairs.as_slice())?;
+    Ok(losses)
 }
 
 /// What a header reports of a drawing beside its sections.
@@ -203,8 +198,8 @@ fn header_fields_of(header: &Option<FileHeader>) -> HeaderFields
     }
 }
 
-/// The parts of the drawing of what is found: the header, the sections, the classes and the objects of the frames that are kept. The
-/// only refusal is out of memory.
+/// The parts of the drawing of what is found: the header, the sections, the classes and the objects of the frames that are kept.
+/// Err: out of memory.
 fn parts_recovered<'a>(
     alloc: Global,
     bytes: &'a [u8],
@@ -409,8 +404,8 @@ fn all_numbered(alloc: Global, frames: &[ObjectFrame]) -> Result<Vec<Frame>, NoM
     ensures { IfOk result (λ all. all.items ≡ all_numbered 0 frames.now) }
 {
     let mut all = Vec::new(alloc);
-    'along: for index in 0..frames.len() {
-        all = with_item(all, numbered(index as u64, &frames[index]))?;
+    'frames: for index in 0..frames.len() {
+        all.push(numbered(index as u64, &frames[index]))?;
     }
     Ok(all)
 }
@@ -428,8 +423,7 @@ fn map_reported(
     reported(alloc, bytes, all)
 }
 
-/// What is recovered of an input that spells a drawing: that drawing, and the frames of its map. The only refusal is want of
-/// memory.
+/// What is recovered of an input that spells a drawing: that drawing, and the frames of its map. Err: out of memory.
 fn recover_whole<'a>(
     alloc: Global,
     bytes: &'a [u8],

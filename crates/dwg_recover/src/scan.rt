@@ -39,8 +39,7 @@ fn of_common_part<'a>(object: Object<'a>) -> Option<Object<'a>>
     is_read_with_common_part(&object).then_some(object)
 }
 
-/// What the body of a span that stands in the input is read as, where it is read with its common part. The only refusal is want of
-/// memory.
+/// What the body of a span that stands in the input is read as, where it is read with its common part. Err: out of memory.
 fn read_with_common_part<'a>(
     alloc: Global,
     bytes: &'a [u8],
@@ -103,8 +102,7 @@ fn scan_place<'a, L: Ledger>(
     }
 }
 
-/// The next frame that is kept beside others, at a place or after it, with its object; none where none is. The only refusal is
-/// out of memory.
+/// The next frame that is kept beside others, at a place or after it, with its object; none where none is. Err: out of memory.
 fn next_scanned<'a, L: Ledger>(
     alloc: Global,
     bytes: &'a [u8],
@@ -120,7 +118,7 @@ fn next_scanned<'a, L: Ledger>(
 {
     let length = bytes.len() as u64;
     let mut place = from;
-    'along: while place < length {
+    'places: while place < length {
         // What begins inside a kept frame shares a byte with it.
         let after = kept.after(place);
         if place < after {
@@ -135,8 +133,8 @@ fn next_scanned<'a, L: Ledger>(
     Ok(None)
 }
 
-/// The frames kept with their objects, and those that are kept at any place of the input, in ascending order of place. The only
-/// refusal is out of memory.
+/// The frames kept with their objects, and those that are kept at any place of the input, in ascending order of place. Err: out of
+/// memory.
 fn with_scanned<'a, L: Ledger>(
     alloc: Global,
     bytes: &'a [u8],
@@ -153,7 +151,7 @@ fn with_scanned<'a, L: Ledger>(
 {
     let mut kept = kept;
     let mut place = 0;
-    'along: loop {
+    'frames: loop {
         match next_scanned(alloc, bytes, checks, hints, &kept.frames, place, steps)? {
             Some(found) => {
                 place = found.frame.from + 1;
@@ -164,8 +162,8 @@ fn with_scanned<'a, L: Ledger>(
     }
 }
 
-/// The frames that are kept for pairs of the map, and those that are kept at any place of the input, all with their objects. The
-/// only refusal is out of memory.
+/// The frames that are kept for pairs of the map, and those that are kept at any place of the input, all with their objects. Err:
+/// out of memory.
 pub(crate) fn scan<'a, L: Ledger>(
     alloc: Global,
     bytes: &'a [u8],

@@ -120,8 +120,8 @@ fn has_classes(alloc: Global, bytes: &[u8], place: usize) -> Result<bool, NoMemo
     }
 }
 
-/// Whether a section is whole at a place: no line on it fails there, and the content of the classes is cut into classes. The only
-/// refusal is out of memory.
+/// Whether a section is whole at a place: no line on it fails there, and the content of the classes is cut into classes. Err: out
+/// of memory.
 #[tactic(auto, unfolding(crate::specs::Sections::is_whole))]
 fn is_whole<L: Ledger>(
     alloc: Global,
@@ -175,7 +175,7 @@ fn first_whole<L: Ledger>(
     ensures steps { steps.new ≤ steps.old + 15 * length bytes.now }
 {
     let mut at = 0;
-    'along: for _ in 0..bytes.len() {
+    'places: for _ in 0..bytes.len() {
         let Some(place) = next_sentinel(bytes, at, which) else {
             return Ok(None);
         };

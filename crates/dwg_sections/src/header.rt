@@ -124,9 +124,9 @@ fn read_locators(alloc: Global, bytes: &[u8], count: u32) -> Result<Items<Locato
     ensures { IfOk result (λ locators. locators ≡ locators_at count bytes.now 25) }
 {
     let mut locators = Items::new(alloc);
-    'along: for i in 0..count {
+    'locators: for i in 0..count {
         let place = LOCATORS_PLACE + LOCATOR_SIZE * i as usize;
-        locators.add(read_locator(bytes, place))?;
+        locators.try_push(read_locator(bytes, place))?;
     }
     Ok(locators)
 }
@@ -164,8 +164,6 @@ pub fn read_file_header(alloc: Global, bytes: &[u8]) -> Result<FileHeader, Fault
     if let Some(refusal) = refusal_of_header(bytes) {
         return Err(Fault::Refused(refusal));
     }
-    match read_parts(alloc, bytes) {
-        Ok(header) => Ok(header),
-        Err(NoMemory) => Err(Fault::NoMemory),
-    }
+    let header = read_parts(alloc, bytes)?;
+    Ok(header)
 }

@@ -30,7 +30,7 @@ fn write_locators(locators: &[Locator], sink: &mut BitSink)
     ensures puts { Puts sink.old sink.new (flat_map locator_bytes locators.now) }
     ensures spare { sink.old.spare ≤ sink.new.spare + 72 * length locators.now }
 {
-    'along: for locator in locators {
+    'locators: for locator in locators {
         write_locator(locator, sink);
     }
 }

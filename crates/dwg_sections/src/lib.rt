@@ -1,4 +1,5 @@
-//! The sections of a file: its header, which says where each of them lies, and those that stand between sentinels.
+//! The sections of a file, read and written: its header, which says where each of them lies, and those that stand between
+//! sentinels.
 #![tactic(auto)]
 
 mod appending;

@@ -32,7 +32,7 @@ fn is_repeated(bytes: &[u8], index: u32) -> bool
     ensures { result ≡ stands_earlier (numbers_at bytes.now) index }
 {
     let number = number_at(bytes, index);
-    'along: for earlier in 0..index {
+    'earlier_ones: for earlier in 0..index {
         if number_at(bytes, earlier) == number {
             return true;
         }
@@ -47,7 +47,7 @@ fn first_repeated(bytes: &[u8], count: u32) -> Option<u32>
     requires whole { locators_end bytes.now ≤ length bytes.now }
     ensures { result ≡ find (stands_earlier (numbers_at bytes.now)) (range_with_len 0 (count_at bytes.now)) }
 {
-    'along: for index in 0..count {
+    'locators: for index in 0..count {
         if is_repeated(bytes, index) {
             return Some(index);
         }
@@ -61,7 +61,7 @@ fn lacks(bytes: &[u8], count: u32, number: u32) -> bool
     requires whole { locators_end bytes.now ≤ length bytes.now }
     ensures { result ≡ is_missing (numbers_at bytes.now) number }
 {
-    'along: for index in 0..count {
+    'locators: for index in 0..count {
         if u32::from(number_at(bytes, index)) == number {
             return false;
         }
@@ -77,7 +77,7 @@ fn first_missing(bytes: &[u8], count: u32) -> Option<u32>
     ensures { result ≡ find (is_missing (numbers_at bytes.now)) (0 ∷ 1 ∷ 2 ∷ []) }
 {
     let end = u32::from(OBJECT_MAP_NUMBER) + 1;
-    'along: for number in 0..end {
+    'numbers: for number in 0..end {
         if lacks(bytes, count, number) {
             return Some(number);
         }

@@ -14,8 +14,8 @@ use dwg_codes::{BitCode, list_length, read_list, write_list};
 use dwg_common::TOO_MANY;
 use std::alloc::Global;
 
-/// Reads so many values where there is a count, as they are parsed, and no bit where there is none. The only refusal is want
-/// of memory, which is taken only for values that are there.
+/// Reads so many values where there is a count, as they are parsed, and no bit where there is none. Err: out of memory, which is
+/// taken only for values that are there.
 pub(crate) fn parse_list_where<C: BitCode>(
     alloc: Global,
     context: &C::Context,

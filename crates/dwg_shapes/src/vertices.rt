@@ -48,7 +48,7 @@ pub(crate) fn read_vertices(
 {
     let mut before = None;
     let mut found = Items::new(alloc);
-    'along: for _ in 0..count {
+    'points: for _ in 0..count {
         let Some(point) = read_vertex(before, cursor) else {
             return Ok(None);
         };
@@ -68,7 +68,7 @@ pub(crate) fn known_vertices(version: Version, points: &[Point2])
 {
     let _newer = version.is_newer();
     // It finds nothing out: a turn gives the proof of one point what holds of every value of its type.
-    'along: for point in points {
+    'points: for point in points {
         known_place(point);
     }
 }
@@ -97,7 +97,7 @@ pub(crate) fn vertices_bits(version: Version, points: &[Point2]) -> u64
 {
     let mut bits = 0;
     let mut before = None;
-    'along: for point in points {
+    'points: for point in points {
         bits += vertex_bits(before, point);
         before = before_next(version, *point);
     }
@@ -127,7 +127,7 @@ pub(crate) fn write_vertices(version: Version, points: &[Point2], sink: &mut Bit
     ensures { Extends sink.old sink.new ((vertices version (length points.now)).short points.now) }
 {
     let mut before = None;
-    'along: for point in points {
+    'points: for point in points {
         write_vertex(before, point, sink);
         before = before_next(version, *point);
     }

@@ -25,7 +25,7 @@ pub(crate) fn known_widths(widths: &[Width])
     ensures { AllByRecursion width_pair.IsValue widths.now }
 {
     // It finds nothing out: a turn gives the proof of one width what holds of every value of its type.
-    'along: for width in widths {
+    'widths: for width in widths {
         known_width(width);
     }
 }

@@ -15,12 +15,12 @@ impl Print for Bytes<'_> {
     ghost lines = { λ path bytes. printers.bytes path bytes.0.now };
 
     #[tactic(auto, unfolding(crate::specs::Fields::field_line))]
-    fn print<W: Sink>(&self, path: &str, page: &mut TextWriter, sink: &mut W) {
-        page.write("  ", sink);
-        page.write(path, sink);
-        page.write(" ", sink);
-        write_bytes(self.0, page, sink);
-        page.write("\n", sink);
+    fn print<W: Sink>(&self, path: &str, writer: &mut TextWriter, sink: &mut W) {
+        writer.write("  ", sink);
+        writer.write(path, sink);
+        writer.write(" ", sink);
+        write_bytes(self.0, writer, sink);
+        writer.write("\n", sink);
     }
 }
 
@@ -29,12 +29,12 @@ pub(crate) fn print_slice<W: Sink>(
     bytes: &[u8],
     path: &str,
     name: &str,
-    page: &mut TextWriter,
+    writer: &mut TextWriter,
     sink: &mut W,
 )
-    ensures { WritesText page.old page.new (W.taken sink.old) (W.taken sink.new) (W.faults sink.old) (W.faults sink.new) (printers.member path.now name.now printers.bytes bytes.now) }
+    ensures { WritesText writer.old writer.new (W.taken sink.old) (W.taken sink.new) (W.faults sink.old) (W.faults sink.new) (printers.member path.now name.now printers.bytes bytes.now) }
 {
-    print_member(&Bytes(bytes), path, name, page, sink);
+    print_member(&Bytes(bytes), path, name, writer, sink);
 }
 
 /// Prints a member of what stands at a path: a run of bytes that is no text.
@@ -42,12 +42,12 @@ pub(crate) fn print_bytes<W: Sink>(
     bytes: &ByteRun,
     path: &str,
     name: &str,
-    page: &mut TextWriter,
+    writer: &mut TextWriter,
     sink: &mut W,
 )
-    ensures { WritesText page.old page.new (W.taken sink.old) (W.taken sink.new) (W.faults sink.old) (W.faults sink.new) (printers.member path.now name.now printers.bytes bytes.now) }
+    ensures { WritesText writer.old writer.new (W.taken sink.old) (W.taken sink.new) (W.faults sink.old) (W.faults sink.new) (printers.member path.now name.now printers.bytes bytes.now) }
 {
-    print_slice(bytes.as_slice(), path, name, page, sink);
+    print_slice(bytes.as_slice(), path, name, writer, sink);
 }
 
 /// Prints a member of what stands at a path: a run of bytes that is no text, where there is one.
@@ -56,13 +56,13 @@ pub(crate) fn print_bytes_where<W: Sink>(
     bytes: &Option<ByteRun>,
     path: &str,
     name: &str,
-    page: &mut TextWriter,
+    writer: &mut TextWriter,
     sink: &mut W,
 )
-    ensures { WritesText page.old page.new (W.taken sink.old) (W.taken sink.new) (W.faults sink.old) (W.faults sink.new) (printers.member path.now name.now (printers.optional printers.bytes) bytes.now) }
+    ensures { WritesText writer.old writer.new (W.taken sink.old) (W.taken sink.new) (W.faults sink.old) (W.faults sink.new) (printers.member path.now name.now (printers.optional printers.bytes) bytes.now) }
 {
     match bytes {
-        Some(run) => print_bytes(run, path, name, page, sink),
+        Some(run) => print_bytes(run, path, name, writer, sink),
         None => {}
     }
 }

@@ -12,9 +12,9 @@ impl Print for AppData {
     ghost lines = { fields.app_data_fields };
 
     #[tactic(auto, unfolding(crate::specs::CommonFields::app_data_fields))]
-    fn print<W: Sink>(&self, path: &str, page: &mut TextWriter, sink: &mut W) {
-        print_member(&self.application, path, "application", page, sink);
-        print_bytes(&self.bytes, path, "bytes", page, sink);
+    fn print<W: Sink>(&self, path: &str, writer: &mut TextWriter, sink: &mut W) {
+        print_member(&self.application, path, "application", writer, sink);
+        print_bytes(&self.bytes, path, "bytes", writer, sink);
     }
 }
 
@@ -22,9 +22,9 @@ impl Print for Links {
     ghost lines = { fields.links_fields };
 
     #[tactic(auto, using(dwg_text::proofs::Writing::writes_more), unfolding(crate::specs::CommonFields::links_fields))]
-    fn print<W: Sink>(&self, path: &str, page: &mut TextWriter, sink: &mut W) {
-        print_member(&self.previous, path, "previous", page, sink);
-        print_member(&self.next, path, "next", page, sink);
+    fn print<W: Sink>(&self, path: &str, writer: &mut TextWriter, sink: &mut W) {
+        print_member(&self.previous, path, "previous", writer, sink);
+        print_member(&self.next, path, "next", writer, sink);
     }
 }
 
@@ -32,23 +32,23 @@ impl Print for EntityCommon {
     ghost lines = { fields.entity_common_fields };
 
     #[tactic(auto, unfolding(crate::specs::CommonFields::entity_common_fields))]
-    fn print<W: Sink>(&self, path: &str, page: &mut TextWriter, sink: &mut W) {
-        print_member(&self.app, path, "app", page, sink);
-        print_bytes_where(&self.graphic, path, "graphic", page, sink);
-        print_member(&self.mode, path, "mode", page, sink);
-        print_member(&self.owner, path, "owner", page, sink);
-        print_member(&self.reactors, path, "reactors", page, sink);
-        print_member(&self.xdict, path, "xdict", page, sink);
-        print_member(&self.links, path, "links", page, sink);
-        print_member(&self.colour, path, "colour", page, sink);
-        print_member(&self.linetype_scale, path, "linetype_scale", page, sink);
-        print_member(&self.linetype_flag, path, "linetype_flag", page, sink);
-        print_member(&self.linetype, path, "linetype", page, sink);
-        print_member(&self.plotstyle_flag, path, "plotstyle_flag", page, sink);
-        print_member(&self.plotstyle, path, "plotstyle", page, sink);
-        print_member(&self.invisible, path, "invisible", page, sink);
-        print_member(&self.lineweight, path, "lineweight", page, sink);
-        print_member(&self.layer, path, "layer", page, sink);
+    fn print<W: Sink>(&self, path: &str, writer: &mut TextWriter, sink: &mut W) {
+        print_member(&self.app, path, "app", writer, sink);
+        print_bytes_where(&self.graphic, path, "graphic", writer, sink);
+        print_member(&self.mode, path, "mode", writer, sink);
+        print_member(&self.owner, path, "owner", writer, sink);
+        print_member(&self.reactors, path, "reactors", writer, sink);
+        print_member(&self.xdict, path, "xdict", writer, sink);
+        print_member(&self.links, path, "links", writer, sink);
+        print_member(&self.colour, path, "colour", writer, sink);
+        print_member(&self.linetype_scale, path, "linetype_scale", writer, sink);
+        print_member(&self.linetype_flag, path, "linetype_flag", writer, sink);
+        print_member(&self.linetype, path, "linetype", writer, sink);
+        print_member(&self.plotstyle_flag, path, "plotstyle_flag", writer, sink);
+        print_member(&self.plotstyle, path, "plotstyle", writer, sink);
+        print_member(&self.invisible, path, "invisible", writer, sink);
+        print_member(&self.lineweight, path, "lineweight", writer, sink);
+        print_member(&self.layer, path, "layer", writer, sink);
     }
 }
 
@@ -56,10 +56,10 @@ impl Print for ObjectCommon {
     ghost lines = { fields.object_common_fields };
 
     #[tactic(auto, using(dwg_text::proofs::Writing::writes_more), unfolding(crate::specs::CommonFields::object_common_fields))]
-    fn print<W: Sink>(&self, path: &str, page: &mut TextWriter, sink: &mut W) {
-        print_member(&self.app, path, "app", page, sink);
-        print_member(&self.reactors, path, "reactors", page, sink);
-        print_member(&self.owner, path, "owner", page, sink);
-        print_member(&self.xdict, path, "xdict", page, sink);
+    fn print<W: Sink>(&self, path: &str, writer: &mut TextWriter, sink: &mut W) {
+        print_member(&self.app, path, "app", writer, sink);
+        print_member(&self.reactors, path, "reactors", writer, sink);
+        print_member(&self.owner, path, "owner", writer, sink);
+        print_member(&self.xdict, path, "xdict", writer, sink);
     }
 }

@@ -15,10 +15,10 @@ impl Print for BlockControl {
     ghost lines = { fields.block_control_fields };
 
     #[tactic(auto, using(dwg_text::proofs::Writing::writes_more), unfolding(crate::specs::BodyFields::block_control_fields))]
-    fn print<W: Sink>(&self, path: &str, page: &mut TextWriter, sink: &mut W) {
-        print_member(&self.entries, path, "entries", page, sink);
-        print_member(&self.model, path, "model", page, sink);
-        print_member(&self.paper, path, "paper", page, sink);
+    fn print<W: Sink>(&self, path: &str, writer: &mut TextWriter, sink: &mut W) {
+        print_member(&self.entries, path, "entries", writer, sink);
+        print_member(&self.model, path, "model", writer, sink);
+        print_member(&self.paper, path, "paper", writer, sink);
     }
 }
 
@@ -26,8 +26,8 @@ impl Print for LayerControl {
     ghost lines = { fields.layer_control_fields };
 
     #[tactic(auto, using(dwg_text::proofs::Writing::writes_more), unfolding(crate::specs::BodyFields::layer_control_fields))]
-    fn print<W: Sink>(&self, path: &str, page: &mut TextWriter, sink: &mut W) {
-        print_member(&self.entries, path, "entries", page, sink);
+    fn print<W: Sink>(&self, path: &str, writer: &mut TextWriter, sink: &mut W) {
+        print_member(&self.entries, path, "entries", writer, sink);
     }
 }
 
@@ -35,8 +35,8 @@ impl Print for StyleControl {
     ghost lines = { fields.style_control_fields };
 
     #[tactic(auto, using(dwg_text::proofs::Writing::writes_more), unfolding(crate::specs::BodyFields::style_control_fields))]
-    fn print<W: Sink>(&self, path: &str, page: &mut TextWriter, sink: &mut W) {
-        print_member(&self.entries, path, "entries", page, sink);
+    fn print<W: Sink>(&self, path: &str, writer: &mut TextWriter, sink: &mut W) {
+        print_member(&self.entries, path, "entries", writer, sink);
     }
 }
 
@@ -44,10 +44,10 @@ impl Print for LtypeControl {
     ghost lines = { fields.ltype_control_fields };
 
     #[tactic(auto, using(dwg_text::proofs::Writing::writes_more), unfolding(crate::specs::BodyFields::ltype_control_fields))]
-    fn print<W: Sink>(&self, path: &str, page: &mut TextWriter, sink: &mut W) {
-        print_member(&self.entries, path, "entries", page, sink);
-        print_member(&self.first, path, "first", page, sink);
-        print_member(&self.second, path, "second", page, sink);
+    fn print<W: Sink>(&self, path: &str, writer: &mut TextWriter, sink: &mut W) {
+        print_member(&self.entries, path, "entries", writer, sink);
+        print_member(&self.first, path, "first", writer, sink);
+        print_member(&self.second, path, "second", writer, sink);
     }
 }
 
@@ -55,8 +55,8 @@ impl Print for AppIdControl {
     ghost lines = { fields.appid_control_fields };
 
     #[tactic(auto, using(dwg_text::proofs::Writing::writes_more), unfolding(crate::specs::BodyFields::appid_control_fields))]
-    fn print<W: Sink>(&self, path: &str, page: &mut TextWriter, sink: &mut W) {
-        print_member(&self.entries, path, "entries", page, sink);
+    fn print<W: Sink>(&self, path: &str, writer: &mut TextWriter, sink: &mut W) {
+        print_member(&self.entries, path, "entries", writer, sink);
     }
 }
 
@@ -64,9 +64,9 @@ impl Print for DictItem {
     ghost lines = { fields.dict_item_fields };
 
     #[tactic(auto, using(dwg_text::proofs::Writing::writes_more), unfolding(crate::specs::BodyFields::dict_item_fields))]
-    fn print<W: Sink>(&self, path: &str, page: &mut TextWriter, sink: &mut W) {
-        print_member(&self.name, path, "name", page, sink);
-        print_member(&self.target, path, "target", page, sink);
+    fn print<W: Sink>(&self, path: &str, writer: &mut TextWriter, sink: &mut W) {
+        print_member(&self.name, path, "name", writer, sink);
+        print_member(&self.target, path, "target", writer, sink);
     }
 }
 
@@ -74,10 +74,10 @@ impl Print for Dictionary {
     ghost lines = { fields.dictionary_fields };
 
     #[tactic(auto, using(dwg_text::proofs::Writing::writes_more), unfolding(crate::specs::BodyFields::dictionary_fields))]
-    fn print<W: Sink>(&self, path: &str, page: &mut TextWriter, sink: &mut W) {
-        print_member(&self.cloning, path, "cloning", page, sink);
-        print_member(&self.hard_owner, path, "hard_owner", page, sink);
-        print_member(&self.items, path, "items", page, sink);
+    fn print<W: Sink>(&self, path: &str, writer: &mut TextWriter, sink: &mut W) {
+        print_member(&self.cloning, path, "cloning", writer, sink);
+        print_member(&self.hard_owner, path, "hard_owner", writer, sink);
+        print_member(&self.items, path, "items", writer, sink);
     }
 }
 
@@ -85,9 +85,9 @@ impl Print for XRecord {
     ghost lines = { fields.xrecord_fields };
 
     #[tactic(auto, using(dwg_text::proofs::Writing::writes_more), unfolding(crate::specs::BodyFields::xrecord_fields))]
-    fn print<W: Sink>(&self, path: &str, page: &mut TextWriter, sink: &mut W) {
-        print_bytes(&self.bytes, path, "bytes", page, sink);
-        print_member(&self.cloning, path, "cloning", page, sink);
-        print_member(&self.targets, path, "targets", page, sink);
+    fn print<W: Sink>(&self, path: &str, writer: &mut TextWriter, sink: &mut W) {
+        print_bytes(&self.bytes, path, "bytes", writer, sink);
+        print_member(&self.cloning, path, "cloning", writer, sink);
+        print_member(&self.targets, path, "targets", writer, sink);
     }
 }

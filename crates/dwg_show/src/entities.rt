@@ -11,21 +11,21 @@ impl Print for Text {
     ghost lines = { fields.text_fields };
 
     #[tactic(auto, using(dwg_text::proofs::Writing::writes_more), unfolding(crate::specs::BodyFields::text_fields))]
-    fn print<W: Sink>(&self, path: &str, page: &mut TextWriter, sink: &mut W) {
-        print_member(&self.elevation, path, "elevation", page, sink);
-        print_member(&self.insertion, path, "insertion", page, sink);
-        print_member(&self.alignment, path, "alignment", page, sink);
-        print_member(&self.extrusion, path, "extrusion", page, sink);
-        print_member(&self.thickness, path, "thickness", page, sink);
-        print_member(&self.oblique, path, "oblique", page, sink);
-        print_member(&self.rotation, path, "rotation", page, sink);
-        print_member(&self.height, path, "height", page, sink);
-        print_member(&self.width, path, "width", page, sink);
-        print_member(&self.text, path, "text", page, sink);
-        print_member(&self.generation, path, "generation", page, sink);
-        print_member(&self.horizontal, path, "horizontal", page, sink);
-        print_member(&self.vertical, path, "vertical", page, sink);
-        print_member(&self.style, path, "style", page, sink);
+    fn print<W: Sink>(&self, path: &str, writer: &mut TextWriter, sink: &mut W) {
+        print_member(&self.elevation, path, "elevation", writer, sink);
+        print_member(&self.insertion, path, "insertion", writer, sink);
+        print_member(&self.alignment, path, "alignment", writer, sink);
+        print_member(&self.extrusion, path, "extrusion", writer, sink);
+        print_member(&self.thickness, path, "thickness", writer, sink);
+        print_member(&self.oblique, path, "oblique", writer, sink);
+        print_member(&self.rotation, path, "rotation", writer, sink);
+        print_member(&self.height, path, "height", writer, sink);
+        print_member(&self.width, path, "width", writer, sink);
+        print_member(&self.text, path, "text", writer, sink);
+        print_member(&self.generation, path, "generation", writer, sink);
+        print_member(&self.horizontal, path, "horizontal", writer, sink);
+        print_member(&self.vertical, path, "vertical", writer, sink);
+        print_member(&self.style, path, "style", writer, sink);
     }
 }
 
@@ -33,11 +33,11 @@ impl Print for Attrib {
     ghost lines = { fields.attrib_fields };
 
     #[tactic(auto, using(dwg_text::proofs::Writing::writes_more), unfolding(crate::specs::BodyFields::attrib_fields))]
-    fn print<W: Sink>(&self, path: &str, page: &mut TextWriter, sink: &mut W) {
-        print_member(&self.text, path, "text", page, sink);
-        print_member(&self.tag, path, "tag", page, sink);
-        print_member(&self.length, path, "length", page, sink);
-        print_member(&self.flags, path, "flags", page, sink);
+    fn print<W: Sink>(&self, path: &str, writer: &mut TextWriter, sink: &mut W) {
+        print_member(&self.text, path, "text", writer, sink);
+        print_member(&self.tag, path, "tag", writer, sink);
+        print_member(&self.length, path, "length", writer, sink);
+        print_member(&self.flags, path, "flags", writer, sink);
     }
 }
 
@@ -45,9 +45,9 @@ impl Print for Attdef {
     ghost lines = { fields.attdef_fields };
 
     #[tactic(auto, using(dwg_text::proofs::Writing::writes_more), unfolding(crate::specs::BodyFields::attdef_fields))]
-    fn print<W: Sink>(&self, path: &str, page: &mut TextWriter, sink: &mut W) {
-        print_member(&self.attrib, path, "attrib", page, sink);
-        print_member(&self.prompt, path, "prompt", page, sink);
+    fn print<W: Sink>(&self, path: &str, writer: &mut TextWriter, sink: &mut W) {
+        print_member(&self.attrib, path, "attrib", writer, sink);
+        print_member(&self.prompt, path, "prompt", writer, sink);
     }
 }
 
@@ -55,10 +55,10 @@ impl Print for Attributes {
     ghost lines = { fields.attributes_fields };
 
     #[tactic(auto, using(dwg_text::proofs::Writing::writes_more), unfolding(crate::specs::BodyFields::attributes_fields))]
-    fn print<W: Sink>(&self, path: &str, page: &mut TextWriter, sink: &mut W) {
-        print_member(&self.first, path, "first", page, sink);
-        print_member(&self.last, path, "last", page, sink);
-        print_member(&self.seqend, path, "seqend", page, sink);
+    fn print<W: Sink>(&self, path: &str, writer: &mut TextWriter, sink: &mut W) {
+        print_member(&self.first, path, "first", writer, sink);
+        print_member(&self.last, path, "last", writer, sink);
+        print_member(&self.seqend, path, "seqend", writer, sink);
     }
 }
 
@@ -66,13 +66,13 @@ impl Print for Insert {
     ghost lines = { fields.insert_fields };
 
     #[tactic(auto, using(dwg_text::proofs::Writing::writes_more), unfolding(crate::specs::BodyFields::insert_fields))]
-    fn print<W: Sink>(&self, path: &str, page: &mut TextWriter, sink: &mut W) {
-        print_member(&self.place, path, "place", page, sink);
-        print_member(&self.scale, path, "scale", page, sink);
-        print_member(&self.rotation, path, "rotation", page, sink);
-        print_member(&self.extrusion, path, "extrusion", page, sink);
-        print_member(&self.block, path, "block", page, sink);
-        print_member(&self.attributes, path, "attributes", page, sink);
+    fn print<W: Sink>(&self, path: &str, writer: &mut TextWriter, sink: &mut W) {
+        print_member(&self.place, path, "place", writer, sink);
+        print_member(&self.scale, path, "scale", writer, sink);
+        print_member(&self.rotation, path, "rotation", writer, sink);
+        print_member(&self.extrusion, path, "extrusion", writer, sink);
+        print_member(&self.block, path, "block", writer, sink);
+        print_member(&self.attributes, path, "attributes", writer, sink);
     }
 }
 
@@ -80,12 +80,12 @@ impl Print for MInsert {
     ghost lines = { fields.minsert_fields };
 
     #[tactic(auto, unfolding(crate::specs::BodyFields::minsert_fields))]
-    fn print<W: Sink>(&self, path: &str, page: &mut TextWriter, sink: &mut W) {
-        print_member(&self.insert, path, "insert", page, sink);
-        print_member(&self.columns, path, "columns", page, sink);
-        print_member(&self.rows, path, "rows", page, sink);
-        print_member(&self.column_spacing, path, "column_spacing", page, sink);
-        print_member(&self.row_spacing, path, "row_spacing", page, sink);
+    fn print<W: Sink>(&self, path: &str, writer: &mut TextWriter, sink: &mut W) {
+        print_member(&self.insert, path, "insert", writer, sink);
+        print_member(&self.columns, path, "columns", writer, sink);
+        print_member(&self.rows, path, "rows", writer, sink);
+        print_member(&self.column_spacing, path, "column_spacing", writer, sink);
+        print_member(&self.row_spacing, path, "row_spacing", writer, sink);
     }
 }
 
@@ -93,8 +93,8 @@ impl Print for Block {
     ghost lines = { fields.block_fields };
 
     #[tactic(auto, using(dwg_text::proofs::Writing::writes_more), unfolding(crate::specs::BodyFields::block_fields))]
-    fn print<W: Sink>(&self, path: &str, page: &mut TextWriter, sink: &mut W) {
-        print_member(&self.name, path, "name", page, sink);
+    fn print<W: Sink>(&self, path: &str, writer: &mut TextWriter, sink: &mut W) {
+        print_member(&self.name, path, "name", writer, sink);
     }
 }
 

@@ -17,8 +17,8 @@ pub(crate) trait Print {
     ghost lines: { List ℕ → Self → List ℕ };
 
     /// Prints it at a path.
-    fn print<W: Sink>(&self, path: &str, page: &mut TextWriter, sink: &mut W)
-        ensures { WritesText page.old page.new (W.taken sink.old) (W.taken sink.new) (W.faults sink.old) (W.faults sink.new) (lines path.now self.now) };
+    fn print<W: Sink>(&self, path: &str, writer: &mut TextWriter, sink: &mut W)
+        ensures { WritesText writer.old writer.new (W.taken sink.old) (W.taken sink.new) (W.faults sink.old) (W.faults sink.new) (lines path.now self.now) };
 }
 
 /// Appends the line of a value at a path.
@@ -35,87 +35,87 @@ fn push_line<T: Value>(text: &mut String, path: &str, value: &T) -> Result<(), A
 
 /// Prints the line of a value.
 #[tactic(auto, using(dwg_text::proofs::Writing::writes_idle, dwg_text::proofs::Writing::writes_pushed, dwg_text::proofs::Writing::writes_wanting), unfolding(dwg_text::specs::Writing::WritesTextBy))]
-fn print_line<T: Value, W: Sink>(value: &T, path: &str, page: &mut TextWriter, sink: &mut W)
-    ensures { WritesText page.old page.new (W.taken sink.old) (W.taken sink.new) (W.faults sink.old) (W.faults sink.new) (printers.field_line path.now (T.printed value.now)) }
+fn print_line<T: Value, W: Sink>(value: &T, path: &str, writer: &mut TextWriter, sink: &mut W)
+    ensures { WritesText writer.old writer.new (W.taken sink.old) (W.taken sink.new) (W.faults sink.old) (W.faults sink.new) (printers.field_line path.now (T.printed value.now)) }
 {
-    if page.fault.is_some() {
+    if writer.fault.is_some() {
         return;
     }
-    match push_line(&mut page.piece, path, value) {
-        Ok(()) => page.send_when_full(sink),
-        Err(_) => page.fault = Some(ShowFault::NoMemory),
+    match push_line(&mut writer.piece, path, value) {
+        Ok(()) => writer.send_when_full(sink),
+        Err(_) => writer.fault = Some(ShowFault::NoMemory),
     }
 }
 
 impl Print for u8 {
     ghost lines = { printers.number };
 
-    fn print<W: Sink>(&self, path: &str, page: &mut TextWriter, sink: &mut W) {
-        print_line(self, path, page, sink);
+    fn print<W: Sink>(&self, path: &str, writer: &mut TextWriter, sink: &mut W) {
+        print_line(self, path, writer, sink);
     }
 }
 
 impl Print for u16 {
     ghost lines = { printers.number };
 
-    fn print<W: Sink>(&self, path: &str, page: &mut TextWriter, sink: &mut W) {
-        print_line(self, path, page, sink);
+    fn print<W: Sink>(&self, path: &str, writer: &mut TextWriter, sink: &mut W) {
+        print_line(self, path, writer, sink);
     }
 }
 
 impl Print for Count {
     ghost lines = { λ path count. printers.number path count.0 };
 
-    fn print<W: Sink>(&self, path: &str, page: &mut TextWriter, sink: &mut W) {
-        print_line(self, path, page, sink);
+    fn print<W: Sink>(&self, path: &str, writer: &mut TextWriter, sink: &mut W) {
+        print_line(self, path, writer, sink);
     }
 }
 
 impl Print for u64 {
     ghost lines = { printers.word };
 
-    fn print<W: Sink>(&self, path: &str, page: &mut TextWriter, sink: &mut W) {
-        print_line(self, path, page, sink);
+    fn print<W: Sink>(&self, path: &str, writer: &mut TextWriter, sink: &mut W) {
+        print_line(self, path, writer, sink);
     }
 }
 
 impl Print for bool {
     ghost lines = { printers.truth_value };
 
-    fn print<W: Sink>(&self, path: &str, page: &mut TextWriter, sink: &mut W) {
-        print_line(self, path, page, sink);
+    fn print<W: Sink>(&self, path: &str, writer: &mut TextWriter, sink: &mut W) {
+        print_line(self, path, writer, sink);
     }
 }
 
 impl Print for Point2 {
     ghost lines = { printers.point2 };
 
-    fn print<W: Sink>(&self, path: &str, page: &mut TextWriter, sink: &mut W) {
-        print_line(self, path, page, sink);
+    fn print<W: Sink>(&self, path: &str, writer: &mut TextWriter, sink: &mut W) {
+        print_line(self, path, writer, sink);
     }
 }
 
 impl Print for Point3 {
     ghost lines = { printers.point3 };
 
-    fn print<W: Sink>(&self, path: &str, page: &mut TextWriter, sink: &mut W) {
-        print_line(self, path, page, sink);
+    fn print<W: Sink>(&self, path: &str, writer: &mut TextWriter, sink: &mut W) {
+        print_line(self, path, writer, sink);
     }
 }
 
 impl Print for Ref {
     ghost lines = { printers.reference };
 
-    fn print<W: Sink>(&self, path: &str, page: &mut TextWriter, sink: &mut W) {
-        print_line(self, path, page, sink);
+    fn print<W: Sink>(&self, path: &str, writer: &mut TextWriter, sink: &mut W) {
+        print_line(self, path, writer, sink);
     }
 }
 
 impl Print for ByteRun {
     ghost lines = { printers.text };
 
-    fn print<W: Sink>(&self, path: &str, page: &mut TextWriter, sink: &mut W) {
-        print_line(self, path, page, sink);
+    fn print<W: Sink>(&self, path: &str, writer: &mut TextWriter, sink: &mut W) {
+        print_line(self, path, writer, sink);
     }
 }
 
@@ -124,17 +124,17 @@ pub(crate) fn print_member<T: Print, W: Sink>(
     value: &T,
     path: &str,
     name: &str,
-    page: &mut TextWriter,
+    writer: &mut TextWriter,
     sink: &mut W,
 )
-    ensures { WritesText page.old page.new (W.taken sink.old) (W.taken sink.new) (W.faults sink.old) (W.faults sink.new) (printers.member path.now name.now T.lines value.now) }
+    ensures { WritesText writer.old writer.new (W.taken sink.old) (W.taken sink.new) (W.faults sink.old) (W.faults sink.new) (printers.member path.now name.now T.lines value.now) }
 {
     if path.is_empty() {
-        value.print(name, page, sink);
+        value.print(name, writer, sink);
     } else {
-        match format!(in page.alloc; "{path}.{name}") {
-            Ok(path) => value.print(&path, page, sink),
-            Err(_) => page.fail_no_memory(),
+        match format!(in writer.alloc; "{path}.{name}") {
+            Ok(path) => value.print(&path, writer, sink),
+            Err(_) => writer.fail_no_memory(),
         }
     }
 }
@@ -145,17 +145,17 @@ fn print_element<T: Print, W: Sink>(
     element: &T,
     path: &str,
     index: usize,
-    page: &mut TextWriter,
+    writer: &mut TextWriter,
     sink: &mut W,
 )
-    ensures { WritesText page.old page.new (W.taken sink.old) (W.taken sink.new) (W.faults sink.old) (W.faults sink.new) (T.lines (printers.element_path path.now index) element.now) }
+    ensures { WritesText writer.old writer.new (W.taken sink.old) (W.taken sink.new) (W.faults sink.old) (W.faults sink.new) (T.lines (printers.element_path path.now index) element.now) }
 {
-    if page.fault.is_some() {
+    if writer.fault.is_some() {
         return;
     }
-    match format!(in page.alloc; "{path}[{index}]") {
-        Ok(path) => element.print(&path, page, sink),
-        Err(_) => page.fail_no_memory(),
+    match format!(in writer.alloc; "{path}[{index}]") {
+        Ok(path) => element.print(&path, writer, sink),
+        Err(_) => writer.fail_no_memory(),
     }
 }
 
@@ -164,21 +164,21 @@ fn print_element<T: Print, W: Sink>(
 fn print_elements<T: Print, W: Sink>(
     elements: &[T],
     path: &str,
-    page: &mut TextWriter,
+    writer: &mut TextWriter,
     sink: &mut W,
 )
-    ensures { WritesText page.old page.new (W.taken sink.old) (W.taken sink.new) (W.faults sink.old) (W.faults sink.new) (printers.listed T.lines path.now elements.now) }
+    ensures { WritesText writer.old writer.new (W.taken sink.old) (W.taken sink.new) (W.faults sink.old) (W.faults sink.new) (printers.listed T.lines path.now elements.now) }
 {
-    'along: for index in 0..elements.len() {
-        print_element(&elements[index], path, index, page, sink);
+    'elements: for index in 0..elements.len() {
+        print_element(&elements[index], path, index, writer, sink);
     }
 }
 
 impl<T: Print> Print for Items<T> {
     ghost lines = { printers.listed T.lines };
 
-    fn print<W: Sink>(&self, path: &str, page: &mut TextWriter, sink: &mut W) {
-        print_elements(self.as_slice(), path, page, sink);
+    fn print<W: Sink>(&self, path: &str, writer: &mut TextWriter, sink: &mut W) {
+        print_elements(self.as_slice(), path, writer, sink);
     }
 }
 
@@ -186,9 +186,9 @@ impl<T: Print> Print for Option<T> {
     ghost lines = { printers.optional T.lines };
 
     #[tactic(auto, using(dwg_text::proofs::Writing::writes_nothing))]
-    fn print<W: Sink>(&self, path: &str, page: &mut TextWriter, sink: &mut W) {
+    fn print<W: Sink>(&self, path: &str, writer: &mut TextWriter, sink: &mut W) {
         match self {
-            Some(value) => value.print(path, page, sink),
+            Some(value) => value.print(path, writer, sink),
             None => {}
         }
     }

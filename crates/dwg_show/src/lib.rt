@@ -1,4 +1,4 @@
-//! The text of a drawing: everything that it says, each field of an object on a line of its own.
+//! The text of a drawing, sent piece by piece: everything that it says, each field of an object on a line of its own.
 #![tactic(auto)]
 
 mod bytes;

@@ -26,10 +26,10 @@ impl Print for Common {
     ghost lines = { texts.common_fields };
 
     #[tactic(auto, unfolding(crate::specs::ObjectText::common_fields))]
-    fn print<W: Sink>(&self, path: &str, page: &mut TextWriter, sink: &mut W) {
+    fn print<W: Sink>(&self, path: &str, writer: &mut TextWriter, sink: &mut W) {
         match self {
-            Common::Entity(common) => common.print(path, page, sink),
-            Common::Object(common) => common.print(path, page, sink),
+            Common::Entity(common) => common.print(path, writer, sink),
+            Common::Object(common) => common.print(path, writer, sink),
         }
     }
 }
@@ -38,8 +38,8 @@ impl Print for Body {
     ghost lines = { body_fields };
 
     #[tactic(auto, unfolding(crate::specs::BodyFields::body_fields))]
-    fn print<W: Sink>(&self, path: &str, page: &mut TextWriter, sink: &mut W) {
-        match_body!(body self, body => body.print(path, page, sink))
+    fn print<W: Sink>(&self, path: &str, writer: &mut TextWriter, sink: &mut W) {
+        match_body!(body self, body => body.print(path, writer, sink))
     }
 }
 
@@ -100,34 +100,34 @@ fn bytes_of(sink: &BitSink) -> &[u8]
 }
 
 /// Prints the own bits of an object.
-fn print_rest<W: Sink>(bits: &BitPart<'_>, page: &mut TextWriter, sink: &mut W)
+fn print_rest<W: Sink>(bits: &BitPart<'_>, writer: &mut TextWriter, sink: &mut W)
     requires { length (part_bits bits.now) < 2 ^ 32 }
-    ensures { WritesText page.old page.new (W.taken sink.old) (W.taken sink.new) (W.faults sink.old) (W.faults sink.new) (printers.member [] (codes "rest") printers.bytes (whole_bytes (part_bits bits.now ++ padding (part_bits bits.now)))) }
+    ensures { WritesText writer.old writer.new (W.taken sink.old) (W.taken sink.new) (W.faults sink.old) (W.faults sink.new) (printers.member [] (codes "rest") printers.bytes (whole_bytes (part_bits bits.now ++ padding (part_bits bits.now)))) }
 {
-    match padded(page.alloc, bits) {
-        Some(whole) => print_slice(bytes_of(&whole), "", "rest", page, sink),
-        None => page.fail_no_memory(),
+    match padded(writer.alloc, bits) {
+        Some(whole) => print_slice(bytes_of(&whole), "", "rest", writer, sink),
+        None => writer.fail_no_memory(),
     }
 }
 
 /// Prints the fields of an object.
 #[tactic(auto, using(crate::proofs::Runs::writes_2, crate::proofs::Runs::writes_4), unfolding(crate::specs::ObjectText::object_fields))]
-fn print_fields<W: Sink>(object: &Object<'_>, page: &mut TextWriter, sink: &mut W)
+fn print_fields<W: Sink>(object: &Object<'_>, writer: &mut TextWriter, sink: &mut W)
     requires { HasFewBits (value_of object.now) }
-    ensures { WritesText page.old page.new (W.taken sink.old) (W.taken sink.new) (W.faults sink.old) (W.faults sink.new) (texts.object_fields (value_of object.now)) }
+    ensures { WritesText writer.old writer.new (W.taken sink.old) (W.taken sink.new) (W.faults sink.old) (W.faults sink.new) (texts.object_fields (value_of object.now)) }
 {
     match object {
         Object::Typed(typed) => {
-            typed.common.print("", page, sink);
-            typed.body.print("", page, sink);
+            typed.common.print("", writer, sink);
+            typed.body.print("", writer, sink);
         }
         Object::Plain(plain) => {
-            plain.common.print("", page, sink);
-            print_member(&Count(plain.rest.length()), "", "bits", page, sink);
-            print_rest(&plain.rest, page, sink);
-            print_member(&plain.refs, "", "refs", page, sink);
+            plain.common.print("", writer, sink);
+            print_member(&Count(plain.rest.length()), "", "bits", writer, sink);
+            print_rest(&plain.rest, writer, sink);
+            print_member(&plain.refs, "", "refs", writer, sink);
         }
-        Object::Raw(raw) => print_slice(raw.bytes.as_slice(), "", "bytes", page, sink),
+        Object::Raw(raw) => print_slice(raw.bytes.as_slice(), "", "bytes", writer, sink),
     }
 }
 
@@ -137,11 +137,11 @@ impl Paragraph for Object<'_> {
     ghost written = { λ object. texts.object_text (value_of object) };
 
     #[tactic(auto, using(dwg_text::proofs::Writing::writes_idle), unfolding(crate::specs::ObjectText::object_text))]
-    fn write<W: Sink>(&self, page: &mut TextWriter, sink: &mut W) {
-        if page.fault.is_some() {
+    fn write<W: Sink>(&self, writer: &mut TextWriter, sink: &mut W) {
+        if writer.fault.is_some() {
             return;
         }
-        page.write_made(head_line(page.alloc, self), sink);
-        print_fields(self, page, sink);
+        writer.write_made(head_line(writer.alloc, self), sink);
+        print_fields(self, writer, sink);
     }
 }

@@ -1,4 +1,4 @@
-//! What is printed by lines of its own: a class, an unknown section, an object.
+//! What is printed by lines of its own: an unknown section, an object.
 
 ghost use Rattle.std.specs.Prelude.{List, ℕ, flat_map};
 ghost use Rattle.std.specs.List.{AllByRecursion};
@@ -16,22 +16,22 @@ pub(crate) trait Paragraph {
     ghost written: { Self → List ℕ };
 
     /// Writes them.
-    fn write<W: Sink>(&self, page: &mut TextWriter, sink: &mut W)
+    fn write<W: Sink>(&self, writer: &mut TextWriter, sink: &mut W)
         requires { can_write self.now }
-        ensures { WritesText page.old page.new (W.taken sink.old) (W.taken sink.new) (W.faults sink.old) (W.faults sink.new) (written self.now) };
+        ensures { WritesText writer.old writer.new (W.taken sink.old) (W.taken sink.new) (W.faults sink.old) (W.faults sink.new) (written self.now) };
 }
 
 /// Writes some of them, one after the other.
 #[tactic(auto, using(dwg_text::proofs::Writing::writes_nothing))]
 pub(crate) fn write_all<T: Paragraph, W: Sink>(
     paragraphs: &[T],
-    page: &mut TextWriter,
+    writer: &mut TextWriter,
     sink: &mut W,
 )
     requires { AllByRecursion T.can_write paragraphs.now }
-    ensures { WritesText page.old page.new (W.taken sink.old) (W.taken sink.new) (W.faults sink.old) (W.faults sink.new) (flat_map T.written paragraphs.now) }
+    ensures { WritesText writer.old writer.new (W.taken sink.old) (W.taken sink.new) (W.faults sink.old) (W.faults sink.new) (flat_map T.written paragraphs.now) }
 {
-    'along: for index in 0..paragraphs.len() {
-        paragraphs[index].write(page, sink);
+    'paragraphs: for index in 0..paragraphs.len() {
+        paragraphs[index].write(writer, sink);
     }
 }

@@ -11,11 +11,11 @@ impl Print for Line {
     ghost lines = { fields.line_fields };
 
     #[tactic(auto, using(dwg_text::proofs::Writing::writes_more), unfolding(crate::specs::BodyFields::line_fields))]
-    fn print<W: Sink>(&self, path: &str, page: &mut TextWriter, sink: &mut W) {
-        print_member(&self.start, path, "start", page, sink);
-        print_member(&self.end, path, "end", page, sink);
-        print_member(&self.thickness, path, "thickness", page, sink);
-        print_member(&self.extrusion, path, "extrusion", page, sink);
+    fn print<W: Sink>(&self, path: &str, writer: &mut TextWriter, sink: &mut W) {
+        print_member(&self.start, path, "start", writer, sink);
+        print_member(&self.end, path, "end", writer, sink);
+        print_member(&self.thickness, path, "thickness", writer, sink);
+        print_member(&self.extrusion, path, "extrusion", writer, sink);
     }
 }
 
@@ -23,11 +23,11 @@ impl Print for Point {
     ghost lines = { fields.point_fields };
 
     #[tactic(auto, using(dwg_text::proofs::Writing::writes_more), unfolding(crate::specs::BodyFields::point_fields))]
-    fn print<W: Sink>(&self, path: &str, page: &mut TextWriter, sink: &mut W) {
-        print_member(&self.place, path, "place", page, sink);
-        print_member(&self.thickness, path, "thickness", page, sink);
-        print_member(&self.extrusion, path, "extrusion", page, sink);
-        print_member(&self.angle, path, "angle", page, sink);
+    fn print<W: Sink>(&self, path: &str, writer: &mut TextWriter, sink: &mut W) {
+        print_member(&self.place, path, "place", writer, sink);
+        print_member(&self.thickness, path, "thickness", writer, sink);
+        print_member(&self.extrusion, path, "extrusion", writer, sink);
+        print_member(&self.angle, path, "angle", writer, sink);
     }
 }
 
@@ -35,11 +35,11 @@ impl Print for Circle {
     ghost lines = { fields.circle_fields };
 
     #[tactic(auto, using(dwg_text::proofs::Writing::writes_more), unfolding(crate::specs::BodyFields::circle_fields))]
-    fn print<W: Sink>(&self, path: &str, page: &mut TextWriter, sink: &mut W) {
-        print_member(&self.centre, path, "centre", page, sink);
-        print_member(&self.radius, path, "radius", page, sink);
-        print_member(&self.thickness, path, "thickness", page, sink);
-        print_member(&self.extrusion, path, "extrusion", page, sink);
+    fn print<W: Sink>(&self, path: &str, writer: &mut TextWriter, sink: &mut W) {
+        print_member(&self.centre, path, "centre", writer, sink);
+        print_member(&self.radius, path, "radius", writer, sink);
+        print_member(&self.thickness, path, "thickness", writer, sink);
+        print_member(&self.extrusion, path, "extrusion", writer, sink);
     }
 }
 
@@ -47,13 +47,13 @@ impl Print for Arc {
     ghost lines = { fields.arc_fields };
 
     #[tactic(auto, using(dwg_text::proofs::Writing::writes_more), unfolding(crate::specs::BodyFields::arc_fields))]
-    fn print<W: Sink>(&self, path: &str, page: &mut TextWriter, sink: &mut W) {
-        print_member(&self.centre, path, "centre", page, sink);
-        print_member(&self.radius, path, "radius", page, sink);
-        print_member(&self.thickness, path, "thickness", page, sink);
-        print_member(&self.extrusion, path, "extrusion", page, sink);
-        print_member(&self.start_angle, path, "start_angle", page, sink);
-        print_member(&self.end_angle, path, "end_angle", page, sink);
+    fn print<W: Sink>(&self, path: &str, writer: &mut TextWriter, sink: &mut W) {
+        print_member(&self.centre, path, "centre", writer, sink);
+        print_member(&self.radius, path, "radius", writer, sink);
+        print_member(&self.thickness, path, "thickness", writer, sink);
+        print_member(&self.extrusion, path, "extrusion", writer, sink);
+        print_member(&self.start_angle, path, "start_angle", writer, sink);
+        print_member(&self.end_angle, path, "end_angle", writer, sink);
     }
 }
 
@@ -61,9 +61,9 @@ impl Print for Width {
     ghost lines = { fields.width_fields };
 
     #[tactic(auto, using(dwg_text::proofs::Writing::writes_more), unfolding(crate::specs::BodyFields::width_fields))]
-    fn print<W: Sink>(&self, path: &str, page: &mut TextWriter, sink: &mut W) {
-        print_member(&self.start, path, "start", page, sink);
-        print_member(&self.end, path, "end", page, sink);
+    fn print<W: Sink>(&self, path: &str, writer: &mut TextWriter, sink: &mut W) {
+        print_member(&self.start, path, "start", writer, sink);
+        print_member(&self.end, path, "end", writer, sink);
     }
 }
 
@@ -71,14 +71,14 @@ impl Print for LwPolyline {
     ghost lines = { fields.lwpolyline_fields };
 
     #[tactic(auto, using(dwg_text::proofs::Writing::writes_more), unfolding(crate::specs::BodyFields::lwpolyline_fields))]
-    fn print<W: Sink>(&self, path: &str, page: &mut TextWriter, sink: &mut W) {
-        print_member(&self.flag, path, "flag", page, sink);
-        print_member(&self.width, path, "width", page, sink);
-        print_member(&self.elevation, path, "elevation", page, sink);
-        print_member(&self.thickness, path, "thickness", page, sink);
-        print_member(&self.normal, path, "normal", page, sink);
-        print_member(&self.points, path, "points", page, sink);
-        print_member(&self.bulges, path, "bulges", page, sink);
-        print_member(&self.widths, path, "widths", page, sink);
+    fn print<W: Sink>(&self, path: &str, writer: &mut TextWriter, sink: &mut W) {
+        print_member(&self.flag, path, "flag", writer, sink);
+        print_member(&self.width, path, "width", writer, sink);
+        print_member(&self.elevation, path, "elevation", writer, sink);
+        print_member(&self.thickness, path, "thickness", writer, sink);
+        print_member(&self.normal, path, "normal", writer, sink);
+        print_member(&self.points, path, "points", writer, sink);
+        print_member(&self.bulges, path, "bulges", writer, sink);
+        print_member(&self.widths, path, "widths", writer, sink);
     }
 }

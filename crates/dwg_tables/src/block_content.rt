@@ -8,7 +8,7 @@ ghost use Rattle.dwg_tables.specs.BlockHeaderBody.{NO_EXTRAS, block_content, blo
 ghost use Rattle.dwg_tables.specs.TableReading.{content_read, extras_read};
 
 use crate::block_header::{BlockContent, BlockExtras, BlockHeader};
-use crate::marks::{counts_bits, counts_fit, read_counts, write_counts};
+use crate::insert_marks::{counts_bits, counts_fit, read_counts, write_counts};
 use dwg_base::{ByteRun, Items, NoMemory, Version};
 use dwg_bits::{BitCursor, BitSink};
 use dwg_codes::{BitCode, Code3BD};

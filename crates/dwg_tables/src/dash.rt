@@ -87,7 +87,7 @@ pub(crate) fn known_strokes(dashes: &[Dash])
     ensures { AreValues stroke (map stroke_of dashes.now) }
 {
     // It finds nothing out: a turn gives the proof of one dash what holds of every value of its type.
-    'along: for dash in dashes {
+    'dashes: for dash in dashes {
         known_stroke(dash);
     }
 }

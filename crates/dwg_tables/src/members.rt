@@ -36,8 +36,8 @@ pub(crate) trait Joined<P>: Sized {
         ensures { result ≡ join parsed.now name };
 }
 
-/// Reads a reference of the object of the handle `base` for each of the members that are given of, as they are parsed. The only
-/// refusal is out of memory, which is taken only for references that are there.
+/// Reads a reference of the object of the handle `base` for each of the members that are given of, as they are parsed. Err: out of
+/// memory, which is taken only for references that are there.
 #[tactic(auto, using(dwg_common::proofs::ChainReading::none_begun))]
 pub(crate) fn read_names<P>(
     alloc: Global,
@@ -50,7 +50,7 @@ pub(crate) fn read_names<P>(
     ensures kept { Keeps cursor.old cursor.new }
 {
     let mut names = Items::new(alloc);
-    'along: for _ in 0..parsed.len() {
+    'names: for _ in 0..parsed.len() {
         let Some(name) = parse_ref(cursor, base) else {
             return Ok(None);
         };
@@ -72,7 +72,7 @@ pub(crate) fn join_all<P, V: Joined<P> + Drop>(
     ensures { IfOk result (λ members. members ≡ joined V.join parsed.now names.now) }
 {
     let mut members = Items::new(alloc);
-    'along: for (place, part) in parsed.iter().enumerate() {
+    'parts: for (place, part) in parsed.iter().enumerate() {
         match members.push(V::joined(part, names[place])) {
             Ok(()) => {}
             Err(_) => return Err(NoMemory),
@@ -86,7 +86,7 @@ pub(crate) fn join_all<P, V: Joined<P> + Drop>(
 pub(crate) fn names_fit<V: Part<Ref>>(members: &[V], base: Handle) -> bool
     ensures { IsTrue result ↔ AreValues (reference base) (map V.part members.now) }
 {
-    'along: for member in members {
+    'members: for member in members {
         if !member.part().fits(base) {
             return false;
         }
@@ -104,7 +104,7 @@ where
     ensures { result ≡ length (short_all (C.grammar context.now) (map V.part members.now)) }
 {
     let mut bits = 0;
-    'along: for member in members {
+    'members: for member in members {
         let part = member.part();
         bits += C::length(context, &part);
     }
@@ -124,7 +124,7 @@ where
     requires room { length (short_all (C.grammar context.now) (map V.part members.now)) ≤ sink.old.spare }
     ensures { Extends sink.old sink.new (short_all (C.grammar context.now) (map V.part members.now)) }
 {
-    'along: for member in members {
+    'members: for member in members {
         let part = member.part();
         C::write(context, &part, sink);
     }

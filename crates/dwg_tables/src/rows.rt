@@ -10,7 +10,7 @@ macro_rules! table_field {
         };
     };
     (parse Form, $field:ident, $alloc:expr, $version:expr, $main:expr) => {
-        let Some($field) = crate::form::read_form($main) else {
+        let Some($field) = crate::letter_form::read_form($main) else {
             return Ok(None);
         };
     };
@@ -25,7 +25,7 @@ macro_rules! table_field {
         }
     };
     (fits Form, $of:expr, $field:ident, $version:expr) => {
-        crate::form::known_form($of);
+        crate::letter_form::known_form($of);
     };
     (fits Values, $of:expr, $field:ident, $version:expr) => {
         if !crate::values::values_fit($version, $of.$field) {
@@ -36,7 +36,7 @@ macro_rules! table_field {
         crate::title::title_bits(&$of.$field)
     };
     (bits Form, $of:expr, $field:ident, $version:expr) => {
-        crate::form::form_bits($of)
+        crate::letter_form::form_bits($of)
     };
     (bits Values, $of:expr, $field:ident, $version:expr) => {
         crate::values::values_bits($version, $of.$field)
@@ -45,7 +45,7 @@ macro_rules! table_field {
         crate::title::write_title(&$of.$field, $sink);
     };
     (write Form, $of:expr, $field:ident, $version:expr, $sink:expr) => {
-        crate::form::write_form($of, $sink);
+        crate::letter_form::write_form($of, $sink);
     };
     (write Values, $of:expr, $field:ident, $version:expr, $sink:expr) => {
         crate::values::write_values($version, $of.$field, $sink);

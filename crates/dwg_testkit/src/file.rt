@@ -130,8 +130,8 @@ struct Frames {
 }
 
 impl Frames {
-    /// Adds a frame by its text; `start` is the place of the first.
-    fn add(&mut self, alloc: Global, start: u32, text: &str) -> Option<()> {
+    /// Puts a frame at the end, by its text; `start` is the place of the first.
+    fn push(&mut self, alloc: Global, start: u32, text: &str) -> Option<()> {
         let handle = handle_of(text)?;
         let place = u64::from(start).wrapping_add(self.bytes.len() as u64);
         push_units(&mut self.pairs, handle.wrapping_sub(self.handle), 128)?;
@@ -228,13 +228,13 @@ fn frames_of(alloc: Global, start: u32, text: &str) -> Option<Frames> {
         place: 0,
     };
     for line in text.lines() {
-        frames.add(alloc, start, line)?;
+        frames.push(alloc, start, line)?;
     }
     Some(frames)
 }
 
 /// The file of a content of the header variables, one of the classes, and frames, a line each in ascending order of handle
-/// (`frame_of`), with one page of the map: where all are spelled canonically, the canonical file. None for another text, for want of
+/// (`frame_of`), with one page of the map: where all are spelled canonically, the canonical file. None for another text, for out of
 /// memory, and for more than a page of pairs.
 pub fn file_of(alloc: Global, variables: &[u8], classes: &[u8], frames: &str) -> Option<Vec<u8>> {
     let mut sizes = Sizes {

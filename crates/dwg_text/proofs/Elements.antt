@@ -2,7 +2,7 @@
 use Rattle.std.proofs.Common.{◌≡◌, refl, sym, ◌∙◌, ap, ℕ, ◌+◌, ◌<◌, List, [], ◌∷◌, ◌++◌, length, take, drop, append-nil, append_assoc, arith}
 use Rattle.std.specs.Prelude.{get_or, flat_map, map}
 use Rattle.std.proofs.lemmas.Grind.{flat_map-append}
-use Rattle.std.proofs.lemmas.List.{take_more, length-take}
+use Rattle.std.proofs.lemmas.List.{get_or_default, length-take, take_more}
 use Rattle.std.proofs.Math.Seq.{take-add}
 use Rattle.dwg_text.specs.Numbered.{numbered}
 use Rattle.dwg_text.specs.Lines.{byte_digits}
@@ -42,6 +42,13 @@ more_paragraphs {A} written paragraphs index paragraph within is = sym (
     ∙ flat_map-append written (take index paragraphs) (paragraph ∷ [])
     ∙ ap (λ last. flat_map written (take index paragraphs) ++ last) (append-nil (written paragraph))
     )
+
+-- the same of elements that are plain numbers and flags, of which one stands for every place after the last
+pub more_plain : {A : Type 0} (written : A → List ℕ) (paragraphs : List A) (index : ℕ) (none : A) → index < length paragraphs
+    → flat_map written (take index paragraphs) ++ written (get_or paragraphs index none) ≡ flat_map written (take (index + 1) paragraphs)
+more_plain {A} written paragraphs index none within =
+    let paragraph = get_or paragraphs index none in
+    more_paragraphs written paragraphs index paragraph within (get_or_default paragraphs index none paragraph within)
 
 -- paragraphs of what is seen of things
 pub written_of_seen : {A B : Type 0} (written : B → List ℕ) (seen : A → B) (things : List A) → flat_map (λ thing. written (seen thing)) things ≡ flat_map written (map seen things)

@@ -50,19 +50,19 @@ written_then (Some fault) (Some fault') (Some fault'') piece piece' piece'' take
 
 -- and so do pages: `first ▷ then`
 infixl 50 ◌▷◌
-pub ◌▷◌ : {page page' page'' : TextWriter} {taken taken' taken'' : Option (List ℕ)} {faults faults' faults'' : ℕ} {text more : List ℕ}
-    → WritesText page page' taken taken' faults faults' text → WritesText page' page'' taken' taken'' faults' faults'' more → WritesText page page'' taken taken'' faults faults'' (text ++ more)
-◌▷◌ {page} {page'} {page''} {taken} {taken'} {taken''} {faults} {faults'} {faults''} {text} {more} first then = record {
-  written = written_then page.fault page'.fault page''.fault (string_bytes page.piece) (string_bytes page'.piece) (string_bytes page''.piece)
+pub ◌▷◌ : {writer writer' writer'' : TextWriter} {taken taken' taken'' : Option (List ℕ)} {faults faults' faults'' : ℕ} {text more : List ℕ}
+    → WritesText writer writer' taken taken' faults faults' text → WritesText writer' writer'' taken' taken'' faults' faults'' more → WritesText writer writer'' taken taken'' faults faults'' (text ++ more)
+◌▷◌ {writer} {writer'} {writer''} {taken} {taken'} {taken''} {faults} {faults'} {faults''} {text} {more} first then = record {
+  written = written_then writer.fault writer'.fault writer''.fault (string_bytes writer.piece) (string_bytes writer'.piece) (string_bytes writer''.piece)
       taken taken' taken'' faults faults' faults'' text more first.written then.written;
 }
 
 -- the same, where what is written last is found first
-pub writes_more : {page page' page'' : TextWriter} {taken taken' taken'' : Option (List ℕ)} {faults faults' faults'' : ℕ} {text more : List ℕ}
-    → WritesText page' page'' taken' taken'' faults' faults'' more → WritesText page page' taken taken' faults faults' text → WritesText page page'' taken taken'' faults faults'' (text ++ more)
+pub writes_more : {writer writer' writer'' : TextWriter} {taken taken' taken'' : Option (List ℕ)} {faults faults' faults'' : ℕ} {text more : List ℕ}
+    → WritesText writer' writer'' taken' taken'' faults' faults'' more → WritesText writer writer' taken taken' faults faults' text → WritesText writer writer'' taken taken'' faults faults'' (text ++ more)
 writes_more then first = first ▷ then
 
--- what was pushed onto a page goes on as the page does
+-- what was pushed onto a writer goes on as the writer does
 pushed_by : (fault' : Option ShowFault) (piece pushed piece' : List ℕ) (taken taken' : Option (List ℕ)) (faults faults' : ℕ) (text : List ℕ)
     → pushed ≡ piece ++ text → WritesTextBy None fault' pushed piece' taken taken' faults faults' [] → WritesTextBy None fault' piece piece' taken taken' faults faults' text
 unfolding WritesTextBy
@@ -75,13 +75,13 @@ pushed_by None piece pushed piece' taken taken' faults faults' text push goes = 
 pushed_by (Some fault) piece pushed piece' taken taken' faults faults' text push goes =
     (subst (λ all. AppendsPrefix taken taken' all) (append-nil pushed ∙ push) goes.0, goes.1)
 
-pub writes_pushed : (page pushed page' : TextWriter) (taken taken' : Option (List ℕ)) (faults faults' : ℕ) (text : List ℕ)
-    → page.fault ≡ None → pushed.fault ≡ None → string_bytes pushed.piece ≡ string_bytes page.piece ++ text
-    → WritesText pushed page' taken taken' faults faults' [] → WritesText page page' taken taken' faults faults' text
-writes_pushed page pushed page' taken taken' faults faults' text none still push writes = record {
-  written = subst (λ fault. WritesTextBy fault page'.fault (string_bytes page.piece) (string_bytes page'.piece) taken taken' faults faults' text) (sym none)
-      (pushed_by page'.fault (string_bytes page.piece) (string_bytes pushed.piece) (string_bytes page'.piece) taken taken' faults faults' text push
-      (subst (λ fault. WritesTextBy fault page'.fault (string_bytes pushed.piece) (string_bytes page'.piece) taken taken' faults faults' []) still writes.written));
+pub writes_pushed : (writer pushed writer' : TextWriter) (taken taken' : Option (List ℕ)) (faults faults' : ℕ) (text : List ℕ)
+    → writer.fault ≡ None → pushed.fault ≡ None → string_bytes pushed.piece ≡ string_bytes writer.piece ++ text
+    → WritesText pushed writer' taken taken' faults faults' [] → WritesText writer writer' taken taken' faults faults' text
+writes_pushed writer pushed writer' taken taken' faults faults' text none still push writes = record {
+  written = subst (λ fault. WritesTextBy fault writer'.fault (string_bytes writer.piece) (string_bytes writer'.piece) taken taken' faults faults' text) (sym none)
+      (pushed_by writer'.fault (string_bytes writer.piece) (string_bytes pushed.piece) (string_bytes writer'.piece) taken taken' faults faults' text push
+      (subst (λ fault. WritesTextBy fault writer'.fault (string_bytes pushed.piece) (string_bytes writer'.piece) taken taken' faults faults' []) still writes.written));
 }
 
 -- after a fault any text is written by doing nothing
@@ -91,9 +91,9 @@ unfolding WritesTextBy
 idle_by None stopped piece taken faults text is = absurd cc
 idle_by (Some fault) stopped piece taken faults text is = (refl, Appends-nil taken, refl)
 
-pub writes_idle : (page : TextWriter) (stopped : ShowFault) (taken : Option (List ℕ)) (faults : ℕ) (text : List ℕ) → page.fault ≡ Some stopped
-    → WritesText page page taken taken faults faults text
-writes_idle page stopped taken faults text is = record { written = idle_by page.fault stopped (string_bytes page.piece) taken faults text is }
+pub writes_idle : (writer : TextWriter) (stopped : ShowFault) (taken : Option (List ℕ)) (faults : ℕ) (text : List ℕ) → writer.fault ≡ Some stopped
+    → WritesText writer writer taken taken faults faults text
+writes_idle writer stopped taken faults text is = record { written = idle_by writer.fault stopped (string_bytes writer.piece) taken faults text is }
 
 -- what wants memory sends nothing
 wanting_by : (piece piece' : List ℕ) (taken : Option (List ℕ)) (faults : ℕ) (text : List ℕ)
@@ -101,44 +101,44 @@ wanting_by : (piece piece' : List ℕ) (taken : Option (List ℕ)) (faults : ℕ
 unfolding WritesTextBy
 wanting_by piece piece' taken faults text = (([], (piece ++ text, refl), Appends-nil taken), refl)
 
-pub writes_wanting : (page page' : TextWriter) (taken : Option (List ℕ)) (faults : ℕ) (text : List ℕ) → page.fault ≡ None → page'.fault ≡ Some causes.NoMemory
-    → WritesText page page' taken taken faults faults text
-writes_wanting page page' taken faults text none wants = record {
-  written = subst (λ fault. WritesTextBy fault page'.fault (string_bytes page.piece) (string_bytes page'.piece) taken taken faults faults text) (sym none)
-      (subst (λ fault. WritesTextBy None fault (string_bytes page.piece) (string_bytes page'.piece) taken taken faults faults text) (sym wants)
-      (wanting_by (string_bytes page.piece) (string_bytes page'.piece) taken faults text));
+pub writes_wanting : (writer writer' : TextWriter) (taken : Option (List ℕ)) (faults : ℕ) (text : List ℕ) → writer.fault ≡ None → writer'.fault ≡ Some causes.NoMemory
+    → WritesText writer writer' taken taken faults faults text
+writes_wanting writer writer' taken faults text none wants = record {
+  written = subst (λ fault. WritesTextBy fault writer'.fault (string_bytes writer.piece) (string_bytes writer'.piece) taken taken faults faults text) (sym none)
+      (subst (λ fault. WritesTextBy None fault (string_bytes writer.piece) (string_bytes writer'.piece) taken taken faults faults text) (sym wants)
+      (wanting_by (string_bytes writer.piece) (string_bytes writer'.piece) taken faults text));
 }
 
--- a page is sent whole
-pub writes_sent : (page page' : TextWriter) (taken taken' : Option (List ℕ)) (faults faults' : ℕ) → page.fault ≡ None → page'.fault ≡ None → string_bytes page'.piece ≡ []
-    → Appends taken taken' (string_bytes page.piece) → faults' ≡ faults → WritesText page page' taken taken' faults faults' []
+-- a writer is sent whole
+pub writes_sent : (writer writer' : TextWriter) (taken taken' : Option (List ℕ)) (faults faults' : ℕ) → writer.fault ≡ None → writer'.fault ≡ None → string_bytes writer'.piece ≡ []
+    → Appends taken taken' (string_bytes writer.piece) → faults' ≡ faults → WritesText writer writer' taken taken' faults faults' []
 unfolding WritesTextBy
-writes_sent page page' taken taken' faults faults' none still empty sends quiet = record {
-  written = subst (λ fault. WritesTextBy fault page'.fault (string_bytes page.piece) (string_bytes page'.piece) taken taken' faults faults' []) (sym none)
-      (subst (λ fault. WritesTextBy None fault (string_bytes page.piece) (string_bytes page'.piece) taken taken' faults faults' []) (sym still)
-      (record { sent = string_bytes page.piece; sends = sends; whole = ap (λ rest. string_bytes page.piece ++ rest) (sym empty); quiet = quiet }));
+writes_sent writer writer' taken taken' faults faults' none still empty sends quiet = record {
+  written = subst (λ fault. WritesTextBy fault writer'.fault (string_bytes writer.piece) (string_bytes writer'.piece) taken taken' faults faults' []) (sym none)
+      (subst (λ fault. WritesTextBy None fault (string_bytes writer.piece) (string_bytes writer'.piece) taken taken' faults faults' []) (sym still)
+      (record { sent = string_bytes writer.piece; sends = sends; whole = ap (λ rest. string_bytes writer.piece ++ rest) (sym empty); quiet = quiet }));
 }
 
 -- or in part
-pub writes_in_part : (page page' : TextWriter) (taken taken' : Option (List ℕ)) (faults faults' : ℕ) → page.fault ≡ None → page'.fault ≡ Some causes.WriteFault
-    → AppendsPrefix taken taken' (string_bytes page.piece) → Rises faults faults' → WritesText page page' taken taken' faults faults' []
+pub writes_in_part : (writer writer' : TextWriter) (taken taken' : Option (List ℕ)) (faults faults' : ℕ) → writer.fault ≡ None → writer'.fault ≡ Some causes.WriteFault
+    → AppendsPrefix taken taken' (string_bytes writer.piece) → Rises faults faults' → WritesText writer writer' taken taken' faults faults' []
 unfolding WritesTextBy
-writes_in_part page page' taken taken' faults faults' none failed part rises = record {
-  written = subst (λ fault. WritesTextBy fault page'.fault (string_bytes page.piece) (string_bytes page'.piece) taken taken' faults faults' []) (sym none)
-      (subst (λ fault. WritesTextBy None fault (string_bytes page.piece) (string_bytes page'.piece) taken taken' faults faults' []) (sym failed)
-      (subst (λ all. AppendsPrefix taken taken' all) (sym (append-nil (string_bytes page.piece))) part, rises));
+writes_in_part writer writer' taken taken' faults faults' none failed part rises = record {
+  written = subst (λ fault. WritesTextBy fault writer'.fault (string_bytes writer.piece) (string_bytes writer'.piece) taken taken' faults faults' []) (sym none)
+      (subst (λ fault. WritesTextBy None fault (string_bytes writer.piece) (string_bytes writer'.piece) taken taken' faults faults' []) (sym failed)
+      (subst (λ all. AppendsPrefix taken taken' all) (sym (append-nil (string_bytes writer.piece))) part, rises));
 }
 
--- a page that writes nothing
+-- a writer that writes nothing
 nothing_by : (fault : Option ShowFault) (piece : List ℕ) (taken : Option (List ℕ)) (faults : ℕ) → WritesTextBy fault fault piece piece taken taken faults faults []
 unfolding WritesTextBy
 nothing_by None piece taken faults = record { sent = []; sends = Appends-nil taken; whole = append-nil piece; quiet = refl }
 nothing_by (Some fault) piece taken faults = (refl, Appends-nil taken, refl)
 
-pub writes_nothing : (page : TextWriter) (taken : Option (List ℕ)) (faults : ℕ) → WritesText page page taken taken faults faults []
-writes_nothing page taken faults = record { written = nothing_by page.fault (string_bytes page.piece) taken faults }
+pub writes_nothing : (writer : TextWriter) (taken : Option (List ℕ)) (faults : ℕ) → WritesText writer writer taken taken faults faults []
+writes_nothing writer taken faults = record { written = nothing_by writer.fault (string_bytes writer.piece) taken faults }
 
--- a text that was written from an empty page on, and its last piece sent, was sent; or a prefix of it, where the page has a fault
+-- a text that was written from an empty writer on, and its last piece sent, was sent; or a prefix of it, where the writer has a fault
 sent_by : {E : Type 0} (fault' : Option ShowFault) (piece' : List ℕ) (taken taken' : Option (List ℕ)) (faults faults' : ℕ) (text : List ℕ) (result : Result ⊤ E)
     → WritesTextBy None fault' [] piece' taken taken' faults faults' text → OnOk result ((fault' ≡ None) × (piece' ≡ [])) → IfErr result (λ fault. (stop : ShowFault) × (fault' ≡ Some stop))
     → Sends taken taken' text result
@@ -154,12 +154,12 @@ stop_of : (fault : Option ShowFault) (result : Result ⊤ ShowFault) → IfErr r
 stop_of fault (Ok done) cut = tt
 stop_of fault (Err stop) cut = (stop, cut)
 
-pub written_whole : (page page' : TextWriter) (taken taken' : Option (List ℕ)) (faults faults' : ℕ) (text whole : List ℕ) (result : Result ⊤ ShowFault)
-    → string_bytes page.piece ≡ [] → page.fault ≡ None → text ≡ whole → WritesText page page' taken taken' faults faults' (text ++ [])
-    → OnOk result ((page'.fault ≡ None) × (string_bytes page'.piece ≡ [])) → IfErr result (λ fault. page'.fault ≡ Some fault) → Sends taken taken' whole result
-written_whole page page' taken taken' faults faults' text whole result empty none same writes ends cut =
-    sent_by page'.fault (string_bytes page'.piece) taken taken' faults faults' whole result
-    (subst (λ piece. WritesTextBy None page'.fault piece (string_bytes page'.piece) taken taken' faults faults' whole) empty
-    (subst (λ fault. WritesTextBy fault page'.fault (string_bytes page.piece) (string_bytes page'.piece) taken taken' faults faults' whole) none
-    (subst (λ all. WritesTextBy page.fault page'.fault (string_bytes page.piece) (string_bytes page'.piece) taken taken' faults faults' all) (append-nil text ∙ same) writes.written)))
-    ends (stop_of page'.fault result cut)
+pub written_whole : (writer writer' : TextWriter) (taken taken' : Option (List ℕ)) (faults faults' : ℕ) (text whole : List ℕ) (result : Result ⊤ ShowFault)
+    → string_bytes writer.piece ≡ [] → writer.fault ≡ None → text ≡ whole → WritesText writer writer' taken taken' faults faults' (text ++ [])
+    → OnOk result ((writer'.fault ≡ None) × (string_bytes writer'.piece ≡ [])) → IfErr result (λ fault. writer'.fault ≡ Some fault) → Sends taken taken' whole result
+written_whole writer writer' taken taken' faults faults' text whole result empty none same writes ends cut =
+    sent_by writer'.fault (string_bytes writer'.piece) taken taken' faults faults' whole result
+    (subst (λ piece. WritesTextBy None writer'.fault piece (string_bytes writer'.piece) taken taken' faults faults' whole) empty
+    (subst (λ fault. WritesTextBy fault writer'.fault (string_bytes writer.piece) (string_bytes writer'.piece) taken taken' faults faults' whole) none
+    (subst (λ all. WritesTextBy writer.fault writer'.fault (string_bytes writer.piece) (string_bytes writer'.piece) taken taken' faults faults' all) (append-nil text ∙ same) writes.written)))
+    ends (stop_of writer'.fault result cut)

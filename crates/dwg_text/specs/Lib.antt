@@ -8,7 +8,7 @@ pub mod Sections
 pub mod Classes
 -- What is written of single values.
 pub mod Values
--- What a page and the sink below it do as a text is written to the page.
+-- What a writer and the sink below it do as a text is written to the writer.
 pub mod Writing
 -- Lists whose elements are written by their numbers.
 pub mod Numbered

@@ -22,15 +22,15 @@ fn digits(alloc: Global, bytes: &[u8]) -> Result<String, AllocError>
 
 /// Writes the digits of a few bytes.
 #[tactic(auto, using(crate::proofs::Writing::writes_idle))]
-fn write_run<W: Sink>(bytes: &[u8], page: &mut TextWriter, sink: &mut W)
-    ensures { WritesText page.old page.new (W.taken sink.old) (W.taken sink.new) (W.faults sink.old) (W.faults sink.new) (flat_map byte_digits bytes.now) }
+fn write_run<W: Sink>(bytes: &[u8], writer: &mut TextWriter, sink: &mut W)
+    ensures { WritesText writer.old writer.new (W.taken sink.old) (W.taken sink.new) (W.faults sink.old) (W.faults sink.new) (flat_map byte_digits bytes.now) }
 {
-    if page.fault.is_some() {
+    if writer.fault.is_some() {
         return;
     }
-    match digits(page.alloc, bytes) {
-        Ok(text) => page.write(&text, sink),
-        Err(_) => page.fail_no_memory(),
+    match digits(writer.alloc, bytes) {
+        Ok(text) => writer.write(&text, sink),
+        Err(_) => writer.fail_no_memory(),
     }
 }
 
@@ -44,25 +44,25 @@ fn run_at(bytes: &[u8], at: usize, count: usize) -> &[u8]
 
 /// Writes the digits of bytes, a run at a time.
 #[tactic(auto, using(crate::proofs::Writing::writes_nothing))]
-fn write_digits<W: Sink>(bytes: &[u8], page: &mut TextWriter, sink: &mut W)
-    ensures { WritesText page.old page.new (W.taken sink.old) (W.taken sink.new) (W.faults sink.old) (W.faults sink.new) (flat_map byte_digits bytes.now) }
+fn write_digits<W: Sink>(bytes: &[u8], writer: &mut TextWriter, sink: &mut W)
+    ensures { WritesText writer.old writer.new (W.taken sink.old) (W.taken sink.new) (W.faults sink.old) (W.faults sink.new) (flat_map byte_digits bytes.now) }
 {
     let mut at = 0;
-    'along: while at < bytes.len() {
+    'runs: while at < bytes.len() {
         let count = (bytes.len() - at).min(RUN);
-        write_run(run_at(bytes, at, count), page, sink);
+        write_run(run_at(bytes, at, count), writer, sink);
         at += count;
     }
 }
 
 /// Writes bytes: their digits, or a hyphen where there are none.
 #[tactic(auto, unfolding(crate::specs::Values::bytes_text))]
-pub fn write_bytes<W: Sink>(bytes: &[u8], page: &mut TextWriter, sink: &mut W)
-    ensures { WritesText page.old page.new (W.taken sink.old) (W.taken sink.new) (W.faults sink.old) (W.faults sink.new) (bytes_text bytes.now) }
+pub fn write_bytes<W: Sink>(bytes: &[u8], writer: &mut TextWriter, sink: &mut W)
+    ensures { WritesText writer.old writer.new (W.taken sink.old) (W.taken sink.new) (W.faults sink.old) (W.faults sink.new) (bytes_text bytes.now) }
 {
     if bytes.is_empty() {
-        page.write("-", sink);
+        writer.write("-", sink);
     } else {
-        write_digits(bytes, page, sink);
+        write_digits(bytes, writer, sink);
     }
 }

@@ -1,58 +1,73 @@
 //! The text of a file's classes.
 
-ghost use Rattle.std.specs.Prelude.{◌≡◌, ◌++◌, IfOk, OnOk, string_bytes};
+ghost use Rattle.std.specs.Prelude.{◌≡◌, ◌≤◌, flat_map, IsErrOf, OnOk};
+ghost use Rattle.dwg_base.specs.Devices.{LAST_COUNT, Rose, Sends};
 ghost use Rattle.dwg_text.specs.Classes as texts;
-ghost use Rattle.dwg_text.specs.Lines.{truth};
+ghost use Rattle.dwg_text.specs.Writing.{WritesText};
 
-use crate::quoted::push_quoted;
-use dwg_base::{ByteRun, NoMemory};
+use crate::lines::write_line;
+use crate::text_writer::{ShowFault, TextWriter};
+use crate::values::Count;
+use dwg_base::Sink;
 use dwg_classes::Class;
-use std::alloc::{AllocError, Global};
+use std::alloc::Global;
 
-/// A truth value as it is printed.
-pub fn truth(value: bool) -> &'static str
-    ensures { result.now ≡ truth value }
+/// Writes what a class says, as a line.
+fn write_class_line<W: Sink>(class: &Class, writer: &mut TextWriter, sink: &mut W)
+    ensures { WritesText writer.old writer.new (W.taken sink.old) (W.taken sink.new) (W.faults sink.old) (W.faults sink.new) (texts.class_line class.now) }
 {
-    if value { "1" } else { "0" }
+    writer.write("class ", sink);
+    writer.write_value(&class.number, sink);
+    writer.write(" version ", sink);
+    writer.write_value(&class.version, sink);
+    writer.write(" proxy ", sink);
+    writer.write_value(&class.proxy, sink);
+    writer.write(" item ", sink);
+    writer.write_value(&class.item, sink);
+    writer.write(" app ", sink);
+    writer.write_value(&class.application, sink);
+    writer.write(" cpp ", sink);
+    writer.write_value(&class.cpp_name, sink);
+    writer.write(" dxf ", sink);
+    writer.write_value(&class.dxf_name, sink);
+    writer.write("\n", sink);
 }
 
-/// Appends what a class says, as a line. Err: out of memory.
-#[tactic(auto, unfolding(crate::specs::Classes::class_line))]
-pub fn push_class_line(text: &mut String, class: &Class) -> Result<(), AllocError>
-    ensures { OnOk result (string_bytes text.new ≡ string_bytes text.old ++ texts.class_line class.now) }
+/// Writes classes, one after the other.
+#[tactic(auto, using(crate::proofs::Writing::writes_nothing))]
+fn write_class_lines<W: Sink>(classes: &[Class], writer: &mut TextWriter, sink: &mut W)
+    ensures { WritesText writer.old writer.new (W.taken sink.old) (W.taken sink.new) (W.faults sink.old) (W.faults sink.new) (flat_map texts.class_line classes.now) }
 {
-    let number = class.number;
-    let version = class.version;
-    let item = class.item;
-    write!(text, "class {number} version {version} proxy ")?;
-    text.push_str(truth(class.proxy))?;
-    write!(text, " item {item} app ")?;
-    push_quoted(text, class.application.as_slice())?;
-    text.push_str(" cpp ")?;
-    push_quoted(text, class.cpp_name.as_slice())?;
-    text.push_str(" dxf ")?;
-    push_quoted(text, class.dxf_name.as_slice())?;
-    text.push_str("\n")
-}
-
-#[tactic(auto, unfolding(crate::specs::Classes::classes_text))]
-fn text_of(alloc: Global, classes: &[Class]) -> Result<String, AllocError>
-    ensures { IfOk result (λ text. string_bytes text ≡ texts.classes_text classes.now) }
-{
-    let count = classes.len();
-    let mut text = format!(in alloc; "classes {count}\n")?;
-    for class in classes {
-        push_class_line(&mut text, class)?;
+    'classes: for index in 0..classes.len() {
+        write_class_line(&classes[index], writer, sink);
     }
-    Ok(text)
 }
 
-/// The count of the classes, and the classes in file order, a line each. Err: out of memory.
-pub fn classes_text(alloc: Global, classes: &[Class]) -> Result<ByteRun, NoMemory>
-    ensures { IfOk result (λ text. text ≡ texts.classes_text classes.now) }
+/// Writes the count of the classes, and the classes in file order, a line each.
+pub fn write_classes<W: Sink>(classes: &[Class], writer: &mut TextWriter, sink: &mut W)
+    ensures { WritesText writer.old writer.new (W.taken sink.old) (W.taken sink.new) (W.faults sink.old) (W.faults sink.new) (texts.classes_text classes.now) }
 {
-    match text_of(alloc, classes) {
-        Ok(text) => Ok(ByteRun::from_vec(text.into_bytes())),
-        Err(_) => Err(NoMemory),
-    }
+    write_line("classes ", &Count(classes.len() as u64), writer, sink);
+    write_class_lines(classes, writer, sink);
+}
+
+/// Writes the text of the classes, a piece at a time: their count, and the classes in file order, a line each. A write fault comes
+/// only where the sink's count of faults rose; the only other refusal is out of memory. After either the sink took a prefix of the
+/// text.
+#[tactic(auto, unfolding(crate::specs::Writing::WritesTextBy))]
+pub fn print_classes<W: Sink>(
+    alloc: Global,
+    classes: &[Class],
+    sink: &mut W,
+) -> Result<(), ShowFault>
+    ensures bytes { Sends (W.taken sink.old) (W.taken sink.new) (texts.classes_text classes.now) result }
+    ensures never_falls { W.faults sink.old ≤ W.faults sink.new }
+    ensures stands { W.faults sink.old ≡ LAST_COUNT → W.faults sink.new ≡ LAST_COUNT }
+    ensures ok { OnOk result (W.faults sink.new ≡ W.faults sink.old) }
+    ensures no_memory { IsErrOf result ShowFault.NoMemory → W.faults sink.new ≡ W.faults sink.old }
+    ensures write_fault { IsErrOf result ShowFault.WriteFault → Rose (W.faults sink.old) (W.faults sink.new) }
+{
+    let mut writer = TextWriter::new(alloc);
+    write_classes(classes, &mut writer, sink);
+    writer.end(sink)
 }

@@ -1,19 +1,11 @@
 //! The notes that the program writes on standard error, one line each.
 
-ghost use Rattle.std.specs.Prelude.{◌≡◌, ◌++◌, IfOk, OnOk, string_bytes};
+ghost use Rattle.std.specs.Prelude.{◌≡◌, IfOk, string_bytes};
 ghost use Rattle.dwg_base.specs.Refusals.{IsOfTable};
 ghost use Rattle.dwg_text.specs.Notes as texts;
 
 use dwg_base::{ByteRun, NoMemory, Refusal, part_word, reason_word};
 use std::alloc::{AllocError, Global};
-
-/// Which words the program takes.
-#[tactic(auto, unfolding(crate::specs::Notes::usage_note))]
-pub fn usage_note() -> &'static [u8]
-    ensures { result.now ≡ texts.usage_note }
-{
-    b"dwg: usage: sections | classes | show | rewrite | audit | recover | make N SEED | drill N | appdata | certify | accept | carry\n"
-}
 
 /// The references of a drawing don't hold together, so it has no certificate.
 #[tactic(auto, unfolding(crate::specs::Notes::unsound_note))]
@@ -55,37 +47,31 @@ pub fn too_long_note() -> &'static [u8]
     b"dwg: input too long\n"
 }
 
-/// Appends the words of a refusal: which part of the input is faulty, where, and why. Err: out of memory.
+/// The words of a refusal: which part of the input is faulty, where, and why. Err: out of memory.
 #[tactic(auto, unfolding(crate::specs::Notes::refusal_words))]
-pub fn push_refusal_words(text: &mut String, refusal: Refusal) -> Result<(), AllocError>
+pub fn refusal_words(alloc: Global, refusal: Refusal) -> Result<String, AllocError>
     requires { IsOfTable refusal }
-    ensures { OnOk result (string_bytes text.new ≡ string_bytes text.old ++ texts.refusal_words refusal) }
+    ensures { IfOk result (λ words. string_bytes words ≡ texts.refusal_words refusal) }
 {
     let index = refusal.index;
     let place = refusal.place;
-    text.push_str(part_word(refusal.line))?;
-    write!(text, " {index} at {place}: ")?;
-    text.push_str(reason_word(refusal.line))
+    let mut words = String::from_str(alloc, part_word(refusal.line))?;
+    write!(words, " {index} at {place}: ")?;
+    words.push_str(reason_word(refusal.line))?;
+    Ok(words)
 }
 
+/// The line that notes a refusal. Err: out of memory.
 #[tactic(auto, unfolding(crate::specs::Notes::refusal_note))]
-fn refusal_text(alloc: Global, refusal: Refusal) -> Result<String, AllocError>
+pub fn refusal_line(alloc: Global, refusal: Refusal) -> Result<String, AllocError>
     requires { IsOfTable refusal }
     ensures { IfOk result (λ note. string_bytes note ≡ texts.refusal_note refusal) }
 {
+    let words = refusal_words(alloc, refusal)?;
     let mut note = String::from_str(alloc, "dwg: refused: ")?;
-    push_refusal_words(&mut note, refusal)?;
+    note.push_str(words.as_str())?;
     note.push_str("\n")?;
     Ok(note)
-}
-
-/// Appends which part of the input is faulty, where, and why, as a line. Err: out of memory.
-pub fn push_refusal(alloc: Global, text: &mut String, refusal: Refusal) -> Result<(), AllocError>
-    requires { IsOfTable refusal }
-    ensures { OnOk result (string_bytes text.new ≡ string_bytes text.old ++ texts.refusal_note refusal) }
-{
-    let note = refusal_text(alloc, refusal)?;
-    text.push_str(note.as_str())
 }
 
 /// Which part of the input is faulty, where, and why. Err: out of memory.
@@ -93,7 +79,7 @@ pub fn refusal_note(alloc: Global, refusal: Refusal) -> Result<ByteRun, NoMemory
     requires { IsOfTable refusal }
     ensures { IfOk result (λ note. note ≡ texts.refusal_note refusal) }
 {
-    match refusal_text(alloc, refusal) {
+    match refusal_line(alloc, refusal) {
         Ok(note) => Ok(ByteRun::from_vec(note.into_bytes())),
         Err(_) => Err(NoMemory),
     }

@@ -45,7 +45,7 @@ pub fn push_quoted(text: &mut String, bytes: &[u8]) -> Result<(), AllocError>
     ensures { OnOk result (string_bytes text.new ≡ string_bytes text.old ++ quoted bytes.now) }
 {
     text.push_str("\"")?;
-    'along: for byte in bytes {
+    'bytes: for byte in bytes {
         push_quoted_byte(text, *byte)?;
     }
     text.push_str("\"")

@@ -1,12 +1,16 @@
 //! The text of a file's sections.
 
-ghost use Rattle.std.specs.Prelude.{◌≡◌, ◌++◌, IfOk, OnOk, string_bytes};
+ghost use Rattle.std.specs.Prelude.{◌≡◌, ◌≤◌, flat_map, IsErrOf, OnOk};
+ghost use Rattle.dwg_base.specs.Devices.{LAST_COUNT, Rose, Sends};
 ghost use Rattle.dwg_base.specs.Versions.{version_bytes};
 ghost use Rattle.dwg_text.specs.Sections as texts;
+ghost use Rattle.dwg_text.specs.Writing.{WritesText};
 
-use dwg_base::{ByteRun, NoMemory, Version};
+use crate::lines::write_line;
+use crate::text_writer::{ShowFault, TextWriter};
+use dwg_base::{Sink, Version};
 use dwg_sections::{FileHeader, Locator};
-use std::alloc::{AllocError, Global};
+use std::alloc::Global;
 
 /// The word of a version, as its files begin.
 pub fn version_word(version: Version) -> &'static str
@@ -18,41 +22,56 @@ pub fn version_word(version: Version) -> &'static str
     }
 }
 
-#[tactic(auto, unfolding(crate::specs::Sections::section_line))]
-fn push_section_line(text: &mut String, locator: &Locator) -> Result<(), AllocError>
-    ensures { OnOk result (string_bytes text.new ≡ string_bytes text.old ++ texts.section_line locator.now) }
+/// Writes a locator, as a line.
+fn write_section_line<W: Sink>(locator: &Locator, writer: &mut TextWriter, sink: &mut W)
+    ensures { WritesText writer.old writer.new (W.taken sink.old) (W.taken sink.new) (W.faults sink.old) (W.faults sink.new) (texts.section_line locator.now) }
 {
-    let number = locator.number;
-    let place = locator.place;
-    let size = locator.size;
-    match writeln!(text, "section {number} at {place} size {size}") {
-        Ok(()) => Ok(()),
-        Err(fault) => Err(fault),
+    writer.write("section ", sink);
+    writer.write_value(&locator.number, sink);
+    writer.write(" at ", sink);
+    writer.write_value(&locator.place, sink);
+    writer.write(" size ", sink);
+    writer.write_value(&locator.size, sink);
+    writer.write("\n", sink);
+}
+
+/// Writes locators, a line each.
+#[tactic(auto, using(crate::proofs::Writing::writes_nothing))]
+fn write_locators<W: Sink>(locators: &[Locator], writer: &mut TextWriter, sink: &mut W)
+    ensures { WritesText writer.old writer.new (W.taken sink.old) (W.taken sink.new) (W.faults sink.old) (W.faults sink.new) (flat_map texts.section_line locators.now) }
+{
+    'locators: for index in 0..locators.len() {
+        write_section_line(&locators[index], writer, sink);
     }
 }
 
-#[tactic(auto, unfolding(crate::specs::Sections::sections_text))]
-fn text_of(alloc: Global, header: &FileHeader) -> Result<String, AllocError>
-    ensures { IfOk result (λ text. string_bytes text ≡ texts.sections_text header.now) }
+/// Writes what a file header says of its sections.
+fn write_header<W: Sink>(header: &FileHeader, writer: &mut TextWriter, sink: &mut W)
+    ensures { WritesText writer.old writer.new (W.taken sink.old) (W.taken sink.new) (W.faults sink.old) (W.faults sink.new) (texts.sections_text header.now) }
 {
-    let code_page = header.code_page;
-    let preview = header.preview;
-    let version = version_word(header.version);
-    let mut text = format!(in alloc;
-        "version {version}\ncodepage {code_page}\npreview {preview}\n"
-    )?;
-    for locator in header.locators.as_slice() {
-        push_section_line(&mut text, locator)?;
-    }
-    Ok(text)
+    write_line("version ", &header.version, writer, sink);
+    write_line("codepage ", &header.code_page, writer, sink);
+    write_line("preview ", &header.preview, writer, sink);
+    write_locators(header.locators.as_slice(), writer, sink);
 }
 
-/// The version, the code page, the place of the preview, and the locators in file order, a line each. Err: out of memory.
-pub fn sections_text(alloc: Global, header: &FileHeader) -> Result<ByteRun, NoMemory>
-    ensures { IfOk result (λ text. text ≡ texts.sections_text header.now) }
+/// Writes the text of the sections, a piece at a time: the version, the code page, the place of the preview, and the locators in
+/// file order, a line each. A write fault comes only where the sink's count of faults rose; the only other refusal is out of memory.
+/// After either the sink took a prefix of the text.
+#[tactic(auto, unfolding(crate::specs::Writing::WritesTextBy))]
+pub fn print_sections<W: Sink>(
+    alloc: Global,
+    header: &FileHeader,
+    sink: &mut W,
+) -> Result<(), ShowFault>
+    ensures bytes { Sends (W.taken sink.old) (W.taken sink.new) (texts.sections_text header.now) result }
+    ensures never_falls { W.faults sink.old ≤ W.faults sink.new }
+    ensures stands { W.faults sink.old ≡ LAST_COUNT → W.faults sink.new ≡ LAST_COUNT }
+    ensures ok { OnOk result (W.faults sink.new ≡ W.faults sink.old) }
+    ensures no_memory { IsErrOf result ShowFault.NoMemory → W.faults sink.new ≡ W.faults sink.old }
+    ensures write_fault { IsErrOf result ShowFault.WriteFault → Rose (W.faults sink.old) (W.faults sink.new) }
 {
-    match text_of(alloc, header) {
-        Ok(text) => Ok(ByteRun::from_vec(text.into_bytes())),
-        Err(_) => Err(NoMemory),
-    }
+    let mut writer = TextWriter::new(alloc);
+    write_header(header, &mut writer, sink);
+    writer.end(sink)
 }

@@ -19,11 +19,11 @@ pub enum ShowFault {
     WriteFault,
 }
 
-/// How many bytes stand on a page before they are sent.
+/// How many bytes wait before they are sent.
 const PIECE: usize = 1 << 16;
 
-/// A page: what was written and not yet sent, and the first fault, after which nothing more is sent. So what prints on it need
-/// not look for faults; the last call writes them.
+/// A text on its way: what was written and not yet sent, and the first fault, after which nothing more is sent. So what prints
+/// with it need not look for faults; the last call says them.
 #[derive(Drop)]
 pub struct TextWriter {
     /// Where memory is taken.
@@ -35,7 +35,7 @@ pub struct TextWriter {
 }
 
 impl TextWriter {
-    /// An empty page.
+    /// A writer to which nothing was written.
     pub fn new(alloc: Global) -> TextWriter
         ensures piece { string_bytes result.piece ≡ [] }
         ensures fault { result.fault ≡ None }
@@ -57,7 +57,7 @@ impl TextWriter {
         }
     }
 
-    /// Sends what stands on the page.
+    /// Sends what stands in the writer.
     #[tactic(auto, using(crate::proofs::Writing::writes_sent, crate::proofs::Writing::writes_in_part), unfolding(crate::specs::Writing::WritesTextBy))]
     fn send<W: Sink>(&mut self, sink: &mut W)
         requires { self.old.fault ≡ None }
@@ -70,7 +70,7 @@ impl TextWriter {
         }
     }
 
-    /// Sends what stands on the page, if it is much.
+    /// Sends what stands in the writer, if it is much.
     #[tactic(auto, using(crate::proofs::Writing::writes_nothing))]
     pub fn send_when_full<W: Sink>(&mut self, sink: &mut W)
         requires { self.old.fault ≡ None }

@@ -1,15 +1,23 @@
 //! Values that are written on one line.
 
 ghost use Rattle.std.specs.Prelude.{◌≡◌, ◌++◌, OnOk, List, ℕ, decimal, string_bytes};
+ghost use Rattle.dwg_base.specs.Versions.{version_bytes};
 ghost use Rattle.dwg_text.specs.Lines as lines;
 ghost use Rattle.dwg_text.specs.Values as values;
 
-use crate::classes::truth;
 use crate::quoted::push_quoted;
-use dwg_base::ByteRun;
+use crate::sections::version_word;
+use dwg_base::{ByteRun, Version};
 use dwg_codes::{Point2, Point3};
 use dwg_handles::Ref;
 use std::alloc::AllocError;
+
+/// A truth value as it is printed.
+pub fn truth(value: bool) -> &'static str
+    ensures { result.now ≡ lines.truth value }
+{
+    if value { "1" } else { "0" }
+}
 
 /// A value that is printed on one line.
 pub trait Value {
@@ -31,6 +39,15 @@ impl Value for u8 {
 }
 
 impl Value for u16 {
+    ghost printed = { decimal };
+
+    fn push(&self, text: &mut String) -> Result<(), AllocError> {
+        let number = *self;
+        write!(text, "{number}")
+    }
+}
+
+impl Value for u32 {
     ghost printed = { decimal };
 
     fn push(&self, text: &mut String) -> Result<(), AllocError> {
@@ -81,6 +98,15 @@ impl Value for bool {
 
     fn push(&self, text: &mut String) -> Result<(), AllocError> {
         text.push_str(truth(*self))
+    }
+}
+
+/// A version, by its word.
+impl Value for Version {
+    ghost printed = { version_bytes };
+
+    fn push(&self, text: &mut String) -> Result<(), AllocError> {
+        text.push_str(version_word(*self))
     }
 }
 

@@ -38,8 +38,8 @@ impl<B: BodyCode + Fields + Drop> Case for Body<B> {
     }
 }
 
-/// Whether the body of a line is read and written as the line says, where so many of the reference bits are skipped. None for want of
-/// memory, and for another text.
+/// Whether the body of a line is read and written as the line says, where so many of the reference bits are skipped. None: out
+/// of memory, and for another text.
 pub(crate) fn holds<B: BodyCode + Fields + Drop>(
     alloc: Global,
     line: &str,
@@ -352,7 +352,7 @@ fn put_refs14<B: BodyCode14>(alloc: Global, text: &mut String, base: Handle, bod
 }
 
 /// What is reported of a body of AC1014: the bits that it is read of, those that it is written by, and its fields. None where it doesn't fit.
-fn told14_of<B: BodyCode14 + Fields>(
+fn reported14_of<B: BodyCode14 + Fields>(
     alloc: Global,
     base: Handle,
     body: &B,
@@ -375,7 +375,7 @@ fn told14_of<B: BodyCode14 + Fields>(
 }
 
 /// What is reported of the body of AC1014 that the bits begin with.
-fn told14<B: BodyCode14 + Fields + Drop>(
+fn reported14<B: BodyCode14 + Fields + Drop>(
     alloc: Global,
     base: Handle,
     main: BitCursor<'_>,
@@ -386,7 +386,7 @@ fn told14<B: BodyCode14 + Fields + Drop>(
 {
     let (mut main, mut refs) = (main, refs);
     match read_body14::<B>(alloc, SIZE, base, &mut main, &mut refs)? {
-        Some(body) => told14_of(alloc, base, &body, &main, &refs),
+        Some(body) => reported14_of(alloc, base, &body, &main, &refs),
         None => format!(in alloc; "none").ok(),
     }
 }
@@ -401,7 +401,7 @@ fn found14_in<B: BodyCode14 + Fields + Drop>(alloc: Global, bits: &str) -> Optio
     }
     let main = BitCursor::new(&main, 0, 8 * main.len() as u64);
     let refs = BitCursor::new(&refs, 0, 8 * refs.len() as u64);
-    told14::<B>(alloc, Handle::new(OWN)?, main, refs)
+    reported14::<B>(alloc, Handle::new(OWN)?, main, refs)
 }
 
 /// Whether AC1014 can spell the body in the bits of a text `MAIN / REFERENCES` of AC1015. None as well where they have a byte or more that

@@ -1,21 +1,23 @@
 //! Lists with one item more.
 
-use dwg_base::{Items, NoMemory, push_item, vec_with_capacity, with_item};
+use dwg_base::{Items, NoMemory, vec_with_capacity};
 use std::alloc::Global;
 
 /// A vector of 3, 5 and 8, each put after those before it.
 fn three_in_vector(alloc: Global) -> Result<Vec<u64>, NoMemory> {
     let mut items = vec_with_capacity(alloc, 2)?;
-    push_item(&mut items, 3)?;
-    push_item(&mut items, 5)?;
-    with_item(items, 8)
+    items.push(3)?;
+    items.push(5)?;
+    items.push(8)?;
+    Ok(items)
 }
 
 /// A list of 3 and 5, each put after those before it.
 fn two_in_list(alloc: Global) -> Result<Items<u64>, NoMemory> {
     let mut items = Items::new(alloc);
-    items.add(3)?;
-    items.with(5)
+    items.try_push(3)?;
+    items.try_push(5)?;
+    Ok(items)
 }
 
 #[test]

@@ -1,11 +1,11 @@
 //! Texts and notes.
 
-use dwg_base::{ByteRun, Items, NoMemory, Refusal, Version};
+use dwg_base::{ByteRun, Items, MemSink, NoMemory, Refusal, Version};
 use dwg_classes::Class;
 use dwg_sections::{FileHeader, Locator};
 use dwg_testkit::bytes_of;
 use dwg_text::{
-    classes_text, preview_dropped_note, read_fault_note, refusal_note, sections_text,
+    preview_dropped_note, print_classes, print_sections, read_fault_note, refusal_note,
     too_long_note, usage_note,
 };
 use std::alloc::Global;
@@ -58,16 +58,24 @@ fn note(alloc: Global) -> Result<ByteRun, NoMemory> {
     refusal_note(alloc, refusal)
 }
 
+/// A sink with room for each text.
+fn roomy(alloc: Global) -> Result<MemSink, NoMemory> {
+    MemSink::new(alloc, 4096, 4096, Items::new(alloc))
+}
+
 /// Adds the text of the header of a version.
-fn print_sections(alloc: Global, text: &mut String, version: Version) {
-    print_run(text, sections_text(alloc, &header(alloc, version)));
+fn add_sections(alloc: Global, text: &mut String, version: Version) {
+    if let Ok(mut sink) = roomy(alloc) {
+        let _sent = print_sections(alloc, &header(alloc, version), &mut sink);
+        print(text, sink.bytes());
+    }
 }
 
 /// The text of the header of each version, and the notes.
 fn texts(alloc: Global) -> String {
     let mut text = String::new(alloc);
-    print_sections(alloc, &mut text, Version::Ac1015);
-    print_sections(alloc, &mut text, Version::Ac1014);
+    add_sections(alloc, &mut text, Version::Ac1015);
+    add_sections(alloc, &mut text, Version::Ac1014);
     print_run(&mut text, note(alloc));
     print(&mut text, read_fault_note());
     print(&mut text, too_long_note());
@@ -140,7 +148,10 @@ fn classes(alloc: Global) -> Items<Class> {
 /// The text of both classes.
 fn text_of_classes(alloc: Global) -> String {
     let mut text = String::new(alloc);
-    print_run(&mut text, classes_text(alloc, classes(alloc).as_slice()));
+    if let Ok(mut sink) = roomy(alloc) {
+        let _sent = print_classes(alloc, classes(alloc).as_slice(), &mut sink);
+        print(&mut text, sink.bytes());
+    }
     text
 }
 

@@ -136,7 +136,7 @@ fn fill_map(writer: &mut PageWriter, count: u64, sink: &mut MemSink) -> Option<b
     requires few { count < 2_000 }
     requires fresh { writer.old ≡ FRESH }
 {
-    'along: for handle in 0..count {
+    'handles: for handle in 0..count {
         let next = pair(handle + 1, frame_place(handle + 1))?;
         match writer.put(next, sink) {
             Ok(()) => {}

@@ -7,34 +7,34 @@ use Rattle.dwg_appitems.proofs.LookupSteps.{all_left, taken_further, taken_so_fa
 use Rattle.dwg_object.specs.Objects.{ObjectValue, handle_of, value_of}
 use Rattle.dwg_appitems.proofs.auditing.judge_all.Goals as goal
 
-pub along-init : goal.along-init
-along-init g c = record {
+pub objects-init : goal.objects-init
+objects-init g c = record {
   found = objects_begin (map value_of c.args.objects.now) c.new-found.result c.new-found.ensures;
   steps = all_left _ (sum_by object_references c.args.objects.now) _;
 }
 
-pub along-preserved : goal.along-preserved
-along-preserved g c = record {
+pub objects-preserved : goal.objects-preserved
+objects-preserved g c = record {
   found =
-      object_further value_of (λ (x : ObjectValue). apps_findings (map value_of c.args.objects.now) (handle_of x) 0 (apps_of x)) c.args.objects.now c.along.place c.index-objects-place.result
-      c.along.found c.judge_apps.new.found _ c.along-test.true c.index-objects-place.is c.along.invariant.found (search rules);
+      object_further value_of (λ (x : ObjectValue). apps_findings (map value_of c.args.objects.now) (handle_of x) 0 (apps_of x)) c.args.objects.now c.objects.place c.index-objects-place.result
+      c.objects.found c.judge_apps.new.found _ c.objects-test.true c.index-objects-place.is c.objects.invariant.found (search rules);
   steps =
-      taken_further object_references (length c.args.objects.now) c.args.objects.now c.along.place c.index-objects-place.result _ _ _ _ c.along-test.true c.index-objects-place.is
-      c.along.invariant.steps (search rules);
+      taken_further object_references (length c.args.objects.now) c.args.objects.now c.objects.place c.index-objects-place.result _ _ _ _ c.objects-test.true c.index-objects-place.is
+      c.objects.invariant.steps (search rules);
 }
 
 pub returns-clause-found : goal.returns-clause-found
 returns-clause-found g c =
-    objects_found value_of (λ (x : ObjectValue). apps_findings (map value_of c.args.objects.now) (handle_of x) 0 (apps_of x)) c.args.objects.now c.along.place c.along.found _ c.along-test.false
-    c.along.invariant.found
+    objects_found value_of (λ (x : ObjectValue). apps_findings (map value_of c.args.objects.now) (handle_of x) 0 (apps_of x)) c.args.objects.now c.objects.place c.objects.found _ c.objects-test.false
+    c.objects.invariant.found
 
 pub returns-clause-steps : goal.returns-clause-steps
 returns-clause-steps g c =
-    subst (λ lookups. TakeAtMost (length c.args.objects.now) lookups c.args.steps.now c.along.steps) (objects_referring c.args.objects.now)
-    (taken_so_far (length c.args.objects.now) _ _ _ _ c.along.invariant.steps)
+    subst (λ lookups. TakeAtMost (length c.args.objects.now) lookups c.args.steps.now c.objects.steps) (objects_referring c.args.objects.now)
+    (taken_so_far (length c.args.objects.now) _ _ _ _ c.objects.invariant.steps)
 
 pub returns-in_err-judge_apps-clause-steps : goal.returns-in_err-judge_apps-clause-steps
 returns-in_err-judge_apps-clause-steps g c =
     subst (λ lookups. TakeAtMost (length c.args.objects.now) lookups c.args.steps.now c.judge_apps.new.steps) (objects_referring c.args.objects.now)
-    (taken_with object_references (length c.args.objects.now) c.args.objects.now c.along.place c.index-objects-place.result _ _ _ _ c.along-test.true c.index-objects-place.is c.along.invariant.steps
+    (taken_with object_references (length c.args.objects.now) c.args.objects.now c.objects.place c.index-objects-place.result _ _ _ _ c.objects-test.true c.index-objects-place.is c.objects.invariant.steps
     (search rules))

@@ -6,21 +6,21 @@ use Rattle.dwg_appitems.proofs.LookupSteps.{all_left, taken_further, taken_so_fa
 use Rattle.dwg_object.specs.Objects.{value_of}
 use Rattle.dwg_appitems.proofs.auditing.judge_items.Goals as goal
 
-pub along-init : goal.along-init
-along-init g c = record { found = (search); steps = all_left _ (sum_by item_references c.args.items.now) _ }
+pub items-init : goal.items-init
+items-init g c = record { found = (search); steps = all_left _ (sum_by item_references c.args.items.now) _ }
 
-pub along-preserved : goal.along-preserved
-along-preserved g c = record {
+pub items-preserved : goal.items-preserved
+items-preserved g c = record {
   found =
-      item_further (map value_of c.args.objects.now) c.args.handle c.args.index c.args.items.now c.along.place c.index-items-place.result c.along.found c.judge_item.new.found _ c.along-test.true
-      c.index-items-place.is c.along.invariant.found (search rules);
+      item_further (map value_of c.args.objects.now) c.args.handle c.args.index c.args.items.now c.items.place c.index-items-place.result c.items.found c.judge_item.new.found _ c.items-test.true
+      c.index-items-place.is c.items.invariant.found (search rules);
   steps =
-      taken_further item_references (length c.args.objects.now) c.args.items.now c.along.place c.index-items-place.result _ _ _ _ c.along-test.true c.index-items-place.is c.along.invariant.steps
+      taken_further item_references (length c.args.objects.now) c.args.items.now c.items.place c.index-items-place.result _ _ _ _ c.items-test.true c.index-items-place.is c.items.invariant.steps
       c.judge_item.ensures.steps;
 }
 
 pub returns-clause-found : goal.returns-clause-found
-returns-clause-found g c = items_found (map value_of c.args.objects.now) c.args.handle c.args.index c.args.items.now c.along.place c.along.found _ c.along-test.false c.along.invariant.found
+returns-clause-found g c = items_found (map value_of c.args.objects.now) c.args.handle c.args.index c.args.items.now c.items.place c.items.found _ c.items-test.false c.items.invariant.found
 
 pub returns-clause-steps : goal.returns-clause-steps
-returns-clause-steps g c = taken_so_far (length c.args.objects.now) _ _ _ _ c.along.invariant.steps
+returns-clause-steps g c = taken_so_far (length c.args.objects.now) _ _ _ _ c.items.invariant.steps

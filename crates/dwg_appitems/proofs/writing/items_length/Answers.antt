@@ -7,13 +7,13 @@ overflow_add-bytes c =
     omega (
       arith,
       c.requires.few,
-      counted_within c.args.all.now c.along.one-index c.one-item.result c.along.bytes c.item_length-bytes.result c.requires.items c.along-test.true c.one-item.is c.item_length-bytes.ensures.length
-          c.along.invariant,
+      counted_within c.args.all.now c.items.one-index c.one-item.result c.items.bytes c.item_length-bytes.result c.requires.items c.items-test.true c.one-item.is c.item_length-bytes.ensures.length
+          c.items.invariant,
     )
 
 pub returns-clause-bytes : goal.returns-clause-bytes
-returns-clause-bytes c = all_counted c.args.all.now c.along.one-index c.along.bytes c.requires.items c.along-test.false c.along.invariant
+returns-clause-bytes c = all_counted c.args.all.now c.items.one-index c.items.bytes c.requires.items c.items-test.false c.items.invariant
 
 pub returns-clause-bits : goal.returns-clause-bits
 returns-clause-bits c =
-    items_counted c.args.all.now c.along.bytes c.requires.items (all_counted c.args.all.now c.along.one-index c.along.bytes c.requires.items c.along-test.false c.along.invariant)
+    items_counted c.args.all.now c.items.bytes c.requires.items (all_counted c.args.all.now c.items.one-index c.items.bytes c.requires.items c.items-test.false c.items.invariant)

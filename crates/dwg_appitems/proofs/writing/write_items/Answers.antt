@@ -7,8 +7,8 @@ pub returns-clause-bits : goal.returns-clause-bits
 returns-clause-bits c = bits_of_items c.args.all.now c.requires.items
 
 pub returns-clause-are : goal.returns-clause-are
-returns-clause-are c = written_are c.args.all.now c.along.one-index _ _ c.along-test.false c.along.invariant
+returns-clause-are c = written_are c.args.all.now c.items.one-index _ _ c.items-test.false c.items.invariant
 
 pub returns-clause-computed : goal.returns-clause-computed
 returns-clause-computed c =
-    are_computed (items_bytes c.args.all.now) c.args.all.now (written_are c.args.all.now c.along.one-index _ _ c.along-test.false c.along.invariant)
+    are_computed (items_bytes c.args.all.now) c.args.all.now (written_are c.args.all.now c.items.one-index _ _ c.items-test.false c.items.invariant)

@@ -5,5 +5,5 @@ use Rattle.dwg_object.specs.Objects.{value_of}
 use Rattle.dwg_audit.proofs.claims.count_holder.Given as goal
 
 -- the slots so far are counted
-abbrev pub invariant-along : goal.invariant-along
-invariant-along l = AddsBoth (map value_of l.objects) l.known (value_of l.holder) (take l.i (slots (value_of l.holder))) l.initial.claimed l.claimed
+abbrev pub invariant-slots : goal.invariant-slots
+invariant-slots l = AddsBoth (map value_of l.objects) l.known (value_of l.holder) (take l.i (slots (value_of l.holder))) l.initial.claimed l.claimed

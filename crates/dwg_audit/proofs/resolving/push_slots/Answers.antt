@@ -9,16 +9,16 @@ use Rattle.dwg_audit.proofs.resolving.push_slots.Goals as goal
 
 pub place_at-requires : goal.place_at-requires
 place_at-requires c =
-    omega (arith, c.along-test.true, places_long (handles_of (map value_of c.args.objects.now)) (slots (value_of c.args.object.now)) c.args.held.now c.args.places.now c.requires.held_slots c.requires.places)
+    omega (arith, c.slots-test.true, places_long (handles_of (map value_of c.args.objects.now)) (slots (value_of c.args.object.now)) c.args.held.now c.args.places.now c.requires.held_slots c.requires.places)
 
 pub push_chosen-requires-clause-place : goal.push_chosen-requires-clause-place
 push_chosen-requires-clause-place c =
-    place_there (handles_of (map value_of c.args.objects.now)) (slots (value_of c.args.object.now)) c.args.held.now c.args.places.now c.along.i c.index-held-i.result c.place_at.result
-    c.requires.held_slots c.requires.places c.along-test.true c.index-held-i.is c.place_at.ensures
+    place_there (handles_of (map value_of c.args.objects.now)) (slots (value_of c.args.object.now)) c.args.held.now c.args.places.now c.slots.i c.index-held-i.result c.place_at.result
+    c.requires.held_slots c.requires.places c.slots-test.true c.index-held-i.is c.place_at.ensures
 
-pub along-preserved : goal.along-preserved
-along-preserved c =
-    chosen_further c.args.applications (unmet (map value_of c.args.objects.now) (value_of c.args.object.now)) (slots (value_of c.args.object.now)) c.along.i (c.along.i + 1)
-    c.index-held-i.result c.along.found c.push_chosen.new.found _
-    (slot_there (slots (value_of c.args.object.now)) c.args.held.now c.along.i c.index-held-i.result c.requires.held_slots c.along-test.true c.index-held-i.is)
-    (omega arith) c.along.invariant (search rules)
+pub slots-preserved : goal.slots-preserved
+slots-preserved c =
+    chosen_further c.args.applications (unmet (map value_of c.args.objects.now) (value_of c.args.object.now)) (slots (value_of c.args.object.now)) c.slots.i (c.slots.i + 1)
+    c.index-held-i.result c.slots.found c.push_chosen.new.found _
+    (slot_there (slots (value_of c.args.object.now)) c.args.held.now c.slots.i c.index-held-i.result c.requires.held_slots c.slots-test.true c.index-held-i.is)
+    (omega arith) c.slots.invariant (search rules)

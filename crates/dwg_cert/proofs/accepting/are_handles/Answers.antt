@@ -16,23 +16,23 @@ pub returns-then-ne : goal.returns-then-ne
 returns-then-ne c =
     let entry = c.index-entries-i.result in
     let object = c.index-objects-i.result in
-    let within : c.along.i < length c.args.objects.now = omega (arith, c.along-test.true, c.if-entries-objects.false) in
+    let within : c.entries.i < length c.args.objects.now = omega (arith, c.entries-test.true, c.if-entries-objects.false) in
     let other : (entry.handle == handle_of (value_of object)) ≡ false = grind (arith, nat_tests, c.if-ne.true, c.if-ne.ensures, c.handle.ensures) in
-    handles_further c.args.entries.now (map value_of c.args.objects.now) c.along.i entry (value_of object) false _
-    (slice_get_read c.args.entries.now (length c.args.entries.now) c.along.i entry refl c.along-test.true c.index-entries-i.is)
-    (value_there c.args.objects.now c.along.i object within c.index-objects-i.is) other c.along.invariant
+    handles_further c.args.entries.now (map value_of c.args.objects.now) c.entries.i entry (value_of object) false _
+    (slice_get_read c.args.entries.now (length c.args.entries.now) c.entries.i entry refl c.entries-test.true c.index-entries-i.is)
+    (value_there c.args.objects.now c.entries.i object within c.index-objects-i.is) other c.entries.invariant
 
-pub along-preserved : goal.along-preserved
-along-preserved c =
+pub entries-preserved : goal.entries-preserved
+entries-preserved c =
     let entry = c.index-entries-i.result in
     let object = c.index-objects-i.result in
-    let within : c.along.i < length c.args.objects.now = omega (arith, c.along-test.true, c.if-entries-objects.false) in
+    let within : c.entries.i < length c.args.objects.now = omega (arith, c.entries-test.true, c.if-entries-objects.false) in
     let same : (entry.handle == handle_of (value_of object)) ≡ true = grind (arith, nat_tests, c.if-ne.false, c.if-ne.ensures, c.handle.ensures) in
-    handles_further c.args.entries.now (map value_of c.args.objects.now) c.along.i entry (value_of object) true _
-    (slice_get_read c.args.entries.now (length c.args.entries.now) c.along.i entry refl c.along-test.true c.index-entries-i.is)
-    (value_there c.args.objects.now c.along.i object within c.index-objects-i.is) same c.along.invariant
+    handles_further c.args.entries.now (map value_of c.args.objects.now) c.entries.i entry (value_of object) true _
+    (slice_get_read c.args.entries.now (length c.args.entries.now) c.entries.i entry refl c.entries-test.true c.index-entries-i.is)
+    (value_there c.args.objects.now c.entries.i object within c.index-objects-i.is) same c.entries.invariant
 
 pub returns : goal.returns
 returns c =
-    no_handles c.args.entries.now (map value_of c.args.objects.now) c.along.i _ (omega (arith, c.along-test.false))
-    (omega (arith, c.along-test.false, c.if-entries-objects.false, length-map c.args.objects.now value_of)) c.along.invariant
+    no_handles c.args.entries.now (map value_of c.args.objects.now) c.entries.i _ (omega (arith, c.entries-test.false))
+    (omega (arith, c.entries-test.false, c.if-entries-objects.false, length-map c.args.objects.now value_of)) c.entries.invariant

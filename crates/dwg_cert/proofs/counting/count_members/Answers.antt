@@ -9,5 +9,5 @@ use Rattle.dwg_cert.proofs.counting.count_members.Goals as goal
 pub returns : goal.returns
 returns c =
     let objects = map value_of c.args.objects.now in
-    all_members objects c.along.place c.along.counts.items (omega (arith, length-map c.args.objects.now value_of, c.along-test.false))
-    (subst (λ (known : Option SpaceHandles). CountsMembers objects known c.along.place c.along.counts.items) c.requires.known c.along.invariant)
+    all_members objects c.objects.place c.objects.counts.items (omega (arith, length-map c.args.objects.now value_of, c.objects-test.false))
+    (subst (λ (known : Option SpaceHandles). CountsMembers objects known c.objects.place c.objects.counts.items) c.requires.known c.objects.invariant)

@@ -4,5 +4,5 @@ use Rattle.dwg_object.specs.Objects.{value_of}
 use Rattle.dwg_cert.proofs.counting.count_members.Given as goal
 
 -- the objects so far are counted
-abbrev pub invariant-along : goal.invariant-along
-invariant-along l = CountsMembers (map value_of l.objects) l.known l.place l.counts.items
+abbrev pub invariant-objects : goal.invariant-objects
+invariant-objects l = CountsMembers (map value_of l.objects) l.known l.place l.counts.items

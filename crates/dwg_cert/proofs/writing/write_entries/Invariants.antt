@@ -7,8 +7,8 @@ use Rattle.dwg_cert.specs.WrittenForm.{entry_bytes}
 use Rattle.dwg_cert.proofs.writing.write_entries.Given as goal
 
 -- the entries up to the index are written, and their handles are read
-abbrev pub invariant-along : goal.invariant-along
-invariant-along l = record {
+abbrev pub invariant-entries : goal.invariant-entries
+invariant-entries l = record {
   written : Extends l.fn.sink l.sink (bits (flat_map entry_bytes (take l.entry-index l.entries)));
   spare : l.fn.sink.spare ≤ l.sink.spare + 192 * l.entry-index;
   handles : (k : ℕ) (d : Entry) → k < l.entry-index → (get_or l.entries k d).handle < 2 ^ 63;

@@ -6,29 +6,29 @@ use Rattle.dwg_chains.proofs.chaining.follow.Goals as goal
 
 pub returns-then-is_at-clause-judged : goal.returns-then-is_at-clause-judged
 returns-then-is_at-clause-judged c =
-    let new = c.is_new.ensures.0 c.along-test.true in
-    follow_ends c.args.homes.now c.args.next.now c.args.home c.args.ends.now _ c.along.seen.items c.set_mark.new.table.items c.along.at
-    (new.0, ap (λ (marks : List Bool). marked marks c.along.at) (sym c.deref.ensures.value) ∙ new.1) (cc) c.set_mark.ensures c.along.invariant
+    let new = c.is_new.ensures.0 c.members-test.true in
+    follow_ends c.args.homes.now c.args.next.now c.args.home c.args.ends.now _ c.members.seen.items c.set_mark.new.table.items c.members.at
+    (new.0, ap (λ (marks : List Bool). marked marks c.members.at) (sym c.deref.ensures.value) ∙ new.1) (cc) c.set_mark.ensures c.members.invariant
 
 pub returns-in-None-leads-clause-others : goal.returns-in-None-leads-clause-others
 returns-in-None-leads-clause-others c =
-    follow_others c.args.homes.now c.args.next.now c.args.home c.args.ends.now _ c.along.seen.items c.set_mark.new.table.items c.along.at
-    (c.is_new.ensures.0 c.along-test.true).0 c.set_mark.ensures c.along.invariant
+    follow_others c.args.homes.now c.args.next.now c.args.home c.args.ends.now _ c.members.seen.items c.set_mark.new.table.items c.members.at
+    (c.is_new.ensures.0 c.members-test.true).0 c.set_mark.ensures c.members.invariant
 
 pub returns-in-None-leads-clause-judged : goal.returns-in-None-leads-clause-judged
 returns-in-None-leads-clause-judged c =
-    follow_nowhere c.args.homes.now c.args.next.now c.args.home c.args.ends.now _ c.along.seen.items c.set_mark.new.table.items c.along.at (cc) (cc) c.along.invariant
+    follow_nowhere c.args.homes.now c.args.next.now c.args.home c.args.ends.now _ c.members.seen.items c.set_mark.new.table.items c.members.at (cc) (cc) c.members.invariant
 
-pub along-smaller : goal.along-smaller
-along-smaller c =
-    let new = c.is_new.ensures.0 c.along-test.true in
-    let seen = c.along.seen.items in
-    let fresh : marked seen c.along.at ≡ false = ap (λ (marks : List Bool). marked marks c.along.at) (sym c.deref.ensures.value) ∙ new.1 in
-    let one = count_set seen c.along.at (omega (arith, lives_within c.args.homes.now c.args.home c.along.at new.0, c.along.invariant.places)) fresh in
+pub members-smaller : goal.members-smaller
+members-smaller c =
+    let new = c.is_new.ensures.0 c.members-test.true in
+    let seen = c.members.seen.items in
+    let fresh : marked seen c.members.at ≡ false = ap (λ (marks : List Bool). marked marks c.members.at) (sym c.deref.ensures.value) ∙ new.1 in
+    let one = count_set seen c.members.at (omega (arith, lives_within c.args.homes.now c.args.home c.members.at new.0, c.members.invariant.places)) fresh in
     rw c.set_mark.ensures (omega (arith, one))
 
-pub along-preserved : goal.along-preserved
-along-preserved c =
-    let new = c.is_new.ensures.0 c.along-test.true in
-    follow_goes c.args.homes.now c.args.next.now c.args.home c.args.ends.now _ c.along.seen.items c.set_mark.new.table.items c.along.at c.in-Some-leads.further
-    (new.0, ap (λ (marks : List Bool). marked marks c.along.at) (sym c.deref.ensures.value) ∙ new.1) (cc) (cc) c.set_mark.ensures c.along.invariant
+pub members-preserved : goal.members-preserved
+members-preserved c =
+    let new = c.is_new.ensures.0 c.members-test.true in
+    follow_goes c.args.homes.now c.args.next.now c.args.home c.args.ends.now _ c.members.seen.items c.set_mark.new.table.items c.members.at c.in-Some-leads.further
+    (new.0, ap (λ (marks : List Bool). marked marks c.members.at) (sym c.deref.ensures.value) ∙ new.1) (cc) (cc) c.set_mark.ensures c.members.invariant

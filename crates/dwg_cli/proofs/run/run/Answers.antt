@@ -4,4 +4,4 @@ use Rattle.dwg_cli.proofs.run.run.Goals as goal
 
 pub returns-in-Ok-clause-stopped : goal.returns-in-Ok-clause-stopped
 returns-in-Ok-clause-stopped g c =
-    λ stopped bytes feeds. inl (stopped_is_cut _ _ _ _ _ (c.in-Ok.ensures.answered bytes feeds) c.in-Ok.ensures.settled c.answer_request.ensures.sent stopped)
+    λ stopped bytes feeds. inl (stopped_is_cut _ _ _ _ _ (c.in-Ok.ensures.answered bytes feeds) c.in-Ok.ensures.settled c.run_job.ensures.sent stopped)

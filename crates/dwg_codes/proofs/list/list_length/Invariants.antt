@@ -3,5 +3,5 @@ use Rattle.dwg_codes.proofs.ListWriting.{AreCounted}
 use Rattle.dwg_codes.proofs.list.list_length.Given as goal
 
 -- what is counted so far and the values that are left give the whole
-abbrev pub invariant-along : goal.invariant-along
-invariant-along g l = AreCounted (g.C.BitCode.grammar l.context) l.values (drop l.item-index l.values) l.bits
+abbrev pub invariant-values : goal.invariant-values
+invariant-values g l = AreCounted (g.C.BitCode.grammar l.context) l.values (drop l.item-index l.values) l.bits

@@ -4,8 +4,8 @@ use Rattle.dwg_codes.proofs.ListReading.{AreRead}
 use Rattle.dwg_codes.proofs.list.read_list.Given as goal
 
 -- so many values as turns are read
-abbrev pub invariant-along : goal.invariant-along
-invariant-along g l = record {
+abbrev pub invariant-values : goal.invariant-values
+invariant-values g l = record {
   so_far : AreRead (g.C.BitCode.grammar l.context) l.found (rest l.fn.cursor) (rest l.ahead);
   counted : length l.found ≡ l.counter;
   bytes : l.ahead.bytes.now ≡ l.fn.cursor.bytes.now;

@@ -3,5 +3,5 @@ use Rattle.dwg_codes.proofs.ListWriting.{AreWrittenSoFar}
 use Rattle.dwg_codes.proofs.list.write_list.Given as goal
 
 -- what is written so far and the values that are left give the whole
-abbrev pub invariant-along : goal.invariant-along
-invariant-along g l = AreWrittenSoFar (g.C.BitCode.grammar l.context) l.values (drop l.value-index l.values) l.fn.sink l.sink
+abbrev pub invariant-values : goal.invariant-values
+invariant-values g l = AreWrittenSoFar (g.C.BitCode.grammar l.context) l.values (drop l.value-index l.values) l.fn.sink l.sink

@@ -3,5 +3,5 @@ use Rattle.dwg_common.proofs.AppWriting.{AreTried}
 use Rattle.dwg_common.proofs.app_list.app_fits.Given as goal
 
 -- the items so far have a spelling
-abbrev pub invariant-along : goal.invariant-along
-invariant-along l = AreTried l.base l.app (drop l.item-index l.app)
+abbrev pub invariant-items : goal.invariant-items
+invariant-items l = AreTried l.base l.app (drop l.item-index l.app)

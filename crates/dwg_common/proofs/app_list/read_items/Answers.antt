@@ -7,19 +7,19 @@ use Rattle.dwg_common.proofs.UntilReading.{one_begun, found_parsed, value_takes,
 use Rattle.dwg_common.specs.AppList.{app_item}
 use Rattle.dwg_common.proofs.app_list.read_items.Goals as goal
 
-pub along-preserved : goal.along-preserved
-along-preserved c = record {
-  so_far = one_begun bs (λ size. size == 0) (app_item c.args.base) c.along.found _ c.in-Some.size c.in-Some-2.item _ _ _ _ (app_takes c.args.base (search))
+pub items-preserved : goal.items-preserved
+items-preserved c = record {
+  so_far = one_begun bs (λ size. size == 0) (app_item c.args.base) c.items.found _ c.in-Some.size c.in-Some-2.item _ _ _ _ (app_takes c.args.base (search))
       (unmarked c.in-Some.size c.if-size-eq-MARK.false) c.in-Ok.ensures.ok
       (found_parsed bs c.parse_code.result c.in-Some.size _ _ c.in-Some.is c.parse_code.ensures.parsed)
       (found_parsed (app_item c.args.base c.in-Some.size) c.in_ok-item.field-0 c.in-Some-2.item _ _ c.in-Some-2.is c.in_ok-item.ensures.parsed)
-      c.along.invariant.so_far;
+      c.items.invariant.so_far;
   kept = search rules;
 }
 
-pub along-smaller : goal.along-smaller
-along-smaller c =
-    let before = c.along.cursor in
+pub items-smaller : goal.items-smaller
+items-smaller c =
+    let before = c.items.cursor in
     let after = c.read_item.new.cursor in
     omega (
       arith,

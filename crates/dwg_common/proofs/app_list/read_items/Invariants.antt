@@ -8,12 +8,12 @@ use Rattle.dwg_common.proofs.UntilReading.{AreBegun}
 use Rattle.dwg_common.proofs.app_list.read_items.Given as goal
 
 -- the items so far are read
-abbrev pub invariant-along : goal.invariant-along
-invariant-along l = record {
+abbrev pub invariant-items : goal.invariant-items
+invariant-items l = record {
   so_far : AreBegun bs (λ size. size == 0) (app_item l.base) l.found (rest l.fn.cursor) (rest l.cursor);
   kept : Keeps l.fn.cursor l.cursor;
 }
 
 -- each turn takes bits
-abbrev pub decreases-along : goal.decreases-along
-decreases-along l = l.cursor.end - l.cursor.place
+abbrev pub decreases-items : goal.decreases-items
+decreases-items l = l.cursor.end - l.cursor.place

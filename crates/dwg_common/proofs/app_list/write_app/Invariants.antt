@@ -3,5 +3,5 @@ use Rattle.dwg_common.proofs.AppWriting.{AreWrittenSoFar}
 use Rattle.dwg_common.proofs.app_list.write_app.Given as goal
 
 -- what is written so far and the items that are left give the whole
-abbrev pub invariant-along : goal.invariant-along
-invariant-along l = AreWrittenSoFar l.base l.app (drop l.item-index l.app) l.fn.sink l.sink
+abbrev pub invariant-items : goal.invariant-items
+invariant-items l = AreWrittenSoFar l.base l.app (drop l.item-index l.app) l.fn.sink l.sink

@@ -7,17 +7,17 @@ use Rattle.dwg_common.proofs.SkipLemmas.{one_skipped, item_there}
 use Rattle.dwg_common.specs.AppList.{app_item}
 use Rattle.dwg_common.proofs.skip.skip_items.Goals as goal
 
-pub along-preserved : goal.along-preserved
-along-preserved c = record {
+pub items-preserved : goal.items-preserved
+items-preserved c = record {
   so_far = one_skipped c.args.base c.in-Some.size _ _ _ _ (app_takes c.args.base (search)) (unmarked c.in-Some.size c.if-size-eq0.false)
       (found_parsed bs c.parse_code.result c.in-Some.size _ _ c.in-Some.is c.parse_code.ensures.parsed)
-      (item_there c.args.base c.in-Some.size _ _ c.skip_item.result tt c.in-Some-skip_item.is c.skip_item.ensures.skipped) c.along.invariant.so_far;
+      (item_there c.args.base c.in-Some.size _ _ c.skip_item.result tt c.in-Some-skip_item.is c.skip_item.ensures.skipped) c.items.invariant.so_far;
   kept = search rules;
 }
 
-pub along-smaller : goal.along-smaller
-along-smaller c =
-    let before = c.along.cursor in
+pub items-smaller : goal.items-smaller
+items-smaller c =
+    let before = c.items.cursor in
     let after = c.skip_item.new.cursor in
     let item = item_there c.args.base c.in-Some.size _ _ c.skip_item.result tt c.in-Some-skip_item.is c.skip_item.ensures.skipped in
     omega (

@@ -3,5 +3,5 @@ use Rattle.dwg_dicts.proofs.ItemFitting.{AreTried}
 use Rattle.dwg_dicts.proofs.dict_items.items_fit.Given as goal
 
 -- the items so far have a spelling
-abbrev pub invariant-along : goal.invariant-along
-invariant-along l = AreTried l.base l.items (drop l.item-index l.items)
+abbrev pub invariant-items : goal.invariant-items
+invariant-items l = AreTried l.base l.items (drop l.item-index l.items)

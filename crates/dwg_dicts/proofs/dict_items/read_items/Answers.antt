@@ -13,22 +13,22 @@ pub returns-in_default-clause-parsed : goal.returns-in_default-clause-parsed
 unfolding chain
 returns-in_default-clause-parsed c =
     names_missing c.args.base c.args.count _ _
-    (one_missing (λ (state : ℕ). tv) (λ (name : List ℕ). 0) 0 0 c.args.count _ (names_of c.along.found) c.in_ok-name.field-0 _ _ _
-    c.along-test.true c.in_default.is c.in_ok-name.ensures.parsed c.along.invariant.names)
+    (one_missing (λ (state : ℕ). tv) (λ (name : List ℕ). 0) 0 0 c.args.count _ (names_of c.items.found) c.in_ok-name.field-0 _ _ _
+    c.items-test.true c.in_default.is c.in_ok-name.ensures.parsed c.items.invariant.names)
 
 pub returns-in_default-parse_ref-clause-parsed : goal.returns-in_default-parse_ref-clause-parsed
 unfolding chain
 returns-in_default-parse_ref-clause-parsed c =
     targets_missing c.args.base c.args.count _ _
-    (one_missing (λ (state : ℕ). reference c.args.base) (λ (target : Reference). 0) 0 0 c.args.count _ (targets_of c.along.found) c.parse_ref.result _ _ _
-    c.along-test.true c.in_default-parse_ref.is c.parse_ref.ensures.parsed c.along.invariant.targets)
+    (one_missing (λ (state : ℕ). reference c.args.base) (λ (target : Reference). 0) 0 0 c.args.count _ (targets_of c.items.found) c.parse_ref.result _ _ _
+    c.items-test.true c.in_default-parse_ref.is c.parse_ref.ensures.parsed c.items.invariant.targets)
 
-pub along-preserved : goal.along-preserved
-along-preserved c = record {
-  names = one_begun (λ (state : ℕ). tv) (λ (name : List ℕ). 0) 0 0 c.args.count _ (names_of c.along.found) _ c.in_ok-name.field-0 c.in-Some.name _ _ _ c.along-test.true
-      (part_more (λ (item : DictItem). item.name) c.along.found _ _ c.in-Ok.ensures.ok) c.in-Some.is c.in_ok-name.ensures.parsed c.along.invariant.names;
-  targets = one_begun (λ (state : ℕ). reference c.args.base) (λ (target : Reference). 0) 0 0 c.args.count _ (targets_of c.along.found) _ c.parse_ref.result c.in-Some-parse_ref.target
-      _ _ _ c.along-test.true (part_more (λ (item : DictItem). item.target) c.along.found _ _ c.in-Ok.ensures.ok) c.in-Some-parse_ref.is c.parse_ref.ensures.parsed c.along.invariant.targets;
+pub items-preserved : goal.items-preserved
+items-preserved c = record {
+  names = one_begun (λ (state : ℕ). tv) (λ (name : List ℕ). 0) 0 0 c.args.count _ (names_of c.items.found) _ c.in_ok-name.field-0 c.in-Some.name _ _ _ c.items-test.true
+      (part_more (λ (item : DictItem). item.name) c.items.found _ _ c.in-Ok.ensures.ok) c.in-Some.is c.in_ok-name.ensures.parsed c.items.invariant.names;
+  targets = one_begun (λ (state : ℕ). reference c.args.base) (λ (target : Reference). 0) 0 0 c.args.count _ (targets_of c.items.found) _ c.parse_ref.result c.in-Some-parse_ref.target
+      _ _ _ c.items-test.true (part_more (λ (item : DictItem). item.target) c.items.found _ _ c.in-Ok.ensures.ok) c.in-Some-parse_ref.is c.parse_ref.ensures.parsed c.items.invariant.targets;
   kept = search rules;
   refs_kept = search rules;
 }
@@ -36,6 +36,6 @@ along-preserved c = record {
 pub returns-clause-parsed : goal.returns-clause-parsed
 unfolding chain
 returns-clause-parsed c =
-    all_found c.args.base c.args.count c.along.found _ _ _ _
-    (all_begun (λ (state : ℕ). tv) (λ (name : List ℕ). 0) 0 0 c.args.count _ (names_of c.along.found) _ _ c.along-test.false c.along.invariant.names)
-    (all_begun (λ (state : ℕ). reference c.args.base) (λ (target : Reference). 0) 0 0 c.args.count _ (targets_of c.along.found) _ _ c.along-test.false c.along.invariant.targets)
+    all_found c.args.base c.args.count c.items.found _ _ _ _
+    (all_begun (λ (state : ℕ). tv) (λ (name : List ℕ). 0) 0 0 c.args.count _ (names_of c.items.found) _ _ c.items-test.false c.items.invariant.names)
+    (all_begun (λ (state : ℕ). reference c.args.base) (λ (target : Reference). 0) 0 0 c.args.count _ (targets_of c.items.found) _ _ c.items-test.false c.items.invariant.targets)

@@ -9,8 +9,8 @@ use Rattle.dwg_dicts.specs.Dictionaries.{names_of, targets_of}
 use Rattle.dwg_dicts.proofs.dict_items.read_items.Given as goal
 
 -- so many names and targets as turns are read
-abbrev pub invariant-along : goal.invariant-along
-invariant-along l = record {
+abbrev pub invariant-items : goal.invariant-items
+invariant-items l = record {
   names : IsBegun (λ (state : ℕ). tv) (λ (name : List ℕ). 0) 0 0 l.count l.counter (names_of l.found) (rest l.fn.main) (rest l.main);
   targets : IsBegun (λ (state : ℕ). reference l.base) (λ (target : Reference). 0) 0 0 l.count l.counter (targets_of l.found) (rest l.fn.refs) (rest l.refs);
   kept : Keeps l.fn.main l.main;

@@ -5,5 +5,5 @@ use Rattle.dwg_common.proofs.MemberLoops.{AreCounted}
 use Rattle.dwg_dicts.proofs.dict_items.targets_bits.Given as goal
 
 -- what is counted so far and the items that are left give the whole
-abbrev pub invariant-along : goal.invariant-along
-invariant-along l = AreCounted (reference l.base) (λ (item : DictItem). item.target) l.items (drop l.item-index l.items) l.bits
+abbrev pub invariant-items : goal.invariant-items
+invariant-items l = AreCounted (reference l.base) (λ (item : DictItem). item.target) l.items (drop l.item-index l.items) l.bits

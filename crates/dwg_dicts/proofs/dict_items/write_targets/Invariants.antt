@@ -5,5 +5,5 @@ use Rattle.dwg_common.proofs.MemberLoops.{AreWrittenSoFar}
 use Rattle.dwg_dicts.proofs.dict_items.write_targets.Given as goal
 
 -- what is written so far and the items that are left give the whole
-abbrev pub invariant-along : goal.invariant-along
-invariant-along l = AreWrittenSoFar (reference l.base) (λ (item : DictItem). item.target) l.items (drop l.item-index l.items) l.fn.sink l.sink
+abbrev pub invariant-items : goal.invariant-items
+invariant-items l = AreWrittenSoFar (reference l.base) (λ (item : DictItem). item.target) l.items (drop l.item-index l.items) l.fn.sink l.sink

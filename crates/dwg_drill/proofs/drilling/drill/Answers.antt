@@ -6,14 +6,14 @@ use Rattle.dwg_drill.proofs.drilling.drill.Goals as goal
 
 pub drill_file-requires : goal.drill_file-requires
 drill_file-requires c =
-    let within = c.in-Ok.ensures.within in
+    let within = c.in_ok-file.ensures.within in
     let valid = c.make_laws.ensures.valid c.args.n DRILL_SEED within.0 within.1 (omega arith) in
-    let can = can_be_drilled c.canonical_laws.ensures.counted c.canonical_laws.ensures.read (made c.args.n DRILL_SEED) c.in-Ok.file valid within.2 c.in-Ok.ensures.file in
+    let can = can_be_drilled c.canonical_laws.ensures.counted c.canonical_laws.ensures.read (made c.args.n DRILL_SEED) c.in_ok-file.file valid within.2 c.in_ok-file.ensures.file in
     record { length = can.few; some = can.some; passes = can.passes }
 
-pub returns-in-Ok-drill_file-clause-report : goal.returns-in-Ok-drill_file-clause-report
-returns-in-Ok-drill_file-clause-report c =
-    let within = c.in-Ok.ensures.within in
+pub returns-clause-report : goal.returns-clause-report
+returns-clause-report c =
+    let within = c.in_ok-file.ensures.within in
     let valid = c.make_laws.ensures.valid c.args.n DRILL_SEED within.0 within.1 (omega arith) in
-    let can = can_be_drilled c.canonical_laws.ensures.counted c.canonical_laws.ensures.read (made c.args.n DRILL_SEED) c.in-Ok.file valid within.2 c.in-Ok.ensures.file in
-    reported_is_drilled c.args.n c.in-Ok.file c.in-Ok-drill_file.report c.in-Ok-drill_file.ensures.report can.read c.in-Ok.ensures.file
+    let can = can_be_drilled c.canonical_laws.ensures.counted c.canonical_laws.ensures.read (made c.args.n DRILL_SEED) c.in_ok-file.file valid within.2 c.in_ok-file.ensures.file in
+    reported_is_drilled c.args.n c.in_ok-file.file c.in_ok-report.report c.in_ok-report.ensures.report can.read c.in_ok-file.ensures.file

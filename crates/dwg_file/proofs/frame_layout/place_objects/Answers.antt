@@ -6,21 +6,21 @@ use Rattle.dwg_file.proofs.PlanFacts.{one_fits, none_left_fits, placed_one}
 use Rattle.dwg_file.specs.Plans.{CanBeFramed}
 use Rattle.dwg_file.proofs.frame_layout.place_objects.Goals as goal
 
-pub along-preserved : goal.along-preserved
-along-preserved c = record {
+pub objects-preserved : goal.objects-preserved
+objects-preserved c = record {
   counted =
-      one_counted value_of (frame_bytes c.args.version) c.args.objects.now c.along.object-index c.object-item.result c.args.from c.along.place c.frame_length-frame.result c.along-test.true c.object-item.is
-      c.frame_length-frame.ensures.length c.along.invariant.counted;
+      one_counted value_of (frame_bytes c.args.version) c.args.objects.now c.objects.object-index c.object-item.result c.args.from c.objects.place c.frame_length-frame.result c.objects-test.true c.object-item.is
+      c.frame_length-frame.ensures.length c.objects.invariant.counted;
   whole =
-      placed_one c.args.version c.args.objects.now c.along.object-index c.object-item.result c.args.from c.along.place c.frame_length-frame.result c.handle.result c.along.pairs.items c.push_item.new.items.items
-      c.along-test.true c.object-item.is c.frame_length-frame.ensures.length c.handle.ensures c.in_ok-push_item.ensures c.along.invariant.whole;
-  framed = (holds_here value_of (frame_bytes c.args.version) (CanBeFramed c.args.version) c.args.objects.now c.along.object-index c.object-item.result c.along-test.true c.object-item.is c.along.invariant.framed).1;
+      placed_one c.args.version c.args.objects.now c.objects.object-index c.object-item.result c.args.from c.objects.place c.frame_length-frame.result c.handle.result c.objects.pairs.items c.push.new.self.items
+      c.objects-test.true c.object-item.is c.frame_length-frame.ensures.length c.handle.ensures c.in_ok-push.ensures.items c.objects.invariant.whole;
+  framed = (holds_here value_of (frame_bytes c.args.version) (CanBeFramed c.args.version) c.args.objects.now c.objects.object-index c.object-item.result c.objects-test.true c.object-item.is c.objects.invariant.framed).1;
   fit = λ most within left.
       let both : c.room_of_frame.result ≤ most = omega (arith, within, c.max-part.ensures) in
-      let before : c.along.part ≤ most = omega (arith, within, c.max-part.ensures) in
-      c.along.invariant.fit most before (one_fits c.args.version c.args.objects.now c.along.object-index c.object-item.result most c.room_of_frame.result c.along-test.true c.object-item.is c.room_of_frame.ensures.room both left);
-  few = omega (arith, c.max-part.ensures, c.room_of_frame.ensures.few, c.along.invariant.few);
+      let before : c.objects.part ≤ most = omega (arith, within, c.max-part.ensures) in
+      c.objects.invariant.fit most before (one_fits c.args.version c.args.objects.now c.objects.object-index c.object-item.result most c.room_of_frame.result c.objects-test.true c.object-item.is c.room_of_frame.ensures.room both left);
+  few = omega (arith, c.max-part.ensures, c.room_of_frame.ensures.few, c.objects.invariant.few);
 }
 
 pub returns-clause-part : goal.returns-clause-part
-returns-clause-part c = c.along.invariant.fit c.along.part (omega arith) (none_left_fits c.args.version c.args.objects.now c.along.object-index c.along.part c.along-test.false)
+returns-clause-part c = c.objects.invariant.fit c.objects.part (omega arith) (none_left_fits c.args.version c.args.objects.now c.objects.object-index c.objects.part c.objects-test.false)

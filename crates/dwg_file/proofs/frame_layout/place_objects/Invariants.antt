@@ -9,8 +9,8 @@ use Rattle.dwg_file.proofs.PlanLoops.{AreCounted}
 use Rattle.dwg_file.proofs.frame_layout.place_objects.Given as goal
 
 -- what is placed so far and what is left give the whole; and where what is left fits in as much as those so far, all do
-abbrev pub invariant-along : goal.invariant-along
-invariant-along l = record {
+abbrev pub invariant-objects : goal.invariant-objects
+invariant-objects l = record {
   counted : AreCounted value_of (frame_bytes l.fn.version) l.objects (drop l.object-index l.objects) l.fn.from l.place;
   whole : placed l.fn.version l.fn.from (map value_of l.objects) ≡ l.pairs.items ++ placed l.fn.version l.place (map value_of (drop l.object-index l.objects));
   framed : AllByRecursion (CanBeFramed l.fn.version) (map value_of (drop l.object-index l.objects));

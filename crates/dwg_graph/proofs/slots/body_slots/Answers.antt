@@ -11,7 +11,7 @@ use Rattle.dwg_entities.specs.declared.attrib.Attrib.{Attrib}
 use Rattle.dwg_entities.specs.declared.insert.Insert.{Insert}
 use Rattle.dwg_entities.specs.declared.minsert.MInsert.{MInsert}
 use Rattle.dwg_entities.specs.declared.text.Text.{Text}
-use Rattle.dwg_graph.specs.declared.walk.Walk.{Walk}
+use Rattle.dwg_graph.specs.declared.slot_walk.Walk.{Walk}
 use Rattle.dwg_graph.specs.Slots.{held_by_body}
 use Rattle.dwg_graph.specs.SlotWalks.{PassesFields}
 use Rattle.dwg_graph.proofs.Passing.{passes_end}

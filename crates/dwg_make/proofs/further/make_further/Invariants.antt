@@ -5,8 +5,8 @@ use Rattle.dwg_make.specs.Random.{state_at}
 use Rattle.dwg_make.proofs.further.make_further.Given as goal
 
 -- so many entities are made, and nine random numbers are used for each
-abbrev pub invariant-along : goal.invariant-along
-invariant-along l = record {
+abbrev pub invariant-entities : goal.invariant-entities
+invariant-entities l = record {
   at : l.random ≡ state_at l.seed (9 * l.done);
   made : l.making ≡ l.fn.making ++ map (further_entity l.count l.seed) (range_with_len 1 l.done);
 }

@@ -5,7 +5,7 @@ use Rattle.dwg_text.proofs.Writing.{◌▷◌}
 use Rattle.dwg_messages.specs.AppText.{app_text}
 use Rattle.dwg_messages.proofs.app_objects.write_apps.Goals as goal
 
-pub along-preserved : goal.along-preserved
-along-preserved g c =
-    subst (WritesText _ _ _ _ _ _) (more_numbered (app_text c.args.handle) c.args.apps.now c.along.index c.index-apps-index.result c.along-test.true c.index-apps-index.is)
-    (c.along.invariant ▷ c.write_app.ensures)
+pub apps-preserved : goal.apps-preserved
+apps-preserved g c =
+    subst (WritesText _ _ _ _ _ _) (more_numbered (app_text c.args.handle) c.args.apps.now c.apps.index c.index-apps-index.result c.apps-test.true c.index-apps-index.is)
+    (c.apps.invariant ▷ c.write_app.ensures)

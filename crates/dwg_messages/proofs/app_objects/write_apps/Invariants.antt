@@ -5,7 +5,7 @@ use Rattle.dwg_messages.specs.AppText.{app_text}
 use Rattle.dwg_messages.proofs.app_objects.write_apps.Given as goal
 
 -- those so far are written
-abbrev pub invariant-along : goal.invariant-along
-invariant-along g l =
-    WritesText l.initial.page l.page (g.W.Sink.taken l.initial.sink) (g.W.Sink.taken l.sink) (g.W.Sink.faults l.initial.sink) (g.W.Sink.faults l.sink)
+abbrev pub invariant-apps : goal.invariant-apps
+invariant-apps g l =
+    WritesText l.initial.writer l.writer (g.W.Sink.taken l.initial.sink) (g.W.Sink.taken l.sink) (g.W.Sink.faults l.initial.sink) (g.W.Sink.faults l.sink)
     (numbered (app_text l.handle) 0 (take l.index l.apps))

@@ -4,4 +4,4 @@ use Rattle.dwg_messages.proofs.app_objects.write_counted.Goals as goal
 
 pub returns : goal.returns
 unfolding items_text
-returns g c = c.write_line.ensures ▷ c.write_items.ensures
+returns g c = c.write_line.ensures ▷ c.write_all.ensures

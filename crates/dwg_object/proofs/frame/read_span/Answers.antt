@@ -16,15 +16,15 @@ returns-in_default-clause-tried c =
     reported_frame c.args.version c.args.bytes.now _ _ _ (λ i. omega (arith, c.type_inv.bytes i))
     (head_refused _ _ c.args.span.now c.piece-body.result.now _ framed c.piece-body.ensures c.in_default.ensures.none c.frame_refusal-in_default.ensures)
 
-pub returns-in-Ok-clause-found : goal.returns-in-Ok-clause-found
-returns-in-Ok-clause-found c =
+pub returns-clause-found : goal.returns-clause-found
+returns-clause-found c =
     let framed = framed_at c.args.bytes.now _ c.args.span.now (are_bytes c.args.bytes.now (λ i. omega (arith, c.type_inv.bytes i))) c.requires refl (sym c.has_frame_word.ensures ∙ c.if-not-has_frame_word.false) in
-    found_frame c.args.version _ _ c.args.span.now c.piece-body.result.now c.args.hints.now _ framed c.piece-body.ensures c.in-Ok.ensures.form
+    found_frame c.args.version _ _ c.args.span.now c.piece-body.result.now c.args.hints.now _ framed c.piece-body.ensures c.in_ok-object.ensures.form
 
-pub returns-in-Ok-clause-tried : goal.returns-in-Ok-clause-tried
-returns-in-Ok-clause-tried c =
+pub returns-clause-tried : goal.returns-clause-tried
+returns-clause-tried c =
     let framed = framed_at c.args.bytes.now _ c.args.span.now (are_bytes c.args.bytes.now (λ i. omega (arith, c.type_inv.bytes i))) c.requires refl (sym c.has_frame_word.ensures ∙ c.if-not-has_frame_word.false) in
-    found_tried c.args.version c.args.bytes.now _ c.args.span.now c.piece-body.result.now c.args.hints.now c.in-Ok.object (λ i. omega (arith, c.type_inv.bytes i)) framed c.piece-body.ensures c.in-Ok.ensures.form
+    found_tried c.args.version c.args.bytes.now _ c.args.span.now c.piece-body.result.now c.args.hints.now c.in_ok-object.object (λ i. omega (arith, c.type_inv.bytes i)) framed c.piece-body.ensures c.in_ok-object.ensures.form
 
 pub returns-then-not-has_frame_word-clause-tried : goal.returns-then-not-has_frame_word-clause-tried
 returns-then-not-has_frame_word-clause-tried c =

@@ -3,5 +3,5 @@ use Rattle.dwg_objmap.specs.DistinctPairs.{HasHandles}
 use Rattle.dwg_objmap.proofs.distinct_pairs.filled.Given as goal
 
 -- the set has the handles of the pairs so far
-abbrev pub invariant-along : goal.invariant-along
-invariant-along l = HasHandles l.handles (take l.pair-index l.pairs)
+abbrev pub invariant-pairs : goal.invariant-pairs
+invariant-pairs l = HasHandles l.handles (take l.pair-index l.pairs)

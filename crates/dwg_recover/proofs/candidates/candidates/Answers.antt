@@ -2,11 +2,11 @@ use Rattle.std.proofs.Common.{arith}
 use Rattle.dwg_recover.proofs.CandidatesAlong.{candidates_on, candidates_over}
 use Rattle.dwg_recover.proofs.candidates.candidates.Goals as goal
 
-pub along-preserved : goal.along-preserved
-along-preserved g c = (
-  candidates_on c.args.bytes.now c.along.index c.args.pairs.now _ _ c.candidate.result _ _ _ c.along-test.true c.index-pairs-index.is c.candidate.ensures.frame c.in_ok-frames.ensures c.along.invariant.0,
-  omega (arith, c.along.invariant.1, c.candidate.ensures.steps),
+pub pairs-preserved : goal.pairs-preserved
+pairs-preserved g c = (
+  candidates_on c.args.bytes.now c.pairs.index c.args.pairs.now _ _ c.candidate.result _ _ _ c.pairs-test.true c.index-pairs-index.is c.candidate.ensures.frame c.in_ok-frames.ensures c.pairs.invariant.0,
+  omega (arith, c.pairs.invariant.1, c.candidate.ensures.steps),
 )
 
 pub returns-clause-frames : goal.returns-clause-frames
-returns-clause-frames g c = candidates_over c.args.bytes.now c.along.index c.args.pairs.now _ _ c.along-test.false c.along.invariant.0
+returns-clause-frames g c = candidates_over c.args.bytes.now c.pairs.index c.args.pairs.now _ _ c.pairs-test.false c.pairs.invariant.0

@@ -4,8 +4,8 @@ use Rattle.dwg_recover.specs.declared.frame.Frame.{Frame}
 use Rattle.dwg_recover.proofs.PlaceOrder.{sorted_in_place_order}
 use Rattle.dwg_recover.proofs.candidates.in_place_order.Goals as goal
 
-pub returns-in-Ok : goal.returns-in-Ok
-returns-in-Ok c = λ most.
+pub returns : goal.returns
+returns c = λ most.
     sorted_in_place_order most c.args.frames.items c.sort_by_key.new.self.items c.sort_by_key.ensures.permutation
-    (IsNonDecreasingBy-from_sort_by_key (λ (frame : Frame). frame.from) _ c.in-Ok.ensures.sorted (λ a r q k. search rules))
+    (IsNonDecreasingBy-from_sort_by_key (λ (frame : Frame). frame.from) _ c.in_ok-sort_by_key.ensures.sorted (λ a r q k. search rules))
     (c.sort_by_key.ensures.stable (λ (frame : Frame). frame.from) (answers_always _ _ _ (λ f a r g h. search rules)))

@@ -11,9 +11,9 @@ use Rattle.dwg_recover.specs.Sections.{locators_of, lost_if, lost_sections}
 use Rattle.dwg_recover.proofs.RecoveryParts.{losses_joined, none_reported}
 use Rattle.dwg_recover.proofs.recovery.losses_of.Goals as goal
 
-pub returns-in-Ok : goal.returns-in-Ok
+pub returns : goal.returns
 unfolding losses_of
-returns-in-Ok c =
+returns c =
     losses_joined _ _ _ _ _ _ _ _ _ _ _ _ _ _
     (c.in_ok-losses.ensures ∙ ap₂ (λ (l : List Loss) (t : Bool). l ++ lost_if t losses.Header) c.new.ensures (none_reported _ c.is_none.result c.is_none.ensures ∙ ap is_none c.requires.header))
     (c.in_ok-losses-2.ensures ∙ ap (λ (t : Bool). c.in_ok-losses.losses ++ lost_if t losses.Variables) (none_reported _ c.is_none-2.result c.is_none-2.ensures ∙ ap is_none c.requires.variables))
@@ -21,4 +21,4 @@ returns-in-Ok c =
     (c.in_ok-losses-4.ensures ∙ ap (λ (l : List Locator). c.in_ok-losses-3.losses ++ lost_sections c.args.bytes.now l) (c.locators_of.ensures ∙ ap locators_of c.requires.header))
     (c.in_ok-losses-5.ensures ∙ ap (λ (l : List Loss). c.in_ok-losses-4.losses ++ l) c.as_slice.ensures)
     c.requires.pages
-    (c.in-Ok.ensures ∙ ap₂ (λ (k : List Frame) (p : List Pair). c.in_ok-losses-5.losses ++ lost_pairs k 0 p) c.requires.mapped (c.as_slice-2.ensures ∙ c.requires.pairs))
+    (c.in_ok-losses-6.ensures ∙ ap₂ (λ (k : List Frame) (p : List Pair). c.in_ok-losses-5.losses ++ lost_pairs k 0 p) c.requires.mapped (c.as_slice-2.ensures ∙ c.requires.pairs))

@@ -15,13 +15,13 @@ returns-in_default-clause-losses c =
     let none = walk_nowhere c.args.bytes.now c.args.header.now c.requires (sym c.in_default.is ∙ c.place_located.ensures) in
     c.new-in_default.ensures ∙ sym (ap (λ (walk : Walk). lost_pages c.args.bytes.now 0 walk.pages ++ lost_end walk.lost) none)
 
-pub returns-in-Ok-clause-pairs : goal.returns-in-Ok-clause-pairs
+pub returns-clause-pairs : goal.returns-clause-pairs
 unfolding pairs_read
-returns-in-Ok-clause-pairs c =
+returns-clause-pairs c =
     let located = walk_at c.args.bytes.now c.args.header.now c.from.result c.requires (ap Some c.from.ensures ∙ sym c.in-Some.is ∙ c.place_located.ensures) in
-    c.in-Ok.ensures.pairs ∙ sym (ap (λ (walk : Walk). pairs_of c.args.bytes.now walk.pages) located)
+    c.in_ok-walked.ensures.pairs ∙ sym (ap (λ (walk : Walk). pairs_of c.args.bytes.now walk.pages) located)
 
-pub returns-in-Ok-clause-losses : goal.returns-in-Ok-clause-losses
-returns-in-Ok-clause-losses c =
+pub returns-clause-losses : goal.returns-clause-losses
+returns-clause-losses c =
     let located = walk_at c.args.bytes.now c.args.header.now c.from.result c.requires (ap Some c.from.ensures ∙ sym c.in-Some.is ∙ c.place_located.ensures) in
-    c.in-Ok.ensures.losses ∙ sym (ap (λ (walk : Walk). lost_pages c.args.bytes.now 0 walk.pages ++ lost_end walk.lost) located)
+    c.in_ok-walked.ensures.losses ∙ sym (ap (λ (walk : Walk). lost_pages c.args.bytes.now 0 walk.pages ++ lost_end walk.lost) located)

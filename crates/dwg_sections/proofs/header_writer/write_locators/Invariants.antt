@@ -5,8 +5,8 @@ use Rattle.dwg_sections.specs.Writing.{Puts}
 use Rattle.dwg_sections.proofs.header_writer.write_locators.Given as goal
 
 -- the locators up to the index are written
-abbrev pub invariant-along : goal.invariant-along
-invariant-along l = record {
+abbrev pub invariant-locators : goal.invariant-locators
+invariant-locators l = record {
   written : Puts l.fn.sink l.sink (flat_map locator_bytes (take l.locator-index l.locators));
   spare : l.fn.sink.spare ≤ l.sink.spare + 72 * l.locator-index;
 }

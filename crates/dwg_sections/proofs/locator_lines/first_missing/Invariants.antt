@@ -5,7 +5,7 @@ use Rattle.dwg_sections.specs.HeaderLines.{numbers_at, is_missing}
 use Rattle.dwg_sections.proofs.locator_lines.first_missing.Given as goal
 
 -- what is left to look at gives what all gives
-abbrev pub invariant-along : goal.invariant-along
-invariant-along l =
+abbrev pub invariant-numbers : goal.invariant-numbers
+invariant-numbers l =
     find (is_missing (numbers_at l.bytes)) (range_with_len l.number (3 - l.number))
     ≡ find (is_missing (numbers_at l.bytes)) (range_with_len 0 3)

@@ -6,5 +6,5 @@ use Rattle.dwg_sections.proofs.locator_lines.is_repeated.Goals as goal
 
 pub returns-then-number_at-number : goal.returns-then-number_at-number
 returns-then-number_at-number c =
-    sym (is_earlier (numbers_at c.args.bytes.now) c.along.earlier c.args.index (omega arith) (omega (arith, numbers_counted c.args.bytes.now))
+    sym (is_earlier (numbers_at c.args.bytes.now) c.earlier_ones.earlier c.args.index (omega arith) (omega (arith, numbers_counted c.args.bytes.now))
     (sym c.number_at.ensures ∙ c.if-number_at-number.true ∙ c.number_at-number.ensures))

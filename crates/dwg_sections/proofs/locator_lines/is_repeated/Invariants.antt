@@ -5,6 +5,6 @@ use Rattle.dwg_sections.specs.HeaderLines.{numbers_at}
 use Rattle.dwg_sections.proofs.locator_lines.is_repeated.Given as goal
 
 -- none of the numbers that were looked at is the number
-abbrev pub invariant-along : goal.invariant-along
-invariant-along l =
+abbrev pub invariant-earlier_ones : goal.invariant-earlier_ones
+invariant-earlier_ones l =
     list_any (λ number. number == slice_index (numbers_at l.bytes) l.index) (take l.earlier (numbers_at l.bytes)) ≡ false

@@ -4,4 +4,4 @@ use Rattle.dwg_text.proofs.Writing.{◌▷◌, written_whole}
 use Rattle.dwg_show.proofs.drawing.show.Goals as goal
 
 pub returns-clause-bytes : goal.returns-clause-bytes
-returns-clause-bytes g c = written_whole c.new-page.result c.end.new.self _ _ _ _ _ _ c.end.result c.new-page.ensures.piece c.new-page.ensures.fault (ap show_text c.parts.ensures.parts) (c.write_drawing.ensures ▷ c.end.ensures.written) c.end.ensures.whole c.end.ensures.cut
+returns-clause-bytes g c = written_whole c.new-writer.result c.end.new.self _ _ _ _ _ _ c.end.result c.new-writer.ensures.piece c.new-writer.ensures.fault (ap show_text c.parts.ensures.parts) (c.write_drawing.ensures ▷ c.end.ensures.written) c.end.ensures.whole c.end.ensures.cut

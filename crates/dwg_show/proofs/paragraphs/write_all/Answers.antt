@@ -6,13 +6,13 @@ use Rattle.dwg_text.proofs.Elements.{more_paragraphs}
 use Rattle.dwg_text.proofs.Writing.{◌▷◌}
 use Rattle.dwg_show.proofs.paragraphs.write_all.Goals as goal
 
-pub along-preserved : goal.along-preserved
-along-preserved g c =
-    subst (WritesText _ _ _ _ _ _) (more_paragraphs g.T.Paragraph.written c.args.paragraphs.now c.along.index c.index-paragraphs-index.result c.along-test.true c.index-paragraphs-index.is)
-    (c.along.invariant ▷ c.write.ensures)
+pub paragraphs-preserved : goal.paragraphs-preserved
+paragraphs-preserved g c =
+    subst (WritesText _ _ _ _ _ _) (more_paragraphs g.T.Paragraph.written c.args.paragraphs.now c.paragraphs.index c.index-paragraphs-index.result c.paragraphs-test.true c.index-paragraphs-index.is)
+    (c.paragraphs.invariant ▷ c.write.ensures)
 
 pub write-requires : goal.write-requires
 write-requires g c =
     let one = c.index-paragraphs-index.result in
-    one_of_all g.T.Paragraph.can_write c.args.paragraphs.now c.along.index one c.requires
-    (slice_get-get_or c.args.paragraphs.now c.along.index one c.along-test.true ∙ ap Some (sym c.index-paragraphs-index.is))
+    one_of_all g.T.Paragraph.can_write c.args.paragraphs.now c.paragraphs.index one c.requires
+    (slice_get-get_or c.args.paragraphs.now c.paragraphs.index one c.paragraphs-test.true ∙ ap Some (sym c.index-paragraphs-index.is))

@@ -4,5 +4,5 @@ use Rattle.dwg_common.proofs.MemberLoops.{AreTried}
 use Rattle.dwg_tables.proofs.dash.known_strokes.Given as goal
 
 -- the dashes so far are known
-abbrev pub invariant-along : goal.invariant-along
-invariant-along l = AreTried stroke stroke_of l.dashes (drop l.dash-index l.dashes)
+abbrev pub invariant-dashes : goal.invariant-dashes
+invariant-dashes l = AreTried stroke stroke_of l.dashes (drop l.dash-index l.dashes)

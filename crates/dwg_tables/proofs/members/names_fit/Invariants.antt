@@ -4,5 +4,5 @@ use Rattle.dwg_common.proofs.MemberLoops.{AreTried}
 use Rattle.dwg_tables.proofs.members.names_fit.Given as goal
 
 -- the members so far have a spelling
-abbrev pub invariant-along : goal.invariant-along
-invariant-along g l = AreTried (reference l.base) g.V.Part.part l.members (drop l.member-index l.members)
+abbrev pub invariant-members : goal.invariant-members
+invariant-members g l = AreTried (reference l.base) g.V.Part.part l.members (drop l.member-index l.members)

@@ -8,17 +8,17 @@ use Rattle.dwg_tables.proofs.members.read_names.Goals as goal
 pub returns-in_default-clause-parsed : goal.returns-in_default-clause-parsed
 unfolding chain
 returns-in_default-clause-parsed g c =
-    one_missing (λ (state : ℕ). reference c.args.base) (λ (name : Reference). 0) 0 0 (length c.args.parsed.now) _ c.along.names c.parse_ref.result _ _ _
-    c.along-test.true c.in_default.is c.parse_ref.ensures.parsed c.along.invariant.so_far
+    one_missing (λ (state : ℕ). reference c.args.base) (λ (name : Reference). 0) 0 0 (length c.args.parsed.now) _ c.names.names c.parse_ref.result _ _ _
+    c.names-test.true c.in_default.is c.parse_ref.ensures.parsed c.names.invariant.so_far
 
-pub along-preserved : goal.along-preserved
-along-preserved g c = record {
-  so_far = one_begun (λ (state : ℕ). reference c.args.base) (λ (name : Reference). 0) 0 0 (length c.args.parsed.now) _ c.along.names _ c.parse_ref.result c.in-Some.name _ _ _
-      c.along-test.true c.in-Ok.ensures.ok c.in-Some.is c.parse_ref.ensures.parsed c.along.invariant.so_far;
+pub names-preserved : goal.names-preserved
+names-preserved g c = record {
+  so_far = one_begun (λ (state : ℕ). reference c.args.base) (λ (name : Reference). 0) 0 0 (length c.args.parsed.now) _ c.names.names _ c.parse_ref.result c.in-Some.name _ _ _
+      c.names-test.true c.in-Ok.ensures.ok c.in-Some.is c.parse_ref.ensures.parsed c.names.invariant.so_far;
   kept = search rules;
 }
 
 pub returns-clause-parsed : goal.returns-clause-parsed
 unfolding chain
 returns-clause-parsed g c =
-    all_begun (λ (state : ℕ). reference c.args.base) (λ (name : Reference). 0) 0 0 (length c.args.parsed.now) _ c.along.names _ _ c.along-test.false c.along.invariant.so_far
+    all_begun (λ (state : ℕ). reference c.args.base) (λ (name : Reference). 0) 0 0 (length c.args.parsed.now) _ c.names.names _ _ c.names-test.false c.names.invariant.so_far

@@ -7,8 +7,8 @@ use Rattle.dwg_common.proofs.ChainReading.{IsBegun}
 use Rattle.dwg_tables.proofs.members.read_names.Given as goal
 
 -- as many references as turns are read
-abbrev pub invariant-along : goal.invariant-along
-invariant-along g l = record {
+abbrev pub invariant-names : goal.invariant-names
+invariant-names g l = record {
   so_far : IsBegun (λ (state : ℕ). reference l.base) (λ (name : Reference). 0) 0 0 (length l.parsed) l.counter l.names (rest l.fn.cursor) (rest l.cursor);
   kept : Keeps l.fn.cursor l.cursor;
 }

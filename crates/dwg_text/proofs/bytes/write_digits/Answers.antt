@@ -6,10 +6,10 @@ use Rattle.dwg_text.proofs.Elements.{more_digits}
 use Rattle.dwg_text.proofs.Writing.{◌▷◌}
 use Rattle.dwg_text.proofs.bytes.write_digits.Goals as goal
 
-pub along-preserved : goal.along-preserved
-along-preserved g c = (
+pub runs-preserved : goal.runs-preserved
+runs-preserved g c = (
   omega (arith, c.min-count.ensures),
   subst (WritesText _ _ _ _ _ _)
-      (ap (λ run. flat_map byte_digits (take c.along.at c.args.bytes.now) ++ flat_map byte_digits run) c.run_at.ensures ∙ more_digits c.args.bytes.now c.along.at c.min-count.result)
-      (c.along.invariant.1 ▷ c.write_run.ensures),
+      (ap (λ run. flat_map byte_digits (take c.runs.at c.args.bytes.now) ++ flat_map byte_digits run) c.run_at.ensures ∙ more_digits c.args.bytes.now c.runs.at c.min-count.result)
+      (c.runs.invariant.1 ▷ c.write_run.ensures),
 )

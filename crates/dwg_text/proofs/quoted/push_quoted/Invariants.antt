@@ -4,5 +4,5 @@ use Rattle.dwg_text.specs.Lines.{quoted_byte, quoted}
 use Rattle.dwg_text.proofs.quoted.push_quoted.Given as goal
 
 -- what is written, the bytes that are left and the closing mark are the whole text
-abbrev pub invariant-along : goal.invariant-along
-invariant-along l = string_bytes l.text ++ (flat_map quoted_byte (drop l.byte-index l.bytes) ++ codes "\"") ≡ string_bytes l.fn.text ++ quoted l.bytes
+abbrev pub invariant-bytes : goal.invariant-bytes
+invariant-bytes l = string_bytes l.text ++ (flat_map quoted_byte (drop l.byte-index l.bytes) ++ codes "\"") ≡ string_bytes l.fn.text ++ quoted l.bytes

@@ -5,8 +5,8 @@ use Rattle.dwg_bits.proofs.Pushing.{none_placed, word_placed}
 use Rattle.dwg_bits.proofs.WordParts.{count_fits}
 use Rattle.dwg_bits.proofs.sink.BitSink.push_words.Goals as goal
 
-pub along-init : goal.along-init
-along-init c =
+pub words-init : goal.words-init
+words-init c =
     record {
       ordered = omega arith;
       inside = c.requires.ordered;
@@ -15,20 +15,20 @@ along-init c =
     }
 
 pub push-requires-clause-value : goal.push-requires-clause-value
-push-requires-clause-value c = count_fits c.args.bytes.now c.along.place c.next_count-count.result _ (omega arith) c.number_at.ensures
+push-requires-clause-value c = count_fits c.args.bytes.now c.words.place c.next_count-count.result _ (omega arith) c.number_at.ensures
 
-pub along-preserved : goal.along-preserved
-along-preserved c =
+pub words-preserved : goal.words-preserved
+words-preserved c =
     record {
       ordered = omega arith;
       inside = omega arith;
-      bits = word_placed _ _ _ c.args.bytes.now _ c.along.place _ _ (omega arith) (omega arith) c.number_at.ensures c.push.ensures.bits c.along.invariant.bits ∙ ap (λ n. c.args.self.now.written ++ bits_between c.args.bytes.now c.args.from (c.along.place + n)) (omega arith);
-      spare = omega (arith, c.push.ensures.spare, c.along.invariant.spare, length_of_low_bits c.next_count-count.result c.number_at.result);
+      bits = word_placed _ _ _ c.args.bytes.now _ c.words.place _ _ (omega arith) (omega arith) c.number_at.ensures c.push.ensures.bits c.words.invariant.bits ∙ ap (λ n. c.args.self.now.written ++ bits_between c.args.bytes.now c.args.from (c.words.place + n)) (omega arith);
+      spare = omega (arith, c.push.ensures.spare, c.words.invariant.spare, length_of_low_bits c.next_count-count.result c.number_at.result);
     }
 
 pub returns : goal.returns
 returns c =
     record {
-      bits = c.along.invariant.bits ∙ ap (λ to. c.args.self.now.written ++ bits_between c.args.bytes.now c.args.from to) (omega arith);
-      spare = omega (arith, c.along.invariant.spare, length_of_bits_between c.args.bytes.now c.args.from c.args.to c.requires.within);
+      bits = c.words.invariant.bits ∙ ap (λ to. c.args.self.now.written ++ bits_between c.args.bytes.now c.args.from to) (omega arith);
+      spare = omega (arith, c.words.invariant.spare, length_of_bits_between c.args.bytes.now c.args.from c.args.to c.requires.within);
     }

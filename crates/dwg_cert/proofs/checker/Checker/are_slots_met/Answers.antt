@@ -7,8 +7,8 @@ use Rattle.dwg_cert.proofs.checker.Checker.are_slots_met.Goals as goal
 
 pub returns-then-not-is_met : goal.returns-then-not-is_met
 returns-then-not-is_met c =
-    all_fail (is_met c.args.self.now.objects (value_of c.args.object.now)) (slots (value_of c.args.object.now)) c.along.i c.slot_at.result _ c.slot_at.ensures (sym c.if-not-is_met.ensures) c.along.invariant
+    all_fail (is_met c.args.self.now.objects (value_of c.args.object.now)) (slots (value_of c.args.object.now)) c.slots.i c.slot_at.result _ c.slot_at.ensures (sym c.if-not-is_met.ensures) c.slots.invariant
 
-pub along-preserved : goal.along-preserved
-along-preserved c =
-    all_further (is_met c.args.self.now.objects (value_of c.args.object.now)) (slots (value_of c.args.object.now)) c.along.i c.slot_at.result _ c.slot_at.ensures (sym c.if-not-is_met.ensures) c.along.invariant
+pub slots-preserved : goal.slots-preserved
+slots-preserved c =
+    all_further (is_met c.args.self.now.objects (value_of c.args.object.now)) (slots (value_of c.args.object.now)) c.slots.i c.slot_at.result _ c.slot_at.ensures (sym c.if-not-is_met.ensures) c.slots.invariant

@@ -6,6 +6,6 @@ use Rattle.dwg_object.specs.Objects.{value_of}
 use Rattle.dwg_cert.proofs.checker.Checker.are_slots_met.Given as goal
 
 -- what is left reports whether all needs are met
-abbrev pub invariant-along : goal.invariant-along
-invariant-along l =
+abbrev pub invariant-slots : goal.invariant-slots
+invariant-slots l =
     list_all (is_met l.self.objects (value_of l.object)) (drop l.i (slots (value_of l.object))) ≡ list_all (is_met l.self.objects (value_of l.object)) (slots (value_of l.object))

@@ -6,5 +6,5 @@ use Rattle.dwg_object.specs.Objects.{value_of}
 use Rattle.dwg_cert.proofs.placing.Indexed.roots.Given as goal
 
 -- what is marked so far and what is left give the table
-abbrev pub invariant-along : goal.invariant-along
-invariant-along l = l.marks.items ++ map (is_root (spaces l.self)) (map value_of (drop l.object-index l.object-items)) ≡ root_table l.self (spaces l.self)
+abbrev pub invariant-objects : goal.invariant-objects
+invariant-objects l = l.marks.items ++ map (is_root (spaces l.self)) (map value_of (drop l.object-index l.object-items)) ≡ root_table l.self (spaces l.self)

@@ -1,5 +1,0 @@
-use Rattle.dwg_text.proofs.Writing.{◌▷◌}
-use Rattle.dwg_messages.proofs.app_items.write_line.Goals as goal
-
-pub returns : goal.returns
-returns g c = c.write.ensures ▷ c.write_value.ensures ▷ c.write-2.ensures

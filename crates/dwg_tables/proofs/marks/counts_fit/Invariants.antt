@@ -1,7 +1,0 @@
-use Rattle.std.proofs.Common.{drop}
-use Rattle.dwg_tables.proofs.MarkParts.{AreTried}
-use Rattle.dwg_tables.proofs.marks.counts_fit.Given as goal
-
--- the counts so far are such that marks may have
-abbrev pub invariant-along : goal.invariant-along
-invariant-along l = AreTried l.marks (drop l.mark-index l.marks)
