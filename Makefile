@@ -9,7 +9,7 @@ DESTDIR =
 DWG = ./dwg
 PROGRAM = crates/dwg_cli/out/dwg_cli
 TOOLS = $(notdir $(wildcard tools/dwg-*))
-MODULES = $(wildcard tools/*.py)
+MODULES = $(wildcard tools/dwgtools/*.py)
 
 # A name as a word of the shell, whatever is in it but a line end, at which make would part the command.
 quoted = '$(subst ','\'',$(1))'
@@ -44,14 +44,18 @@ check-tools:
 bench:
 	bench/run
 
+# What would be put into a folder of such a name, and not in its place.
+places = $(lib)/dwg $(addprefix $(bin)/,dwg $(TOOLS)) $(addprefix $(completions)/,dwg $(TOOLS))
+
 install: build
-	install -d $(bin) $(lib)/tools $(man)/man1 $(man)/man7 $(completions)
+	@for place in $(places); do if [ -d "$$place" ] && [ ! -L "$$place" ]; then echo "$$place is a folder" >&2; exit 1; fi; done
+	install -d $(bin) $(lib)/tools/dwgtools $(man)/man1 $(man)/man7 $(completions)
 	rm -f $(lib)/COMMIT
 	{ [ -e .git ] && unset GIT_DIR GIT_WORK_TREE GIT_COMMON_DIR GIT_INDEX_FILE && git describe --always --dirty=' and changes' --exclude='*' --abbrev=40 2>/dev/null || echo; } > $(lib)/COMMIT
 	chmod 644 $(lib)/COMMIT
 	install -m 755 $(call quoted,$(value PROGRAM)) $(bin)/dwg
 	ln -sfn ../../bin/dwg $(lib)/dwg
-	install -m 644 $(MODULES) $(lib)/tools
+	install -m 644 $(MODULES) $(lib)/tools/dwgtools
 	install -m 755 $(addprefix tools/,$(TOOLS)) $(lib)/tools
 	for tool in $(TOOLS); do ln -sfn "../lib/dwg/tools/$$tool" $(bin)/"$$tool"; done
 	install -m 644 docs/dwg.1 $(man)/man1
@@ -63,8 +67,8 @@ install: build
 uninstall:
 	@[ -e $(lib)/COMMIT ] || echo no tools are installed in $(lib) >&2
 	[ ! -e $(lib)/COMMIT ] || for tool in $(TOOLS); do rm -f $(bin)/"$$tool" $(lib)/tools/"$$tool" $(man)/man1/"$$tool".1 $(completions)/"$$tool"; done
-	for module in $(notdir $(MODULES)); do rm -f $(lib)/tools/"$$module"; done
+	for module in $(notdir $(MODULES)); do rm -f $(lib)/tools/dwgtools/"$$module"; done
 	[ ! -e $(lib)/COMMIT ] || rm -f $(bin)/dwg $(lib)/dwg $(man)/man1/dwg.1 $(man)/man7/dwg-tools.7 $(completions)/dwg
 	rm -f $(lib)/COMMIT
-	rm -rf $(lib)/tools/__pycache__
-	for folder in $(lib)/tools $(lib); do [ ! -d "$$folder" ] || rmdir "$$folder" || :; done
+	rm -rf $(lib)/tools/dwgtools/__pycache__
+	for folder in $(lib)/tools/dwgtools $(lib)/tools $(lib); do [ ! -d "$$folder" ] || rmdir "$$folder" || :; done

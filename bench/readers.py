@@ -27,7 +27,7 @@ sys.path.insert(0, str(TOP / "tools"))
 sys.path.insert(0, str(TOP / "tools" / "tests"))
 
 import older  # noqa: E402  pylint: disable=wrong-import-position
-from drawing import find_program  # noqa: E402  pylint: disable=wrong-import-position
+from dwgtools.program import find_program  # noqa: E402  pylint: disable=wrong-import-position
 
 PACKAGES = {"ogrinfo": "gdal-bin", "g++": "g++", "dpkg-source": "dpkg-dev"}
 # ezdxf is a package for the interpreter of the system.

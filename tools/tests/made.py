@@ -22,9 +22,9 @@ TOOLS = TOP / "tools"
 DATA = TOP / "crates" / "dwg_cli" / "data"
 sys.path.insert(0, str(TOOLS))
 
-import drawing  # noqa: E402  pylint: disable=wrong-import-position
+from dwgtools.program import find_program  # noqa: E402  pylint: disable=wrong-import-position
 
-PROGRAM = drawing.find_program()
+PROGRAM = find_program()
 # No test waits for answers without a proof.
 os.environ["DWG_PROVED_ONLY"] = "1"
 

@@ -15,6 +15,7 @@ import resource
 import shutil
 import signal
 import subprocess
+import sys
 import tempfile
 import threading
 import time
@@ -25,14 +26,19 @@ import zipfile
 from typing import Any, Dict, Iterator, List, Optional, Tuple
 
 import made
+import spelled
 import test_carry
 from made import TOOLS, WRITER, flipped, hole, layout, program_that, tool, unescaped
 
-import drawing
+from dwgtools.file import sections_of
+from dwgtools.log import LONGEST, MOST_LOOKS, Log, NoLine, read_row, state_of_log
+from dwgtools.program import Program, program_file
+from dwgtools.rows import RULES, Row, as_object
+from dwgtools.verdicts import Checker
+from dwgtools.walking import Named, walked
 
 made.needs_program()
 
-CHECK = made.module(TOOLS / "dwg-check", "dwg_check")
 
 LIMIT = 33_554_432
 COLUMNS = ["path", "verdict", "detail", "findings", "bytes", "trailing", "version"]
@@ -160,6 +166,12 @@ def add_second_headers(files: Files, data: bytes) -> None:
     # One without an end has none in another drawing.
     unended = data + second_header(1, ends=False) + right
     files.add("second header without end.dwg", unended, trailing(len(unended) - size, size, "sound"))
+    # One that would be longer than the file is none, whatever comes after it.
+    long = bytearray(right)
+    long[size + 16 : size + 20] = (len(right) - size - 35).to_bytes(4, "little")
+    files.add("second header beyond the end.dwg", bytes(long), trailing(len(right) - size, size, "sound"))
+    long[size + 16 : size + 20] = (len(right) - size - 37).to_bytes(4, "little")
+    files.add("second header of another length.dwg", bytes(long), SOUND)
     # So it is with previews.
     shown = made.with_preview_at(data, size) + WRITER.preview([], bytes(90))
     files.add("preview before a drawing.dwg", shown + shown, trailing(len(shown), len(shown), "sound"))
@@ -392,11 +404,26 @@ class Check(Base):
             ("exec sleep 20", "MOST_TAKEN", "`recover` has no answer in 0.5 seconds", False),
         ):
             stand_in = program_that(self.folder, "stand-in", [f'[ "$1" != recover ] || {line}', 'exec "$REAL" "$@"'])
-            with unittest.mock.patch.object(CHECK, limit, 0.5):
+            with unittest.mock.patch(f"dwgtools.verdicts.{limit}", 0.5):
                 begin = time.monotonic()
-                row = CHECK.Checker(drawing.Program(str(stand_in))).check(str(path))
+                row = Checker(Program(str(stand_in))).check(str(path))
             self.assertLess(time.monotonic() - begin, 15)
             self.assertEqual((row.verdict, row.detail, row.lasting), ("failed", why, lasting))
+
+    def test_both_runs_of_recover_have_one_limit(self) -> None:
+        path = self.folder / "bytes.dwg"
+        path.write_bytes(b"\x80XX\0" + bytes(range(256)))
+        computes = f"{sys.executable} -S -c 'while __import__(\"time\").process_time() < 0.8: pass'"
+        for line, limits, why in (
+            (computes, {"MOST_SECONDS": 1.0}, "`recover` takes more than 1 seconds"),
+            ("sleep 0.9", {"MOST_TAKEN": 1.2}, "`recover` has no answer in 1.2 seconds"),
+        ):
+            answers = "echo 'dwg: refused: header 0 at 0: version' >&2; echo 'kept 0' >&2; exit 1"
+            stand_in = program_that(self.folder, "stand-in", [f'[ "$1" != recover ] || {{ {line}; {answers}; }}', 'exec "$REAL" "$@"'])
+            for most, verdict in ((limits, ("failed", why)), ({name: 20.0 for name in limits}, ("no drawing", "unknown bytes"))):
+                with unittest.mock.patch.multiple("dwgtools.verdicts", **most):
+                    row = Checker(Program(str(stand_in))).check(str(path))
+                self.assertEqual((row.verdict, row.detail), verdict)
 
     def of_bytes(self, *lines: str, program: str = "stand-in") -> Any:
         """What is said of bytes without a header, by a run with LOG in which `recover` answers by these lines; and the lines of LOG after its head."""
@@ -461,7 +488,7 @@ class Check(Base):
 
     def piped(self, data: bytes, log: Any = None) -> Any:
         """What is said of a pipe that gives bytes."""
-        checker = CHECK.Checker(drawing.Program(made.PROGRAM), log)
+        checker = Checker(Program(made.PROGRAM), log)
         with self.pipe_of(data) as path:
             checker.pipes = {path}
             return checker.check(path)
@@ -472,7 +499,7 @@ class Check(Base):
         with unittest.mock.patch("tempfile.TemporaryFile", lambda: temporary(buffering=1 << 21)):
             for given, verdict in ((data, "sound"), (data[:-1], "damaged"), (bytes(6) + data[6:], "damaged"), (data + b"more", "trailing bytes")):
                 for is_kept in (False, True):
-                    log = CHECK.Log(str(self.folder / "log"), self.fail) if is_kept else None
+                    log = Log(str(self.folder / "log"), self.fail) if is_kept else None
                     row = self.piped(given, log)
                     self.assertEqual((row.verdict, row.bytes), (verdict, len(given)), row)
                     self.assertEqual(row.sha256, hashlib.sha256(given).hexdigest() if log else None)
@@ -491,10 +518,10 @@ class Check(Base):
             with unittest.mock.patch("tempfile.TemporaryFile", side_effect=OSError(number, os.strerror(number))):
                 row = self.piped(made.made(5))
             self.assertEqual((row.verdict, row.detail), ("failed", f"the pipe can't be kept: {os.strerror(number)}"))
-        with unittest.mock.patch("drawing.kept", side_effect=OSError(errno.EIO, os.strerror(errno.EIO))):
+        with unittest.mock.patch("dwgtools.verdicts.kept", side_effect=OSError(errno.EIO, os.strerror(errno.EIO))):
             row = self.piped(made.made(5))
         self.assertEqual((row.verdict, row.detail), ("unreadable", os.strerror(errno.EIO)))
-        checker = CHECK.Checker(drawing.Program(made.PROGRAM))
+        checker = Checker(Program(made.PROGRAM))
         checker.pipes = {"/dev/fd/999"}
         row = checker.check("/dev/fd/999")
         self.assertEqual((row.verdict, row.detail), ("unreadable", os.strerror(errno.ENOENT)))
@@ -521,6 +548,18 @@ class Check(Base):
         path = read_table(tool("dwg-check", self.folder).stdout)[0][0]
         ran = subprocess.run(["bash", "-c", 'printf %b "$1"', "bash", path], capture_output=True, check=True)
         self.assertEqual(ran.stdout, os.path.join(os.fsencode(self.folder), name))
+
+    def test_a_program_in_a_folder_whose_name_is_no_text(self) -> None:
+        folder = os.fsencode(self.folder) + b"/x\xff"
+        try:
+            os.mkdir(folder)
+        except OSError:
+            self.skipTest("a program in such a folder, as the file system takes no such name")
+        shutil.copy(program_file(made.PROGRAM), folder + b"/dwg")
+        path = self.folder / "a.dwg"
+        path.write_bytes(made.made(5))
+        ran = tool("dwg-check", "--quiet", "--program", folder + b"/dwg", path)
+        self.assertEqual((ran.returncode, ran.stderr, ran.stdout.count(b"\tsound\t")), (0, b"", 1))
 
     def test_which_files(self) -> None:
         self.some(["b/2.DWG", "b/1.dwg", "b/c/3.dwg", "a.dwg", "z.bak", "b.dwg/inside.dwg"])
@@ -555,8 +594,8 @@ class Check(Base):
                 yield iter([broken if entry.name == "b.dwg" else entry for entry in entries])
 
         with unittest.mock.patch("os.scandir", scandir):
-            found = list(CHECK.walked(str(self.folder), False))
-        self.assertEqual(found, [CHECK.Named(str(self.folder / name)) for name in ("a.dwg", "b.dwg", "c.dwg")])
+            found = list(walked(str(self.folder), False))
+        self.assertEqual(found, [Named(str(self.folder / name)) for name in ("a.dwg", "b.dwg", "c.dwg")])
 
     def test_order(self) -> None:
         paths = self.some([f"{index:02}.dwg" for index in range(40)], 1)
@@ -666,8 +705,8 @@ class Check(Base):
 
     def test_a_want_of_the_system_is_no_fault_of_the_file(self) -> None:
         (path,) = self.some(["a.dwg"])
-        checker = CHECK.Checker(drawing.Program(made.PROGRAM))
-        for name, number in (("tempfile.TemporaryFile", errno.ENOENT), ("dwg_check.open_regular", errno.EMFILE)):
+        checker = Checker(Program(made.PROGRAM))
+        for name, number in (("tempfile.TemporaryFile", errno.ENOENT), ("dwgtools.verdicts.open_regular", errno.EMFILE)):
             with unittest.mock.patch(name, side_effect=OSError(number, os.strerror(number))):
                 row = checker.check(str(path))
             self.assertEqual((row.verdict, os.strerror(number) in row.detail), ("failed", True), row)
@@ -723,12 +762,6 @@ class Check(Base):
         # What the program does about one file alone, by its commands.
         answers = {
             'case $1 in audit) "$REAL" audit; : >"$B"; exit;; esac': "changed while it was checked",
-            '[ "$1" != sections ] || exit 6': "status 6 for `sections`",
-            '[ "$1" != sections ] || exit 0': odd,
-            '[ "$1" != sections ] || { echo odd; exit 0; }': odd,
-            '[ "$1" != sections ] || { echo; exit 0; }': odd,
-            '[ "$1" != sections ] || { printf "preview 1\\nsection \\377 at x\\n"; exit 0; }': odd,
-            '[ "$1" != sections ] || { printf "section 2 at 999999 size 4\\nsection 0 at 3 size x\\n"; exit 0; }': odd,
             '[ "$1" != audit ] || { printf "finding \\377\\naudit no 1\\n"; exit 1; }': odd,
             '[ "$1" != audit ] || exit 0': "`audit` doesn't end as it should",
             '[ "$1" != audit ] || { echo nothing; exit 1; }': "`audit` doesn't end as it should",
@@ -751,6 +784,30 @@ class Check(Base):
                 self.assertEqual((ran.returncode, a, b[:2], c, ran.stderr), (1, ["a.dwg", *good], ["b.dwg", "failed"], ["c.dwg", *good], b""), line)
                 self.assertTrue(b[2].startswith(why), b)
                 (self.folder / "b.dwg").write_bytes(made.made(6))
+
+    def test_a_file_that_is_no_drawing_of_which_the_program_says_that_it_is(self) -> None:
+        whole, path = made.made(6), self.folder / "a.dwg"
+        program = program_that(self.folder, "sure", ['[ "$1" != audit ] || { echo audit yes; exit; }'])
+        for data in (whole[:6], whole[:60], b"AC1015" + bytes(300), whole[:21] + b"\7" + whole[22:]):
+            path.write_bytes(data)
+            ran = tool("dwg-check", "--program", program, "--quiet", path)
+            self.assertEqual((ran.returncode, self.verdicts(ran)), (1, [["a.dwg", "failed", "its answer isn't as it should be: ValueError: no file header"]]))
+
+    def test_the_program_is_started_once_for_a_file(self) -> None:
+        paths = self.some(["a.dwg", "b.dwg", "c.dwg"])
+        program = program_that(self.folder, "counting", [f'echo "$1" >>"{self.folder}/runs"', 'exec "$REAL" "$@"'])
+        self.assertEqual(tool("dwg-check", "--program", program, "--quiet", *paths).returncode, 0)
+        self.assertEqual(sorted((self.folder / "runs").read_text().split()), ["audit", "audit", "audit", "drill"])
+
+    def test_a_header_says_what_the_program_says_of_it(self) -> None:
+        data = made.made(6)
+        variants = [data, made.with_preview_at(data, 5), made.with_preview_at(data, len(data)), *(path.read_bytes() for path in made.DATA.glob("*.dwg"))]
+        one = spelled.Drawing()
+        one.of_class(500, b"WIPEOUT")
+        for whole in [*variants, one.file()]:
+            told = sections_of(whole)
+            lines = [f"preview {told.preview}", *(f"section {number} at {place} size {size}" for number, place, size in told.locators)]
+            self.assertEqual(made.dwg("sections", given=whole).stdout.decode().splitlines()[2:], lines)
 
     def test_a_name_that_no_file_has_never_ends_a_run(self) -> None:
         (path,) = self.some(["a.dwg"])
@@ -910,7 +967,7 @@ class Logs(Base):
         program, data = self.counting(), made.made(5)
         (self.folder / "d" / "a.dwg").write_bytes(data + data)
         right = ["a.dwg", "trailing bytes", f"{len(data)} from {len(data)}; sound"]
-        for rules in (None, CHECK.RULES - 1, CHECK.RULES + 1, True, str(CHECK.RULES), [CHECK.RULES]):
+        for rules in (None, RULES - 1, RULES + 1, True, str(RULES), [RULES]):
             for words in ([], ["--verify"]):
                 self.log.unlink(missing_ok=True)
                 self.resume("--program", program)
@@ -922,7 +979,7 @@ class Logs(Base):
                     self.assertEqual((self.verdicts(ran), ran.stderr, self.audits()), ([right], b"", audits), (rules, words))
                 # After what was there stand a head and a line.
                 self.assertTrue(self.log.read_bytes().startswith(kept))
-                self.assertEqual([line.get("rules") for line in self.lines()[2:]], [CHECK.RULES, None])
+                self.assertEqual([line.get("rules") for line in self.lines()[2:]], [RULES, None])
 
     def test_what_failed_by_other_rules_is_tried_again(self) -> None:
         (path,) = self.some(["d/a.dwg"])
@@ -978,6 +1035,22 @@ class Logs(Base):
             pathlib.Path(path).write_bytes(data)
         self.assertEqual(self.verdicts(self.resume("--verify")), sound)
 
+    def test_verify_of_files_of_another_century(self) -> None:
+        """The times of a file system have 64 bits of seconds, where it has them."""
+        (path,), had = self.some(["d/a.dwg"]), 0
+        for seconds in (13_569_465_600, -14_831_769_600):
+            pathlib.Path(path).write_bytes(made.made(5))
+            os.utime(path, ns=(0, seconds * 10**9))
+            if os.stat(path).st_mtime_ns != seconds * 10**9:
+                continue
+            had += 1
+            self.assertEqual(self.verdicts(self.resume()), [["a.dwg", "sound", ""]])
+            self.rot(path, layout(made.made(5)).preview + 18)
+            ran = self.resume("--verify")
+            self.assertEqual((self.verdicts(ran), ran.stderr), ([["a.dwg", "changed", "sound"]], b""))
+        if not had:
+            self.skipTest("files of 2400 and of 1500, as the file system has none")
+
     def test_a_moved_archive_is_read_and_not_checked(self) -> None:
         self.some(["d/a.dwg", "d/b.dwg"])
         (self.folder / "d" / "c.dwg").write_bytes(made.made(9)[:-3])
@@ -997,6 +1070,17 @@ class Logs(Base):
             self.assertEqual([row[1] for row in self.verdicts(self.resume())], ["unreadable"])
         self.assertEqual(len(self.lines()), 2)
 
+    def test_more_links_than_are_followed(self) -> None:
+        self.some(["d/a.dwg"])
+        for at in range(1500):
+            os.symlink(f"{at + 1}", self.folder / f"{at}")
+        expected = [["0", "unreadable", os.strerror(errno.ELOOP)], ["a.dwg", "sound", ""]]
+        for words in ([], ["--verify"]):
+            self.assertEqual(self.verdicts(self.resume(*words, self.folder / "0")), expected)
+        self.assertEqual(len(self.lines()), 3)
+        ran = tool("dwg-check", "--resume", self.folder / "0", self.folder / "d")
+        self.assertEqual((ran.returncode, ran.stderr.decode()), (70, f"dwg-check: {self.folder}/0: {os.strerror(errno.ELOOP)}\n"))
+
     def test_damaged_lines_are_passed_and_told(self) -> None:
         self.some(["d/a.dwg", "d/b.dwg"])
         program = self.counting()
@@ -1005,6 +1089,13 @@ class Logs(Base):
         row = json.loads(one)
         wrong: List[Dict[str, Any]] = [{name: value} for name in row for value in (["x"], {"x": 1}, True, 1.5, -0.0, 1e400)]
         wrong += [{"refusal": {"part": "objects", "index": "1", "place": 2, "reason": []}}, {"verdict": "odd"}, {"path": None}]
+        # What no file can have.
+        wrong += [{name: value} for name in ("findings", "bytes", "trailing") for value in (-1, 1 << 63, None)]
+        wrong += [{"mtime_ns": sign * ((10**9 << 63) + 1)} for sign in (-1, 1)]
+        wrong += [{"findings": 1}, {"trailing": 1}, {"bytes": LIMIT + 1}, {"verdict": "unsound"}, {"verdict": "trailing bytes"}, {"verdict": "damaged"}]
+        wrong += [{"verdict": "trailing bytes", "trailing": row["bytes"]}, {"version": "AC15"}, {"sha256": "0"}, {"sha256": row["sha256"].upper() + "A"}]
+        wrong += [{"refusal": {"part": "objects", "index": index, "place": place, "reason": "check"}} for index, place in ((-1, 2), (1, -2), (True, 2))]
+        wrong += [{"preview": {"bytes": 9, "pictures": [{"code": code, "bytes": size}]}} for code, size in ((-1, 1), (256, 1), (2, -1), (2, True))]
         damaged = [json.dumps({**row, **more}).encode() + b"\n" for more in wrong]
         damaged += [b"[" * 200_000 + b"\n", b'{"bytes":' * 20_000 + b"\n", b"9" * 100_000 + b"\n", b"x" * 1_000_000 + b"\n", b"\xff\0\n", b"\n", b"null\n", b"[]\n", one[:-20] + b"\n"]
         odd = json.dumps({**row, "absolute": "/nowhere", "detail": "\ud800\udfff\udc80", "path": "\0"}).encode() + b"\n"
@@ -1101,9 +1192,9 @@ class Logs(Base):
     def test_log_that_is_cut_after_its_last_line(self) -> None:
         for size in (0, 20, 150):
             told: List[str] = []
-            log = CHECK.Log(str(self.log), told.append)
+            log = Log(str(self.log), told.append)
             log.begin("0" * 64)
-            log.kept(CHECK.Row("/a", "sound", bytes=1, mtime_ns=1))
+            log.kept(Row("/a", "sound", bytes=1, mtime_ns=1))
             self.assertGreater(self.log.stat().st_size, size)
             os.truncate(self.log, size)
             log.close()
@@ -1114,7 +1205,7 @@ class Logs(Base):
         tool("dwg-check", "--resume", self.log, *self.some(["d/a.dwg"]))
         program, told = json.loads(self.log.read_bytes().splitlines()[0])["program"], []
         for cut in (False, True):
-            log = CHECK.Log(str(self.log), told.append)
+            log = Log(str(self.log), told.append)
             log.begin(program)
             if cut:
                 os.truncate(self.log, self.log.stat().st_size - 1)
@@ -1145,10 +1236,10 @@ class Logs(Base):
     def kept_log(self, told: List[str], count: int = 2) -> Any:
         """LOG that is open, with so many lines after its head."""
         self.log.unlink(missing_ok=True)
-        log = CHECK.Log(str(self.log), told.append)
+        log = Log(str(self.log), told.append)
         log.begin("0" * 64)
         for index in range(count):
-            log.kept(CHECK.Row(f"/{index}", "sound", bytes=1, mtime_ns=1))
+            log.kept(Row(f"/{index}", "sound", bytes=1, mtime_ns=1))
         return log
 
     def test_log_that_is_overwritten_at_its_end_or_without_a_trace(self) -> None:
@@ -1162,18 +1253,29 @@ class Logs(Base):
                     # As where the clock of the file system stood still.
                     after = os.fstat(log._file.fileno())
                     self.assertEqual(after.st_size, before.st_size)
-                    log._seen._state = CHECK.state_of_log(log._file)
+                    log._seen._state = state_of_log(log._file)
                 log.close()
                 self.assertEqual((len(told), log.fault), (1, "cut"), (place, is_traced))
+
+    def test_a_line_that_is_too_long_for_log_is_told(self) -> None:
+        told: List[str] = []
+        log = self.kept_log(told)
+        row = Row("/a\n", "failed", "x" * LONGEST, bytes=1, mtime_ns=1)
+        row.lasting = True
+        log.kept(row)
+        log.kept(Row("/b", "sound", bytes=1, mtime_ns=1))
+        log.close()
+        said = f"{self.log}: a line of more than {LONGEST} bytes isn't kept, that of /a\\n"
+        self.assertEqual((told, log.fault, len(self.lines())), ([said], "", 4))
 
     def test_log_that_another_adds_to_or_touches_stands(self) -> None:
         told: List[str] = []
         log = self.kept_log(told)
         with open(self.log, "ab") as file:
             file.write(b"another\n")
-        log.kept(CHECK.Row("/a", "sound", bytes=1, mtime_ns=1))
+        log.kept(Row("/a", "sound", bytes=1, mtime_ns=1))
         os.utime(self.log, ns=(1, 1))
-        log.kept(CHECK.Row("/b", "sound", bytes=1, mtime_ns=1))
+        log.kept(Row("/b", "sound", bytes=1, mtime_ns=1))
         self.log.chmod(0o600)
         log.close()
         self.assertEqual((told, log.fault, len(self.log.read_bytes().splitlines())), ([], "", 6))
@@ -1183,8 +1285,8 @@ class Logs(Base):
         log = self.kept_log(told)
         with open(self.log, "ab") as file:
             file.write(b"half")
-        log.kept(CHECK.Row("/a", "sound", bytes=1, mtime_ns=1))
-        log.kept(CHECK.Row("/b", "sound", bytes=1, mtime_ns=1))
+        log.kept(Row("/a", "sound", bytes=1, mtime_ns=1))
+        log.kept(Row("/b", "sound", bytes=1, mtime_ns=1))
         log.close()
         lines = self.log.read_bytes().splitlines()
         self.assertEqual((told, log.fault, len(lines), lines[3]), ([], "", 6, b"half"))
@@ -1203,26 +1305,22 @@ class Logs(Base):
         with unittest.mock.patch("os.pread", counted):
             for index in range(300):
                 os.utime(self.log, ns=(index, index))
-                log.kept(CHECK.Row(f"/more/{index}", "sound", bytes=1, mtime_ns=1))
+                log.kept(Row(f"/more/{index}", "sound", bytes=1, mtime_ns=1))
             size = self.log.stat().st_size
-            self.assertLess(read[0], (CHECK.MOST_LOOKS + 1) * size)
+            self.assertLess(read[0], (MOST_LOOKS + 1) * size)
             # What isn't looked at meanwhile is at the end.
             self.overwrite(100)
-            log.kept(CHECK.Row("/last", "sound", bytes=1, mtime_ns=1))
+            log.kept(Row("/last", "sound", bytes=1, mtime_ns=1))
             log.close()
         self.assertEqual((len(told), log.fault), (1, "cut"))
 
     def test_log_where_there_are_no_locks(self) -> None:
-        check = made.module(TOOLS / "dwg-check", "dwg_check")
         told: List[str] = []
-        kept, check.tell = (check.fcntl, check.tell), told.append
-        check.fcntl = types.SimpleNamespace(LOCK_EX=2, LOCK_NB=4, flock=self.no_lock)
-        try:
-            log = check.Log(str(self.log), told.append)
+        locks = types.SimpleNamespace(LOCK_EX=2, LOCK_NB=4, flock=self.no_lock)
+        with unittest.mock.patch("dwgtools.log.fcntl", locks), unittest.mock.patch("dwgtools.log.tell", told.append):
+            log = Log(str(self.log), told.append)
             log.begin("0" * 64)
             log.close()
-        finally:
-            check.fcntl, check.tell = kept
         self.assertEqual((told, len(self.lines())), ([f"{self.log} can't be locked (No locks available); let no other run write into it"], 1))
 
     @staticmethod
@@ -1308,11 +1406,11 @@ class Previews(Base):
 
     def test_lines_of_log_that_tell_it_otherwise_are_damaged(self) -> None:
         right = {"bytes": 30, "pictures": [{"code": 2, "bytes": 20}]}
-        line = {"path": "/a", "absolute": "/a", "verdict": "sound", "detail": "", "version": "AC1015", "bytes": 9, "mtime_ns": 9, "preview": right}
-        self.assertEqual(json.loads(json.dumps(CHECK.as_object(CHECK.read_row(line)[1])))["preview"], right)
+        line = {"path": "/a", "absolute": "/a", "verdict": "sound", "detail": "", "version": "AC1015", "bytes": 9, "mtime_ns": 9, "findings": 0, "trailing": 0, "preview": right}
+        self.assertEqual(json.loads(json.dumps(as_object(read_row(line)[1])))["preview"], right)
         for wrong in ({}, {"bytes": 30}, {"pictures": []}, {**right, "bytes": True}, {**right, "pictures": None}, {**right, "pictures": [1]}, {**right, "pictures": [{"code": 2}]}, {**right, "pictures": [{"code": 2, "bytes": "1"}]}):
-            with self.assertRaises(CHECK.NoLine, msg=wrong):
-                CHECK.read_row({**line, "preview": wrong})
+            with self.assertRaises(NoLine, msg=wrong):
+                read_row({**line, "preview": wrong})
 
 
 if __name__ == "__main__":

@@ -11,7 +11,11 @@ import tempfile
 import unittest
 
 import made
-from drawing import Answer, Exit, Found, Kept, Loss, Program, ProgramFailed, Refusal, Said, Status, ToolError, TooLarge, WholeFile, find_program, one_line, one_message, read_note, read_notes, read_recovery, write_whole
+from dwgtools.escapes import one_line, one_message
+from dwgtools.notes import Found, Kept, Loss, Refusal, Said, TooLarge, read_note, read_notes, read_recovery
+from dwgtools.outputs import WholeFile, write_whole
+from dwgtools.program import Answer, Program, ProgramFailed, find_program
+from dwgtools.statuses import Exit, Status, ToolError
 
 # A note of each form in docs/FORMAT.md, and its value.
 NOTES = {

@@ -27,7 +27,7 @@ class House(unittest.TestCase):
         self.addCleanup(shutil.rmtree, self.folder)
 
     def test_python(self) -> None:
-        for path in [*TOOLS.glob("*.py"), *TOOLS.glob("tests/*.py"), TOOLS / "test", TOOLS / "check-docs", *(TOOLS / name for name in NAMES)]:
+        for path in [*TOOLS.glob("*/*.py"), TOOLS / "test", TOOLS / "check-docs", *(TOOLS / name for name in NAMES)]:
             py_compile.compile(str(path), cfile=str(self.folder / "compiled"), doraise=True)
 
     def test_shell(self) -> None:
@@ -134,6 +134,17 @@ class House(unittest.TestCase):
             ran = subprocess.run([str(installed / "dwg-check"), str(self.folder / "a.dwg")], capture_output=True, check=False, env=environment)
             self.assertEqual(ran.returncode, 0, ran.stderr)
         self.uninstalled(words, top)
+
+    def test_a_folder_where_a_file_or_a_link_should_be_is_refused(self) -> None:
+        if not shutil.which("make"):
+            self.skipTest("make install, as make isn't installed")
+        for name in ("bin/dwg", "bin/dwg-check", "lib/dwg/dwg", "share/bash-completion/completions/dwg", "share/bash-completion/completions/dwg-json"):
+            top = self.folder / "it's $root"
+            (top / name).mkdir(parents=True)
+            ran = subprocess.run(["make", "-s", f"PREFIX={top}", "DWG=true", "PROGRAM=/bin/sh", "install"], cwd=TOP, capture_output=True, check=False)
+            self.assertEqual((ran.returncode, ran.stdout, f"{top}/{name} is a folder\n".encode() in ran.stderr), (2, b"", True), name)
+            self.assertEqual([path for path in top.rglob("*") if not path.is_dir()], [])
+            shutil.rmtree(top)
 
     def test_a_folder_with_a_line_end_is_refused(self) -> None:
         if not shutil.which("make"):

@@ -9,7 +9,8 @@ from typing import Any, Dict, List
 
 import common
 import spelled
-from made import made, needs_program, tool
+import test_limits
+from made import dwg, made, needs_program, program_that, tool
 
 needs_program()
 
@@ -101,6 +102,26 @@ class Json(common.InFolder):
         self.assertEqual((plain["kind"], plain["form"], plain["type"], plain["bits"], plain["rest"]), ("ENTITY", "plain", 500, 5, "b0"))
         self.assertEqual(plain["refs"], [{"code": 5, "handle": "11", "name": "WALLS"}])
         self.assertEqual((raw["kind"], raw["form"], raw["type"]), ("UNKNOWN", "raw", 300))
+
+    def test_a_long_name_that_many_references_lead_to(self) -> None:
+        """What is said of a few bytes of a drawing is much, and isn't held: an object has 67 MB here, and the address space 180."""
+        long, out = b"\xe9" * 15_000 + b"\x81", self.folder / "out"
+        for words in ([], ["--pretty"]):
+            said = []
+            for name in (b"?", long):
+                one = spelled.Drawing()
+                one.layer(0x20, name, 1)
+                for handle in (0x200, 0x201):
+                    one.object(50, handle, spelled.long(740), [(2, 0x20)] * 740, owner=0)
+                text = self.file("text", dwg("show", given=one.file()).stdout)
+                showing = program_that(self.folder, "showing", [f'[ "$1" != show ] || exec cat "{text}"'])
+                small = "import resource\nresource.setrlimit(resource.RLIMIT_AS, (180_000_000, 180_000_000))"
+                ran = test_limits.otherwise("dwg-json", small, *words, "--program", showing, "--output", out, "--force", self.file("a.dwg", b"AC1015"))
+                self.assertEqual(ran.returncode, 0, ran.stderr)
+                said.append(out.read_bytes())
+            self.assertIn(b"doesn't have: 1481\n", ran.stderr)
+            self.assertEqual(said[0].count(b'"?"'), 1481)
+            self.assertTrue(said[0].replace(b'"?"', b'"' + b"\\u00e9" * 15_000 + b'\\udc81"') == said[1])
 
     def test_output(self) -> None:
         path, out = self.file("a b.dwg", made(3, 1)), self.folder / "out.json"

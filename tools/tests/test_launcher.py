@@ -370,6 +370,14 @@ class Unproved(InTree):
             ran = subprocess.run([str(self.tree / "dwg"), word], input=b"", capture_output=True, env=self.environment({}), check=False)
             self.expect_unproved(ran, "no command")
 
+    def test_the_path_of_the_program_is_none_of_its_words(self) -> None:
+        self.program.parent.mkdir()
+        shutil.copy("/bin/sh", self.program)
+        for name, called in (("tree", "dwg_cli"), ("a:b", f"{self.folder.resolve()}/a:b/crates/dwg_cli/out/dwg_cli")):
+            self.tree = self.tree.rename(self.folder / name)
+            ran = self.run_it("-c", 'echo "$0"', DWG_BUILT="1")
+            self.assertEqual((ran.returncode, ran.stdout.decode()), (0, f"{called}\n"), ran.stderr)
+
     def test_a_program_older_than_its_sources(self) -> None:
         self.run_it(DWG_BUILD="1")
         later = time.time() + 5

@@ -22,21 +22,24 @@ import common
 import made
 from made import TOOLS, program_that
 
-import drawing
-import plane
-import shapes
-
-CHECK = made.module(TOOLS / "dwg-check", "dwg_check")
+from dwgtools import plane, processes, shapes, walking
+from dwgtools.json_values import Speaker
+from dwgtools.show import Lists, Object, read_objects
+from dwgtools.statuses import ToolError
+from dwgtools.values import BadText, Text
+from dwgtools.versions import LIMIT
+from dwgtools.walking import MOST_NAME, ONE_NAMED, Named, held, names_from
 
 # A tool in a Python in which something is otherwise: the lines run first, and its module is `tool`.
 OTHERWISE = """
 import sys
 sys.path.insert(0, {tests!r})
-import made, drawing, threading, time
+import made, subprocess, tempfile, threading, time
+from dwgtools import outputs, pairs, picture, program, running, show, signals, stock, survey, verdicts
 tool = made.module(made.TOOLS / {name!r}, "tool")
 {lines}
 sys.argv = [{name!r}, *sys.argv[1:]]
-drawing.run_tool(tool.main)
+running.run_tool(tool.main)
 """
 
 # Lets only so many threads begin.
@@ -63,13 +66,13 @@ tool.main = measured
 
 # Lets one process run at a time.
 ONE_PROCESS = """
-begun, popen = [], drawing.subprocess.Popen
+begun, popen = [], subprocess.Popen
 def start(*words, **more):
     if any(one.poll() is None for one in begun):
         raise BlockingIOError(11, "Resource temporarily unavailable")
     begun.append(popen(*words, **more))
     return begun[-1]
-drawing.subprocess.Popen = start
+subprocess.Popen = start
 """
 
 
@@ -112,7 +115,7 @@ class Time(Checked):
 
     def resumed(self, *words: object, lines: str = "") -> List[List[str]]:
         """What a run with LOG says, in which `recover` has a moment."""
-        ran = otherwise("dwg-check", lines or "tool.MOST_SECONDS = 0.3", "--quiet", "--resume", self.log, "--program", self.slow, *words, self.folder / "d")
+        ran = otherwise("dwg-check", lines or "verdicts.MOST_SECONDS = 0.3", "--quiet", "--resume", self.log, "--program", self.slow, *words, self.folder / "d")
         self.assertEqual((ran.returncode, ran.stderr), (1, b""))
         return [row[1:] for row in rows(ran.stdout)]
 
@@ -146,10 +149,10 @@ class Time(Checked):
         for line in (endless, f"{endless} & {endless} & wait", f"set -m; {endless} & wait", f"while :; do sh -c 'i=0; while [ $i -lt 20000 ]; do i=$((i + 1)); done'; done"):
             self.slow = self.refusing(f'[ "$1" != recover ] || {{ echo $$ >>"{self.count}"; {line}; }}', ":")
             self.log.unlink(missing_ok=True)
-            said = self.resumed(lines="tool.MOST_SECONDS, tool.MOST_TAKEN = 0.3, 10")
+            said = self.resumed(lines="verdicts.MOST_SECONDS, verdicts.MOST_TAKEN = 0.3, 10")
             self.assertEqual(said, [["failed", "`recover` takes more than 0.3 seconds"]], line)
             session = int(self.count.read_text())
-            left = [one.number for one in drawing._processes() if one.session == session and is_running(one.number)]
+            left = [one.number for one in processes.all_processes() if one.session == session and is_running(one.number)]
             self.assertEqual(left, [], line)
             self.count.unlink()
 
@@ -165,7 +168,7 @@ class Time(Checked):
         self.file("d/a.dwg", b"\x80XX\0" + bytes(range(256)))
         self.slow = self.refusing(f'[ "$1" != recover ] || {{ echo >>"{self.count}"; exec sleep 20; }}')
         for _ in range(2):
-            said = self.resumed(lines="tool.MOST_SECONDS = tool.MOST_TAKEN = 0.3")
+            said = self.resumed(lines="verdicts.MOST_SECONDS = verdicts.MOST_TAKEN = 0.3")
             self.assertEqual((said, self.runs()), ([["failed", "`recover` has no answer in 0.3 seconds"]], 1))
         self.assertEqual(len(self.log.read_bytes().splitlines()), 1)
 
@@ -173,7 +176,7 @@ class Time(Checked):
         self.file("d/a.dwg", b"\x80XX\0" + bytes(range(256)))
         begun = self.folder / "begun"
         waiting = self.refusing(f'[ "$1" != recover ] || {{ touch "{begun}"; sleep 1; echo kept 0 >&2; exit 1; }}')
-        code = OTHERWISE.format(tests=str(TOOLS / "tests"), name="dwg-check", lines="tool.MOST_SECONDS = tool.MOST_TAKEN = 4")
+        code = OTHERWISE.format(tests=str(TOOLS / "tests"), name="dwg-check", lines="verdicts.MOST_SECONDS = verdicts.MOST_TAKEN = 4")
         words = [sys.executable, "-B", "-c", code, "--quiet", "--resume", str(self.log), "--program", str(waiting), str(self.folder / "d")]
         with subprocess.Popen(words, stdin=subprocess.DEVNULL, stdout=subprocess.PIPE, stderr=subprocess.PIPE, start_new_session=True) as started:
             while not begun.exists():
@@ -206,7 +209,7 @@ class NoMemory(common.InFolder):
     def test_each_tool(self) -> None:
         path = self.file("a.dwg", b"AC1015")
         none = "def none(*_):\n    raise MemoryError\ntool.{name} = none"
-        runs = (("dwg-diff", "compare", [path, path], 2), ("dwg-json", "write", [path], 6), ("dwg-recover", "run_recover", [path, "-"], 6))
+        runs = (("dwg-diff", "compare", [path, path], 2), ("dwg-json", "write", [path], 6), ("dwg-recover", "recovered", [path, "-"], 6))
         for name, called, words, status in runs:
             ran = otherwise(name, none.format(name=called), "--program", "/bin/true", *words)
             self.assertEqual((ran.returncode, ran.stdout, ran.stderr.decode()), (status, b"", f"{name}: no memory was to be had\n"))
@@ -217,7 +220,7 @@ class Zeros(Checked):
 
     def test_zeros_and_what_is_after_them(self) -> None:
         program, path = self.refusing(), self.folder / "d/zeros.dwg"
-        looked_at = 65_536 + drawing.LIMIT
+        looked_at = 65_536 + LIMIT
         for end, detail in ((b"", "zero bytes"), (b"\0", f"the first {looked_at} bytes are zero"), (b"precious", f"the first {looked_at} bytes are zero")):
             with open(path, "wb") as file:
                 file.seek(looked_at)
@@ -252,7 +255,7 @@ class Threads(Checked):
 # Interrupts the tool when a run has begun, and before anybody has it.
 INTERRUPTED = """
 import os, pathlib, signal
-popen = drawing.subprocess.Popen
+popen = subprocess.Popen
 def start(words, **more):
     ran = popen(words, **more)
     if words[1] != "drill":
@@ -261,7 +264,7 @@ def start(words, **more):
         os.kill(os.getpid(), signal.SIGINT)
         time.sleep(0.01)
     return ran
-drawing.subprocess.Popen = start
+subprocess.Popen = start
 """
 
 # Tells of each signal that ends a tool what handles it once it ends.
@@ -269,8 +272,8 @@ HANDLED = """
 import signal
 signal.signal(signal.SIGHUP, signal.SIG_IGN)
 def ended():
-    drawing._ignore_signals()
-    print(*(callable(signal.getsignal(number)) and signal.getsignal(number) != signal.SIG_IGN for number in drawing._ENDING))
+    signals.ignore_signals()
+    print(*(callable(signal.getsignal(number)) and signal.getsignal(number) != signal.SIG_IGN for number in signals.ENDING))
     return 0
 tool.main = ended
 """
@@ -418,19 +421,19 @@ class Coming(Checked):
 
     def test_memory_of_names(self) -> None:
         names, endless = Stream(b"a\nb\nc", 2), Stream(b"n" * 60_000, 2000)
-        found = CHECK.names_from(names, b"\n")
+        found = names_from(names, b"\n")
         self.assertEqual((next(found), names.taken, list(found)), ("a", 1, ["b", "ca", "b", "c"]))
-        self.assertEqual(list(CHECK.names_from(endless, b"\n")), ["n" * CHECK.MOST_NAME])
+        self.assertEqual(list(names_from(endless, b"\n")), ["n" * MOST_NAME])
         # No more is read ahead than there is room for, and all comes in its order.
-        with unittest.mock.patch.object(CHECK, "MOST_AHEAD", 5 * CHECK.ONE_NAMED):
+        with unittest.mock.patch.object(walking, "MOST_AHEAD", 5 * ONE_NAMED):
             taken: List[int] = []
-            files = CHECK.Coming(taken.append(index) or CHECK.Named(str(index)) for index in range(100))  # type: ignore[func-returns-value]
+            files = walking.Coming(taken.append(index) or Named(str(index)) for index in range(100))  # type: ignore[func-returns-value]
             time.sleep(0.3)
             self.assertLess(len(taken), 10)
             self.assertEqual([one.path for one in files], [str(index) for index in range(100)])
         self.assertEqual((files.count, files.is_whole), (100, True))
-        with unittest.mock.patch.object(CHECK, "MOST_HELD", 5 * CHECK.ONE_NAMED), self.assertRaises(drawing.ToolError) as raised:
-            list(CHECK.held(CHECK.Named(str(index)) for index in range(100)))
+        with unittest.mock.patch.object(walking, "MOST_HELD", 5 * ONE_NAMED), self.assertRaises(ToolError) as raised:
+            list(held(Named(str(index)) for index in range(100)))
         self.assertEqual(raised.exception.status, 64)
 
     def test_a_table_that_is_named_too(self) -> None:
@@ -576,9 +579,9 @@ def polyline_text(count: int, flag: int = 0, bulges: Sequence[float] = (), width
     return "".join(lines)
 
 
-def first_object(text: str, lists: drawing.Lists = drawing.Lists.TEXT) -> drawing.Object:
+def first_object(text: str, lists: Lists = Lists.TEXT) -> Object:
     """The object of a text."""
-    return next(drawing.read_objects(iter(text.encode().splitlines(keepends=True)), lists=lists))
+    return next(read_objects(iter(text.encode().splitlines(keepends=True)), lists=lists))
 
 
 # An object with lists of each form: of references with names and without, of texts, of structs and of lists in these.
@@ -689,18 +692,17 @@ class Memory(common.InFolder):
         self.assertLess(most - least, 2 * 20 * 100_000)
 
     def test_a_long_object_is_told_as_a_short_one(self) -> None:
-        tool = made.module(TOOLS / "dwg-json", "dwg_json")
         texts = [LISTS, polyline_text(9, widths=[(1.0, 0.5)] * 8, bulges=[1.0, 0.1]), "object 1 UNKNOWN raw 9\n  bytes 00ff\n", "object 1 SEQEND typed 6\n"]
         for text in texts:
             for form in ({"indent": 2}, {"separators": (", ", ": ")}):
                 encoder, one = json.JSONEncoder(allow_nan=False, **form), first_object(text)
-                short, long = (tool.Speaker({0x10: drawing.Text(b"WALLS")}, "cp1252") for _ in range(2))
+                short, long = (Speaker({0x10: Text(b"WALLS")}, "cp1252") for _ in range(2))
                 self.assertEqual("".join(encoder.iterencode(long.long_object(one))), encoder.encode(short.object(one)))
                 self.assertEqual(long.undecoded, short.undecoded)
-        self.assertEqual(json.loads(encoder.encode(tool.Speaker({}, "cp1252").object(first_object(LISTS))))["items"][0], {"name": "über\0 \\", "target": {"code": 2, "handle": "10"}, "deep": [1, 2]})
+        self.assertEqual(json.loads(encoder.encode(Speaker({}, "cp1252").object(first_object(LISTS))))["items"][0], {"name": "über\0 \\", "target": {"code": 2, "handle": "10"}, "deep": [1, 2]})
         for text in ("  a[1] 1\n", "  a[0] 1\n  a[0] 1\n", "  a[0] 1\n  a[2] 1\n", "  a[0] 1\n  b 1\n  a[1] 1\n"):
-            with self.assertRaises(drawing.BadText, msg=text):
-                list(json.JSONEncoder().iterencode(tool.Speaker({}, "cp1252").long_object(first_object("object 1 X typed 6\n" + text))))
+            with self.assertRaises(BadText, msg=text):
+                list(json.JSONEncoder().iterencode(Speaker({}, "cp1252").long_object(first_object("object 1 X typed 6\n" + text))))
 
     def test_a_long_polyline_is_drawn_as_a_short_one(self) -> None:
         frames = [shapes.Frame(), shapes.Frame(3.0, 4.0, plane.Affine(0.5, 0.25, -1.0, 2.0))]
@@ -709,7 +711,7 @@ class Memory(common.InFolder):
                 said = []
                 for many in (1000, 1):
                     with unittest.mock.patch.object(shapes, "MANY", many, create=True):
-                        figures = list(shapes.polyline(shapes.Fields(first_object(polyline_text(7, flag, equal=False, **more), drawing.Lists.NUMBERS)), shapes.Context("cp1252", False)))
+                        figures = list(shapes.polyline(shapes.Fields(first_object(polyline_text(7, flag, equal=False, **more), Lists.NUMBERS)), shapes.Context("cp1252", False)))
                     said.append([("".join(one.pieces(frame)), one.element(frame), list(one.around(frame))) for one in figures for frame in frames])
                 self.assertEqual(said[0], said[1], (more, flag))
                 self.assertTrue(all(pieces == element for pieces, element, _ in said[1]))
@@ -720,15 +722,15 @@ class Memory(common.InFolder):
         statuses = {"dwg-json": ([], 67), "dwg-picture": ([], 67), "dwg-diff": ([path], 2)}
         for name, (more, status) in statuses.items():
             for words in [more] if name == "dwg-diff" else [more, ["--output", out]]:
-                ran = otherwise(name, "drawing.MOST_TEXT = 10_000", "--program", program, path, *words)
+                ran = otherwise(name, "show.MOST_TEXT = 10_000", "--program", program, path, *words)
                 said = f"{name}: {path}: object 31 LWPOLYLINE has more than 10000 bytes of text, which is more than the tools take\n"
                 self.assertEqual((ran.returncode, ran.stdout, ran.stderr.decode()), (status, b"", said))
                 self.assertFalse(out.exists())
         # What needs no list takes any.
         for words in ([], ["--before", self.folder / "text"]):
-            ran = otherwise("dwg-recover", "drawing.MOST_TEXT = 10_000", "--program", program, "--force", *words, path, out)
+            ran = otherwise("dwg-recover", "show.MOST_TEXT = 10_000", "--program", program, "--force", *words, path, out)
             self.assertEqual((ran.returncode, ran.stderr, out.read_bytes()), (0, b"", b"AC1015"))
-        ran = otherwise("dwg-json", "drawing.MOST_TEXT = 100_000", "--program", program, path, "--output", out, "--force")
+        ran = otherwise("dwg-json", "show.MOST_TEXT = 100_000", "--program", program, path, "--output", out, "--force")
         self.assertEqual((ran.returncode, ran.stderr, len(out.read_bytes().splitlines())), (0, b"", 3))
 
     def test_an_older_state_without_an_end(self) -> None:
@@ -750,7 +752,7 @@ class Memory(common.InFolder):
             (prefix + polyline_text(2), "  x 0\n"): "object 31 LWPOLYLINE has more than 300000 bytes of text, which is more than the tools take",
             (prefix + "object 10 LAYER typed 51\n  entry.name ", '"' + "x" * 999): "a line has more than 100000 bytes",
         }
-        few = "drawing.MOST_LINE, drawing.MOST_TEXT, drawing.MOST_SHOWN = 100_000, 300_000, 900_000\n"
+        few = "show.MOST_LINE, show.MOST_TEXT, show.MOST_SHOWN = 100_000, 300_000, 900_000\n"
         small = "import resource; resource.setrlimit(resource.RLIMIT_FSIZE, (50_000_000, 50_000_000))\n"
         for (begin, rest), why in endless.items():
             writer = "import sys\nwith open(sys.argv[1], 'w') as file:\n    file.write(sys.argv[2])\n    while True: file.write(sys.argv[3] * 999)"
@@ -761,12 +763,12 @@ class Memory(common.InFolder):
     def test_what_an_older_state_is_known_by(self) -> None:
         layers = "".join(f'object {at:X} LAYER typed 51\n  entry.name "{at:0>500}"\n' for at in range(1, 30))
         program, path, text = self.showing(PREFIX.format(count=1) + polyline_text(2)), self.file("a.dwg", b"AC1015"), self.file("before", (PREFIX.format(count=29) + layers).encode())
-        ran = otherwise("dwg-recover", "drawing.LIMIT = 10_000", "--program", program, "--before", text, path, self.folder / "made")
+        ran = otherwise("dwg-recover", "survey.LIMIT = 10_000", "--program", program, "--before", text, path, self.folder / "made")
         self.assertEqual((ran.returncode, ran.stderr.decode()), (64, f"dwg-recover: {text} is no text of `dwg show`: its names have more than 10000 bytes\n"))
 
     def test_blocks_of_too_much_text(self) -> None:
         program, path = self.showing(PREFIX.format(count=2) + polyline_text(300, mode=0).replace("object 31", "object 30") + polyline_text(300, mode=0)), self.file("a.dwg", b"AC1015")
-        ran = otherwise("dwg-picture", "tool.MOST_KEPT = 20_000", "--program", program, path, "--output", self.folder / "made")
+        ran = otherwise("dwg-picture", "stock.MOST_KEPT = 20_000", "--program", program, path, "--output", self.folder / "made")
         self.assertEqual((ran.returncode, ran.stderr.decode()), (67, f"dwg-picture: {path}: the entities of blocks have more than 20000 bytes of text, which is more than is kept\n"))
         self.assertFalse((self.folder / "made").exists())
 
@@ -915,7 +917,7 @@ class Pairs(common.InFolder):
 
     def test_two_runs_at_once(self) -> None:
         # The first waits between its two names, in which time the second comes.
-        waiting = "place = tool.WholeFile.place\ndef placed(file):\n    time.sleep({before})\n    place(file)\n    time.sleep({after})\ntool.WholeFile.place = placed"
+        waiting = "place = outputs.WholeFile.place\ndef placed(file):\n    time.sleep({before})\n    place(file)\n    time.sleep({after})\noutputs.WholeFile.place = placed"
         waits = [waiting.format(before=0, after=1.0), waiting.format(before=0.3, after=0)]
         for force in (["--force"], []):
             for turn in range(3):
@@ -936,12 +938,12 @@ class Pairs(common.InFolder):
         handle = os.open(self.folder / "to", os.O_RDONLY)
         self.addCleanup(os.close, handle)
         fcntl.flock(handle, fcntl.LOCK_EX)
-        ran = self.recover("drawing.MOST_WAITING = 0.3", self.sources[0], "--force")
+        ran = self.recover("pairs.MOST_WAITING = 0.3", self.sources[0], "--force")
         said = f"dwg-recover: {self.folder}/to is locked by another run\n"
         self.assertEqual((ran.returncode, ran.stdout, ran.stderr.decode()), (73, b"", said))
         self.assertEqual((self.standing(), os.listdir(self.folder / "to")), ((b"old", None), ["out"]))
         # Where there are no locks that is told, and nothing else is otherwise.
-        ran = self.recover("def none(*_): raise OSError(95, 'Operation not supported')\ntool.fcntl.flock = none", self.sources[0], "--force")
+        ran = self.recover("def none(*_): raise OSError(95, 'Operation not supported')\npairs.fcntl.flock = none", self.sources[0], "--force")
         said = f"dwg-recover: {self.folder}/to can't be locked (Operation not supported); let no other run write the same output\n"
         self.assertEqual((ran.returncode, ran.stderr.decode(), self.standing()), (1, said, self.pairs[0]))
 
@@ -953,7 +955,7 @@ class Pairs(common.InFolder):
             "raise BrokenPipeError": (141, "nobody reads the report any more"),
             "import os, signal; os.kill(os.getpid(), signal.SIGINT); time.sleep(5)": (130, "ended by a signal"),
             "import os, signal; os.kill(os.getpid(), signal.SIGTERM); time.sleep(5)": (143, "ended by a signal"),
-            "raise drawing.ProgramFailed('killed')": (69, "the program dwg gave no answer: killed"),
+            "raise program.ProgramFailed('killed')": (69, "the program dwg gave no answer: killed"),
             "raise OSError(24, 'Too many open files')": (70, "Too many open files"),
             "raise ValueError('odd')": (70, "failure of the tool itself: ValueError: odd"),
         }
@@ -964,11 +966,11 @@ class Pairs(common.InFolder):
                 self.assertEqual(self.standing() if out != "-" else (ran.stdout, self.pairs[0][1]), self.pairs[0])
             self.out.unlink()
             self.notes.unlink()
-            ran = otherwise("dwg-recover", raising.format(line).replace("report_of", "run_recover"), "--program", made.PROGRAM, self.sources[0], self.out)
+            ran = otherwise("dwg-recover", raising.format(line).replace("report_of", "recovered"), "--program", made.PROGRAM, self.sources[0], self.out)
             self.assertNotIn(b"is there", ran.stderr)
             self.assertEqual(self.standing(), (None, None))
         # A signal that comes while both are named ends the run after that.
-        late = "import os, signal\ntool.WholeFile.sync_folder = lambda _: os.kill(os.getpid(), signal.SIGINT)"
+        late = "import os, signal\noutputs.WholeFile.sync_folder = lambda _: os.kill(os.getpid(), signal.SIGINT)"
         ran = self.recover(late, self.sources[0])
         self.assertEqual((ran.returncode, ran.stderr.decode(), self.standing()), (130, f"dwg-recover: ended by a signal; {self.out} is there\n", self.pairs[0]))
 
@@ -979,8 +981,8 @@ class FullDisk(common.InFolder):
     def test_each_tool_begins_again_where_there_is_room(self) -> None:
         tools = self.folder / "tools"
         tools.mkdir()
-        names = [path for path in TOOLS.iterdir() if path.name.startswith("dwg-") or path.suffix == ".py"]
-        for path in names:
+        shutil.copytree(TOOLS / "dwgtools", tools / "dwgtools", ignore=shutil.ignore_patterns("__pycache__"))
+        for path in TOOLS.glob("dwg-*"):
             shutil.copy(path, tools)
         for tool in sorted(tools.glob("dwg-*")):
             with self.subTest(tool.name):
@@ -993,7 +995,7 @@ class Unbuffered(unittest.TestCase):
     """What a tool writes where Python was told not to buffer."""
 
     def test_all_is_written_where_a_write_stops_in_the_middle(self) -> None:
-        script = f"import sys; sys.path.insert(0, {str(TOOLS)!r}); import drawing; drawing.run_tool(lambda: sys.stdout.buffer.write(bytes(1_000_000)) * 0)"
+        script = f"import sys; sys.path.insert(0, {str(TOOLS)!r}); from dwgtools import running; running.run_tool(lambda: sys.stdout.buffer.write(bytes(1_000_000)) * 0)"
         with subprocess.Popen([sys.executable, "-c", script], stdout=subprocess.PIPE, env={**os.environ, "PYTHONUNBUFFERED": "1"}) as ran:
             assert ran.stdout is not None
             waiting = b"\0" * 4

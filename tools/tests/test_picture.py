@@ -25,16 +25,20 @@ from typing import Any, Callable, Dict, Iterator, List, Sequence, Tuple
 import common
 import spelled
 import test_limits
-from made import PROGRAM, TOOLS, made, module, needs_program, shown, tool
+from made import PROGRAM, TOOLS, made, needs_program, shown, tool
 
-import drawing
-import lettering
-import plane
-import shapes
+from dwgtools import lettering, plane, shapes
+from dwgtools.drawings import Drawing
+from dwgtools.encodings import CODE_PAGES
+from dwgtools.painter import Page, Painter
+from dwgtools.picture import paint
+from dwgtools.program import Program
+from dwgtools.show import Lists, read_objects
+from dwgtools.values import read_value
+from dwgtools.window import head, window_of
 
 needs_program()
 
-TOOL = module(TOOLS / "dwg-picture", "dwg_picture")
 
 SVG = "{http://www.w3.org/2000/svg}"
 LINK = "{http://www.w3.org/1999/xlink}href"
@@ -222,6 +226,11 @@ def in_plane(normal: spelled.Up, x: float, y: float, z: float) -> Point:
 
 RSVG = shutil.which("rsvg-convert")
 BROWSER = next(filter(None, map(shutil.which, ("chromium", "chromium-browser", "google-chrome"))), None)
+
+
+def counting(owner: Any, name: str) -> Any:
+    """Counts the calls of a method."""
+    return unittest.mock.patch.object(owner, name, autospec=True, side_effect=getattr(owner, name))
 
 
 class Pictures(common.InFolder):
@@ -693,6 +702,15 @@ class Pictures(common.InFolder):
         told = ["dwg-picture: standard input: nothing is drawn", *(f"dwg-picture: standard input: not drawn: 1 POLYLINE 3D ({why})" for why in whys)]
         self.assertEqual((answer.returncode, answer.stderr.decode().splitlines()), (0, told))
 
+    def test_numbers_of_lists_are_not_read_one_by_one(self) -> None:
+        """Of very many points none is read by itself, in either of the two times that a drawing is read."""
+        one = spelled.Drawing()
+        one.polyline([(float(k), k % 7) for k in range(5000)], widths=[(k % 3, 1.0) for k in range(5000)])
+        with unittest.mock.patch("dwgtools.show.read_value", side_effect=read_value) as reading:
+            _, picture = self.painted(one)
+        self.assertEqual(picture.seen[0].points[4999], (4999.0, 4999 % 7))
+        self.assertLess(reading.call_count, 1000)
+
     def test_polylines(self) -> None:
         one = spelled.Drawing()
         one.polyline([(0, 0), (2, 0), (2, 2)])
@@ -742,7 +760,7 @@ class Pictures(common.InFolder):
         one.text(b"a\x7fb\\U+009Bc%%127d", (0, 0), 0.72)
         one.text(b"e\\U+202Ef\\U+2066g\\U+200Fh", (0, 0), 0.72)
         seen = {found.text for found in self.picture(one).seen}
-        self.assertEqual(seen, {"a\ufffdb\ufffdc\ufffdd", "e\u202ef\u2066g\u200fh"})
+        self.assertEqual(seen, {"a\x7fb\x9bc\x7fd", "e\u202ef\u2066g\u200fh"})
         said = tool("dwg-picture", given=one.file()).stdout.decode()
         self.assertFalse(set("\x7f\x9b\u202e\u2066\u200f") & set(said))
         self.assertIn("e&#8238;f&#8294;g&#8207;h", said)
@@ -751,7 +769,7 @@ class Pictures(common.InFolder):
         texts = {
             b"a\rb": "a\rb", b"a\r\nb\n\rc": "a\r\nb\n\rc", b"\tleft\t \t": "\tleft\t \t", b"%%013x%%010y%%009z": "\rx\ny\tz",
             b"u\\U+000Dv\\U+000Aw": "u\rv\nw", b"  two  ": "  two  ", b"]]> <!-- &#13; &amp; \"'": "]]> <!-- &#13; &amp; \"'",
-            b"s\\U+D83D\\U+DE00t": "s\U0001f600t", b"s\\U+DE00\\U+D83Dt": "s\ufffd\ufffdt", b"n\\U+FFFE\\U+FFFF\\U+0085m": "n\ufffd\ufffd\ufffdm",
+            b"s\\U+D83D\\U+DE00t": "s\U0001f600t", b"s\\U+DE00\\U+D83Dt": "s\ufffd\ufffdt", b"n\\U+FFFE\\U+FFFF\\U+0085m": "n\ufffd\ufffd\x85m",
         }  # fmt: skip
         one = spelled.Drawing()
         for content in texts:
@@ -759,9 +777,15 @@ class Pictures(common.InFolder):
         self.assertEqual([found.text for found in self.picture(one).seen], list(texts.values()))
 
     def test_texts_of_any_bytes(self) -> None:
+        # What XML forbids is lost, and nothing else; and no control of a terminal is written as it is.
+        allowed = "\t\n\r" + "".join(map(chr, (*range(0x20, 0xD800), *range(0xE000, 0xFFFE), *range(0x10000, 0x110000, 0x1111))))
+        known, content = set(allowed), lettering.readable(b" ".join(b"\\U+%04X" % code for code in range(0x10000)), "cp1252")
+        self.assertEqual(content, " ".join(letter if letter in known else "\ufffd" for letter in map(chr, range(0x10000))))
+        self.assertEqual(ElementTree.fromstring(f"<text>{lettering.said(allowed)}</text>").text, allowed)
+        self.assertFalse(set(map(chr, (*range(0x20), *range(0x7F, 0xA0)))) & set(lettering.said(allowed)))
         # All bytes by themselves, twice each, and in each order with some; every one between two letters.
         some = [bytes(range(256)), *(bytes([65, byte, byte, 66]) for byte in range(256)), bytes(reversed(range(256))), bytes(range(0, 256, 3)), bytes(range(255, 0, -5))]
-        for page in sorted(set(drawing.CODE_PAGES.values())):
+        for page in sorted(set(CODE_PAGES.values())):
             for one in some:
                 content = lettering.readable(one, page)
                 self.assertEqual(ElementTree.fromstring(f"<text>{lettering.said(content)}</text>").text, content, (page, one))
@@ -870,7 +894,7 @@ class Pictures(common.InFolder):
     def bounded(self, one: spelled.Drawing, most: int) -> "subprocess.CompletedProcess[bytes]":
         """What dwg-picture answers of a drawing where a picture may have so many bytes, whose memory stays small and whose picture is no longer."""
         path, told = self.file("bounded.dwg", one.file()), self.folder / "told"
-        lines = [f"tool.MOST_WRITTEN, tool.TIMES_WRITTEN = {most}, 0", *test_limits.MEASURED.format(peak=str(told)).splitlines()]
+        lines = [f"picture.MOST_WRITTEN, picture.TIMES_WRITTEN = {most}, 0", *test_limits.MEASURED.format(peak=str(told)).splitlines()]
         answer = test_limits.otherwise("dwg-picture", "\n".join(lines), "--program", PROGRAM, path)
         self.assertEqual(answer.returncode, 0, answer.stderr)
         peak = int(re.findall(r"VmHWM:\s*(\d+) kB", told.read_text())[0]) << 10
@@ -917,7 +941,7 @@ class Pictures(common.InFolder):
             one.polyline([(k, k % 2) for k in range(30)], [1.0] * 30, [(1.0, 0.0)] * 30, owner=0x32)
             for number in order:
                 put[number](one)
-            with unittest.mock.patch.multiple(TOOL, MOST_WRITTEN=1 << 18, TIMES_WRITTEN=0):
+            with unittest.mock.patch.multiple("dwgtools.picture", MOST_WRITTEN=1 << 18, TIMES_WRITTEN=0):
                 reader, picture = self.painted(one)
             self.assertEqual(dict(reader.undrawn), {"MINSERT (more than 262144 bytes in all)": 3}, order)
             self.assertEqual(len(picture.seen), 100 + 1 + 29, order)
@@ -932,11 +956,32 @@ class Pictures(common.InFolder):
             if place % 2:
                 one.attribute(b"x", b"T", (0, 0), 2.0, owner=first)
         one.insert(0x30, (0, 0, 0))
-        with unittest.mock.patch.multiple(TOOL, MOST_WRITTEN=1 << 14, TIMES_WRITTEN=0):
+        with unittest.mock.patch.multiple("dwgtools.picture", MOST_WRITTEN=1 << 14, TIMES_WRITTEN=0):
             with unittest.mock.patch.object(plane.Affine, "moved_to", autospec=True, side_effect=plane.Affine.moved_to) as moving:
                 reader, picture = self.painted(one)
         self.assertEqual((dict(reader.undrawn), len(picture.seen)), ({"MINSERT (more than 16384 bytes in all)": 20}, 1))
         self.assertLess(moving.call_count, 20 * 50)
+
+    def test_what_is_too_large_is_gone_through_once(self) -> None:
+        """However many inserts there are of it, and of blocks that have it: of none each of its runs is looked at again."""
+        runs, inserts = 300, 100
+        one = spelled.Drawing()
+        for block in (0x30, 0x31, *range(0x200, 0x200 + inserts)):
+            one.block(block, b"B%d" % block)
+        one.last = 0x400
+        # (entities by layer and by block in turn, each of which is a run)
+        for place in range(runs):
+            one.polyline([(k + place, k % 2) for k in range(40)], owner=0x30, colour=256 * (place % 2))
+        one.insert(0x30, (0, 0, 0), owner=0x31)
+        for place in range(inserts):
+            one.insert(0x31, (0, 0, 0), owner=0x200 + place)
+            for block in (0x30, 0x31, 0x200 + place):
+                one.insert(block, (place, 0, 0))
+        with unittest.mock.patch.multiple("dwgtools.picture", MOST_WRITTEN=1 << 16, TIMES_WRITTEN=0), contextlib.ExitStack() as mended:
+            looks = [mended.enter_context(counting(Painter, name)) for name in ("measured", "maps")]
+            reader, picture = self.painted(one)
+        self.assertEqual((dict(reader.undrawn), len(picture.seen)), ({"INSERT (more than 65536 bytes in all)": 3 * inserts}, 0))
+        self.assertLess(sum(look.call_count for look in looks), 20 * (runs + inserts))
 
     def test_bytes_told_in_vain(self) -> None:
         """A block that many others have, each with more than there is room for, isn't told again for each of them."""
@@ -954,8 +999,8 @@ class Pictures(common.InFolder):
             one.insert(block, (5, 0, 0), (2, 2, 1))
         one.insert(0x30, (0, 0, 0))
         most = 1 << 17
-        with unittest.mock.patch.multiple(TOOL, MOST_WRITTEN=most, TIMES_WRITTEN=0):
-            with unittest.mock.patch.object(TOOL.Page, "write", autospec=True, side_effect=TOOL.Page.write) as writing:
+        with unittest.mock.patch.multiple("dwgtools.picture", MOST_WRITTEN=most, TIMES_WRITTEN=0):
+            with unittest.mock.patch.object(Page, "write", autospec=True, side_effect=Page.write) as writing:
                 reader, picture = self.painted(one)
         self.assertEqual((dict(reader.undrawn), len(picture.seen)), ({f"INSERT (more than {most} bytes in all)": 40}, 1 + 19))
         self.assertLess(sum(len(call[0][1]) for call in writing.call_args_list), 3 * most)
@@ -1027,7 +1072,7 @@ class Pictures(common.InFolder):
             one.ray((place, 0, 0), (0, 1, 0), colour=1 + place)
         whole = len(self.picture(one).svg)
         for most in range(0, whole + 300, 97):
-            with unittest.mock.patch.multiple(TOOL, MOST_WRITTEN=most, TIMES_WRITTEN=0):
+            with unittest.mock.patch.multiple("dwgtools.picture", MOST_WRITTEN=most, TIMES_WRITTEN=0):
                 reader, picture = self.painted(one)
             self.assertLess(len(picture.svg), most + 1500)
             missed = lambda kind: reader.undrawn[f"{kind} (more than {most} bytes in all)"]
@@ -1039,9 +1084,9 @@ class Pictures(common.InFolder):
     def painted(self, one: spelled.Drawing) -> Tuple[Any, Picture]:
         """What reads a drawing, and its picture, in this process."""
         out, given = io.BytesIO(), types.SimpleNamespace(space="model", block=None, width=1200, background="white")
-        found = drawing.Drawing(drawing.Program(PROGRAM), str(self.file("painted.dwg", one.file())))
+        found = Drawing(Program(PROGRAM), str(self.file("painted.dwg", one.file())))
         with found.file, contextlib.redirect_stderr(io.StringIO()):
-            reader, _ = TOOL.paint(found, out, given)
+            reader, _ = paint(found, out, given)
         return reader, Picture(out.getvalue())
 
     def test_copies_of_nothing(self) -> None:
@@ -1064,7 +1109,7 @@ class Pictures(common.InFolder):
         handle = one.polyline([(k, k % 2) for k in range(200)], [1.0] * 200, [(1.0, 0.0)] * 200)
         (lines,) = [lines for found, _, lines in shown(one.file()) if found == handle]
         text = "".join(f"{line}\n" for line in [f"object {handle:X} LWPOLYLINE typed 77", *(f"  {line}" for line in lines)]).encode()
-        fields = shapes.Fields(next(drawing.read_objects(iter(text.splitlines(keepends=True)), lists=drawing.Lists.NUMBERS)))
+        fields = shapes.Fields(next(read_objects(iter(text.splitlines(keepends=True)), lists=Lists.NUMBERS)))
         tracemalloc.start()
         figures = list(shapes.polyline(fields, shapes.Context("cp1252", False)))
         size, _ = tracemalloc.get_traced_memory()
@@ -1253,6 +1298,27 @@ class Pictures(common.InFolder):
         self.assertGreater(len(beyond), 1)
         self.assertEqual(said, [f"dwg-picture: standard input: not drawn: {len(beyond)} INSERT (more than 64 deep)"])
 
+    def test_inserts_are_read_once_however_deep(self) -> None:
+        """A chain or ring of blocks, each of which is drawn to 64 depths: each insert is read once, and stands where it stood at each depth."""
+        for is_ring in (False, True):
+            one = spelled.Drawing()
+            blocks = range(0x30, 0x30 + 90)
+            for block in blocks:
+                one.block(block, b"B%d" % block)
+            for block in blocks:
+                one.line((0, 0, 0), (1, 0, 0), owner=block)
+                if is_ring or block != blocks[-1]:
+                    one.insert(block + 1 if block != blocks[-1] else blocks[0], (1, 2, 0), owner=block)
+                one.insert(block, (100 * block, 0, 0))
+            with counting(shapes.Fields, "__init__") as reading:
+                _, picture = self.painted(one)
+            deep = [min(64, blocks[-1] + 1 - block) for block in blocks]
+            expected = sorted((100.0 * (block - blocks[0]) + step, 2.0 * step) for block, steps in zip(blocks, deep) for step in range(steps))
+            # (coordinates count from the middle)
+            found = sorted(seen.points[0] for seen in picture.seen)
+            self.assertTrue([(round(x - found[0][0], 3), y) for x, y in found] == expected, is_ring)
+            self.assertLess(reading.call_count, 5 * len(blocks))
+
     def test_loops_in_any_order(self) -> None:
         """Which insert leads back isn't told by what is met first: it is looked for by the handles of blocks."""
 
@@ -1380,9 +1446,9 @@ class Pictures(common.InFolder):
         sizes = [0.0, 5e-324, 1e-323, 5e-320, 2.3e-308, 1e-300, 1e-160, 1e-40, 1e-31, 1e-29, 1e-7, 1e7, 1e14, 1e15]
         for x, y in [(one, 0.0) for one in sizes] + [(0.0, one) for one in sizes] + [(one, one / 3) for one in sizes] + [(1e15, 5e-324), (5e-324, 1e15)]:
             for begin in ((0.0, 0.0), (-x, -y), (x, 0.0)):
-                shown = TOOL.window_of([begin, (max(x, begin[0]), max(y, begin[1]))])
+                shown = window_of([begin, (max(x, begin[0]), max(y, begin[1]))])
                 for width in (1, 1200, 100_000):
-                    said = TOOL.head(shown, width, "#ffffff", {5, 211}) + "</g></svg>"
+                    said = head(shown, width, "#ffffff", {5, 211}) + "</g></svg>"
                     root = ElementTree.fromstring(said)
                     box = list(map(float, root.get("viewBox", "").split()))
                     widths = list(map(float, re.findall(r"stroke-width:([^}]*)}", root.findtext(SVG + "style", ""))))

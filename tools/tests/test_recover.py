@@ -21,11 +21,18 @@ from typing import Any, Dict, Iterable, Iterator, List, Optional, Tuple
 import made
 from made import TOOLS, dwg, flipped, layout, program_that, shown, tool
 
-import drawing
+from dwgtools import chains
+from dwgtools.drawings import Drawing
+from dwgtools.outputs import WholeFile
+from dwgtools.pairs import Written, place_both
+from dwgtools.program import Program
+from dwgtools.report import counted
+from dwgtools.show import Prefix, read_objects, read_prefix
+from dwgtools.statuses import ToolError
+from dwgtools.survey import Block, Survey, survey_before, survey_of, surveyed
 
 made.needs_program()
 
-RECOVER = made.module(TOOLS / "dwg-recover", "dwg_recover")
 
 # The drawing that is damaged: handles 30 to 30 + COUNT are the model space, the first an INSERT.
 COUNT = 200
@@ -111,14 +118,14 @@ class Recover(unittest.TestCase):
             with self.subTest(old=old, failing=failing), tempfile.TemporaryDirectory() as folder:
                 for name, data in old.items():
                     pathlib.Path(folder, name).write_bytes(data)
-                out, written = os.path.join(folder, "out"), RECOVER.Written("out")
-                with RECOVER.WholeFile(out, True) as whole, RECOVER.WholeFile(out + ".notes", True) as notes:
+                out, written = os.path.join(folder, "out"), Written("out")
+                with WholeFile(out, True) as whole, WholeFile(out + ".notes", True) as notes:
                     for file in (whole, notes):
                         file.file.write(b"new")
                         file.finish()
                     stopped = whole if failing == "out" else notes
                     with unittest.mock.patch.object(stopped, "place", side_effect=OSError), self.assertRaises(OSError):
-                        RECOVER.place_both(whole, notes, written)
+                        place_both(whole, notes, written)
                 self.assertEqual({name: pathlib.Path(folder, name).read_bytes() for name in os.listdir(folder)}, old)
                 self.assertFalse(written.stands)
 
@@ -132,7 +139,7 @@ class Recover(unittest.TestCase):
             with self.subTest(there=there, has_links=has_links, failing=failing), tempfile.TemporaryDirectory() as folder:
                 for name in there:
                     pathlib.Path(folder, name).write_bytes(old[name])
-                written = RECOVER.Written(os.path.join(folder, "out"))
+                written = Written(os.path.join(folder, "out"))
                 is_whole = placed(written, failing, has_links)
                 standing = {name: pathlib.Path(folder, name).read_bytes() for name in os.listdir(folder) if not name.startswith(".")}
                 pair = tuple(standing.get(name) for name in old)
@@ -150,16 +157,16 @@ class Recover(unittest.TestCase):
     def test_old_notes_that_are_gone_are_told_so(self) -> None:
         for name in ("out", "out.notes"):
             (self.folder / name).write_bytes(b"old")
-        written = RECOVER.Written(str(self.folder / "out"))
+        written = Written(str(self.folder / "out"))
 
-        def emptied(file: drawing.WholeFile) -> None:
+        def emptied(file: WholeFile) -> None:
             for path in self.folder.glob(".out.notes.*.part"):
                 path.unlink()
             raise OSError(5, "Input/output error")
 
-        with RECOVER.WholeFile(written.out, True) as whole, RECOVER.WholeFile(written.out + ".notes", True) as notes:
+        with WholeFile(written.out, True) as whole, WholeFile(written.out + ".notes", True) as notes:
             with unittest.mock.patch.object(notes, "place", lambda: emptied(notes)), self.assertRaises(OSError):
-                RECOVER.place_both(whole, notes, written)
+                place_both(whole, notes, written)
         self.assertEqual((written.stands, str(written)), (False, f"what was {self.folder}/out.notes before is gone"))
 
     def test_what_is_no_recovery_takes_no_name(self) -> None:
@@ -406,9 +413,7 @@ class Recover(unittest.TestCase):
     def test_an_older_state_that_changes_meanwhile(self) -> None:
         text = self.folder / "text"
         whole = dwg("show", given=DATA).stdout
-        read_prefix = drawing.read_prefix
-
-        def changed(lines: Iterator[bytes]) -> drawing.Prefix:
+        def changed(lines: Iterator[bytes]) -> Prefix:
             with open(text, "ab") as file:
                 file.write(b"more\n")
             return read_prefix(lines)
@@ -416,8 +421,8 @@ class Recover(unittest.TestCase):
         # One that is written still is no text, and that isn't its fault.
         for data in (whole, whole[:1000]):
             text.write_bytes(data)
-            with unittest.mock.patch("drawing.read_prefix", changed), self.assertRaises(drawing.ToolError) as raised:
-                RECOVER.survey_before(drawing.Program(made.PROGRAM), str(text))
+            with unittest.mock.patch("dwgtools.survey.read_prefix", changed), self.assertRaises(ToolError) as raised:
+                survey_before(Program(made.PROGRAM), str(text))
             self.assertEqual((str(raised.exception), raised.exception.status), (f"{text}: it was changed while it was read", 4))
 
     def test_interrupted(self) -> None:
@@ -457,15 +462,15 @@ class Chains(unittest.TestCase):
 
     def breaks(self, nexts: Dict[int, int], first: int, last: int, more: Iterable[int] = ()) -> List[str]:
         """The breaks of a block with these members and these objects beside."""
-        survey = RECOVER.Survey()
+        survey = Survey()
         survey.spaces = [(1, 2)]
-        survey.blocks[1] = RECOVER.Block("B", first, last)
+        survey.blocks[1] = Block("B", first, last)
         survey.nexts = nexts
         for handle in nexts:
             survey.modes[handle], survey.kinds[handle] = 2, "LINE"
         for handle in more:
             survey.kinds[handle] = "LAYER"
-        return [str(one) for chain in RECOVER.Chains(survey).broken() for one in chain.breaks]
+        return [str(one) for chain in chains.Chains(survey).broken() for one in chain.breaks]
 
     def test_whole(self) -> None:
         self.assertEqual(self.breaks({}, 0, 0), [])
@@ -493,7 +498,7 @@ class Chains(unittest.TestCase):
         for name, nexts in shapes.items():
             steps = 0
 
-            class Counted(RECOVER.Chains):
+            class Counted(chains.Chains):
                 """Chains that count the steps along them."""
 
                 def following(self, handle: int, block: Any) -> Optional[int]:
@@ -501,8 +506,8 @@ class Chains(unittest.TestCase):
                     steps += 1
                     return super().following(handle, block)
 
-            survey = RECOVER.Survey()
-            survey.spaces, survey.blocks, survey.nexts = [(1, 2)], {1: RECOVER.Block("B", 0, 0)}, nexts
+            survey = Survey()
+            survey.spaces, survey.blocks, survey.nexts = [(1, 2)], {1: Block("B", 0, 0)}, nexts
             for handle in nexts:
                 survey.modes[handle], survey.kinds[handle] = 2, "LINE"
             (chain,) = Counted(survey).broken()
@@ -560,12 +565,12 @@ object 34 LINE raw 19
   bytes 00
 """
         lines = iter(text.encode().splitlines(keepends=True))
-        prefix = RECOVER.drawing.read_prefix(lines)
-        survey = RECOVER.surveyed(prefix, RECOVER.drawing.read_objects(lines, prefix.count))
-        chains = RECOVER.Chains(survey)
-        self.assertEqual(chains.members, {0x18: [0x30], 0x1B: [0x31], 0x20: [0x32, 0x33]})
-        self.assertEqual(list(chains.broken()), [])
-        counts = RECOVER.counted(survey, survey.kinds)
+        prefix = read_prefix(lines)
+        survey = surveyed(prefix, read_objects(lines, prefix.count))
+        found_chains = chains.Chains(survey)
+        self.assertEqual(found_chains.members, {0x18: [0x30], 0x1B: [0x31], 0x20: [0x32, 0x33]})
+        self.assertEqual(list(found_chains.broken()), [])
+        counts = counted(survey, survey.kinds)
         self.assertEqual(counts.layers, {"W\u00e4nde": 5, "(layer 11, which isn't there)": 1})
         self.assertEqual((counts.kinds["BODY"], counts.kinds["LINE"]), (1, 4))
 
@@ -577,8 +582,8 @@ object 34 LINE raw 19
             with tempfile.NamedTemporaryFile() as file:
                 file.write(recovered)
                 file.flush()
-                survey = RECOVER.survey_of(RECOVER.Drawing(RECOVER.Program(made.PROGRAM), file.name))
-            self.assertEqual({f"{chain.block:X}" for chain in RECOVER.Chains(survey).broken()}, found, f"{handle:X}")
+                survey = survey_of(Drawing(Program(made.PROGRAM), file.name))
+            self.assertEqual({f"{chain.block:X}" for chain in chains.Chains(survey).broken()}, found, f"{handle:X}")
 
 
 def placed(written: Any, failing: Iterable[int], has_links: bool) -> bool:
@@ -593,7 +598,7 @@ def placed(written: Any, failing: Iterable[int], has_links: bool) -> bool:
 
         return called
 
-    with RECOVER.WholeFile(written.out, True) as whole, RECOVER.WholeFile(written.out + ".notes", True) as notes, contextlib.ExitStack() as patched:
+    with WholeFile(written.out, True) as whole, WholeFile(written.out + ".notes", True) as notes, contextlib.ExitStack() as patched:
         for file in (whole, notes):
             file.file.write(b"new")
             file.finish()
@@ -602,7 +607,7 @@ def placed(written: Any, failing: Iterable[int], has_links: bool) -> bool:
         if not has_links:
             patched.enter_context(unittest.mock.patch.object(os, "link", side_effect=OSError(1, "Operation not permitted")))
         try:
-            RECOVER.place_both(whole, notes, written)
+            place_both(whole, notes, written)
         except OSError:
             return False
     return True

@@ -7,11 +7,13 @@ import os
 import random
 import re
 import resource
+import shlex
 import shutil
 import signal
 import socket
 import stat
 import subprocess
+import sys
 import time
 import unittest
 from pathlib import Path
@@ -20,6 +22,7 @@ from typing import Any, Callable, Dict, List, Sequence
 import common
 import made
 import spelled
+import test_limits
 from made import TOOLS, flipped, layout, made as drawn, program_that, tool
 
 # How each tool that writes a file is told to, with the input and the output.
@@ -43,6 +46,18 @@ def in_bash(script: str, *words: object, **more: Any) -> "subprocess.CompletedPr
     """What a script of bash gives, in which the tools are on the path."""
     environment = {**os.environ, "DWG": made.PROGRAM, "PATH": f"{TOOLS}:{os.environ['PATH']}"}
     return subprocess.run(["bash", "-c", script, "bash", *map(str, words)], capture_output=True, check=False, env=environment, timeout=100, **more)
+
+
+# Makes so many temporary files, and then there is no place for one.
+NO_TEMPORARY = """
+make, left = tempfile.TemporaryFile, [{count}]
+def made_file(*words, **more):
+    left[0] -= 1
+    if left[0] < 0:
+        raise OSError(28, "No space left on device")
+    return make(*words, **more)
+tempfile.TemporaryFile = made_file
+"""
 
 
 def limited_to(size: int) -> Callable[[], None]:
@@ -171,12 +186,25 @@ class Outputs(common.InFolder):
                 ran = subprocess.run(said, input=data, capture_output=True, check=False, preexec_fn=limited_to(20), env=environment)
                 self.assertEqual((ran.returncode, ran.stdout), (status, b""), ran.stderr)
                 self.assertRegex(ran.stderr.decode(), rf"\A{tool_name}: {re.escape(name)}( can't be written|: File too large)\n\Z")
-        # So is one that can't be made.
+        # So is one that can't be made, whichever it is of those that a tool makes, and nothing is left of an output that isn't there.
+        for tool_name, words, status in (("dwg-json", [path], 70), ("dwg-picture", [path], 70), ("dwg-diff", [path, path], 2), ("dwg-recover", [path, self.folder / "out"], 70)):
+            for count in range(8):
+                for left in ("out", "out.notes"):
+                    (self.folder / left).unlink(missing_ok=True)
+                ran = test_limits.otherwise(tool_name, NO_TEMPORARY.format(count=count), "--program", made.PROGRAM, *words)
+                if ran.returncode == 0:
+                    break
+                there = (self.folder / "out").exists()
+                said = rf"\A{tool_name}: (the|a) temporary file( in \S+)?( can't be written)?: No space left on device{'; .*/out is there' if there else ''}\n\Z"
+                self.assertEqual((ran.returncode, ran.stdout), (status, b""), (tool_name, count, ran.stderr))
+                self.assertRegex(ran.stderr.decode(), said, (tool_name, count))
+                self.assertEqual((self.folder / "out.notes").exists(), there)
+            self.assertTrue(0 < count < 7, tool_name)
         said = [str(TOOLS / "dwg-json"), "--program", made.PROGRAM, str(path)]
         ran = subprocess.run(said, capture_output=True, check=False, preexec_fn=limited_to(0))
         self.assertEqual((ran.returncode, ran.stdout), (70, b""), ran.stderr)
         self.assertTrue(ran.stderr.startswith(b"dwg-json: a temporary file: No usable temporary directory found in "), ran.stderr)
-        self.assertEqual(sorted(os.listdir(self.folder)), ["a.dwg", "temporary", "text"])
+        self.assertEqual(sorted(os.listdir(self.folder)), ["a.dwg", "out", "out.notes", "temporary", "text"])
 
     def test_a_folder_that_is_moved_keeps_no_temporary_file(self) -> None:
         path = self.file("a.dwg", drawn(3, 1))
@@ -265,12 +293,37 @@ class Ends(common.InFolder):
         ran = in_bash('dwg-json "$1" 2>&-', self.folder / "none")
         self.assertEqual((ran.returncode, ran.stdout), (4, b""))
 
+    @unittest.skipUnless(os.path.exists("/proc/self/fd"), "what descriptors lead to, as there is no /proc")
+    def test_closed_streams_where_python_is_a_script(self) -> None:
+        """One that begins Python, as that of pyenv, would stand in the place of a stream that is closed; so would a tool, where sh is bash."""
+        told, place = self.folder / "told", self.folder / "bin"
+        look = "import os, sys; open(sys.argv[1], 'w').write(' '.join(os.path.realpath(f'/proc/self/fd/{one}') for one in range(3)))"
+        place.mkdir()
+        (place / "python3").write_text(f'#!/bin/bash\nexec {shlex.quote(sys.executable)} -c {shlex.quote(look)} {shlex.quote(str(told))}\n')
+        (place / "python3").chmod(0o755)
+        path = f"{place}:{os.environ['PATH']}"
+        files = [self.file(f"stream {one}", b"") for one in range(3)]
+        for name in ALL:
+            for shell in ("", "bash ", "dash "):
+                for closed in ("", "0", "1", "2", "12", "012"):
+                    to = " ".join(f"{one}>&-" if str(one) in closed else f"{one}<>{shlex.quote(str(files[one]))}" for one in range(3))
+                    if shutil.which(shell.strip() or "sh"):
+                        in_bash(f'PATH={shlex.quote(path)}; {shell}{shlex.quote(str(TOOLS / name))} {to}')
+                        expected = ["/dev/null" if str(one) in closed else str(files[one]).replace(" ", "?") for one in range(3)]
+                        found = told.read_text().replace("stream ", "stream?").split(" ")
+                        self.assertEqual(found, expected, (name, shell, closed))
+
     @unittest.skipUnless(os.path.exists("/dev/full"), "a full disk, as there is no /dev/full")
     def test_full_standard_streams(self) -> None:
         path = self.file("a.dwg", drawn(3, 1))
         statuses = {"dwg-json": 5, "dwg-picture": 5, "dwg-diff": 0, "dwg-check": 70, "dwg-recover": 5}
         for name, words in ALL.items():
             self.assertEqual(in_bash(f'{name} "$@" >/dev/full 2>/dev/full', *words(path)).returncode, statuses[name], name)
+        # What a tool says of itself is an output as any other.
+        for name, status in {**statuses, "dwg-diff": 2}.items():
+            for word in ("--help", "--version"):
+                ran = in_bash(f"{name} {word} >/dev/full")
+                self.assertEqual((ran.returncode, ran.stderr.decode()), (status, f"{name}: standard output can't be written: No space left on device\n"), word)
         self.assertEqual(in_bash('dwg-json "$1" 2>/dev/full', self.folder / "none").returncode, 4)
         # OUT is there where its report can't be said.
         ran = in_bash('dwg-recover "$1" "$2" >/dev/full', path, self.folder / "out.dwg")

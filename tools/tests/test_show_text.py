@@ -6,7 +6,9 @@ import unittest
 from pathlib import Path
 
 sys.path.insert(0, str(Path(__file__).resolve().parents[1]))
-import drawing  # noqa: E402
+from dwgtools.encodings import CODE_PAGES, code_page, decoded  # noqa: E402
+from dwgtools.show import objects, read_objects, read_prefix  # noqa: E402
+from dwgtools.values import BadText, Bytes, Reference, Words, read_value, steps  # noqa: E402
 
 PREFIX = b"""drawing AC1015 codepage 30 lead 00ff0000000000 mark -
 variables 0102
@@ -36,7 +38,7 @@ class ShowText(unittest.TestCase):
     """Texts that are written here by hand after docs/FORMAT.md."""
 
     def test_prefix(self) -> None:
-        prefix = drawing.read_prefix(iter(PREFIX.splitlines(keepends=True)))
+        prefix = read_prefix(iter(PREFIX.splitlines(keepends=True)))
         self.assertEqual((prefix.version, prefix.codepage, prefix.count), ("AC1015", 30, 2))
         self.assertEqual((prefix.lead, prefix.mark, prefix.variables), (b"\0\xff\0\0\0\0\0", b"", b"\1\2"))
         self.assertEqual(prefix.sections, [(4, b""), (7, b"\x0a\x0b")])
@@ -45,16 +47,16 @@ class ShowText(unittest.TestCase):
         self.assertEqual((one.app, one.cpp, one.dxf), (b'A"B', b"", b"WIPE\\OUT"))
 
     def test_objects(self) -> None:
-        first, second = drawing.objects((PREFIX + OBJECTS).splitlines(keepends=True))
+        first, second = objects((PREFIX + OBJECTS).splitlines(keepends=True))
         self.assertEqual((first.handle, first.kind, first.form, first.number), (1, "BLOCK CONTROL", "typed", 48))
         self.assertEqual([path for path, _ in first.fields], ["owner", "entries[0]", "entries[1]"])
-        self.assertEqual(first.reference("entries[1]"), drawing.Reference(10, (1 << 63) - 1))
+        self.assertEqual(first.reference("entries[1]"), Reference(10, (1 << 63) - 1))
         self.assertEqual(str(first.reference("entries[1]")), "A.7FFFFFFFFFFFFFFF")
         # Sixteen digits that could be a word are bytes where the name is one of bytes.
         self.assertEqual(second.value("app[0].bytes"), bytes.fromhex("1234567890123456"))
-        self.assertIsInstance(second.value("app[0].bytes"), drawing.Bytes)
+        self.assertIsInstance(second.value("app[0].bytes"), Bytes)
         start = second.value("start")
-        self.assertIsInstance(start, drawing.Words)
+        self.assertIsInstance(start, Words)
         expected = struct.unpack(">3d", bytes.fromhex("4050E9DAB1D10000BFF00000000000000000000000000000"))
         self.assertEqual(start.doubles(), expected)
         self.assertEqual(second.value("thickness").doubles(), (1.0,))
@@ -69,15 +71,15 @@ class ShowText(unittest.TestCase):
         common, edges = b"  mode 2\n  invisible 0\n", b"  fourth 0000000000000000 0000000000000000 0000000000000000\n  invisible 5\n"
         heads = [b"object 31 3DFACE typed 28\n", b"object 32 3DFACE plain 28\n", b"object 33 3DFACE raw 28\n"]
         text = heads[0] + common + edges + heads[1] + common + heads[2] + b"  bytes -\n"
-        typed, plain, raw = drawing.read_objects(iter(text.splitlines(keepends=True)))
+        typed, plain, raw = read_objects(iter(text.splitlines(keepends=True)))
         self.assertEqual((typed.value("invisible"), typed.value("invisible_edges")), (0, 5))
         self.assertEqual([path for path, _ in typed.fields], ["mode", "invisible", "fourth", "invisible_edges"])
         self.assertEqual((plain.value("invisible"), plain.value("invisible_edges"), list(raw.lines)), (0, None, [b"bytes -"]))
 
     def test_steps(self) -> None:
-        self.assertEqual(drawing.steps("items[12].name"), ("items", 12, "name"))
-        self.assertEqual(drawing.steps("points[0]"), ("points", 0))
-        self.assertEqual(drawing.steps("a"), ("a",))
+        self.assertEqual(steps("items[12].name"), ("items", 12, "name"))
+        self.assertEqual(steps("points[0]"), ("points", 0))
+        self.assertEqual(steps("a"), ("a",))
 
     def test_bad_texts(self) -> None:
         whole = (PREFIX + OBJECTS).splitlines(keepends=True)
@@ -85,23 +87,23 @@ class ShowText(unittest.TestCase):
             lines = whole[:cut]
             if cut >= len(PREFIX.splitlines()) + 5:
                 continue  # Both objects have begun: fewer fields can't be told from all.
-            with self.assertRaises(drawing.BadText, msg=f"{cut} lines"):
-                list(drawing.objects(lines))
+            with self.assertRaises(BadText, msg=f"{cut} lines"):
+                list(objects(lines))
         for text in (b"", b"\x89PNG\r\n", b"drawing AC1015\n", PREFIX + OBJECTS[:-1], PREFIX + OBJECTS + b"object 40 SEQEND typed 6\n", PREFIX + b"x\n"):
-            with self.assertRaises(drawing.BadText, msg=repr(text[-20:])):
-                list(drawing.objects(text.splitlines(keepends=True)))
+            with self.assertRaises(BadText, msg=repr(text[-20:])):
+                list(objects(text.splitlines(keepends=True)))
         for name, printed in ((b"colour", b"x"), (b"layer", b"5."), (b"start", b"405" * 20), (b"bytes", b"0"), (b"name", b'"a')):
-            with self.assertRaises(drawing.BadText, msg=repr(name)):
-                drawing.read_value(name, printed)
+            with self.assertRaises(BadText, msg=repr(name)):
+                read_value(name, printed)
 
     def test_code_pages(self) -> None:
-        self.assertEqual(drawing.decoded(b"\x80\xe4", drawing.code_page(30)), "€ä")
-        self.assertEqual(drawing.decoded(b"\x81", drawing.code_page(30)), "\udc81")
-        self.assertEqual(drawing.decoded(b"\xd1\xf2", drawing.code_page(29)), "Ст")
-        self.assertEqual(drawing.decoded(b"\x93\xfa", drawing.code_page(38)), "日")
-        self.assertEqual(drawing.code_page(999), "cp1252")
-        for page in drawing.CODE_PAGES.values():
-            self.assertEqual(drawing.decoded(b"A1", page), "A1")
+        self.assertEqual(decoded(b"\x80\xe4", code_page(30)), "€ä")
+        self.assertEqual(decoded(b"\x81", code_page(30)), "\udc81")
+        self.assertEqual(decoded(b"\xd1\xf2", code_page(29)), "Ст")
+        self.assertEqual(decoded(b"\x93\xfa", code_page(38)), "日")
+        self.assertEqual(code_page(999), "cp1252")
+        for page in CODE_PAGES.values():
+            self.assertEqual(decoded(b"A1", page), "A1")
 
 
 if __name__ == "__main__":

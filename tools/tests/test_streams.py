@@ -185,13 +185,13 @@ class Paused(common.InFolder):
 # Changes a file when what is kept of standard input begins.
 CHANGING = """
 import os
-made_file = drawing.tempfile.TemporaryFile
+made_file = tempfile.TemporaryFile
 def changing(*words, **more):
     if os.path.exists({path!r}):
         with open({path!r}, "ab") as file:
             file.write(b"more")
     return made_file(*words, **more)
-drawing.tempfile.TemporaryFile = changing
+tempfile.TemporaryFile = changing
 """
 
 

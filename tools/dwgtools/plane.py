@@ -243,10 +243,15 @@ class Box:
 
     def add(self, steps: Iterable[Step]) -> None:
         """Takes points and arcs in."""
+        left, right, low, high = self.sides
         for step in steps:
             for x, y in step.around() if isinstance(step, Arc) else (step,):
-                self.left, self.right = min(self.left, x), max(self.right, x)
-                self.low, self.high = min(self.low, y), max(self.high, y)
+                # (there may be millions of points, and most are inside)
+                if not left <= x <= right:
+                    left, right = min(left, x), max(right, x)
+                if not low <= y <= high:
+                    low, high = min(low, y), max(high, y)
+        self.sides = left, right, low, high
 
     def holds(self, place: Point, reach: float) -> bool:
         """Whether all is inside that is as close to a place."""

@@ -8,8 +8,8 @@ import math
 from dataclasses import dataclass, field, replace
 from typing import Callable, Dict, Iterable, Iterator, List, NamedTuple, Set, Tuple, Union
 
-from plane import SAME, Affine, Arc, Box, Outline, Point, Step, convex, summed
-from shapes import AT_ONCE, Figure, Frame, Moved
+from .plane import SAME, Affine, Arc, Box, Outline, Point, Step, convex, summed
+from .shapes import AT_ONCE, Figure, Frame, Moved
 
 # How much an insert counts by itself, beside the entities of its block: librsvg follows 500,000 of them.
 INSERT_COST = 2

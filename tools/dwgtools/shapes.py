@@ -6,10 +6,11 @@ import itertools
 import math
 from array import array
 from dataclasses import dataclass
-from typing import Dict, Iterable, Iterator, List, NamedTuple, Optional, Sequence, Set, Tuple, Union
+from typing import Dict, Iterable, Iterator, List, NamedTuple, Optional, Sequence, Set, Tuple
 
-from drawing import Object, Reference, Text, Value, Words, read_field
-from plane import SAME, TURN, Affine, Arc, Endless, Point, Step, circular, pair, plain, seen, unit
+from .show import Object
+from .values import Reference, Text, Value, Words, read_field
+from .plane import SAME, TURN, Affine, Arc, Endless, Point, Step, circular, pair, plain, seen, unit
 
 FARTHEST = 1e15
 
@@ -76,9 +77,9 @@ class Fields:
 
 def check(values: Iterable[float]) -> None:
     """Undrawable where a number can't be drawn."""
-    for value in values:
-        if not abs(value) <= FARTHEST:
-            raise Undrawable("a number that is none or too large")
+    # (as steps that Python makes itself: there may be millions)
+    if not all(map(FARTHEST.__ge__, map(abs, values))):
+        raise Undrawable("a number that is none or too large")
 
 
 def checked(values: Tuple[float, ...]) -> Tuple[float, ...]:
@@ -573,6 +574,7 @@ def polyline(fields: Fields, _: Context) -> Iterator[Figure]:
 
 def way_of(segments: Segments, plane: Optional[Affine]) -> Way:
     """The way along segments, in their plane or as it is seen."""
+    plane = None if plane == SAME else plane
     begin, steps = segments.corner(0), Steps(segments, plane)
     return Way(begin if plane is None else plane.at(*begin), steps if segments.count > MANY else list(steps), segments.closed)
 

@@ -8,9 +8,10 @@ from dataclasses import dataclass
 from typing import Iterator, List
 from xml.sax.saxutils import escape
 
-from drawing import DIRECTIONS, decoded
-from plane import Affine, Point, Step, plain, seen, turned
-from shapes import FILLED, Context, Fields, Figure, Frame, Undrawable, checked_map
+from .encodings import decoded
+from .escapes import DIRECTIONS
+from .plane import Affine, Point, Step, plain, seen, turned
+from .shapes import FILLED, Context, Fields, Figure, Frame, Undrawable, checked_map
 
 # All texts are written in one size, to which a map gives theirs, since programs that show SVG lay out very small and very large letters badly;
 # and how far capitals stand above the baseline in a font without serifs, and other letters below.
@@ -19,9 +20,10 @@ CAPITAL, DEPTH = 0.72 * FONT, 0.24 * FONT
 
 SIGNS = {"d": "\u00b0", "c": "\u2300", "p": "\u00b1", "%": "%", "u": "", "o": "", "k": ""}
 _SIGN = re.compile(r"%%([0-9]{3}|[dcpuok%])|((?:\\U\+[0-9A-F]{4})+)", re.IGNORECASE)
-_UNSAID = re.compile("[\x00-\x08\x0b\x0c\x0e-\x1f\x7f-\x9f\ufffe\uffff\ud800-\udfff]")
-# What is written as a number: what turns the direction of a terminal, which a picture needs, and what a reader of XML would make another space.
-_NUMBERED = {letter: f"&#{ord(letter)};" for letter in (*sorted(DIRECTIONS), "\t", "\n", "\r")}
+_UNSAID = re.compile("[\x00-\x08\x0b\x0c\x0e-\x1f\ufffe\uffff\ud800-\udfff]")
+# What is written as a number: what turns the direction of a terminal, which a picture needs, controls of one that XML allows, and what a reader of
+# XML would make another space.
+_NUMBERED = {letter: f"&#{ord(letter)};" for letter in (*sorted(DIRECTIONS), *map(chr, range(0x7F, 0xA0)), "\t", "\n", "\r")}
 
 
 def readable(text: bytes, page: str) -> str:

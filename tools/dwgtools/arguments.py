@@ -1,0 +1,80 @@
+"""The words of a command line, and what `--version` tells."""
+
+from __future__ import annotations
+
+import argparse
+import contextlib
+import os
+import subprocess
+import sys
+from typing import Any, NoReturn, Sequence, Tuple
+
+from . import TOP
+from .outputs import output
+from .statuses import Exit, Status, ToolError
+from .streams import hush_where_named, own_name
+
+TESTED = "This tool is tested (tools/test), not proved as the program is."
+
+
+class Parser(argparse.ArgumentParser):
+    """Words of a command line, with status 64 for those that aren't understood, and the exit statuses after the help."""
+
+    def __init__(self, description: str, statuses: Sequence[Tuple[int, str]], more: str = "") -> None:
+        table = "\n".join(f"  {int(number):<5}{meaning}" for number, meaning in statuses)
+        end = f"{more.strip()}\n\n" if more.strip() else ""
+        super().__init__(
+            prog=own_name(),
+            description=description,
+            epilog=f"{end}exit status:\n{table}\n\n{TESTED}",
+            formatter_class=argparse.RawDescriptionHelpFormatter,
+            allow_abbrev=False,
+        )
+        self.add_argument("--version", action=_Version, help="say which commit this tool is of, and end")
+        self.add_argument("--program", metavar="PATH", help="the program dwg (else the one that DWG names, else dwg beside tools/, else dwg on the PATH)")
+
+        self._unwritten = Status.WRITE_FAULT if any(number == Status.WRITE_FAULT for number, _ in statuses) else Exit.FAILURE
+
+    def print_help(self, _: Any = None) -> None:
+        """Prints the help; where that can't be, ToolError with the status that the tool has for any output. (argparse would say nothing)"""
+        self.say(self.format_help())
+
+    def say(self, text: str) -> None:
+        """Prints what the tool says of itself."""
+        try:
+            with output(None, False) as out:
+                out.write(text.encode("utf-8", "backslashreplace"))
+        except ToolError as fault:
+            raise ToolError(str(fault), self._unwritten) from None
+
+    def error(self, message: str) -> NoReturn:
+        hush_where_named(sys.argv[1:])
+        with contextlib.suppress(OSError):
+            self.print_usage(sys.stderr)
+        raise ToolError(message, Exit.USAGE)
+
+
+class _Version(argparse.Action):
+    """Says which commit a tool is of, where that is known, and ends."""
+
+    def __init__(self, option_strings: Sequence[str], dest: str, **more: Any) -> None:
+        super().__init__(option_strings, argparse.SUPPRESS, nargs=0, **more)
+
+    def __call__(self, parser: argparse.ArgumentParser, *_: Any) -> None:
+        assert isinstance(parser, Parser)
+        parser.say(f"{parser.prog}, commit {commit() or 'unknown'}\n{TESTED}\n")
+        parser.exit()
+
+
+def commit() -> str:
+    """The commit of the tools: the one that `make install` noted, else what git says of the checkout; nothing where neither knows."""
+    with contextlib.suppress(OSError), open(os.path.join(TOP, "COMMIT"), encoding="ascii", errors="replace") as noted:
+        return noted.readline().strip()
+    if not os.path.exists(os.path.join(TOP, ".git")):
+        return ""
+    words = ["git", "-C", TOP, "describe", "--always", "--dirty= and changes", "--exclude=*", "--abbrev=40"]
+    environment = {name: value for name, value in os.environ.items() if not name.startswith("GIT_")}
+    with contextlib.suppress(OSError, subprocess.SubprocessError):
+        ran = subprocess.run(words, stdin=subprocess.DEVNULL, stdout=subprocess.PIPE, stderr=subprocess.DEVNULL, env=environment, timeout=20, check=True)
+        return ran.stdout.decode("ascii", "replace").strip()
+    return ""

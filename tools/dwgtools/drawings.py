@@ -1,0 +1,70 @@
+"""A drawing that is shown, once or more often."""
+
+from __future__ import annotations
+
+import contextlib
+import itertools
+import os
+from typing import IO, Iterator, Optional, Tuple
+
+from .inputs import CHANGED, open_input, state_of
+from .names import Names
+from .pieces import names_in, objects_in
+from .program import NoTemporary, Program
+from .show import PIECE, Lists, Object, Prefix, read_prefix
+from .statuses import Exit, Status, ToolError
+from .streams import input_name
+from .temporary import TemporaryFull, temporary_told
+from .values import BadText
+
+
+class Drawing:
+    """A drawing that can be shown more than once: a file, or what comes by a pipe, kept in a file without a name meanwhile."""
+
+    def __init__(self, program: Program, path: Optional[str], file: Optional[IO[bytes]] = None) -> None:
+        self.program = program
+        self.name = input_name(path)
+        self.file = open_input(path) if file is None else file
+        self._state = state_of(self.file)
+
+    @contextlib.contextmanager
+    def show(self, lists: Lists = Lists.TEXT) -> Iterator[Tuple[Prefix, Iterator[Object]]]:
+        """What the text of `show` says before the objects, and these, one by one; ToolError with the program's status where it refuses."""
+        with self.text() as (prefix, text):
+            yield prefix, objects_in(text, prefix.count, lists)
+
+    @contextlib.contextmanager
+    def text(self) -> Iterator[Tuple[Prefix, IO[bytes]]]:
+        """What the text of `show` says before the objects, and the text of these as it comes; ToolError with the program's status where it refuses."""
+        with temporary_told():
+            try:
+                os.lseek(self.file.fileno(), 0, os.SEEK_SET)
+                yield from self._shown()
+            except (NoTemporary, TemporaryFull):
+                raise
+            except ToolError as fault:
+                message = str(fault)
+                raise ToolError(f"{self.name}: {message[5:] if message.startswith('dwg: ') else message}", fault.status) from None
+
+    def _shown(self) -> Iterator[Tuple[Prefix, IO[bytes]]]:
+        """Yields once, and reads on after that to the end, so that the program's status is told before any fault of the text."""
+        bad: Optional[BadText] = None
+        with contextlib.ExitStack() as begun:
+            text = begun.enter_context(self.program.lines(["show"], self.file))
+            first = text.readline()
+            if first:
+                try:
+                    yield read_prefix(itertools.chain([first], text)), text
+                except BadText as fault:
+                    bad = fault
+            while text.read(PIECE):
+                pass
+        if state_of(self.file) != self._state:
+            raise ToolError(CHANGED, Status.READ_FAULT)
+        if bad or not first:
+            raise ToolError(f"the text of `show` isn't as it should be: {bad or 'it is empty'}", Exit.FAILURE)
+
+    def names(self) -> Names:
+        """The names of layers, styles, linetypes, applications and blocks, by handle."""
+        with self.text() as (prefix, text):
+            return names_in(text, prefix.count)

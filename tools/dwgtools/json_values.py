@@ -1,0 +1,169 @@
+"""What a drawing says, as values of JSON."""
+
+from __future__ import annotations
+
+from dataclasses import dataclass, field
+from typing import Any, Callable, Dict, Iterator, List, Mapping, Tuple, Union
+
+from .encodings import decoded
+from .show import Class, Object, Prefix
+from .values import BadText, Bytes, Reference, Text, Value, Words, number, read_field, read_value, steps
+
+Tree = Union[Dict[str, Any], List[Any]]
+
+# How long a name is that may be held for each reference that leads to it: longer ones are rare, and said more slowly.
+LONGEST_NAME = 255
+
+
+def put(tree: Dict[str, Any], path: str, value: Any) -> None:
+    """Puts a value at its path, and makes the objects and arrays on the way."""
+    *way, last = steps(path)
+    if not way:
+        tree[path] = value
+        return
+    place: Tree = tree
+    for step, after in zip(way, [*way[1:], last]):
+        place = member(place, step, [] if isinstance(after, int) else {})
+    member(place, last, value)
+
+
+def member(place: Tree, step: Union[str, int], new: Any) -> Any:
+    """What stands at a step, or the new value, put there."""
+    if isinstance(place, dict) and isinstance(step, str):
+        return place.setdefault(step, new)
+    if isinstance(place, list) and isinstance(step, int) and step <= len(place):
+        if step == len(place):
+            place.append(new)
+        return place[step]
+    raise BadText("a path that doesn't fit those before it")
+
+
+class Listed(List[Any]):
+    """A list whose elements are found when they are asked for, each time anew; the encoder of `json` asks for one after the other."""
+
+    def __init__(self, found: Callable[[], Iterator[Any]]) -> None:
+        super().__init__()
+        self.found = found
+
+    def __bool__(self) -> bool:
+        return True
+
+    def __iter__(self) -> Iterator[Any]:
+        return self.found()
+
+
+@dataclass
+class Speaker:
+    """Says values in JSON: knows the names by handle and the code page, and counts the texts that it couldn't decode whole."""
+
+    names: Mapping[int, Text]
+    page: str
+    undecoded: int = 0
+    # How often a long name was said; and these by handle, each with how many texts of it couldn't be decoded whole.
+    said_long: int = 0
+    _long: Dict[int, Tuple[str, int]] = field(default_factory=dict)
+
+    def text(self, value: bytes) -> str:
+        """A text by the code page."""
+        said = decoded(value, self.page)
+        if not said.isascii() and any("\udc80" <= letter <= "\udcff" for letter in said):
+            self.undecoded += 1
+        return said
+
+    def reference(self, value: Reference) -> Dict[str, Any]:
+        """A reference, with the name of where it leads."""
+        said: Dict[str, Any] = {"code": value.code, "handle": f"{value.handle:X}"}
+        name = self.names.get(value.handle)
+        if name is not None:
+            said["name"] = self.text(name) if len(name) <= LONGEST_NAME else self._long_name(value.handle, name)
+        return said
+
+    def _long_name(self, handle: int, name: Text) -> str:
+        """A long name, which is held once, however many references lead to it."""
+        if handle not in self._long:
+            before = self.undecoded
+            self._long[handle] = self.text(name), self.undecoded - before
+            self.undecoded = before
+        said, undecoded = self._long[handle]
+        self.undecoded += undecoded
+        self.said_long += 1
+        return said
+
+    def value(self, value: Value) -> Any:
+        """Any value of a field."""
+        if isinstance(value, int):
+            return value
+        if isinstance(value, Reference):
+            return self.reference(value)
+        if isinstance(value, Words):
+            return number(value[0]) if len(value) == 1 else [number(word) for word in value]
+        return value.hex() if isinstance(value, Bytes) else self.text(value)
+
+    def colour(self, value: Value) -> Any:
+        """The colour of what is no layer."""
+        return ("by-layer" if value else "by-block") if value in (0, 256) else self.value(value)
+
+    def head(self, one: Object) -> Dict[str, Any]:
+        """What an object begins with."""
+        return {"object": f"{one.handle:X}", "kind": one.kind, "form": one.form, "type": one.number}
+
+    def put(self, said: Dict[str, Any], one: Object, path: str, value: Value) -> None:
+        """Puts a field to what is said of an object."""
+        put(said, path, self.colour(value) if path == "colour" and one.kind != "LAYER" else self.value(value))
+
+    def object(self, one: Object) -> Dict[str, Any]:
+        """An object of the drawing."""
+        said = self.head(one)
+        for path, value in one.fields:
+            self.put(said, one, path, value)
+        return said
+
+    def long_object(self, one: Object) -> Dict[str, Any]:
+        """An object of the drawing, of whose lists the elements are told when they are asked for."""
+        said, last = self.head(one), b""
+        for line in one.lines:
+            name, bracket, _ = line[: line.index(b" ")].partition(b"[")
+            if not bracket or b"." in name:
+                self.put(said, one, *read_field(line))
+            elif name != last:
+                if name.decode("ascii") in said:
+                    raise BadText("a path that doesn't fit those before it")
+                said[name.decode("ascii")] = Listed(lambda name=name: self.elements(one, name))  # type: ignore[misc]
+            last = name if bracket else b""
+        return said
+
+    def elements(self, one: Object, name: bytes) -> Iterator[Any]:
+        """The elements of a list, one by one."""
+        at = -1
+        members: Dict[str, Any] = {}
+        for line in one.elements(name):
+            index, _, rest = line[len(name) + 1 :].partition(b"]")
+            path, _, printed = rest.partition(b" ")
+            if int(index) != at or not path:
+                if members:
+                    yield members
+                at, members = at + 1, {}
+            if int(index) != at:
+                raise BadText("a path that doesn't fit those before it")
+            value = self.value(read_value(name + path, printed))
+            if path:
+                put(members, path[1:].decode("ascii"), value)
+            else:
+                yield value
+        if members:
+            yield members
+
+    def class_line(self, one: Class) -> Dict[str, Any]:
+        """A class."""
+        said = {"class": one.number, "version": one.version, "proxy": one.proxy, "item": one.item}
+        return {**said, "app": self.text(one.app), "cpp": self.text(one.cpp), "dxf": self.text(one.dxf)}
+
+    def prefix(self, prefix: Prefix) -> Iterator[Dict[str, Any]]:
+        """The header, the classes and the unknown sections."""
+        kept = {"lead": prefix.lead.hex(), "mark": prefix.mark.hex(), "variables": prefix.variables.hex()}
+        counts = {"classes": len(prefix.classes), "objects": prefix.count}
+        yield {"drawing": prefix.version, "codepage": prefix.codepage, "encoding": self.page, **kept, **counts}
+        for one in prefix.classes:
+            yield self.class_line(one)
+        for section, data in prefix.sections:
+            yield {"section": section, "bytes": data.hex()}

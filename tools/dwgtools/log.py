@@ -1,0 +1,421 @@
+"""LOG, in which dwg-check keeps what it found."""
+
+from __future__ import annotations
+
+import contextlib
+import fcntl
+import hashlib
+import json
+import os
+import re
+import stat
+import threading
+from dataclasses import asdict, dataclass, replace
+from typing import IO, Any, Callable, Dict, Iterator, List, Optional, Set, Tuple
+
+from .arguments import commit
+from .escapes import one_line
+from .file import Picture, Preview
+from .inputs import pieces_of
+from .notes import Refusal
+from .program import program_file
+from .rows import RULES, VERDICTS, Row, as_object
+from .signals import uninterrupted
+from .statuses import Exit, ToolError
+from .streams import tell
+from .versions import LIMIT
+from .walking import is_called_drawing
+
+Key = Tuple[str, int, int]
+
+# What the first line of LOG is, and any that another program begins.
+HEAD = {"log": "dwg-check", "form": 1}
+
+# No line of LOG is longer: a path has 4,096 bytes, each six letters of JSON at the most, and stands in it twice.
+LONGEST = 1 << 17
+# Where one is damaged so that it is longer than this, the file isn't read to its end.
+ENDLESS = 1 << 27
+
+# How often LOG is read at the most, by its size, to see whether it still stands: who touches it all the time doesn't hold the run up.
+MOST_LOOKS = 8
+
+# The type of each member of a line that must be there, and of each that may be null.
+TEXTS = ("path", "verdict", "detail", "version", "absolute")
+NUMBERS = ("findings", "bytes", "trailing", "mtime_ns")
+
+# What numbers of LOG are at the most: those of a file system have 64 bits, and so have the seconds of a time, before 1970 below 0.
+MOST_NUMBER = (1 << 63) - 1
+LEAST = {"mtime_ns": -(10**9 << 63)}
+MOST = {"mtime_ns": 10**9 << 63}
+# What a SHA-256 and a version look like there.
+DIGEST, VERSION_TOLD = re.compile("[0-9a-f]{64}"), re.compile("(?:AC[0-9]{4})?")
+
+# The verdicts that come with findings, and those that a drawing with a preview has.
+WHOLE = ("sound", "unsound", "trailing bytes")
+
+
+def absolute_name(path: str) -> str:
+    """The whole name of a file, whatever links lead to it: `link/../plan.dwg` stands beside what the link leads to, and /dev/stdin is
+    another file each time. Where the folder that it begins in is gone, or no file can have the name, the name itself; where more links
+    lead on than Python follows, and any system, the name in that folder."""
+    try:
+        return os.path.realpath(path)
+    except RecursionError:
+        return os.path.join(absolute_name(os.curdir), path)
+    except (OSError, ValueError):
+        return path
+
+
+class NoLine(Exception):
+    """A line that is none of LOG."""
+
+
+def read_log_line(line: bytes) -> Dict[str, Any]:
+    """The object of a line of LOG."""
+    try:
+        told = json.loads(line)
+    except (ValueError, RecursionError):
+        raise NoLine from None
+    if not isinstance(told, dict):
+        raise NoLine
+    return told
+
+
+def is_number(value: Any, most: int = MOST_NUMBER, least: int = 0) -> bool:
+    """Whether a value of JSON is a number without a fraction that can be told of a file."""
+    return isinstance(value, int) and not isinstance(value, bool) and least <= value <= most
+
+
+@dataclass(frozen=True)
+class Maker:
+    """By what lines of LOG were made: the program, by the SHA-256 of its file, and the number of the rules, which older tools didn't tell."""
+
+    program: str
+    rules: Optional[int]
+
+
+def maker_of_head(told: Dict[str, Any]) -> Optional[Maker]:
+    """By what the lines after a head of LOG are made; None where it is no head."""
+    program, rules = told.get("program"), told.get("rules")
+    if {name: told.get(name) for name in HEAD} != HEAD or not isinstance(program, str):
+        return None
+    return Maker(program, rules if is_number(rules) else None)
+
+
+def read_refusal(told: Any) -> Optional[Refusal]:
+    """The refusal of a line of LOG."""
+    if told is None:
+        return None
+    if not isinstance(told, dict) or not all(is_number(told.get(name)) for name in ("index", "place")):
+        raise NoLine
+    if not all(isinstance(told.get(name), str) for name in ("part", "reason")):
+        raise NoLine
+    return Refusal(told["part"], told["index"], told["place"], told["reason"])
+
+
+def read_preview(told: Any) -> Optional[Preview]:
+    """The preview of a line of LOG."""
+    if told is None:
+        return None
+    if not isinstance(told, dict) or not is_number(told.get("bytes"), LIMIT) or not isinstance(told.get("pictures"), list):
+        raise NoLine
+    if not all(isinstance(one, dict) and is_number(one.get("code"), 255) and is_number(one.get("bytes"), LIMIT) for one in told["pictures"]):
+        raise NoLine
+    return Preview(told["bytes"], tuple(Picture(one["code"], one["bytes"]) for one in told["pictures"]))
+
+
+def is_possible(verdict: str, numbers: Dict[str, Optional[int]]) -> bool:
+    """Whether a verdict comes with such numbers: a whole drawing has findings and trailing bytes, if 0, and no other file has any."""
+    findings, size, trailing = numbers["findings"], numbers["bytes"], numbers["trailing"]
+    if verdict == "changed":
+        return (findings is None) == (trailing is None)
+    if verdict not in WHOLE:
+        return findings is None and trailing is None
+    if findings is None or trailing is None or size is None or not trailing < size <= LIMIT:
+        return False
+    return trailing > 0 if verdict == "trailing bytes" else not trailing and (findings > 0) == (verdict == "unsound")
+
+
+def read_row(told: Dict[str, Any]) -> Tuple[str, Row]:
+    """The file of a line of LOG by its whole name, and what was found of it."""
+    digest = told.get("sha256")
+    if not all(isinstance(told.get(name), str) for name in TEXTS) or told["verdict"] not in VERDICTS or not VERSION_TOLD.fullmatch(told["version"]):
+        raise NoLine
+    if not (digest is None or isinstance(digest, str) and DIGEST.fullmatch(digest)):
+        raise NoLine
+    if not all(told.get(name) is None or is_number(told[name], MOST.get(name, MOST_NUMBER), LEAST.get(name, 0)) for name in NUMBERS):
+        raise NoLine
+    numbers = {name: told.get(name) for name in NUMBERS}
+    if not is_possible(told["verdict"], numbers):
+        raise NoLine
+    row = Row(told["path"], told["verdict"], told["detail"], version=told["version"], refusal=read_refusal(told.get("refusal")), sha256=digest, **numbers)
+    row.preview = read_preview(told.get("preview"))
+    row.lasting = row.verdict == "failed"
+    return told["absolute"], row
+
+
+def state_of_log(file: IO[bytes]) -> Tuple[int, int, int]:
+    """The size of LOG and the times of its last change, which are others where another has written into it."""
+    told = os.fstat(file.fileno())
+    return told.st_size, told.st_mtime_ns, told.st_ctime_ns
+
+
+class Seen:
+    """What the run has read in LOG and added to it, by which it sees that another has cut or overwritten that."""
+
+    def __init__(self, file: IO[bytes]) -> None:
+        self._file = file
+        self._state = state_of_log(file)
+        self._size, self._digest = 0, hashlib.sha256()
+        self._read = 0
+
+    def readline(self, most: int) -> bytes:
+        """A line of LOG, or of one that is longer so many bytes."""
+        line = self._file.readline(most)
+        self._take(line)
+        return line
+
+    def added(self, line: bytes) -> None:
+        """Takes note of what the run has added, and in which state it has left LOG."""
+        self._take(line)
+        state = state_of_log(self._file)
+        # (where another has added something meanwhile, LOG is looked at before the next line)
+        if state[0] == self._size:
+            self._state = state
+
+    def stands(self, is_end: bool) -> bool:
+        """Whether all that was seen still stands. At the end all is read, as the clock of a file system may stand still while it is written
+        twice; before that where the state of LOG is another."""
+        state = state_of_log(self._file)
+        if state[0] < self._size:
+            return False
+        if is_end:
+            return self._is_same()
+        if state == self._state:
+            return True
+        if self._read <= MOST_LOOKS * self._size and not self._is_same():
+            return False
+        # What another has added may stay.
+        for piece in pieces_of(self._file, state[0], self._size):
+            self._take(piece)
+        self._state = state
+        return True
+
+    def _take(self, data: bytes) -> None:
+        self._digest.update(data)
+        self._size += len(data)
+
+    def _is_same(self) -> bool:
+        found = hashlib.sha256()
+        for piece in pieces_of(self._file, self._size):
+            found.update(piece)
+        self._read += self._size
+        return found.digest() == self._digest.digest()
+
+
+class Log:
+    """The file that keeps finished lines, one JSON object each, after a head. One run at a time writes into it."""
+
+    def __init__(self, path: str, tell_fault: Callable[[str], None]) -> None:
+        self.name, self.fault = one_line(path), ""
+        self._path, self._tell = path, tell_fault
+        self._known: Dict[Key, Row] = {}
+        self._first: Dict[Key, str] = {}
+        self._current: Set[Key] = set()
+        self._contents: Dict[str, Row] = {}
+        self._unreadable: Set[Tuple[str, str]] = set()
+        self._lock = threading.Lock()
+        # (nothing before all is read)
+        self._seen: Optional[Seen] = None
+        if is_called_drawing(path) or is_called_drawing(absolute_name(path)):
+            raise ToolError(f"{self.name} is called as a drawing is, and no log is: was LOG forgotten?", Exit.EXISTS)
+        try:
+            self._file = open_log(path)
+            self.place = os.fstat(self._file.fileno())
+            self._refuse()
+        except OSError as fault:
+            raise ToolError(f"{self.name}: {fault.strerror}", Exit.FAILURE) from None
+
+    def _refuse(self) -> None:
+        """Refuses a file that isn't LOG, and LOG that another run has."""
+        if not stat.S_ISREG(self.place.st_mode):
+            raise ToolError(f"{self.name} is no regular file", Exit.EXISTS)
+        try:
+            fcntl.flock(self._file, fcntl.LOCK_EX | fcntl.LOCK_NB)
+        except BlockingIOError:
+            raise ToolError(f"{self.name}: another run writes into it", Exit.EXISTS) from None
+        except OSError as fault:
+            tell(f"{self.name} can't be locked ({fault.strerror}); let no other run write into it")
+        first = self._file.readline(LONGEST)
+        try:
+            if first and (not first.endswith(b"\n") or maker_of_head(read_log_line(first)) is None):
+                raise NoLine
+        except NoLine:
+            raise ToolError(f"{self.name} is there, and doesn't begin as a log of this form does; name a file that isn't there", Exit.EXISTS) from None
+
+    def begin(self, program: str) -> None:
+        """Reads what LOG has, and writes a head where what comes is made by another program, or by other rules, than what is there."""
+        own, line = Maker(program, RULES), b"\n"
+        last: Optional[Maker] = None
+        damaged: List[int] = []
+        seen = Seen(self._file)
+        self._file.seek(0)
+        for number, line in enumerate(lines_of_log(seen.readline), 1):
+            try:
+                told = read_log_line(line)
+                head = maker_of_head(told)
+                last = last if head is None else head
+                if head is None:
+                    self._take(*read_row(told), last == own)
+            except NoLine:
+                damaged.append(number)
+        self._seen = seen
+        if damaged:
+            first = f"{len(damaged)} damaged lines are" if len(damaged) > 1 else "a damaged line is"
+            self._tell(f"{self.name}: {first} passed, the first is line {damaged[0]}")
+        try:
+            if not line.endswith(b"\n"):
+                self._append(b"\n")
+            if last != own:
+                self._append(json.dumps({**HEAD, **asdict(own), "tools": commit() or None}).encode("ascii") + b"\n")
+        except OSError as fault:
+            raise ToolError(f"{self.name}: {fault.strerror}", Exit.FAILURE) from None
+
+    def _take(self, absolute: str, row: Row, is_current: bool) -> None:
+        """Knows a file again; what it is found to be counts only where this program found it, by these rules."""
+        if row.verdict == "unreadable":
+            self._unreadable.add((absolute, row.detail))
+        elif row.bytes is not None and row.mtime_ns is not None:
+            key = (absolute, row.bytes, row.mtime_ns)
+            self._known[key] = row
+            if row.sha256 and row.verdict != "changed":
+                self._first.setdefault(key, row.sha256)
+            self._current.discard(key)
+            if is_current:
+                self._current.add(key)
+            if is_current and row.sha256 and row.verdict != "changed":
+                self._contents[row.sha256] = row
+
+    def of_content(self, digest: str) -> Optional[Row]:
+        """What a content is found to be by this program."""
+        return self._contents.get(digest)
+
+    def of_file(self, path: str) -> Optional[Row]:
+        """What this program found of a file that has the size and the time that it had."""
+        try:
+            told = os.stat(path)
+            key = (absolute_name(path), told.st_size, told.st_mtime_ns)
+        except (OSError, ValueError):
+            return None
+        row = self._known[key] if key in self._current else None
+        # One that was changed is looked at again: it may have been put right.
+        return replace(row, path=path) if row and row.verdict != "changed" else None
+
+    def kept(self, row: Row) -> Row:
+        """The line of a file that was looked at, kept in LOG: `changed` where its first content of this size and time was another."""
+        if row.verdict == "failed" and not row.lasting:
+            return row
+        absolute = absolute_name(row.path)
+        key = (absolute, row.bytes or 0, row.mtime_ns or 0)
+        old = self._known.get(key)
+        first = self._first.get(key, "" if old and old.verdict == "changed" else row.sha256)
+        if old and row.sha256 and row.sha256 != first:
+            row = replace(row, verdict="changed", detail=f"{row.verdict}: {row.detail}" if row.detail else row.verdict)
+        is_there = key in self._current and old is not None and old.sha256 == row.sha256
+        if not is_there and not (row.verdict == "unreadable" and (absolute, row.detail) in self._unreadable):
+            self._add(absolute, row)
+        return row
+
+    def _add(self, absolute: str, row: Row) -> None:
+        """Adds a line; where that fails it is told at once, and nothing more is added."""
+        line = json.dumps({**as_object(row), "absolute": absolute}).encode("ascii") + b"\n"
+        if len(line) > LONGEST:
+            self._tell(f"{self.name}: a line of more than {LONGEST} bytes isn't kept, that of {one_line(row.path)}")
+            return
+        with self._lock:
+            if self.fault:
+                return
+            try:
+                if not self._stands(is_end=False):
+                    return
+                self._append(line)
+            except OSError as fault:
+                self.fault = str(fault.strerror)
+        if self.fault:
+            self._tell(f"{self.name}: {self.fault}; what is finished from now on isn't kept")
+
+    def _append(self, line: bytes) -> None:
+        """Adds a line whole, or leaves LOG as it was. What another has added without an end of line gets one, so that no line is joined to it."""
+        handle = self._file.fileno()
+        with uninterrupted():
+            end = os.fstat(handle).st_size
+            if end and os.pread(handle, 1, end - 1) != b"\n":
+                line = b"\n" + line
+            left = line
+            try:
+                while left:
+                    left = left[os.write(handle, left) :]
+            except OSError:
+                with contextlib.suppress(OSError):
+                    os.ftruncate(handle, end)
+                raise
+            if self._seen:
+                self._seen.added(line)
+
+    def _stands(self, is_end: bool) -> bool:
+        """Whether what was seen in LOG still stands there; where it doesn't, that is told, and nothing more is added."""
+        if self._seen is None or self._seen.stands(is_end):
+            return True
+        self.fault = "cut"
+        self._tell(f"{self.name} was cut or overwritten while it was written; what stood in it or is finished from now on is lost")
+        return False
+
+    def close(self) -> None:
+        """Sees to it that the lines are on the disk, and in the file that has the name."""
+        with self._lock:
+            try:
+                os.fsync(self._file.fileno())
+                if not os.path.samestat(os.stat(self._path), self.place):
+                    raise FileNotFoundError
+                if not self.fault:
+                    self._stands(is_end=True)
+            except FileNotFoundError:
+                self.fault = self.fault or "removed"
+                self._tell(f"{self.name} was removed or replaced while it was written; what was added to it is lost")
+            except OSError as fault:
+                self.fault = self.fault or str(fault.strerror)
+                self._tell(f"{self.name}: {fault.strerror}")
+            self._file.close()
+
+
+def open_log(path: str) -> IO[bytes]:
+    """Opens LOG to read it and to add to it. What isn't a regular file isn't opened."""
+    if os.path.exists(path) and not os.path.isfile(path):
+        raise ToolError(f"{one_line(path)} is no regular file", Exit.EXISTS)
+    return os.fdopen(os.open(path, os.O_RDWR | os.O_APPEND | os.O_CREAT | os.O_NONBLOCK | os.O_CLOEXEC, 0o666), "r+b")
+
+
+def lines_of_log(readline: Callable[[int], bytes]) -> Iterator[bytes]:
+    """The lines of LOG, of one that is too long its begin and its end alone; one that has no end is refused."""
+    while True:
+        line = readline(LONGEST)
+        if not line:
+            return
+        size = len(line)
+        while size >= LONGEST and not line.endswith(b"\n"):
+            more = readline(LONGEST)
+            line, size = line[:LONGEST] + more[-1:], size + len(more)
+            if not more:
+                break
+            if size > ENDLESS:
+                raise ToolError(f"LOG has a line of more than {ENDLESS} bytes; name another file", Exit.EXISTS)
+        yield line
+
+
+def digest_of_program(path: str) -> str:
+    """The SHA-256 of the file of the program."""
+    found = hashlib.sha256()
+    with open(program_file(path), "rb") as file:
+        for piece in iter(lambda: file.read(1 << 20), b""):
+            found.update(piece)
+    return found.hexdigest()

@@ -1,0 +1,181 @@
+"""An output and its notes, which take their names together."""
+
+from __future__ import annotations
+
+import contextlib
+import fcntl
+import os
+import secrets
+import select
+import time
+from dataclasses import dataclass, field
+from typing import Iterator, List, Optional
+
+from .escapes import one_line
+from .outputs import WholeFile
+from .program import MOST_WAITING
+from .signals import uninterrupted
+from .statuses import Exit, Status, ToolError
+from .streams import is_standard, tell
+
+
+@dataclass
+class Written:
+    """Whether the drawing stands at OUT, or is whole on standard output: it stays there however the run ends after that. And what a run that
+    couldn't place both leaves behind: OUT without its notes, and what had their names before."""
+
+    out: str
+    stands: bool = False
+    has_notes: bool = True
+    left: List[str] = field(default_factory=list)
+
+    def __str__(self) -> str:
+        """What is said of it, or nothing."""
+        there = "the drawing is written" if is_standard(self.out) else f"{one_line(self.out)} is there"
+        alone = "" if self.has_notes else ", the new one, without its notes"
+        return "; ".join([there + alone, *self.left] if self.stands else self.left)
+
+    @contextlib.contextmanager
+    def told(self) -> Iterator[None]:
+        """Has each end that isn't the usual one say that the drawing stands, where it does, and what is left."""
+        try:
+            yield
+        except BaseException as fault:
+            if str(self):
+                self._tell(fault)
+            raise
+
+    def _tell(self, fault: BaseException) -> None:
+        """Ends with a message that says it; one of the fault's own status goes before it."""
+        if isinstance(fault, ToolError):
+            raise ToolError(f"{fault}; {self}", fault.status) from None
+        if isinstance(fault, MemoryError):
+            raise ToolError(f"no memory was to be had; {self}", Status.NO_MEMORY) from None
+        if isinstance(fault, OSError) and not isinstance(fault, BrokenPipeError):
+            raise ToolError(f"{fault.strerror or fault}; {self}", Exit.FAILURE) from None
+        if isinstance(fault, Exception) and not isinstance(fault, BrokenPipeError):
+            raise ToolError(f"failure of the tool itself: {type(fault).__name__}: {fault}; {self}", Exit.FAILURE) from None
+        # (a signal doesn't wait for who reads standard error)
+        if select.select([], [2], [], 0)[1]:
+            tell(f"{'nobody reads the report any more' if isinstance(fault, BrokenPipeError) else 'ended by a signal'}; {self}")
+
+
+@contextlib.contextmanager
+def alone_in(folder: str) -> Iterator[None]:
+    """Keeps other runs from giving files of a folder their names meanwhile: one that comes waits for a while, and is refused then."""
+    try:
+        handle = os.open(folder, os.O_RDONLY)
+    except PermissionError as fault:
+        unlocked(folder, fault)
+        yield
+        return
+    try:
+        lock(handle, folder)
+        yield
+    finally:
+        os.close(handle)
+
+
+def lock(handle: int, folder: str) -> None:
+    """Locks a folder that is open; where another run keeps it too long, ToolError, and where there are no locks that is told."""
+    end = time.monotonic() + MOST_WAITING
+    while True:
+        try:
+            fcntl.flock(handle, fcntl.LOCK_EX | fcntl.LOCK_NB)
+            return
+        except BlockingIOError:
+            if time.monotonic() > end:
+                raise ToolError(f"{one_line(folder)} is locked by another run", Exit.EXISTS) from None
+            time.sleep(0.02)
+        except OSError as fault:
+            unlocked(folder, fault)
+            return
+
+
+def unlocked(folder: str, fault: OSError) -> None:
+    """Tells that nothing keeps other runs away."""
+    tell(f"{one_line(folder)} can't be locked ({fault.strerror}); let no other run write the same output")
+
+
+def place_both(whole: WholeFile, notes: WholeFile, written: Written) -> None:
+    """Gives the output its name, and then its notes theirs, or neither where that fails. Notes that were there are away before, so that at no
+    moment the output of one run stands beside the notes of another."""
+    with uninterrupted():
+        is_new, old, old_notes = not os.path.lexists(whole.path), None, moved_aside(notes)
+        try:
+            old = linked_aside(whole)
+            whole.place()
+            written.stands = True
+            notes.place()
+        except BaseException:
+            if written.stands and not is_taken_back(whole.path, old, is_new):
+                # (old notes never stand beside a new output)
+                written.has_notes = False
+                written.left = [*left_aside(whole.path, old), *left_aside(notes.path, old_notes)]
+            else:
+                written.stands = False
+                dropped(old)
+                written.left = [] if is_put_back(notes.path, old_notes) else left_aside(notes.path, old_notes)
+            raise
+        dropped(old)
+        dropped(old_notes)
+
+
+def is_taken_back(path: str, old: Optional[str], is_new: bool) -> bool:
+    """Whether a new output has its name no more: the old one has it again, or nothing. Where the file system has no links it keeps it."""
+    with contextlib.suppress(OSError):
+        if old is not None:
+            os.replace(old, path)
+            return True
+        if is_new:
+            os.unlink(path)
+            return True
+    return False
+
+
+def is_put_back(path: str, aside: Optional[str]) -> bool:
+    """Whether what was moved aside has its name again, where anything was."""
+    with contextlib.suppress(OSError):
+        if aside is not None and not os.path.lexists(path):
+            os.rename(aside, path)
+            return True
+    return aside is None
+
+
+def left_aside(path: str, aside: Optional[str]) -> List[str]:
+    """What is said of a file that was kept aside and isn't put back, where there was one."""
+    if aside is None:
+        return []
+    return [f"what was {one_line(path)} before is {f'in {one_line(aside)}' if os.path.lexists(aside) else 'gone'}"]
+
+
+def spare_name(path: str) -> str:
+    """A name beside that of a file, as temporary files have."""
+    return os.path.join(os.path.dirname(path), f".{os.path.basename(path)[:25]}.{secrets.token_hex(8)}.part")
+
+
+def moved_aside(file: WholeFile) -> Optional[str]:
+    """Takes the file away that is to be replaced, and gives the name that it has then; None where there is none."""
+    if file.replaced() is None:
+        return None
+    aside = spare_name(file.path)
+    os.rename(file.path, aside)
+    file.sync_folder()
+    return aside
+
+
+def linked_aside(file: WholeFile) -> Optional[str]:
+    """Gives the file that is to be replaced another name too; None where there is none, or the file system has no links."""
+    aside = spare_name(file.path)
+    with contextlib.suppress(OSError):
+        if file.replaced() is not None:
+            os.link(file.path, aside, follow_symlinks=False)
+            return aside
+    return None
+
+
+def dropped(aside: Optional[str]) -> None:
+    """Removes what was kept aside, where it is there still."""
+    if aside is not None:
+        with contextlib.suppress(OSError):
+            os.unlink(aside)

@@ -1,0 +1,73 @@
+"""The runs of the program that have begun, each a session of processes, and how much these have computed."""
+
+from __future__ import annotations
+
+import contextlib
+import os
+import signal
+import subprocess
+from dataclasses import dataclass
+from typing import Iterable, Iterator, Set
+
+# The runs of the program that have begun: what a signal leaves of them, the end of the tool ends.
+running_now: Set["subprocess.Popen[bytes]"] = set()
+
+
+@dataclass(frozen=True)
+class Process:
+    """A process: its number, its session, and how many seconds it has computed, with what it began and has seen end."""
+
+    number: int
+    session: int
+    computed: float
+
+
+def all_processes() -> Iterator[Process]:
+    """The processes that there are; none where the system doesn't tell."""
+    with contextlib.suppress(OSError):
+        for name in filter(str.isdigit, os.listdir("/proc")):
+            with contextlib.suppress(OSError, ValueError, IndexError):
+                yield _process(int(name))
+
+
+def _process(number: int) -> Process:
+    with open(f"/proc/{number}/stat", "rb") as told:
+        # (its second field is a name, which may have anything)
+        fields = told.read().rpartition(b")")[2].split()
+    return Process(number, int(fields[3]), sum(map(int, fields[11:15])) / os.sysconf("SC_CLK_TCK"))
+
+
+def send_to_all(runs: Iterable["subprocess.Popen[bytes]"], number: int) -> None:
+    """Sends a signal to runs and all that they have begun, each of which is a session. One of which the end is known is passed: its number may be
+    another's."""
+    sessions = {ran.pid for ran in runs if ran.returncode is None}
+    for session in sessions:
+        with contextlib.suppress(OSError):
+            os.killpg(session, number)
+    # Some, as `timeout`, make themselves a group of their own in the session.
+    for process in all_processes() if sessions else ():
+        if process.session in sessions:
+            with contextlib.suppress(OSError):
+                os.kill(process.number, number)
+
+
+def end_running() -> None:
+    """Ends all runs."""
+    send_to_all(list(running_now), signal.SIGKILL)
+
+
+def computed_by(session: int) -> float:
+    """How many seconds the processes of a session have computed; none where the system doesn't tell."""
+    return sum(process.computed for process in all_processes() if process.session == session)
+
+
+def processors() -> int:
+    """How many processors this process may use."""
+    return len(os.sched_getaffinity(0)) if hasattr(os, "sched_getaffinity") else os.cpu_count() or 1
+
+
+def computed_alone(number: int) -> float:
+    """How many seconds a process has computed, with what it began and has seen end; none where the system doesn't tell."""
+    with contextlib.suppress(OSError, ValueError, IndexError):
+        return _process(number).computed
+    return 0.0

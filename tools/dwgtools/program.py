@@ -1,0 +1,286 @@
+"""The program `dwg`: where it is, and how it is run."""
+
+from __future__ import annotations
+
+import contextlib
+import errno
+import os
+import shutil
+import signal
+import subprocess
+import tempfile
+import threading
+import time
+from dataclasses import dataclass
+from typing import IO, Any, Iterator, Optional, Sequence, Tuple, Union
+
+from . import TOP
+from .escapes import one_line
+from .notes import MOST_NOTES, read_note
+from .processes import computed_alone, computed_by, end_running, running_now, send_to_all
+from .signals import await_interrupt, uninterrupted
+from .statuses import Exit, Status, ToolError
+from .streams import hush_where_named
+from .temporary import TemporaryFull, temporary_name
+
+# How many seconds a run waits at the most until there is room for it.
+MOST_WAITING = 30
+
+# How often a run with a limit is looked at, in seconds.
+LOOK = 0.2
+
+
+@dataclass
+class Patience:
+    """How many seconds runs may compute together, with all that they begin, and how many they may take in all, however busy the machine is.
+
+    What a run has used, the next one hasn't. Those in which the tool is stopped, with what it runs, don't count.
+    """
+
+    computing: float
+    taking: float
+    # How many seconds were computed, and how often it was looked at a run.
+    computed: float = 0.0
+    looks: int = 0
+
+
+@dataclass(frozen=True)
+class Answer:
+    """What one run of the program gave: its status, its output, its notes."""
+
+    status: Status
+    output: bytes
+    notes: bytes
+
+
+@dataclass(frozen=True)
+class Tally:
+    """What one run of the program gave whose output may be long: its first and its last line, how many there are, and the notes."""
+
+    status: Status
+    first: bytes
+    last: bytes
+    count: int
+    notes: bytes
+
+
+def is_command(path: str) -> bool:
+    """Whether a file can be run."""
+    return os.path.isfile(path) and os.access(path, os.X_OK)
+
+
+def find_program(given: Optional[str] = None) -> str:
+    """The program: the one given, else the one that DWG names, else `dwg` beside the folder of the tools, else the one on the PATH."""
+    for path, origin in ((given, "--program"), (os.environ.get("DWG"), "DWG")):
+        if path:
+            hush_where_named([path])
+            if not is_command(path):
+                raise ToolError(f"{one_line(path)}, which {origin} names, is no program", Exit.NO_PROGRAM)
+            return os.path.abspath(path)
+    beside = os.path.join(TOP, "dwg")
+    found = beside if is_command(beside) else shutil.which("dwg")
+    if not found:
+        raise ToolError("the program dwg isn't found; name it with --program PATH", Exit.NO_PROGRAM)
+    hush_where_named([found])
+    return found
+
+
+class ProgramFailed(ToolError):
+    """The program gave no answer: it couldn't be run, was killed, or ended with a status that it doesn't have."""
+
+    def __init__(self, why: str) -> None:
+        super().__init__(f"the program dwg gave no answer: {why}", Exit.NO_PROGRAM)
+        self.why = why
+
+
+class NoTemporary(ProgramFailed):
+    """There is no place for what the program notes, which says nothing of the file that is read, and is no fault of the program."""
+
+    def __init__(self, fault: OSError) -> None:
+        super().__init__(f"no temporary file: {fault.strerror}")
+        self.args, self.status = (f"{temporary_name()}: {fault.strerror}",), int(Exit.FAILURE)
+
+
+class TookTooLong(ProgramFailed):
+    """The program computed longer than it may without an answer, which it would do again for the same bytes."""
+
+
+class NotBuilt(ToolError):
+    """The launcher has no program that is built, or one that is older than its sources; it says itself what to do."""
+
+    def __init__(self, notes: bytes) -> None:
+        super().__init__(read_note(notes.decode("utf-8", "replace").splitlines()[-1]).text, Exit.NO_PROGRAM)
+
+
+class Program:
+    """Runs the program. Several threads may run it at once; `stop` ends all that runs."""
+
+    def __init__(self, path: str) -> None:
+        self.path = path
+        # The launcher's answers without a proof take a minute each.
+        os.environ["DWG_PROVED_ONLY"] = "1"
+        self._lock = threading.Lock()
+        self._stopped = False
+
+    def prepare(self) -> None:
+        """Runs the program once for nothing, so that the launcher looks once whether it is built, and not at each run."""
+        status = self.run(["drill", "1"]).status
+        if status != Status.DONE:
+            raise ProgramFailed(f"status {int(status)} for `drill 1`")
+        os.environ["DWG_BUILT"] = "1"
+
+    def run(
+        self,
+        words: Sequence[str],
+        source: Union[int, IO[bytes], bytes, None] = None,
+        output: Optional[IO[bytes]] = None,
+        patience: Optional[Patience] = None,
+        notes: Optional[IO[bytes]] = None,
+    ) -> Answer:
+        """Runs the program on words, as long as there is patience. The source is a file, a descriptor, bytes, or nothing; output and notes go to
+        files where these are given, and of such notes the answer has the begin."""
+        given = source if isinstance(source, bytes) else None
+        stdin = subprocess.PIPE if given is not None else subprocess.DEVNULL if source is None else source
+        stdout, stderr = (subprocess.PIPE if file is None else file for file in (output, notes))
+        with self._started(words, stdin, stdout, stderr) as ran:
+            out, said = ran.communicate(given) if patience is None else _awaited(ran, words[0], given, patience)
+        if notes is not None:
+            notes.seek(0)
+            said = notes.read(MOST_NOTES)
+        return Answer(_status_of(ran.returncode, said), out or b"", said)
+
+    def tally(self, words: Sequence[str], source: Union[int, IO[bytes]]) -> Tally:
+        """Runs the program and counts the lines of its output, of which no more than a piece is held."""
+        first, last, count = b"", b"", 0
+        with _file_of_notes() as notes, self._started(words, source, subprocess.PIPE, notes) as ran:
+            assert ran.stdout is not None
+            for piece in iter(lambda: ran.stdout.read(MOST_NOTES), b""):  # type: ignore[union-attr]
+                first = (first + piece)[:MOST_NOTES] if b"\n" not in first else first
+                last = (last + piece)[-MOST_NOTES:]
+                count += piece.count(b"\n")
+            code = ran.wait()
+            notes.seek(0)
+            said = notes.read(MOST_NOTES)
+        return Tally(_status_of(code, said), first.partition(b"\n")[0], last.rstrip(b"\n").rpartition(b"\n")[2], count, said)
+
+    @contextlib.contextmanager
+    def lines(self, words: Sequence[str], source: Union[int, IO[bytes]]) -> Iterator[IO[bytes]]:
+        """The output while the program runs; what it notes goes to a file, and status 3 and above is ToolError after its end."""
+        with _file_of_notes() as notes, self._started(words, source, subprocess.PIPE, notes) as ran:
+            assert ran.stdout is not None
+            yield ran.stdout
+            ran.stdout.close()
+            code = ran.wait()
+            notes.seek(0)
+            said = notes.read(MOST_NOTES)
+            status = _status_of(code, said)
+            if status == Status.WRITE_FAULT:
+                # (its output is a pipe, so that it is its notes that have no place)
+                raise TemporaryFull()
+            if status > Status.FOUND:
+                raise ToolError(said.decode("utf-8", "replace").strip() or f"the program ended with status {int(status)}", status)
+
+    @contextlib.contextmanager
+    def _started(self, words: Sequence[str], stdin: Any, stdout: Any, stderr: Any = subprocess.PIPE) -> Iterator["subprocess.Popen[bytes]"]:
+        ran = self._begun(words, stdin, stdout, stderr)
+        try:
+            with ran:
+                try:
+                    yield ran
+                except BaseException:
+                    send_to_all([ran], signal.SIGKILL)
+                    raise
+        finally:
+            with self._lock:
+                running_now.discard(ran)
+
+    def _begun(self, words: Sequence[str], stdin: Any, stdout: Any, stderr: Any) -> "subprocess.Popen[bytes]":
+        """A run that has begun. Where there is no room for another process it waits for the other runs, though not for ever."""
+        end = time.monotonic() + MOST_WAITING
+        while True:
+            with self._lock:
+                if self._stopped:
+                    raise ProgramFailed("stopped")
+                try:
+                    # What has begun and isn't among those that run, no signal's end of the tool would end. A session of its own has all that a
+                    # wrapper begins.
+                    with uninterrupted():
+                        # (the program refuses words that aren't UTF-8, of which its path would be the first)
+                        said = ["dwg", *words]
+                        ran = subprocess.Popen(said, executable=self.path, stdin=stdin, stdout=stdout, stderr=stderr, start_new_session=True)
+                        running_now.add(ran)
+                    return ran
+                except OSError as fault:
+                    if fault.errno != errno.EAGAIN or not running_now or time.monotonic() > end:
+                        raise ProgramFailed(str(fault.strerror)) from None
+            time.sleep(0.02)
+
+    @property
+    def is_stopped(self) -> bool:
+        """Whether no run can begin any more."""
+        return self._stopped
+
+    def stop(self) -> None:
+        """Ends all runs, and lets none begin."""
+        with self._lock:
+            self._stopped = True
+            end_running()
+
+
+def _awaited(ran: "subprocess.Popen[bytes]", command: str, given: Optional[bytes], patience: Patience) -> Tuple[Optional[bytes], Optional[bytes]]:
+    """The output and the notes of a run, which has ended. A look that comes late counts as one that doesn't: the tool was stopped meanwhile."""
+    before, due = patience.computed, 0.0
+    while True:
+        try:
+            return ran.communicate(given, LOOK)
+        except subprocess.TimeoutExpired:
+            patience.looks, given = patience.looks + 1, None
+        patience.computed = max(patience.computed, before + computed_alone(ran.pid))
+        # All processes are looked at for what it runs, and so no sooner than all processors could have computed what is left.
+        if time.monotonic() >= due:
+            patience.computed = max(patience.computed, before + computed_by(ran.pid))
+            due = time.monotonic() + (patience.computing - patience.computed) / (os.cpu_count() or 1)
+        if patience.computed >= patience.computing:
+            raise TookTooLong(f"`{command}` takes more than {patience.computing:g} seconds")
+        if patience.looks * LOOK >= patience.taking:
+            raise ProgramFailed(f"`{command}` has no answer in {patience.taking:g} seconds")
+
+
+def _file_of_notes() -> IO[bytes]:
+    """A file without a name for notes."""
+    try:
+        return tempfile.TemporaryFile()
+    except OSError as fault:
+        raise NoTemporary(fault) from None
+
+
+def ready_program(given: Optional[str]) -> Program:
+    """The program that is found, which can answer at once."""
+    program = Program(find_program(given))
+    program.prepare()
+    return program
+
+
+def _status_of(code: int, notes: bytes) -> Status:
+    """The status of the program. NotBuilt where the launcher has none; ProgramFailed where it has no such status or was killed, with its last note."""
+    if code == -signal.SIGXFSZ:
+        return Status.WRITE_FAULT
+    if code == -signal.SIGINT:
+        await_interrupt()
+    if code < 0:
+        raise ProgramFailed(f"killed by signal {-code}")
+    if code == Exit.NO_PROGRAM and notes:
+        raise NotBuilt(notes)
+    try:
+        return Status(code)
+    except ValueError:
+        lines = notes.decode("utf-8", "replace").split("\n")
+        said = next((line for line in reversed(lines) if line.strip()), "")
+        raise ProgramFailed(f"status {code}: {said}" if said else f"status {code}") from None
+
+
+def program_file(path: str) -> str:
+    """The file of the program that a name leads to: where that is the launcher of a checkout, what it has built."""
+    real = os.path.realpath(path)
+    built = os.path.join(os.path.dirname(real), "crates", "dwg_cli", "out", "dwg_cli")
+    return built if os.path.isfile(built) else real

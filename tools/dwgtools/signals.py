@@ -1,0 +1,98 @@
+"""The signals that end or stop a tool, and what they wait for."""
+
+from __future__ import annotations
+
+import contextlib
+import os
+import signal
+import threading
+import time
+from typing import Iterator, List
+
+from .processes import running_now, send_to_all
+
+
+def _pause(number: int, _: object) -> None:
+    """Stops as a terminal asks for, with all that runs, which the terminal doesn't stop; and goes on with it."""
+    send_to_all(list(running_now), signal.SIGSTOP)
+    signal.signal(number, signal.SIG_DFL)
+    # (what no shell would wake up again isn't stopped)
+    os.kill(os.getpid(), number)
+    signal.signal(number, _pause)
+    send_to_all(list(running_now), signal.SIGCONT)
+
+
+# How many of `uninterrupted` the main thread, which alone takes signals, is in; and the signals that came meanwhile.
+_depth: List[None] = []
+_waiting: List[int] = []
+
+
+@contextlib.contextmanager
+def uninterrupted() -> Iterator[None]:
+    """Lets no signal end the tool between steps that belong together; it ends it after them.
+
+    No signal is blocked: a program that begins meanwhile would have it blocked for ever.
+    """
+    if threading.current_thread() is not threading.main_thread():
+        yield
+        return
+    _depth.append(None)
+    try:
+        yield
+    finally:
+        _depth.pop()
+        if _waiting and not _depth:
+            _end(_waiting[0], None)
+
+
+ENDING = (signal.SIGINT, signal.SIGTERM, signal.SIGHUP, signal.SIGQUIT)
+
+# Whether this process was interrupted.
+_interrupted: List[bool] = []
+
+
+def _pass(_number: int, _frame: object) -> None:
+    """Does nothing. Of a signal that waits to be handled and is ignored meanwhile Python would print a fault."""
+
+
+def ignore_signals() -> None:
+    """Ends the tool by no signal any more."""
+    for number in ENDING:
+        if signal.getsignal(number) != signal.SIG_IGN:
+            signal.signal(number, _pass)
+
+
+class Ended(BaseException):
+    """A signal ended the tool."""
+
+    def __init__(self, number: int) -> None:
+        super().__init__(number)
+        self.status = 128 + number
+
+
+def _end(number: int, _: object) -> None:
+    """Ends the tool once: a second signal doesn't disturb what the first makes it tidy. What may not be parted is done before."""
+    if _depth:
+        _waiting.append(number)
+        return
+    ignore_signals()
+    if number == signal.SIGINT:
+        _interrupted.append(True)
+        raise KeyboardInterrupt
+    raise Ended(number)
+
+
+def take_signals() -> None:
+    """Ends or stops the tool by each signal that isn't ignored already, and lets in an interrupt that waited while Python began."""
+    for number in (*ENDING, signal.SIGTSTP):
+        if signal.getsignal(number) != signal.SIG_IGN:
+            signal.signal(number, _end if number in ENDING else _pause)
+    signal.pthread_sigmask(signal.SIG_UNBLOCK, {signal.SIGINT})
+
+
+def await_interrupt() -> None:
+    """Waits a moment for the interrupt that ended the program: who sends it to both may reach the program before the tool."""
+    for _ in range(50):
+        if _interrupted:
+            raise KeyboardInterrupt
+        time.sleep(0.01)

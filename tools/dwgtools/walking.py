@@ -1,0 +1,207 @@
+"""The files that the words of dwg-check name, in their order."""
+
+from __future__ import annotations
+
+import argparse
+import collections
+import os
+import sys
+import threading
+from dataclasses import dataclass
+from typing import IO, Deque, Iterable, Iterator, List, Optional, Sequence, Tuple, Union
+
+from .statuses import Exit, ToolError
+from .streams import as_file, is_one_file, outputs, refuse_streams
+
+
+@dataclass(frozen=True)
+class Named:
+    """A file to check, or a folder that can't be read, and why."""
+
+    path: str
+    fault: Optional[str] = None
+
+
+def is_called_drawing(path: str) -> bool:
+    """Whether a file is called as drawings are."""
+    return path.lower().endswith(".dwg")
+
+
+def walked(folder: str, every: bool) -> Iterator[Named]:
+    """The files of a folder and of those in it, in order of name; symbolic links are passed."""
+    left = [(folder, True)]
+    while left:
+        path, is_folder = left.pop()
+        if not is_folder:
+            yield Named(path)
+            continue
+        try:
+            left += reversed(list(entries_of(path, every)))
+        except OSError as fault:
+            yield Named(path, str(fault.strerror))
+
+
+def is_folder(entry: "os.DirEntry[str]") -> bool:
+    """Whether an entry is a folder; one of which that can't be told is looked at as a file."""
+    try:
+        return entry.is_dir(follow_symlinks=False)
+    except OSError:
+        return False
+
+
+def is_link(entry: "os.DirEntry[str]") -> bool:
+    """Whether an entry is a symbolic link; one of which that can't be told is looked at as a file."""
+    try:
+        return entry.is_symlink()
+    except OSError:
+        return False
+
+
+def entries_of(folder: str, every: bool) -> Iterator[Tuple[str, bool]]:
+    """What is to be looked at of a folder, in order of name, and whether it is a folder."""
+    with os.scandir(folder) as entries:
+        found = sorted(entries, key=lambda entry: os.fsencode(entry.name))
+    for entry in found:
+        if is_folder(entry):
+            yield entry.path, True
+        elif not is_link(entry) and (every or is_called_drawing(entry.name)):
+            yield entry.path, False
+
+
+# How much of a name is taken; no file has one of half as many bytes.
+MOST_NAME = 1 << 16
+
+
+def names_from(stream: IO[bytes], end: bytes) -> Iterator[str]:
+    """The names that a stream has, each ended by a line feed or NUL, as they come."""
+    rest = b""
+    try:
+        for piece in iter(lambda: stream.read1(MOST_NAME), b""):  # type: ignore[attr-defined]
+            *names, rest = (rest + piece).split(end)
+            rest = rest[:MOST_NAME]
+            yield from (os.fsdecode(name[:MOST_NAME]) for name in names if name)
+    except OSError as fault:
+        raise ToolError(f"standard input: {fault.strerror}", Exit.FAILURE) from None
+    if rest:
+        yield os.fsdecode(rest)
+
+
+def all_named(words: Iterable[str], every: bool, end: bytes) -> Iterator[Named]:
+    """The files that the words name."""
+    for word in words:
+        for path in names_from(sys.stdin.buffer, end) if word == "-" else [word]:
+            yield from walked(path, every) if os.path.isdir(path) else [Named(path)]
+
+
+def status_of(path: str) -> Optional[os.stat_result]:
+    """What stands at a name, links followed; None where nothing does."""
+    try:
+        return os.stat(path)
+    except (OSError, ValueError):
+        return None
+
+
+def without_new(found: Iterable[Named], new: Sequence[os.stat_result]) -> Iterator[Named]:
+    """The files without a new one that the table or messages go to."""
+    for named in found:
+        if not new or not any(is_one_file(own, status_of(named.path)) for own in new):
+            yield named
+
+
+# How much memory the files take at the most that are known before they are checked, and how much one takes beside its name.
+MOST_AHEAD, MOST_HELD = 1 << 26, 1 << 30
+ONE_NAMED = 256
+
+
+def held(found: Iterable[Named]) -> Iterator[Named]:
+    """Files by names that come from standard input, of which all are held; refused are more than can be."""
+    left = MOST_HELD
+    for named in found:
+        left -= len(named.path) + ONE_NAMED
+        if left < 0:
+            raise ToolError("too many names: with --resume, or where the table is added to a file, all are read first", Exit.USAGE)
+        yield named
+
+
+class Files:
+    """The files to check, all of which are known."""
+
+    def __init__(self, named: Sequence[Named]) -> None:
+        self.count, self.is_whole = len(named), True
+        self._left = iter(named)
+
+    def is_ready(self) -> bool:
+        """Whether it is known at once which file is the next."""
+        return True
+
+    def __iter__(self) -> Iterator[Named]:
+        return self
+
+    def __next__(self) -> Named:
+        return next(self._left)
+
+
+class Coming(Files):
+    """The files to check as their names come: a thread reads ahead, so that it is known how many there are, and no further than there is room."""
+
+    def __init__(self, found: Iterator[Named]) -> None:
+        super().__init__([])
+        self._ahead: Deque[Named] = collections.deque()
+        self._room = MOST_AHEAD
+        self._fault: Optional[BaseException] = None
+        self._changed = threading.Condition()
+        try:
+            self.is_whole = False
+            threading.Thread(target=self._read, args=(found,), daemon=True).start()
+        except RuntimeError:
+            # (there are no more threads)
+            self.is_whole, self._left = True, found
+
+    def _read(self, found: Iterator[Named]) -> None:
+        try:
+            for named in found:
+                with self._changed:
+                    self._changed.wait_for(lambda: self._room > 0)
+                    self._ahead.append(named)
+                    self._room -= len(named.path) + ONE_NAMED
+                    self.count += 1
+                    self._changed.notify_all()
+        except BaseException as fault:  # pylint: disable=broad-except
+            self._fault = fault
+        with self._changed:
+            self.is_whole = True
+            self._changed.notify_all()
+
+    def is_ready(self) -> bool:
+        return bool(self._ahead) or self.is_whole
+
+    def __next__(self) -> Named:
+        with self._changed:
+            self._changed.wait_for(self.is_ready)
+            if self._ahead:
+                named = self._ahead.popleft()
+                self._room += len(named.path) + ONE_NAMED
+                self._changed.notify_all()
+                return named
+        if self._fault:
+            raise self._fault
+        return super().__next__()
+
+
+def can_come(options: argparse.Namespace) -> bool:
+    """Whether files can be checked before all are known: none may be what the table or messages are added to, and nothing is held for LOG."""
+    return "-" in options.files and options.resume is None and not outputs(is_new=False)
+
+
+def files_of(options: argparse.Namespace) -> Union[Coming, List[Named]]:
+    """The files that the words name. Refused is one that the table or messages would be added to, and so are LOG and the names that are read."""
+    # What is new when this begins isn't checked.
+    found = without_new(all_named(options.files, options.all, b"\0" if options.null else b"\n"), outputs(is_new=True))
+    # (LOG and a file may be called by a hyphen, which isn't standard input then)
+    streams = [*([] if options.resume is None else [as_file(options.resume)]), *(word for word in options.files if word == "-")]
+    if can_come(options):
+        refuse_streams(streams)
+        return Coming(found)
+    named = list(held(found) if "-" in options.files else found)
+    refuse_streams([*streams, *(as_file(one.path) for one in named)])
+    return named
