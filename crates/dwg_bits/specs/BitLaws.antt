@@ -29,8 +29,8 @@ abbrev pub BitsAreJoined : Type 0
 BitsAreJoined = (a b : List ℕ) → bits (a ++ b) ≡ bits a ++ bits b
 
 -- bytes with the same bits are the same
-abbrev pub BitsReportBytes : Type 0
-BitsReportBytes = (a b : List ℕ) → AreBytes a → AreBytes b → bits a ≡ bits b → a ≡ b
+abbrev pub BitsGiveBytes : Type 0
+BitsGiveBytes = (a b : List ℕ) → AreBytes a → AreBytes b → bits a ≡ bits b → a ≡ b
 
 -- the low bits of a number are those of its quotient, and then those of its remainder
 abbrev pub LowBitsSplit : Type 0

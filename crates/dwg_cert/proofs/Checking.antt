@@ -7,7 +7,7 @@ use Rattle.std.specs.Option.{option_and_then, option_map_or}
 use Rattle.std.proofs.lemmas.List.{drop_all, drop_more}
 use Rattle.std.proofs.lemmas.List.Sums.{sum_by_more_le_part}
 use Rattle.std.proofs.lemmas.Option.{get_or_from_slice_get, slice_get_within}
-use Rattle.dwg_cert.specs.AcceptTests.{AcceptanceIsReported, are_handles, is_accepted, is_in_place, is_placed, is_placed_in}
+use Rattle.dwg_cert.specs.AcceptTests.{AcceptanceIsDecided, are_handles, is_accepted, is_in_place, is_placed, is_placed_in}
 use Rattle.dwg_cert.specs.Accepts.{Accepts, entry_at, handles_in}
 use Rattle.dwg_cert.specs.Certified.{AcceptedIsSound}
 use Rattle.dwg_cert.specs.Checked.{CanBeChecked, Checked}
@@ -152,7 +152,7 @@ pub can_seen : (now : Checked) (objects : List ObjectValue) (cert : List Entry) 
 can_seen now objects cert is can = subst (λ (c : Checked). CanBeChecked c.objects) is can
 
 -- a result is what the tests say, and so what they stand for
-pub reported_accepts : (objects : List ObjectValue) (cert : List Entry) (result : Result Bool NoMemory) → AcceptanceIsReported → Ascend (handles_of objects) → IfOk result (λ is. is ≡ is_accepted objects cert)
+pub reported_accepts : (objects : List ObjectValue) (cert : List Entry) (result : Result Bool NoMemory) → AcceptanceIsDecided → Ascend (handles_of objects) → IfOk result (λ is. is ≡ is_accepted objects cert)
     → IfOk result (λ is. IsTrue is ↔ Accepts objects cert)
 reported_accepts objects cert (Ok is) reports ascend reported =
     let decided = reports objects cert ascend in (λ holds. decided.0 (sym reported ∙ holds), λ accepts. reported ∙ decided.1 accepts)

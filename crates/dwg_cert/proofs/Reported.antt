@@ -6,7 +6,7 @@ use Rattle.std.proofs.lemmas.Option.{same_Some}
 use Rattle.std.specs.Prelude.{◌==◌, ◌&&◌, ◌≢◌, ℕ, Bool, List, [], length, Option, Some, None, IsTrue, Contains}
 use Rattle.std.specs.List.{list_all}
 use Rattle.dwg_cert.specs.Accepts.{handles_in, place_at, members_of, AreInPlaceBetween, Accepts}
-use Rattle.dwg_cert.specs.AcceptTests.{are_handles, is_right, is_accepted, AcceptanceIsReported}
+use Rattle.dwg_cert.specs.AcceptTests.{are_handles, is_right, is_accepted, AcceptanceIsDecided}
 use Rattle.dwg_cert.specs.declared.entry.Entry.{Entry}
 use Rattle.dwg_cert.proofs.Entries.{empty_or_not, handles_are, of_block, members_are}
 use Rattle.dwg_cert.proofs.RightReported.{IsPlace, IsPlacedBetween, IsPlaced, IsBegun, IsRight, right_reported}
@@ -98,7 +98,7 @@ each_accepted objects cert is x inside = record {
   };
 }
 
-pub acceptance_is_reported : AcceptanceIsReported
+pub acceptance_is_reported : AcceptanceIsDecided
 unfolding is_accepted
 acceptance_is_reported objects cert ascend =
     let sole : Bool = length (block_controls objects) == 1 in

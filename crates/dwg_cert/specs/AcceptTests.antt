@@ -71,5 +71,5 @@ unfoldable pub is_accepted : List ObjectValue → List Entry → Bool
 is_accepted objects cert = are_handles cert objects && ((length (block_controls objects) == 1) && list_all (is_right objects cert) objects)
 
 -- the tests say whether a certificate is one of these objects
-abbrev pub AcceptanceIsReported : Type 0
-AcceptanceIsReported = (objects : List ObjectValue) (cert : List Entry) → Ascend (handles_of objects) → IsTrue (is_accepted objects cert) ↔ Accepts objects cert
+abbrev pub AcceptanceIsDecided : Type 0
+AcceptanceIsDecided = (objects : List ObjectValue) (cert : List Entry) → Ascend (handles_of objects) → IsTrue (is_accepted objects cert) ↔ Accepts objects cert

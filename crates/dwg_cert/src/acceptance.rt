@@ -1,6 +1,6 @@
 //! Laws of certificates and sound drawings, as the contract of a function without code.
 
-ghost use Rattle.dwg_cert.specs.AcceptTests.{AcceptanceIsReported};
+ghost use Rattle.dwg_cert.specs.AcceptTests.{AcceptanceIsDecided};
 ghost use Rattle.dwg_cert.specs.Certified.{AcceptedIsSound, PlacesAreInChains, RanksAreSteps, SoundIsAccepted};
 
 /// What holds of certificates of objects whose handles ascend, as those of a drawing do. Where a certificate is accepted, the objects'
@@ -12,5 +12,5 @@ pub fn acceptance_laws()
     ensures accepted { SoundIsAccepted }
     ensures ranks { RanksAreSteps }
     ensures places { PlacesAreInChains }
-    ensures reported { AcceptanceIsReported }
+    ensures reported { AcceptanceIsDecided }
 {}

@@ -20,8 +20,8 @@ unfoldable pub check_word : ℕ → List ℕ → ℕ
 check_word start bytes = fold turn start (flat_map low_bits_first bytes)
 
 -- what the check words of sections, map pages and object frames begin as
-abbrev pub FRAME_START : ℕ
-FRAME_START = 0xC0C1
+abbrev pub CHECK_SEED : ℕ
+CHECK_SEED = 0xC0C1
 
 -- what the check word of a file header with so many locators is xored with
 abbrev pub header_mask : ℕ → ℕ

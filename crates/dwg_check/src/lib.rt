@@ -18,7 +18,7 @@ use table::{after_eight, after_rest};
 pub use zeros::shift;
 
 /// What the check words of framed sections, map pages and object frames begin as (Open Design Specification, "CRC").
-pub const FRAME_START: u16 = 0xC0C1;
+pub const CHECK_SEED: u16 = 0xC0C1;
 
 /// The check word of `bytes`, begun as `start` (Open Design Specification, "CRC").
 ///

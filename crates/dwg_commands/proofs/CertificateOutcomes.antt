@@ -11,7 +11,7 @@ use Rattle.dwg_base.specs.Refusals.{Tried}
 use Rattle.dwg_bits.proofs.BitLaws.{bits_same, length_of_bits}
 use Rattle.dwg_bits.specs.Bits.{bits}
 use Rattle.dwg_bits.specs.Sink.{Extends, Written}
-use Rattle.dwg_cert.specs.AcceptTests.{AcceptanceIsReported, is_accepted}
+use Rattle.dwg_cert.specs.AcceptTests.{AcceptanceIsDecided, is_accepted}
 use Rattle.dwg_cert.specs.CertificateLines.{after_certificate, tried_certificate}
 use Rattle.dwg_cert.specs.Certified.{AcceptedIsSound, SoundIsAccepted, certificate_of}
 use Rattle.dwg_cert.specs.WrittenForm.{certificate_bytes, size_of}
@@ -32,7 +32,7 @@ use Rattle.dwg_commands.specs.declared.status.Status.TheVariants.{Found}
 pub record AcceptanceLaws : Type 0 where
   pub sound : AcceptedIsSound
   pub accepted : SoundIsAccepted
-  pub reported : AcceptanceIsReported
+  pub reported : AcceptanceIsDecided
 
 -- a drawing has no more objects than the input that spells it has bytes
 pub objects_few : (drawing : Contents) (bytes : List ℕ) → Spelled drawing bytes → length drawing.objects ≤ length bytes

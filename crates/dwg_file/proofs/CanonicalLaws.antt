@@ -29,7 +29,7 @@ use Rattle.dwg_file.proofs.MapBytes.{map_is_bytes}
 use Rattle.dwg_file.proofs.SevenPieces.{length_of_seven, seven_are_bytes, seven_stand}
 use Rattle.dwg_file.specs.Spelled.{PairFrame, AreSectionsOf, Spelled}
 use Rattle.dwg_file.specs.Valid.{IsValid}
-use Rattle.dwg_file.specs.CanonicalLaws.{CarryingIsCounted, CarryingIsDoneOnce, CarryingSpells, CarryingSpellsNoOther, PreviewIsCarried, CanonicalIsCounted, CanonicalIsRead, CanonicalSpells, CanonicalSpellsNoOther, CanonicalReportsDrawing, RewritingIsDoneOnce}
+use Rattle.dwg_file.specs.CanonicalLaws.{CarryingIsCounted, CarryingIsDoneOnce, CarryingSpells, CarryingSpellsNoOther, PreviewIsCarried, CanonicalIsCounted, CanonicalIsRead, CanonicalSpells, CanonicalSpellsNoOther, CanonicalGivesDrawing, RewritingIsDoneOnce}
 
 -- the header reaches to the first section
 pub header_reaches : (carried : Carried) (drawing : Contents) → IsFileHeader (header_with carried drawing) → length (header_bytes (header_with carried drawing)) ≡ variables_place drawing
@@ -237,7 +237,7 @@ pub canonical_spells_no_other : SpelledOnce → CanonicalSpellsNoOther
 canonical_spells_no_other once drawing other is small spelled = carrying_spells_no_other once NO_PICTURE drawing other no_picture is small spelled
 
 -- and reports its drawing
-pub canonical_reports_drawing : SpelledOnce → CanonicalReportsDrawing
+pub canonical_reports_drawing : SpelledOnce → CanonicalGivesDrawing
 canonical_reports_drawing once drawing other is also small few same =
     once (canonical other) drawing other (canonical_is_counted other also few).1 (subst (Spelled drawing) same (canonical_spells drawing is small)) (canonical_spells other also few)
 

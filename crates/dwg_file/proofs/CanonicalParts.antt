@@ -13,7 +13,7 @@ use Rattle.dwg_bits.specs.Bits.{bits}
 use Rattle.dwg_bits.proofs.PaddingLaw.{padding_fills}
 use Rattle.dwg_bits.specs.Sink.{padding}
 use Rattle.dwg_bits.proofs.WholeBytes.{whole_are_bytes, bits_of_whole}
-use Rattle.dwg_check.specs.CheckWord.{FRAME_START, check_word, header_check_word}
+use Rattle.dwg_check.specs.CheckWord.{CHECK_SEED, check_word, header_check_word}
 use Rattle.dwg_classes.specs.declared.class.Class.{Class}
 use Rattle.dwg_classes.specs.Class.{numbered_class, AreClasses}
 use Rattle.dwg_classes.specs.WrittenClasses.{padded}
@@ -89,7 +89,7 @@ sentinels_are_bytes Classes = (tested_bytes CLASSES_SENTINEL refl, tested_bytes 
 -- a section has 38 bytes, and those of its content
 pub length_of_framed : (which : Framed) (content : List ℕ) → length (framed_bytes which content) ≡ 38 + length content
 length_of_framed which content =
-    let check : List ℕ = to_le_bytes w16 (check_word FRAME_START (sized_content content)) in
+    let check : List ℕ = to_le_bytes w16 (check_word CHECK_SEED (sized_content content)) in
     omega (
       arith,
       length-append (begin_sentinel which ++ sized_content content ++ check) (end_sentinel which),
@@ -103,12 +103,12 @@ length_of_framed which content =
 -- a section around bytes is written in bytes
 pub framed_is_bytes : (which : Framed) (content : List ℕ) → AreBytes content → AreBytes (framed_bytes which content)
 framed_is_bytes which content are =
-    let check : List ℕ = to_le_bytes w16 (check_word FRAME_START (sized_content content)) in
+    let check : List ℕ = to_le_bytes w16 (check_word CHECK_SEED (sized_content content)) in
     bytes_joined (begin_sentinel which ++ sized_content content ++ check) (end_sentinel which)
     (bytes_joined (begin_sentinel which ++ sized_content content) check
     (bytes_joined (begin_sentinel which) (sized_content content) (sentinels_are_bytes which).0
     (bytes_joined (to_le_bytes w32 (length content)) content (bytes_of_number 0 4 (length content)) are))
-    (bytes_of_number 0 2 (check_word FRAME_START (sized_content content))))
+    (bytes_of_number 0 2 (check_word CHECK_SEED (sized_content content))))
     (sentinels_are_bytes which).1
 
 -- a preview section has 36 bytes, and those of its content

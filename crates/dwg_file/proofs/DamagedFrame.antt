@@ -6,7 +6,7 @@ use Rattle.std.specs.List.{AllByRecursion}
 use Rattle.std.proofs.lemmas.List.{append_cancel_left, length-take-le, take-append-drop}
 use Rattle.dwg_base.specs.Bytes.{AreBytes, StandsAt}
 use Rattle.dwg_base.specs.Devices.{MOST_BYTES}
-use Rattle.dwg_check.specs.CheckWord.{FRAME_START, check_word}
+use Rattle.dwg_check.specs.CheckWord.{CHECK_SEED, check_word}
 use Rattle.dwg_check.specs.ShortDamage.{DifferShortly, DamageUnderSealShows}
 use Rattle.dwg_grammar.specs.ModularCodes.{ms}
 use Rattle.dwg_grammar.proofs.ModularLemmas.{ms_is_code, ms_has}
@@ -32,7 +32,7 @@ use Rattle.dwg_file.proofs.WrittenFrames.{IsWritten, all_of_prefix, canonical_wr
 
 -- the word that is written of a check word
 abbrev word_of : List ℕ → List ℕ
-word_of bytes = to_le_bytes w16 (check_word FRAME_START bytes)
+word_of bytes = to_le_bytes w16 (check_word CHECK_SEED bytes)
 
 -- a length, so many bytes, and two more that aren't the check word of what is before them
 pub record FrameDamage (bytes : List ℕ) (place : ℕ) : Type 0 where
@@ -91,7 +91,7 @@ damage_by shows one other place size body changed before rest are others spelled
       spelled = subst (λ n. ms.Spells n size) (sym so_long) spelled;
       two = two;
       stands = here;
-      wrong = λ right. shows FRAME_START size body seal next word (omega arith)
+      wrong = λ right. shows CHECK_SEED size body seal next word (omega arith)
           (stands_bytes one place size are (stands_first one place size body prefix))
           (stands_bytes one (place + length size) body are (stands_next one place size body prefix))
           (stands_bytes one (place + length (size ++ body)) seal are (stands_next one place (size ++ body) seal stands))

@@ -8,7 +8,7 @@ use Rattle.std.proofs.lemmas.List.{map-append}
 use Rattle.dwg_base.specs.Bytes.{StandsAt}
 use Rattle.dwg_base.specs.Devices.{MOST_BYTES}
 use Rattle.dwg_base.specs.Versions.{version_at}
-use Rattle.dwg_check.specs.CheckWord.{FRAME_START, check_word}
+use Rattle.dwg_check.specs.CheckWord.{CHECK_SEED, check_word}
 use Rattle.dwg_classes.specs.declared.class.Class.{Class}
 use Rattle.dwg_object.specs.Forms.{FormOf}
 use Rattle.dwg_object.specs.Frames.{frame_bytes, framed_body}
@@ -142,7 +142,7 @@ frame_still classes one other from to same splice frame ahead is =
     let piece : List ℕ = framed_body is.stands.size frame.body in
     let prefix : List ℕ = is.stands.size ++ frame.body in
     let long : length piece ≡ length is.stands.size + length frame.body + 2 =
-    length-append prefix (to_le_bytes w16 (check_word FRAME_START prefix)) ∙ ap (λ n. n + 2) (length-append is.stands.size frame.body) in
+    length-append prefix (to_le_bytes w16 (check_word CHECK_SEED prefix)) ∙ ap (λ n. n + 2) (length-append is.stands.size frame.body) in
     record {
       stands = record {
         size = is.stands.size;

@@ -2,7 +2,7 @@
 use Rattle.std.proofs.Common.{◌≡◌, ap, ℕ, zero, suc, ◌+◌, ◌-◌, ◌*◌, ◌/◌, ◌%◌, ◌≤◌, Bool, true, false, List, [], ◌∷◌, ◌++◌, length, length-append, arith}
 use Rattle.std.specs.Prelude.{nat_lt, flat_map, if◌then◌else◌}
 use Rattle.std.specs.Int.{w16, to_be_bytes}
-use Rattle.dwg_check.specs.CheckWord.{FRAME_START, check_word}
+use Rattle.dwg_check.specs.CheckWord.{CHECK_SEED, check_word}
 use Rattle.dwg_grammar.specs.Combinators.{SpellsChain, always, choose}
 use Rattle.dwg_grammar.specs.ModularCodes.{Signed, last_of, after_group, mc_within, mc, sign_and_magnitude, signed_mc_within, signed_mc}
 use Rattle.dwg_grammar.proofs.SignedLemmas.{after_signed}
@@ -11,7 +11,7 @@ use Rattle.dwg_objmap.specs.Pairs.{ORIGIN, move_between, pair_after}
 use Rattle.dwg_objmap.specs.Pages.{page_bytes, PagesAt, MapOf}
 use Rattle.dwg_objmap.proofs.PageLemmas.{page_long}
 use Rattle.dwg_objmap.proofs.PairChains.{pair_has_bytes}
-use Rattle.dwg_objmap.specs.Writing.{OpenPage, reported_from, added, has_room, given, filled, closing_body, closing, map_after, map_bytes, FRESH}
+use Rattle.dwg_objmap.specs.Writing.{OpenPage, written_from, added, has_room, given, filled, closing_body, closing, map_after, map_bytes, FRESH}
 
 -- an MC is written by no more bytes than it may have
 mc_within_short : (most value : ℕ) → length ((mc_within most).short value) ≤ most
@@ -57,7 +57,7 @@ page_is_counted : (body : List ℕ) → length (page_bytes body) ≡ 4 + length 
 page_is_counted body =
     omega (
       arith,
-      length-append (to_be_bytes w16 (2 + length body) ++ body) (to_be_bytes w16 (check_word FRAME_START (to_be_bytes w16 (2 + length body) ++ body))),
+      length-append (to_be_bytes w16 (2 + length body) ++ body) (to_be_bytes w16 (check_word CHECK_SEED (to_be_bytes w16 (2 + length body) ++ body))),
       length-append (to_be_bytes w16 (2 + length body)) body,
     )
 
@@ -77,7 +77,7 @@ after_short page (pair ∷ pairs) = of_room (has_room page pair) (λ next. after
         ++ map_after (if test then record { body = page.body ++ added page pair; last = pair; ended = false } else record { body = (pair_after ORIGIN).short pair; last = pair; ended = false }) pairs)
         ≤ length page.body + 8 + 24 * length (pair ∷ pairs)
     of_room true others =
-        omega (arith, others (record { body = page.body ++ added page pair; last = pair; ended = false }), length-append page.body (added page pair), pair_short (reported_from page) pair)
+        omega (arith, others (record { body = page.body ++ added page pair; last = pair; ended = false }), length-append page.body (added page pair), pair_short (written_from page) pair)
     of_room false others =
         omega (
           arith,

@@ -14,7 +14,7 @@ use Rattle.dwg_base.specs.Devices.{MOST_BYTES}
 use Rattle.dwg_bits.specs.Sink.{padding}
 use Rattle.dwg_bits.proofs.PaddingLaw.{padding_fills}
 use Rattle.dwg_bits.proofs.WholeBytes.{length_of_whole}
-use Rattle.dwg_check.specs.CheckWord.{FRAME_START, check_word}
+use Rattle.dwg_check.specs.CheckWord.{CHECK_SEED, check_word}
 use Rattle.dwg_classes.specs.declared.class.Class.{Class}
 use Rattle.dwg_classes.specs.Class.{AreClasses, numbered_class}
 use Rattle.dwg_classes.proofs.WrittenClasses.{read_are_values}
@@ -47,7 +47,7 @@ pub record IsSmall (version : Version) (classes : List Class) (most : ℕ) (obje
 -- the body of a frame are bytes of the input, and no more than it has
 body_within : (bytes : List ℕ) (place : ℕ) (body : List ℕ) (end : ℕ) → AreBytes bytes → FrameAt bytes place body end → AreBytes body × (length body ≤ length bytes)
 body_within bytes place body end are is =
-    let word : List ℕ = to_le_bytes w16 (check_word FRAME_START (is.size ++ body)) in
+    let word : List ℕ = to_le_bytes w16 (check_word CHECK_SEED (is.size ++ body)) in
     let stands = stands_next bytes place is.size body (stands_first bytes place (is.size ++ body) word is.stands) in
     (stands_bytes bytes (place + length is.size) body are stands, omega (arith, stands_within bytes (place + length is.size) body stands))
 

@@ -8,7 +8,7 @@ use Rattle.dwg_bits.proofs.BitLaws.{length_of_bits}
 use Rattle.dwg_bits.specs.Sink.{Written, Extends}
 use Rattle.dwg_bits.specs.WholeBytes.{whole_bytes}
 use Rattle.dwg_bits.proofs.WholeBytes.{whole_of_bits}
-use Rattle.dwg_check.specs.CheckWord.{FRAME_START, check_word}
+use Rattle.dwg_check.specs.CheckWord.{CHECK_SEED, check_word}
 use Rattle.dwg_check.proofs.CheckWordLaws.{check_word_append}
 use Rattle.dwg_grammar.specs.ModularCodes.{ms}
 use Rattle.dwg_object.specs.Frames.{frame_bytes, framed_body}
@@ -48,10 +48,10 @@ five_given a b c d e =
     ∙ sym (append_assoc (a ++ (b ++ c)) d e)
 
 -- a length, a body and a check word of both are the frame of the body
-pub frame_given : (size body word spelled : List ℕ) (begun checked : ℕ) → size ≡ spelled → begun ≡ check_word FRAME_START size → checked ≡ check_word begun body → word ≡ to_le_bytes w16 checked
+pub frame_given : (size body word spelled : List ℕ) (begun checked : ℕ) → size ≡ spelled → begun ≡ check_word CHECK_SEED size → checked ≡ check_word begun body → word ≡ to_le_bytes w16 checked
     → size ++ (body ++ (word ++ [])) ≡ framed_body spelled body
 frame_given size body word spelled begun checked same begins goes_on is =
-    let over : checked ≡ check_word FRAME_START (size ++ body) = goes_on ∙ ap (λ start. check_word start body) begins ∙ sym (check_word_append FRAME_START size body) in
+    let over : checked ≡ check_word CHECK_SEED (size ++ body) = goes_on ∙ ap (λ start. check_word start body) begins ∙ sym (check_word_append CHECK_SEED size body) in
     three_given size body word ∙ ap (λ end. size ++ body ++ end) (is ∙ ap (to_le_bytes w16) over) ∙ ap (λ prefix. framed_body prefix body) same
 
 -- what stands around a content and the content are the section

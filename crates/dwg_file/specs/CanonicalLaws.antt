@@ -56,8 +56,8 @@ abbrev pub CanonicalSpellsNoOther : Type 0
 CanonicalSpellsNoOther = (drawing other : Contents) → IsValid drawing → size_of drawing ≤ MOST_BYTES → Spelled other (canonical drawing) → other ≡ drawing
 
 -- two valid drawings that have one canonical file are one
-abbrev pub CanonicalReportsDrawing : Type 0
-CanonicalReportsDrawing =
+abbrev pub CanonicalGivesDrawing : Type 0
+CanonicalGivesDrawing =
     (drawing other : Contents) → IsValid drawing → IsValid other → size_of drawing ≤ MOST_BYTES → size_of other ≤ MOST_BYTES → canonical drawing ≡ canonical other
     → drawing ≡ other
 

@@ -36,7 +36,7 @@ fn are_sorted(objects: &[Object<'_>]) -> bool
 
 /// The objects in ascending order of their handles, in n log n steps. Those that stand so stay where they are; else places are
 /// sorted, and each object is moved to its own. Err: out of memory.
-fn sorted_by_places<'a>(objects: Vec<Object<'a>>) -> Result<Vec<Object<'a>>, NoMemory>
+fn sorted_with_memory<'a>(objects: Vec<Object<'a>>) -> Result<Vec<Object<'a>>, NoMemory>
     ensures same { IfOk result (λ sorted. IsPermutation objects.entry.items sorted.items) }
     ensures ascend { IfOk result (λ sorted. IsNonDecreasingBy (λ object. handle_of (value_of object)) sorted.items) }
 {
@@ -74,13 +74,13 @@ pub fn in_handle_order<'a>(objects: Vec<Object<'a>>) -> Items<Object<'a>>
 }
 
 /// The same by places. Err: out of memory, which is taken only where they don't stand so.
-fn ordered_by_places<'a>(objects: Vec<Object<'a>>) -> Result<Items<Object<'a>>, NoMemory>
+fn ordered_with_memory<'a>(objects: Vec<Object<'a>>) -> Result<Items<Object<'a>>, NoMemory>
     requires { AreHandles (map handle_of (values_of objects.items)) }
     ensures same { IfOk result (λ ordered. IsPermutation (values_of objects.entry.items) (values_of ordered)) }
     ensures ascend { IfOk result (λ ordered. AreAscending (values_of ordered)) }
     ensures lent { All IsBorrowedObject objects.entry.items → IfOk result (λ ordered. All IsBorrowedObject ordered) }
 {
-    Ok(Items::from_vec(sorted_by_places(objects)?))
+    Ok(Items::from_vec(sorted_with_memory(objects)?))
 }
 
 /// Objects in ascending order of their handles, and their frames in map order.
@@ -105,7 +105,7 @@ pub(crate) fn read_objects<'a>(
 {
     let hints = Hints::build(alloc, classes)?;
     let read = read_frames(alloc, bytes, pairs, &hints)?;
-    let objects = ordered_by_places(read.objects)?;
+    let objects = ordered_with_memory(read.objects)?;
     Ok(FramedObjects {
         objects,
         frames: read.frames,

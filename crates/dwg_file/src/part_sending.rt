@@ -22,7 +22,7 @@ use crate::drawing_parts::Other;
 use crate::write_buffer::WriteBuffer;
 use dwg_base::{Sink, Version, WriteFault, bytes_with_range};
 use dwg_bits::BitSink;
-use dwg_check::{FRAME_START, check};
+use dwg_check::{CHECK_SEED, check};
 use dwg_classes::{Class, write_classes};
 use dwg_codes::write_ms;
 use dwg_object::{Object, write_frame};
@@ -153,7 +153,7 @@ fn send_raw_frame<W: Sink>(
     part.clear();
     write_ms(body.len() as u64, part);
     let size = bytes_of(part);
-    let word = check(check(FRAME_START, size), body).to_le_bytes();
+    let word = check(check(CHECK_SEED, size), body).to_le_bytes();
     let pieces = [size, body, word.as_slice()];
     send_all(&pieces, buffer, sink)
 }

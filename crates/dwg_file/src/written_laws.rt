@@ -1,6 +1,6 @@
 //! Laws of the canonical file, as the contract of a function without code of its own.
 
-ghost use Rattle.dwg_file.specs.CanonicalLaws.{CarryingSpells, CarryingIsCounted, CarryingSpellsNoOther, CarryingIsDoneOnce, PreviewIsCarried, NoneIsEmpty, CanonicalSpells, CanonicalIsCounted, CanonicalSpellsNoOther, CanonicalReportsDrawing, CanonicalIsRead, RewritingIsDoneOnce};
+ghost use Rattle.dwg_file.specs.CanonicalLaws.{CarryingSpells, CarryingIsCounted, CarryingSpellsNoOther, CarryingIsDoneOnce, PreviewIsCarried, NoneIsEmpty, CanonicalSpells, CanonicalIsCounted, CanonicalSpellsNoOther, CanonicalGivesDrawing, CanonicalIsRead, RewritingIsDoneOnce};
 
 use crate::laws::drawing_laws;
 
@@ -10,7 +10,7 @@ use crate::laws::drawing_laws;
 pub fn canonical_laws()
     ensures spells { CanonicalSpells }
     ensures no_other { CanonicalSpellsNoOther }
-    ensures reports { CanonicalReportsDrawing }
+    ensures reports { CanonicalGivesDrawing }
     ensures counted { CanonicalIsCounted }
     ensures read { CanonicalIsRead }
     ensures once { RewritingIsDoneOnce }

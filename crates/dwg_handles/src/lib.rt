@@ -7,6 +7,7 @@ mod own;
 mod reference;
 mod reference_code;
 mod reference_parts;
+mod relative_codes;
 
 pub use laws::reference_laws;
 pub use list::{read_refs, read_refs_to_end, refs_bits, refs_fit, write_refs};

@@ -6,7 +6,6 @@ ghost use Rattle.dwg_bits.specs.Cursor.{rest};
 ghost use Rattle.dwg_bits.specs.Sink.{Extends};
 ghost use Rattle.dwg_grammar.specs.Grammar.{Reads};
 ghost use Rattle.dwg_handles.specs.PartsCode.{IsOwn, parts};
-ghost use Rattle.dwg_grammar.specs.Reference.{GivesTarget};
 ghost use Rattle.dwg_grammar.specs.ReferenceCodes.{byte_count, counted_number};
 
 use dwg_base::Handle;
@@ -21,9 +20,9 @@ pub(crate) struct ReferenceParts {
     /// What the number is for, below 16.
     pub(crate) code: u8,
     /// How many bytes give the number, at most eight.
-    count: u32,
+    pub(crate) count: u32,
     /// The number.
-    number: u64,
+    pub(crate) number: u64,
 }
 
 impl ReferenceParts {
@@ -49,22 +48,6 @@ impl ReferenceParts {
             count,
             number,
         })
-    }
-
-    /// The target that the parts give, seen from the object of the handle `base`. None exactly where they give none.
-    pub(crate) fn target(&self, base: Handle) -> Option<Handle>
-        ensures resolved { IfSome result (λ target. GivesTarget base self.now.code self.now.count self.now.number target) }
-        ensures unresolved { IfNone result ((target : ℕ) → GivesTarget base self.now.code self.now.count self.now.number target → ⊥) }
-    {
-        let base = base.value();
-        match self.code {
-            0..=5 => Handle::new(self.number),
-            6 if self.count == 0 => Handle::new(base + 1),
-            8 if self.count == 0 => Handle::new(base.checked_sub(1)?),
-            10 => Handle::new(base.checked_add(self.number)?),
-            12 => Handle::new(base.checked_sub(self.number)?),
-            _ => None,
-        }
     }
 
     /// The own handle that the parts give. None exactly where the code isn't 0, or the number 0 or not below 2^63.

@@ -8,7 +8,7 @@ use Rattle.dwg_base.specs.Bytes.{AreBytes}
 use Rattle.dwg_bits.specs.Bits.{bits}
 use Rattle.dwg_bits.specs.Sink.{padding}
 use Rattle.dwg_bits.proofs.WholeBytes.{whole_are_bytes}
-use Rattle.dwg_check.specs.CheckWord.{FRAME_START, check_word}
+use Rattle.dwg_check.specs.CheckWord.{CHECK_SEED, check_word}
 use Rattle.dwg_classes.specs.declared.class.Class.{Class}
 use Rattle.dwg_grammar.specs.ModularCodes.{ms}
 use Rattle.dwg_grammar.proofs.ModularLemmas.{ms_is_code, ms_has}
@@ -153,7 +153,7 @@ unfolding frame_bytes
 length_of_frame version value =
     let body : List ℕ = body_bytes version value in
     let size : List ℕ = ms.short (length body) in
-    length-append (size ++ body) (to_le_bytes w16 (check_word FRAME_START (size ++ body))) ∙ ap (λ n. n + 2) (length-append size body)
+    length-append (size ++ body) (to_le_bytes w16 (check_word CHECK_SEED (size ++ body))) ∙ ap (λ n. n + 2) (length-append size body)
 
 -- so they do
 pub parts_narrower : PartsFitNewer
@@ -177,5 +177,5 @@ unfolding frame_bytes
 frame_is_bytes version value are small =
     let body : List ℕ = body_bytes version value in
     let size : List ℕ = ms.short (length body) in
-    bytes_joined (size ++ body) (to_le_bytes w16 (check_word FRAME_START (size ++ body))) (bytes_joined size body (length_is_bytes (length body) (omega arith)) are)
-    (bytes_of_number 0 2 (check_word FRAME_START (size ++ body)))
+    bytes_joined (size ++ body) (to_le_bytes w16 (check_word CHECK_SEED (size ++ body))) (bytes_joined size body (length_is_bytes (length body) (omega arith)) are)
+    (bytes_of_number 0 2 (check_word CHECK_SEED (size ++ body)))

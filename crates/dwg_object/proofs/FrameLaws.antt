@@ -9,7 +9,7 @@ use Rattle.dwg_base.specs.Bytes.{AreBytes, StandsAt}
 use Rattle.dwg_base.specs.Refusals.{Tried}
 use Rattle.dwg_base.specs.declared.refusal.Refusal.{Refusal}
 use Rattle.dwg_bits.specs.Bits.{bits}
-use Rattle.dwg_check.specs.CheckWord.{FRAME_START, check_word}
+use Rattle.dwg_check.specs.CheckWord.{CHECK_SEED, check_word}
 use Rattle.dwg_check.proofs.CheckWordLaws.{check_word_fits}
 use Rattle.dwg_grammar.proofs.NumberLemmas.{bytes_of_16, number_of_16}
 use Rattle.dwg_object.specs.declared.span.Span.{Span}
@@ -26,7 +26,7 @@ use Rattle.dwg_object.specs.FrameLaws.{FramesAreHeld, FramesAreOne, FramesAreRep
 
 -- the word that is written of a check word
 abbrev word_of : List ℕ → List ℕ
-word_of bytes = to_le_bytes w16 (check_word FRAME_START bytes)
+word_of bytes = to_le_bytes w16 (check_word CHECK_SEED bytes)
 
 -- the length of a frame stands at its place
 frame_size : (bytes : List ℕ) (place : ℕ) (body : List ℕ) (end : ℕ) (is : FrameAt bytes place body end) → StandsAt bytes place is.size
@@ -93,9 +93,9 @@ word_of_frame bytes span is frame =
     (length-append (is.size ++ is.body) is.word ∙ ap (λ n. length (is.size ++ is.body) + n) is.two ∙ sym (length-append (is.size ++ is.body) (word_of (is.size ++ is.body)))))
 
 -- the test of a check word is one of the word that stands there
-test_of_word : (bytes : List ℕ) (span : Span) (is : SpanAt bytes span) → has_check_word bytes span ≡ (from_le_bytes w16 is.word == check_word FRAME_START (is.size ++ is.body))
+test_of_word : (bytes : List ℕ) (span : Span) (is : SpanAt bytes span) → has_check_word bytes span ≡ (from_le_bytes w16 is.word == check_word CHECK_SEED (is.size ++ is.body))
 test_of_word bytes span is =
-    ap₂ (λ (w prefix : List ℕ). from_le_bytes w16 w == check_word FRAME_START prefix) (word_of_span bytes span is) (prefix_of_span bytes span is)
+    ap₂ (λ (w prefix : List ℕ). from_le_bytes w16 w == check_word CHECK_SEED prefix) (word_of_span bytes span is) (prefix_of_span bytes span is)
 
 -- numbers that pass the test are one
 test_same : (a b : ℕ) → (a == b) ≡ true → a ≡ b
@@ -110,7 +110,7 @@ pub framed_where : (bytes : List ℕ) (span : Span) → AreBytes bytes → SpanA
 framed_where bytes span are is passed =
     let place : ℕ = span.from + length (is.size ++ is.body) in
     let word : AreBytes is.word = stands_bytes bytes place is.word are (stands_next bytes span.from (is.size ++ is.body) is.word is.stands) in
-    let number : from_le_bytes w16 is.word ≡ check_word FRAME_START (is.size ++ is.body) = test_same _ _ (sym (test_of_word bytes span is) ∙ passed) in
+    let number : from_le_bytes w16 is.word ≡ check_word CHECK_SEED (is.size ++ is.body) = test_same _ _ (sym (test_of_word bytes span is) ∙ passed) in
     subst (λ (b : List ℕ). FrameAt bytes span.from b span.end) (sym (body_of_span bytes span is))
     (frame_of_word bytes span is (sym (bytes_of_16 is.word is.two word).1 ∙ ap (to_le_bytes w16) number))
 
@@ -120,7 +120,7 @@ tested_where bytes span is frame =
     let word = word_of_frame bytes span is (subst (λ (b : List ℕ). FrameAt bytes span.from b span.end) (body_of_span bytes span is) frame) in
     let prefix : List ℕ = is.size ++ is.body in
     test_of_word bytes span is
-    ∙ same_test _ _ (ap (from_le_bytes w16) word ∙ (number_of_16 (check_word FRAME_START prefix) (check_word_fits FRAME_START prefix (omega arith))).0)
+    ∙ same_test _ _ (ap (from_le_bytes w16) word ∙ (number_of_16 (check_word CHECK_SEED prefix) (check_word_fits CHECK_SEED prefix (omega arith))).0)
 
 -- a test that doesn't hold fails
 fails_where : (bytes : List ℕ) (span : Span) → AreBytes bytes → SpanAt bytes span → (FrameAt bytes span.from (span_body bytes span) span.end → ⊥) → (right : Bool) → has_check_word bytes span ≡ right → has_check_word bytes span ≡ false

@@ -11,7 +11,7 @@ use Rattle.dwg_bits.specs.Sink.{Written, Extends, padding, missing_bits}
 use Rattle.dwg_bits.proofs.SinkLemmas.{extends_by_both}
 use Rattle.dwg_bits.specs.WholeBytes.{whole_bytes}
 use Rattle.dwg_bits.proofs.WholeBytes.{whole_joined, whole_of_bits, length_of_whole}
-use Rattle.dwg_check.specs.CheckWord.{FRAME_START, check_word}
+use Rattle.dwg_check.specs.CheckWord.{CHECK_SEED, check_word}
 use Rattle.dwg_grammar.specs.ModularCodes.{ms}
 use Rattle.dwg_object.specs.declared.common.Common.{Common}
 use Rattle.dwg_object.specs.Forms.{layout_in}
@@ -74,12 +74,12 @@ pub sized_are_bytes : (content : List ℕ) → AreBytes content → length conte
 sized_are_bytes content are small = bytes_joined (ms.short (length content)) content (length_is_bytes (length content) (omega (arith, small))) are
 
 -- a length, a body and a check word that were written are the frame
-pub frame_written : (first third fourth : Written) (version : Version) (value : ObjectValue) (word_bytes : List ℕ) (word : ℕ) → word ≡ check_word FRAME_START (sized (body_bytes version value))
+pub frame_written : (first third fourth : Written) (version : Version) (value : ObjectValue) (word_bytes : List ℕ) (word : ℕ) → word ≡ check_word CHECK_SEED (sized (body_bytes version value))
     → word_bytes ≡ to_le_bytes w16 word → Extends first third (bits (sized (body_bytes version value))) → Extends third fourth (bits word_bytes) → Extends first fourth (bits (frame_bytes version value))
 unfolding frame_bytes
 frame_written first third fourth version value word_bytes word checked spelled by_both by_word =
     let both : List ℕ = sized (body_bytes version value) in
-    both_written first third fourth both (to_le_bytes w16 (check_word FRAME_START both)) by_both
+    both_written first third fourth both (to_le_bytes w16 (check_word CHECK_SEED both)) by_both
     (subst (λ (b : List ℕ). Extends third fourth (bits b)) (spelled ∙ ap (to_le_bytes w16) checked) by_word)
 
 -- the room of a frame is that of its length, its body and its check word

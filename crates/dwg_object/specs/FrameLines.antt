@@ -5,7 +5,7 @@ use Rattle.std.specs.Int.{w16, from_le_bytes}
 use Rattle.dwg_base.specs.Refusals.{Tried}
 use Rattle.dwg_base.specs.declared.refusal.Refusal.{Refusal}
 use Rattle.dwg_bits.specs.Bits.{bits}
-use Rattle.dwg_check.specs.CheckWord.{FRAME_START, check_word}
+use Rattle.dwg_check.specs.CheckWord.{CHECK_SEED, check_word}
 use Rattle.dwg_grammar.specs.ModularCodes.{ms}
 use Rattle.dwg_object.specs.declared.span.Span.{Span}
 use Rattle.dwg_object.specs.Objects.{HeadParts}
@@ -43,7 +43,7 @@ span_body bytes span = bytes_from bytes span.body span.body_end
 -- the check word of a span is that of its length and its body
 abbrev pub has_check_word : List ℕ → Span → Bool
 has_check_word bytes span =
-    from_le_bytes w16 (bytes_from bytes span.body_end span.end) == check_word FRAME_START (bytes_from bytes span.from span.body_end)
+    from_le_bytes w16 (bytes_from bytes span.body_end span.end) == check_word CHECK_SEED (bytes_from bytes span.from span.body_end)
 
 -- what the head of a span's body says, in a version
 abbrev pub head_at : Version → List ℕ → Span → Option HeadParts

@@ -4,7 +4,7 @@ use Rattle.dwg_base.specs.declared.version.Version.{Version}
 use Rattle.std.specs.Int.{w16, to_le_bytes}
 use Rattle.dwg_base.specs.Bytes.{StandsAt}
 use Rattle.dwg_bits.specs.Bits.{bits}
-use Rattle.dwg_check.specs.CheckWord.{FRAME_START, check_word}
+use Rattle.dwg_check.specs.CheckWord.{CHECK_SEED, check_word}
 use Rattle.dwg_grammar.specs.ModularCodes.{ms}
 use Rattle.dwg_object.specs.declared.span.Span.{Span}
 use Rattle.dwg_object.specs.Heads.{BeginsWithHead}
@@ -14,7 +14,7 @@ use Rattle.dwg_object.specs.Written.{body_bytes}
 
 -- what a frame's check word is over, and the check word, its least significant byte first: a spelling of the body's length, and the body
 abbrev pub framed_body : List ℕ → List ℕ → List ℕ
-framed_body size body = size ++ body ++ to_le_bytes w16 (check_word FRAME_START (size ++ body))
+framed_body size body = size ++ body ++ to_le_bytes w16 (check_word CHECK_SEED (size ++ body))
 
 -- a frame of this body stands at a place of the input, and ends at another: MS length of the body in bytes, the body, RS check word
 pub record FrameAt (bytes : List ℕ) (place : ℕ) (body : List ℕ) (end : ℕ) : Type 0 where

@@ -14,7 +14,7 @@ use crate::object::Object;
 use crate::reading::read_after_head;
 use crate::span::{Span, frame_refusal, span_at};
 use dwg_base::{Fault, NoMemory, Version};
-use dwg_check::{FRAME_START, check};
+use dwg_check::{CHECK_SEED, check};
 use dwg_classes::{Class, Hints};
 use std::alloc::Global;
 
@@ -68,7 +68,7 @@ fn has_frame_word(bytes: &[u8], span: &Span) -> bool
     requires within { span.now.end ≤ length bytes.now }
     ensures { result ≡ has_check_word bytes.now span.now }
 {
-    let word = check(FRAME_START, piece(bytes, span.from, span.body_end));
+    let word = check(CHECK_SEED, piece(bytes, span.from, span.body_end));
     span_word(bytes, span) == word
 }
 

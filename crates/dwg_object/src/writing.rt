@@ -5,7 +5,7 @@ ghost use Rattle.dwg_base.specs.Bytes.{AreBytes};
 ghost use Rattle.dwg_bits.specs.Bits.{bits};
 ghost use Rattle.dwg_bits.specs.Sink.{Extends};
 ghost use Rattle.dwg_bits.specs.WholeBytes.{whole_bytes};
-ghost use Rattle.dwg_check.specs.CheckWord.{FRAME_START, check_word};
+ghost use Rattle.dwg_check.specs.CheckWord.{CHECK_SEED, check_word};
 ghost use Rattle.dwg_object.specs.Forms.{common_part, layout_in};
 ghost use Rattle.dwg_object.specs.Frames.{frame_bytes, sized};
 ghost use Rattle.dwg_object.specs.Objects.{is_of_entity, value_of};
@@ -18,7 +18,7 @@ use crate::part::Part;
 use crate::span::CHECK_SIZE;
 use dwg_base::{Handle, Version, bytes_after, bytes_with_range};
 use dwg_bits::BitSink;
-use dwg_check::{FRAME_START, check};
+use dwg_check::{CHECK_SEED, check};
 use dwg_codes::{ms_bytes, write_ms};
 
 /// What an object is written by.
@@ -243,10 +243,10 @@ pub fn frame_length(object: &Object<'_>, version: Version) -> u64
 fn word_after(sink: &BitSink, from: u64) -> u16
     requires aligned { length sink.now.written % 8 ≡ 0 }
     requires within { 8 * from ≤ length sink.now.written }
-    ensures { result ≡ check_word FRAME_START (drop from (whole_bytes sink.now.written)) }
+    ensures { result ≡ check_word CHECK_SEED (drop from (whole_bytes sink.now.written)) }
 {
     check(
-        FRAME_START,
+        CHECK_SEED,
         bytes_after(bytes_with_range(sink.as_bytes()), from as usize),
     )
 }

@@ -7,7 +7,7 @@ use Rattle.std.proofs.lemmas.List.{append-nil}
 use Rattle.std.specs.Int.{w16, to_be_bytes}
 use Rattle.dwg_base.specs.Bytes.{StandsAt}
 use Rattle.dwg_base.proofs.ByteLists.{joined_are_bytes}
-use Rattle.dwg_check.specs.CheckWord.{FRAME_START, check_word}
+use Rattle.dwg_check.specs.CheckWord.{CHECK_SEED, check_word}
 use Rattle.dwg_grammar.specs.Combinators.{short_chain}
 use Rattle.dwg_grammar.proofs.ModularBytes.{AreFewBytes, mc_few, signed_mc_few}
 use Rattle.dwg_objmap.specs.declared.pair.Pair.{Pair}
@@ -17,7 +17,7 @@ use Rattle.dwg_objmap.specs.Pages.{PairsSpell, PageAt, PagesAt, AreHandles, hand
 use Rattle.dwg_objmap.specs.MapLines.{last_of}
 use Rattle.dwg_objmap.proofs.PairChains.{origin_is_pair, last_of_more, spell_more, pair_has_bytes}
 use Rattle.dwg_objmap.proofs.MapLemmas.{joined}
-use Rattle.dwg_objmap.specs.Writing.{MOST_PAGE, OpenPage, FRESH, reported_after, reported_from, added, has_room, given, filled, closing_body, closing, map_after, map_bytes, Ascend, body_of, HasNoRoom, AreFilled, IsFilling}
+use Rattle.dwg_objmap.specs.Writing.{MOST_PAGE, OpenPage, FRESH, reported_after, written_from, added, has_room, given, filled, closing_body, closing, map_after, map_bytes, Ascend, body_of, HasNoRoom, AreFilled, IsFilling}
 
 -- what spells a pair are at most twenty bytes
 pub pair_few : (before pair : Pair) (bytes : List ℕ) → (pair_after before).Spells pair bytes → AreFewBytes 20 bytes
@@ -60,7 +60,7 @@ pub some_bytes : (pair : Pair) (pairs : List Pair) (body : List ℕ) → PairsSp
 some_bytes pair pairs body (prefix, back, one, others, same) = omega (arith, pair_has_bytes ORIGIN pair prefix one, ap length same, length-append prefix back)
 
 -- the next pair is written from the last one held
-pub reported_last : (page : OpenPage) (held : List Pair) → Holds page held → reported_from page ≡ last_of ORIGIN held
+pub reported_last : (page : OpenPage) (held : List Pair) → Holds page held → written_from page ≡ last_of ORIGIN held
 reported_last page [] holds = ap (λ body. reported_after body page.last) holds.spelled
 reported_last page (pair ∷ pairs) holds = of_some page.body (some_bytes pair pairs page.body holds.spelled) ∙ holds.last
   where
@@ -69,7 +69,7 @@ reported_last page (pair ∷ pairs) holds = of_some page.body (some_bytes pair p
     of_some (byte ∷ bytes) some = refl
 
 -- from a pair that is no greater than the last one put
-pub reported_fits : (page : OpenPage) → IsPair page.last → IsPair (reported_from page) × ((reported_from page).handle ≤ page.last.handle)
+pub reported_fits : (page : OpenPage) → IsPair page.last → IsPair (written_from page) × ((written_from page).handle ≤ page.last.handle)
 reported_fits page fits = by_body page.body
   where
     by_body : (body : List ℕ) → IsPair (reported_after body page.last) × ((reported_after body page.last).handle ≤ page.last.handle)
@@ -111,8 +111,8 @@ holds_more page held pair holds fits above room = record {
   size = omega (arith, below, length-append page.body (added page pair));
 }
   where
-    written : (pair_after (reported_from page)).Spells pair (added page pair)
-    written = let reported = reported_fits page holds.fits in pair_written (reported_from page) pair reported.0 fits (omega (arith, reported.1, above))
+    written : (pair_after (written_from page)).Spells pair (added page pair)
+    written = let reported = reported_fits page holds.fits in pair_written (written_from page) pair reported.0 fits (omega (arith, reported.1, above))
 
     below : 2 + length page.body + length (added page pair) ≤ MOST_PAGE
     below = grind (arith, nat_tests, room)
@@ -134,7 +134,7 @@ holds_first pair fits = record {
 some_held : (page : OpenPage) (held : List Pair) (pair : Pair) → Holds page held → IsPair pair → page.last.handle < pair.handle → has_room page pair ≡ false → held ≢ []
 some_held page [] pair holds fits above full = λ none.
     let reported = reported_fits page holds.fits in
-    let few = (pair_few (reported_from page) pair (added page pair) (pair_written (reported_from page) pair reported.0 fits (omega (arith, reported.1, above)))).few in
+    let few = (pair_few (written_from page) pair (added page pair) (pair_written (written_from page) pair reported.0 fits (omega (arith, reported.1, above)))).few in
     let empty : length page.body ≡ 0 = ap length holds.spelled in
     let large : MOST_PAGE < 2 + length page.body + length (added page pair) = grind (arith, nat_tests, full) in
     absurd (omega arith)
@@ -295,7 +295,7 @@ pub length_of_page : (body : List ℕ) → length (page_bytes body) ≡ 4 + leng
 length_of_page body =
     omega (
       arith,
-      length-append (to_be_bytes w16 (2 + length body) ++ body) (to_be_bytes w16 (check_word FRAME_START (to_be_bytes w16 (2 + length body) ++ body))),
+      length-append (to_be_bytes w16 (2 + length body) ++ body) (to_be_bytes w16 (check_word CHECK_SEED (to_be_bytes w16 (2 + length body) ++ body))),
       length-append (to_be_bytes w16 (2 + length body)) body,
     )
 

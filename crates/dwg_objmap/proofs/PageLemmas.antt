@@ -6,7 +6,7 @@ use Rattle.std.proofs.lemmas.List.{append-nil}
 use Rattle.dwg_base.specs.Bytes.{AreBytes}
 use Rattle.dwg_base.specs.Refusals.{Tried}
 use Rattle.dwg_base.specs.declared.refusal.Refusal.{Refusal}
-use Rattle.dwg_check.specs.CheckWord.{FRAME_START, check_word}
+use Rattle.dwg_check.specs.CheckWord.{CHECK_SEED, check_word}
 use Rattle.dwg_objmap.specs.declared.pair.Pair.{Pair}
 use Rattle.dwg_objmap.specs.Pairs.{ORIGIN}
 use Rattle.dwg_objmap.specs.Pages.{PageAt, AreHandles, handles_of}
@@ -26,7 +26,7 @@ by_tests seen place index bytes short cut small right =
 
 -- whether the page's check word is right
 abbrev is_right : List ℕ → ℕ → Bool
-is_right bytes place = word_at bytes (place + word_at bytes place) == check_word FRAME_START (sized_at bytes place)
+is_right bytes place = word_at bytes (place + word_at bytes place) == check_word CHECK_SEED (sized_at bytes place)
 
 -- a page is tried by its tests
 tried_by : (seen : List Pair) (place index : ℕ) (bytes : List ℕ) (short cut small right : Bool) → nat_lt (length bytes) (place + 2) ≡ short

@@ -5,7 +5,7 @@ use Rattle.std.proofs.lemmas.List.{take-append-drop, drop-drop, get_or-drop, tak
 use Rattle.std.proofs.lemmas.List.Elements.{All-from_recursion, recursion_from_All, All-take, All-drop}
 use Rattle.dwg_base.specs.Bytes.{AreBytes, StandsAt}
 use Rattle.dwg_base.proofs.ByteLists.{byte_below}
-use Rattle.dwg_check.specs.CheckWord.{FRAME_START, check_word}
+use Rattle.dwg_check.specs.CheckWord.{CHECK_SEED, check_word}
 use Rattle.dwg_check.proofs.CheckWordLaws.{check_word_fits}
 use Rattle.dwg_objmap.specs.Pages.{sized_pairs, page_bytes}
 use Rattle.dwg_objmap.specs.MapLines.{word_at, sized_at, body_at, page_end, HasPage, HasPageWord}
@@ -77,8 +77,8 @@ page_stands bytes place body small stands = record {
   pairs = ap (drop 2) sized;
   has_check_word =
       word_prefix bytes (place + word_at bytes place) ∙ ap prefix_word last
-      ∙ word_read (check_word FRAME_START (sized_pairs body)) stands.after (check_word_fits FRAME_START (sized_pairs body) (omega arith))
-      ∙ ap (check_word FRAME_START) (sym sized);
+      ∙ word_read (check_word CHECK_SEED (sized_pairs body)) stands.after (check_word_fits CHECK_SEED (sized_pairs body) (omega arith))
+      ∙ ap (check_word CHECK_SEED) (sym sized);
   within = omega (
     arith,
     size,
@@ -86,13 +86,13 @@ page_stands bytes place body small stands = record {
     stands.far,
     length-append stands.before (page_bytes body ++ stands.after),
     length-append (page_bytes body) stands.after,
-    length-append (sized_pairs body) (to_be_bytes w16 (check_word FRAME_START (sized_pairs body))),
+    length-append (sized_pairs body) (to_be_bytes w16 (check_word CHECK_SEED (sized_pairs body))),
     length_sized body,
   );
 }
   where
     checked : List ℕ
-    checked = to_be_bytes w16 (check_word FRAME_START (sized_pairs body))
+    checked = to_be_bytes w16 (check_word CHECK_SEED (sized_pairs body))
 
     after : drop place bytes ≡ sized_pairs body ++ (checked ++ stands.after)
     after = stands_after bytes (page_bytes body) place stands ∙ append_assoc (sized_pairs body) checked stands.after
@@ -144,13 +144,13 @@ page_there bytes place all has right = record {
         (take-take 2 size rest two ∙ sym (word_spelled rest (bytes_after place bytes all) (omega (arith, long, length-drop place bytes)))
         ∙ ap (to_be_bytes w16) (sym (word_prefix bytes place) ∙ sym (length_of_body bytes place has)))
 
-    checked : take 2 (drop size rest) ≡ to_be_bytes w16 (check_word FRAME_START (sized_pairs (body_at bytes place)))
+    checked : take 2 (drop size rest) ≡ to_be_bytes w16 (check_word CHECK_SEED (sized_pairs (body_at bytes place)))
     checked =
         sym (word_spelled (drop size rest) (bytes_after size rest (bytes_after place bytes all)) (omega (arith, long, length-drop size rest, length-drop place bytes)))
-        ∙ ap (to_be_bytes w16) (ap prefix_word (drop-drop size place bytes) ∙ sym (word_prefix bytes (place + size)) ∙ right ∙ ap (check_word FRAME_START) sized)
+        ∙ ap (to_be_bytes w16) (ap prefix_word (drop-drop size place bytes) ∙ sym (word_prefix bytes (place + size)) ∙ right ∙ ap (check_word CHECK_SEED) sized)
 
     after : rest ≡ page_bytes (body_at bytes place) ++ drop 2 (drop size rest)
     after =
         sym (take-append-drop size rest)
         ∙ ap₂ (λ prefix others. prefix ++ others) sized (sym (take-append-drop 2 (drop size rest)) ∙ ap (λ prefix. prefix ++ drop 2 (drop size rest)) checked)
-        ∙ sym (append_assoc (sized_pairs (body_at bytes place)) (to_be_bytes w16 (check_word FRAME_START (sized_pairs (body_at bytes place)))) (drop 2 (drop size rest)))
+        ∙ sym (append_assoc (sized_pairs (body_at bytes place)) (to_be_bytes w16 (check_word CHECK_SEED (sized_pairs (body_at bytes place)))) (drop 2 (drop size rest)))

@@ -3,7 +3,7 @@ use Rattle.std.specs.Prelude.{◌≡◌, ◌≢◌, ◌⊎◌, Bool, ℕ, zero, 
 use Rattle.std.specs.List.{list_any}
 use Rattle.dwg_base.specs.Refusals.{Tried}
 use Rattle.dwg_base.specs.declared.refusal.Refusal.{Refusal}
-use Rattle.dwg_check.specs.CheckWord.{FRAME_START, check_word}
+use Rattle.dwg_check.specs.CheckWord.{CHECK_SEED, check_word}
 use Rattle.dwg_grammar.specs.Grammar.{BeginsWith}
 use Rattle.dwg_objmap.specs.declared.pair.Pair.{Pair}
 use Rattle.dwg_objmap.specs.Pairs.{ORIGIN, PairSpells, pair_after}
@@ -61,7 +61,7 @@ page_after seen place index bytes =
     if nat_lt (length bytes) (place + 2) then Err (map_refusal 21 index place)
     else (if not (nat_lt (word_at bytes place) 2) && nat_lt (length bytes) (page_end bytes place) then Err (map_refusal 21 index place)
     else (if nat_lt (word_at bytes place) 2 then Err (map_refusal 22 index place)
-    else (if not (word_at bytes (place + word_at bytes place) == check_word FRAME_START (sized_at bytes place)) then Err (map_refusal 23 index (place + word_at bytes place))
+    else (if not (word_at bytes (place + word_at bytes place) == check_word CHECK_SEED (sized_at bytes place)) then Err (map_refusal 23 index (place + word_at bytes place))
     else pairs_after (length (body_at bytes place)) index seen ORIGIN (place + 2) (body_at bytes place))))
 
 -- what the next pages give after the pairs seen, if the page at the place isn't the last
@@ -111,7 +111,7 @@ HasPage bytes place = (2 ≤ word_at bytes place) × (page_end bytes place ≤ l
 
 -- the check word of the page at a place is right
 abbrev pub HasPageWord : List ℕ → ℕ → Type 0
-HasPageWord bytes place = word_at bytes (place + word_at bytes place) ≡ check_word FRAME_START (sized_at bytes place)
+HasPageWord bytes place = word_at bytes (place + word_at bytes place) ≡ check_word CHECK_SEED (sized_at bytes place)
 
 -- the refusal is that of the page at a place, after the pairs seen before it: the page is short, its size is below 2, its check word is wrong, or a pair fails
 abbrev pub RefusesPage : List Pair → ℕ → ℕ → List ℕ → Refusal → Type 0

@@ -3,7 +3,7 @@ use Rattle.std.specs.Prelude.{◌≡◌, ◌≢◌, ℕ, ◌+◌, ◌^◌, ◌<�
 use Rattle.std.specs.List.{AllByRecursion}
 use Rattle.std.specs.Int.{w16, to_be_bytes}
 use Rattle.dwg_base.specs.Bytes.{StandsAt}
-use Rattle.dwg_check.specs.CheckWord.{FRAME_START, check_word}
+use Rattle.dwg_check.specs.CheckWord.{CHECK_SEED, check_word}
 use Rattle.dwg_grammar.specs.Combinators.{SpellsChain}
 use Rattle.dwg_objmap.specs.declared.pair.Pair.{Pair}
 use Rattle.dwg_objmap.specs.Pairs.{ORIGIN, pair_after}
@@ -18,7 +18,7 @@ sized_pairs body = to_be_bytes w16 (2 + length body) ++ body
 
 -- a whole page: the size, the pairs, the check word, its most significant byte first
 abbrev pub page_bytes : List ℕ → List ℕ
-page_bytes body = sized_pairs body ++ to_be_bytes w16 (check_word FRAME_START (sized_pairs body))
+page_bytes body = sized_pairs body ++ to_be_bytes w16 (check_word CHECK_SEED (sized_pairs body))
 
 -- a page of these pairs stands at a place of the input, and the next place is after it
 pub record PageAt (bytes : List ℕ) (place : ℕ) (pairs : List Pair) (next : ℕ) : Type 0 where

@@ -1,7 +1,7 @@
 -- Pages of the map as recovery reads them: each by itself, whatever is wrong with its pairs or its check word. A rule of this project, over the map of the Open Design Specification, "Object map".
 use Rattle.std.specs.Prelude.{◌≡◌, ◌↔◌, ℕ, zero, suc, ◌+◌, ◌≤◌, Bool, ◌&&◌, nat_le, ◌==◌, List, [], ◌∷◌, ◌++◌, length, Option, Some, None, if◌then◌else◌}
 use Rattle.dwg_base.specs.Bytes.{AreBytes}
-use Rattle.dwg_check.specs.CheckWord.{FRAME_START, check_word}
+use Rattle.dwg_check.specs.CheckWord.{CHECK_SEED, check_word}
 use Rattle.dwg_objmap.specs.declared.pair.Pair.{Pair}
 use Rattle.dwg_objmap.specs.Pairs.{ORIGIN, pair_after}
 use Rattle.dwg_objmap.specs.Pages.{PairsSpell, PageAt}
@@ -35,7 +35,7 @@ size_of_page bytes place = if nat_le 2 (word_at bytes place) && nat_le (page_end
 
 -- whether the check word of the page at a place is right
 abbrev pub page_holds_at : List ℕ → ℕ → Bool
-page_holds_at bytes place = word_at bytes (place + word_at bytes place) == check_word FRAME_START (sized_at bytes place)
+page_holds_at bytes place = word_at bytes (place + word_at bytes place) == check_word CHECK_SEED (sized_at bytes place)
 
 -- the leading pairs that are computed of bytes are the longest
 abbrev pub LongestIsComputed : Type 0

@@ -24,12 +24,12 @@ abbrev pub reported_after : List ℕ → Pair → Pair
 reported_after [] last = ORIGIN
 reported_after (byte ∷ bytes) last = last
 
-abbrev pub reported_from : OpenPage → Pair
-reported_from page = reported_after page.body page.last
+abbrev pub written_from : OpenPage → Pair
+written_from page = reported_after page.body page.last
 
 -- the bytes of a pair in the open page
 abbrev pub added : OpenPage → Pair → List ℕ
-added page pair = (pair_after (reported_from page)).short pair
+added page pair = (pair_after (written_from page)).short pair
 
 -- the page's size with a pair is no more than a page may have
 abbrev pub has_room : OpenPage → Pair → Bool

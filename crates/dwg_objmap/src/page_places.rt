@@ -6,7 +6,7 @@ ghost use Rattle.dwg_objmap.specs.Walking.{page_holds_at};
 
 use crate::pair::Pair;
 use dwg_base::{Items, bytes_after};
-use dwg_check::{FRAME_START, check};
+use dwg_check::{CHECK_SEED, check};
 
 /// What one page of the map says (Open Design Specification, "Object map").
 #[derive(Drop)]
@@ -42,7 +42,7 @@ pub(crate) fn is_right(bytes: &[u8], place: usize, size: usize) -> bool
     ensures right { IsTrue result ↔ HasPageWord bytes.now place }
     ensures test { result ≡ page_holds_at bytes.now place }
 {
-    word_at(bytes, place + size) == u64::from(check(FRAME_START, sized(bytes, place, size)))
+    word_at(bytes, place + size) == u64::from(check(CHECK_SEED, sized(bytes, place, size)))
 }
 
 /// The pairs of a page, as bytes.

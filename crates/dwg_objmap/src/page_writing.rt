@@ -15,7 +15,7 @@ use dwg_base::{
     NoMemory, Sink, WriteFault, append_bytes, bytes_with_range, put_all, vec_with_capacity,
 };
 use dwg_bits::BitSink;
-use dwg_check::{FRAME_START, check};
+use dwg_check::{CHECK_SEED, check};
 use dwg_codes::{mc_bytes, signed_mc_bytes, write_mc, write_signed_mc};
 use std::alloc::Global;
 use std::marker::Model;
@@ -69,7 +69,7 @@ fn write_pair(before: &Pair, pair: &Pair, sink: &mut BitSink)
 }
 
 /// From which pair the next one of the page is written.
-fn reported_from(page: &[u8], last: &Pair) -> Pair
+fn written_from(page: &[u8], last: &Pair) -> Pair
     requires { SIZE_BYTES ≤ length page.now }
     ensures { result ≡ reported_after (drop SIZE_BYTES page.now) last.now }
 {
@@ -88,7 +88,7 @@ fn has_room(page: &[u8], last: &Pair, pair: &Pair) -> bool
     requires above { last.now.handle < pair.now.handle }
     ensures { result ≡ has_room (page_of page.now last.now true) pair.now }
 {
-    page.len() as u64 + pair_bytes(&reported_from(page, last), pair) <= MOST_PAGE
+    page.len() as u64 + pair_bytes(&written_from(page, last), pair) <= MOST_PAGE
 }
 
 /// Puts a pair after the bytes of a page that have room for it. It is made in the room of a pair.
@@ -108,7 +108,7 @@ fn append_pair(page: &mut Vec<u8>, spelled: &mut BitSink, before: &Pair, pair: &
 }
 
 /// Reports the size of a page in its first two bytes.
-fn report_size(page: &mut Vec<u8>)
+fn put_size(page: &mut Vec<u8>)
     requires size { SIZE_BYTES ≤ length page.old.items }
     requires few { length page.old.items < 2 ^ 16 }
     ensures reported { page.new.items ≡ to_be_bytes w16 (length page.old.items) ++ drop SIZE_BYTES page.old.items }
@@ -127,8 +127,8 @@ fn close(page: &mut Vec<u8>)
     ensures closed { page.new.items ≡ page_bytes (drop SIZE_BYTES page.old.items) }
     ensures capacity { vec_capacity page.old ≤ vec_capacity page.new }
 {
-    report_size(page);
-    let word = check(FRAME_START, page.as_slice()).to_be_bytes();
+    put_size(page);
+    let word = check(CHECK_SEED, page.as_slice()).to_be_bytes();
     append_bytes(page, &word);
 }
 
@@ -251,7 +251,7 @@ impl PageWriter {
         ensures failed { OnErr result (self.new.ended ≡ true) }
     {
         if has_room(self.page.as_slice(), &self.last, &pair) {
-            let before = reported_from(self.page.as_slice(), &self.last);
+            let before = written_from(self.page.as_slice(), &self.last);
             append_pair(&mut self.page, &mut self.spelled, &before, &pair);
             self.last = pair;
             return Ok(());

@@ -12,7 +12,7 @@ use Rattle.dwg_object.specs.declared.span.Span.{Span}
 use Rattle.dwg_object.specs.FrameLines.{tried_span}
 use Rattle.dwg_objmap.specs.declared.pair.Pair.{Pair}
 use Rattle.dwg_recover.specs.declared.frame.Frame.{Frame}
-use Rattle.dwg_recover.specs.Frames.{candidate, candidate_of, candidates, follows, in_place_order, is_free, mapped_frames, mapped_of, overlaps, own_of_span, span_found}
+use Rattle.dwg_recover.specs.Frames.{candidate, candidate_of, candidates, follows, in_order_of_place, is_free, mapped_frames, mapped_of, overlaps, own_of_span, span_found}
 use Rattle.dwg_recover.proofs.FoundLemmas.{all_in_order, all_placed, all_some, candidates_found}
 use Rattle.dwg_recover.specs.Placing.{IsFound, IsPlaced}
 use Rattle.dwg_recover.proofs.LossesAlong.{left_of, nothing_left, part_put}
@@ -74,18 +74,18 @@ candidates_placed bytes pairs found is =
 
 -- candidates in order of place have bytes
 pub ordered_some : (bytes : List ℕ) (pairs : List Pair) (found ordered : List Frame) → found ≡ candidates bytes 0 pairs
-    → ((most : ℕ) → AllByRecursion (IsPlaced most) found → ordered ≡ in_place_order most found) → AllByRecursion (λ (frame : Frame). frame.from < frame.end) ordered
+    → ((most : ℕ) → AllByRecursion (IsPlaced most) found → ordered ≡ in_order_of_place most found) → AllByRecursion (λ (frame : Frame). frame.from < frame.end) ordered
 ordered_some bytes pairs found ordered is gives =
     let placed : AllByRecursion (IsPlaced (length bytes)) found = candidates_placed bytes pairs found is in
     subst (AllByRecursion (λ (frame : Frame). frame.from < frame.end)) (sym (gives (length bytes) placed))
-    (all_some (length bytes) (in_place_order (length bytes) found) (all_in_order (IsPlaced (length bytes)) (length bytes) found placed))
+    (all_some (length bytes) (in_order_of_place (length bytes) found) (all_in_order (IsPlaced (length bytes)) (length bytes) found placed))
 
 -- what is kept of them is what is kept for the pairs
 pub ordered_mapped : (bytes : List ℕ) (pairs : List Pair) (found ordered : List Frame) → found ≡ candidates bytes 0 pairs
-    → ((most : ℕ) → AllByRecursion (IsPlaced most) found → ordered ≡ in_place_order most found) → mapped_of ordered ≡ mapped_frames bytes pairs
+    → ((most : ℕ) → AllByRecursion (IsPlaced most) found → ordered ≡ in_order_of_place most found) → mapped_of ordered ≡ mapped_frames bytes pairs
 unfolding mapped_frames
 ordered_mapped bytes pairs found ordered is gives =
-    ap mapped_of (gives (length bytes) (candidates_placed bytes pairs found is) ∙ ap (in_place_order (length bytes)) is)
+    ap mapped_of (gives (length bytes) (candidates_placed bytes pairs found is) ∙ ap (in_order_of_place (length bytes)) is)
 
 -- after the end of every frame it is free
 pub follows_free : (frames : List Frame) (from end : ℕ) → follows frames from ≡ true → is_free frames from end ≡ true

@@ -11,7 +11,7 @@ use Rattle.dwg_object.specs.declared.span.Span.{Span}
 use Rattle.dwg_object.specs.FrameLines.{frame_refusal, span_of, span_parsed, tried_span}
 use Rattle.dwg_objmap.specs.declared.pair.Pair.{Pair}
 use Rattle.dwg_recover.specs.declared.frame.Frame.{Frame}
-use Rattle.dwg_recover.specs.Frames.{candidate, candidate_of, candidates, follows, in_place_order, is_new, keep_mapped, mapped_frames, own_of_span, span_found}
+use Rattle.dwg_recover.specs.Frames.{candidate, candidate_of, candidates, follows, in_order_of_place, is_new, keep_mapped, mapped_frames, own_of_span, span_found}
 use Rattle.dwg_recover.specs.Placing.{IsFound, IsPlaced}
 
 -- a span stands at a place, has bytes, and they end no later than those of the input
@@ -104,8 +104,8 @@ all_at_places P frames [] all = tt
 all_at_places P frames (place ∷ places) all =
     all_appended P (filter (λ (frame : Frame). frame.from == place) frames) _ (all_filtered P (λ (frame : Frame). frame.from == place) frames all) (all_at_places P frames places all)
 
-pub all_in_order : (P : Frame → Type 0) (most : ℕ) (frames : List Frame) → AllByRecursion P frames → AllByRecursion P (in_place_order most frames)
-unfolding in_place_order
+pub all_in_order : (P : Frame → Type 0) (most : ℕ) (frames : List Frame) → AllByRecursion P frames → AllByRecursion P (in_order_of_place most frames)
+unfolding in_order_of_place
 all_in_order P most frames all = all_at_places P frames (range_with_len 0 most) all
 
 -- what holds of the frames kept and of those in order holds of all that are kept
@@ -122,7 +122,7 @@ all_kept P kept (frame ∷ ordered) all others =
 pub mapped_found : (bytes : List ℕ) (pairs : List Pair) → AllByRecursion (IsFound bytes) (mapped_frames bytes pairs)
 unfolding mapped_frames
 mapped_found bytes pairs =
-    all_kept (IsFound bytes) [] (in_place_order (length bytes) (candidates bytes 0 pairs)) tt
+    all_kept (IsFound bytes) [] (in_order_of_place (length bytes) (candidates bytes 0 pairs)) tt
     (all_in_order (IsFound bytes) (length bytes) (candidates bytes 0 pairs) (candidates_found bytes 0 pairs))
 
 -- frames that are found lie in the input

@@ -13,7 +13,7 @@ use Rattle.dwg_object.specs.Objects.{ObjectValue, handle_of}
 use Rattle.dwg_objmap.specs.declared.pair.Pair.{Pair}
 use Rattle.dwg_recover.specs.declared.frame.Frame.{Frame}
 use Rattle.dwg_recover.proofs.FoundLemmas.{candidates_found, found_placed}
-use Rattle.dwg_recover.specs.Frames.{candidate, candidates, in_place_order, mapped_frames}
+use Rattle.dwg_recover.specs.Frames.{candidate, candidates, in_order_of_place, mapped_frames}
 use Rattle.dwg_recover.specs.FoundFrames.{CandidatesHold, frame_of}
 use Rattle.dwg_recover.proofs.FoundFrames.{candidate_is}
 use Rattle.dwg_recover.specs.Intact.{pairs_framed}
@@ -117,11 +117,11 @@ named_other version (object ∷ objects) number place one other ascending (inr a
     named_other version objects (number + 1) (place + length (frame_bytes version object)) one other (pairs_tail (λ one other. handle_of one < handle_of other) object objects ascending) after also
 
 -- what begins in the input is one of its frames in order of place
-pub one_ordered : (most : ℕ) (frames : List Frame) (frame : Frame) → frame.from < most → IsOneOf frame frames → IsOneOf frame (in_place_order most frames)
+pub one_ordered : (most : ℕ) (frames : List Frame) (frame : Frame) → frame.from < most → IsOneOf frame frames → IsOneOf frame (in_order_of_place most frames)
 one_ordered most frames frame within is =
     let here : (frame.from == frame.from) ≡ true = same_number frame.from in
     let stays : IsOneOf frame (at_place frames frame.from) = one_stays (λ (one : Frame). one.from == frame.from) frame frames is here in
-    (filtered_one (λ (one : Frame). one.from == frame.from) (in_place_order most frames) frame
+    (filtered_one (λ (one : Frame). one.from == frame.from) (in_order_of_place most frames) frame
     (subst (IsOneOf frame) (sym ((places_are_in_order most frames).same frame.from within)) stays)).0
   where
     same_number : (n : ℕ) → (n == n) ≡ true
@@ -149,8 +149,8 @@ all_are_kept bytes pairs version objects place ascending among frame is =
     placed : (frame.from < frame.end) × (frame.end ≤ length bytes)
     placed = let one = found_placed bytes frame (one_of_all (IsFound bytes) (candidates bytes 0 pairs) frame (candidates_found bytes 0 pairs) is) in (one.some, one.within)
 
-    split : IsSplit frame (in_place_order (length bytes) (candidates bytes 0 pairs))
-    split = split_at frame (in_place_order (length bytes) (candidates bytes 0 pairs))
+    split : IsSplit frame (in_order_of_place (length bytes) (candidates bytes 0 pairs))
+    split = split_at frame (in_order_of_place (length bytes) (candidates bytes 0 pairs))
         (one_ordered (length bytes) (candidates bytes 0 pairs) frame (omega (arith, placed.0, placed.1)) is)
 
     follows : (other : Frame) → IsOneOf other split.before → (other.end ≤ frame.from) × (other.handle ≢ frame.handle)

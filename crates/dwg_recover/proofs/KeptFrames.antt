@@ -16,7 +16,7 @@ use Rattle.dwg_object.specs.FrameLines.{span_body}
 use Rattle.dwg_objmap.specs.declared.pair.Pair.{Pair}
 use Rattle.dwg_recover.specs.declared.frame.Frame.{Frame}
 use Rattle.dwg_recover.proofs.FoundLemmas.{all_placed, candidates_found, found_placed, all_in_order}
-use Rattle.dwg_recover.specs.Frames.{overlaps, is_free, follows, is_new, own_of_span, span_found, keep_mapped, mapped_of, mapped_frames, candidates, in_place_order, has_common_part, scanned_of, scanned, keep_free, scanned_over, with_scanned}
+use Rattle.dwg_recover.specs.Frames.{overlaps, is_free, follows, is_new, own_of_span, span_found, keep_mapped, mapped_of, mapped_frames, candidates, in_order_of_place, has_common_part, scanned_of, scanned, keep_free, scanned_over, with_scanned}
 use Rattle.dwg_recover.specs.Placing.{IsFound, IsPlaced}
 use Rattle.dwg_recover.specs.KeptFrames.{AreKept, AreOther}
 
@@ -140,7 +140,7 @@ none_kept bytes = record { found = tt; other = λ i j d before within. absurd (o
 pub mapped_are_kept : (bytes : List ℕ) (pairs : List Pair) → AreKept bytes (mapped_frames bytes pairs)
 unfolding mapped_frames
 mapped_are_kept bytes pairs =
-    fold_keeps (AreKept bytes) (IsFound bytes) keep_mapped (mapped_stays bytes) [] (in_place_order (length bytes) (candidates bytes 0 pairs))
+    fold_keeps (AreKept bytes) (IsFound bytes) keep_mapped (mapped_stays bytes) [] (in_order_of_place (length bytes) (candidates bytes 0 pairs))
     (all_in_order (IsFound bytes) (length bytes) (candidates bytes 0 pairs) (candidates_found bytes 0 pairs)) (none_kept bytes)
 
 -- the frame that is scanned at a place was found there
@@ -217,7 +217,7 @@ ends_within bytes (frame ∷ frames) found = ((found_placed bytes frame found.0)
 pub mapped_are_few : (bytes : List ℕ) (pairs : List Pair) → length (mapped_frames bytes pairs) ≤ length bytes
 unfolding mapped_frames
 mapped_are_few bytes pairs =
-    let ordered : List Frame = in_place_order (length bytes) (candidates bytes 0 pairs) in
+    let ordered : List Frame = in_order_of_place (length bytes) (candidates bytes 0 pairs) in
     let found : AllByRecursion (IsFound bytes) ordered = all_in_order (IsFound bytes) (length bytes) (candidates bytes 0 pairs) (candidates_found bytes 0 pairs) in
     fold_keeps FewBefore (IsPlaced (length bytes)) keep_mapped (mapped_few bytes) [] ordered (all_placed bytes ordered found) (λ place after. omega arith) (length bytes)
     (ends_follow (mapped_of ordered) (length bytes) (ends_within bytes (mapped_of ordered) (mapped_are_kept bytes pairs).found))

@@ -8,7 +8,7 @@ use Rattle.std.proofs.lemmas.List.Sums.{fold-append}
 use Rattle.std.proofs.lemmas.Option.{same_Some}
 use Rattle.dwg_objmap.specs.declared.pair.Pair.{Pair}
 use Rattle.dwg_recover.specs.declared.frame.Frame.{Frame}
-use Rattle.dwg_recover.specs.Frames.{candidate, candidates, follows, in_place_order, is_new, keep_mapped, mapped_frames, mapped_of}
+use Rattle.dwg_recover.specs.Frames.{candidate, candidates, follows, in_order_of_place, is_new, keep_mapped, mapped_frames, mapped_of}
 use Rattle.dwg_recover.proofs.FoundFrames.{candidate_is}
 use Rattle.dwg_recover.proofs.KeptFrames.{all_end, all_other, both_hold, ends_follow}
 use Rattle.dwg_recover.specs.OrderOfPlace.{at_place}
@@ -301,30 +301,30 @@ ordered_distinct frames low (suc count) distinct =
     apart from to passed later same = grind (arith, nat_tests, passed, later, same)
 
 -- in order of place candidates are members as they were
-pub ordered_is_one : (most : ℕ) (frames : List Frame) (frame : Frame) → IsOneOf frame (in_place_order most frames) → IsOneOf frame frames
-unfolding in_place_order
+pub ordered_is_one : (most : ℕ) (frames : List Frame) (frame : Frame) → IsOneOf frame (in_order_of_place most frames) → IsOneOf frame frames
+unfolding in_order_of_place
 ordered_is_one most frames frame is = (ordered_one frames 0 most frame is).0
 
 -- and no two of them are of one pair: those before one are of others
 pub before_differ : (bytes : List ℕ) (pairs : List Pair) (before : List Frame) (frame : Frame) (after : List Frame) (other : Frame)
-    → in_place_order (length bytes) (candidates bytes 0 pairs) ≡ before ++ frame ∷ after → IsOneOf other before → frame.pair ≢ other.pair
-unfolding in_place_order
+    → in_order_of_place (length bytes) (candidates bytes 0 pairs) ≡ before ++ frame ∷ after → IsOneOf other before → frame.pair ≢ other.pair
+unfolding in_order_of_place
 before_differ bytes pairs before frame after other is earlier =
     parts_differ before (frame ∷ after) other frame (subst AreDistinct is (ordered_distinct (candidates bytes 0 pairs) 0 (length bytes) (candidates_distinct bytes 0 pairs))) earlier (inl refl)
 
 -- so a frame is kept for a pair exactly where it lies after those that are kept before it, and has a new handle
 pub map_keeps_exactly : MapKeepsExactly
-unfolding mapped_frames in_place_order
+unfolding mapped_frames in_order_of_place
 map_keeps_exactly bytes pairs before frame after is =
     subst
     (λ (all : List Frame). IsOneOf frame (mapped_of all) ↔ ((other : Frame) → IsOneOf other before → IsOneOf other (mapped_of all) → (other.end ≤ frame.from) × (other.handle ≢ frame.handle))) (sym is)
     (exact_of before frame after (subst AreDistinct is (ordered_distinct (candidates bytes 0 pairs) 0 (length bytes) (candidates_distinct bytes 0 pairs))))
 
 -- and keeps none but candidates
-pub mapped_are_candidates : (bytes : List ℕ) (pairs : List Pair) (frame : Frame) → IsOneOf frame (mapped_frames bytes pairs) → IsOneOf frame (in_place_order (length bytes) (candidates bytes 0 pairs))
+pub mapped_are_candidates : (bytes : List ℕ) (pairs : List Pair) (frame : Frame) → IsOneOf frame (mapped_frames bytes pairs) → IsOneOf frame (in_order_of_place (length bytes) (candidates bytes 0 pairs))
 unfolding mapped_frames
 mapped_are_candidates bytes pairs frame is =
-    let grown = grows_by [] (in_place_order (length bytes) (candidates bytes 0 pairs)) in
+    let grown = grows_by [] (in_order_of_place (length bytes) (candidates bytes 0 pairs)) in
     grown.among frame (subst (IsOneOf frame) grown.whole is)
 
 -- so each frame that is kept for a pair has the pair's number

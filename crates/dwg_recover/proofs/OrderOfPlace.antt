@@ -6,7 +6,7 @@ use Rattle.std.proofs.lemmas.Bool.Decides.{nat_tests}
 use Rattle.std.proofs.lemmas.List.{append-nil}
 use Rattle.std.proofs.lemmas.List.Elements.{filter-append}
 use Rattle.dwg_recover.specs.declared.frame.Frame.{Frame}
-use Rattle.dwg_recover.specs.Frames.{in_place_order}
+use Rattle.dwg_recover.specs.Frames.{in_order_of_place}
 use Rattle.dwg_recover.specs.OrderOfPlace.{AreUp, PlacesAreInOrder, at_place}
 
 -- the frames at places in a row, one after the other
@@ -102,7 +102,7 @@ places_up frames low (suc count) =
 
 -- so the order of place is
 pub places_are_in_order : PlacesAreInOrder
-unfolding in_place_order
+unfolding in_order_of_place
 places_are_in_order most frames =
     let up = places_up frames 0 most in
     record {

@@ -7,7 +7,7 @@ use Rattle.std.specs.Ordering.{is_lt, nat_cmp}
 use Rattle.std.proofs.ByRecursion.{all_shuffled}
 use Rattle.std.proofs.lemmas.Bool.Decides.{nat_tests}
 use Rattle.dwg_recover.specs.declared.frame.Frame.{Frame}
-use Rattle.dwg_recover.specs.Frames.{in_place_order}
+use Rattle.dwg_recover.specs.Frames.{in_order_of_place}
 use Rattle.dwg_recover.proofs.FoundLemmas.{all_weaker}
 use Rattle.dwg_recover.specs.OrderOfPlace.{AreUp, at_place}
 use Rattle.dwg_recover.specs.Placing.{IsPlaced}
@@ -83,8 +83,8 @@ same_at frames ordered stable place =
 
 -- frames that are sorted by place, ties in their order, are in order of place
 pub sorted_in_place_order : (most : ℕ) (frames ordered : List Frame) → IsPermutation frames ordered → IsNonDecreasingBy (λ (frame : Frame). frame.from) ordered
-    → IsStableByKey (λ (frame : Frame). frame.from) nat_cmp frames ordered → AllByRecursion (IsPlaced most) frames → ordered ≡ in_place_order most frames
-unfolding in_place_order
+    → IsStableByKey (λ (frame : Frame). frame.from) nat_cmp frames ordered → AllByRecursion (IsPlaced most) frames → ordered ≡ in_order_of_place most frames
+unfolding in_order_of_place
 sorted_in_place_order most frames ordered same rises stable placed =
     up_by_place most ordered (up_of ordered rises)
     (all_shuffled (λ (frame : Frame). frame.from < most) frames ordered same

@@ -17,7 +17,7 @@ use Rattle.dwg_objmap.specs.declared.pair.Pair.{Pair}
 use Rattle.dwg_recover.specs.declared.frame.Frame.{Frame}
 use Rattle.dwg_recover.specs.declared.loss.Kept.{Kept}
 use Rattle.dwg_recover.proofs.FoundLemmas.{all_in_order, found_placed}
-use Rattle.dwg_recover.specs.Frames.{candidate, candidate_of, in_place_order, kept_of, own_of_span}
+use Rattle.dwg_recover.specs.Frames.{candidate, candidate_of, in_order_of_place, kept_of, own_of_span}
 use Rattle.dwg_recover.specs.FoundFrames.{frame_of}
 use Rattle.dwg_recover.proofs.FoundFrames.{candidates_hold}
 use Rattle.dwg_recover.proofs.IntactParts.{body_is_found}
@@ -83,8 +83,8 @@ places_permute (suc count) low frames all =
     within (frame ∷ others) all = ((all.0.0, omega (arith, all.0.1)), within others all.1)
 
 -- so the order of place leaves none out and adds none
-order_permutes : (most : ℕ) (frames : List Frame) → AllByRecursion (λ (frame : Frame). frame.from < most) frames → IsPermutation frames (in_place_order most frames)
-unfolding in_place_order
+order_permutes : (most : ℕ) (frames : List Frame) → AllByRecursion (λ (frame : Frame). frame.from < most) frames → IsPermutation frames (in_order_of_place most frames)
+unfolding in_order_of_place
 order_permutes most frames all = places_permute most 0 frames (from_zero frames all)
   where
     from_zero : (others : List Frame) → AllByRecursion (λ (frame : Frame). frame.from < most) others → AllByRecursion (λ (frame : Frame). (0 ≤ frame.from) × (frame.from < 0 + most)) others
@@ -165,8 +165,8 @@ places_follow frames low (suc count) all some =
         of_sides here (inr after) = absurd (grind (arith, nat_tests, here, later, other_some, after))
 
 -- frames in order of place follow each other
-follow_in_order : (most : ℕ) (frames : List Frame) → AllPairs AreOther frames → AllByRecursion (λ (frame : Frame). frame.from < frame.end) frames → Follow (in_place_order most frames)
-unfolding in_place_order
+follow_in_order : (most : ℕ) (frames : List Frame) → AllPairs AreOther frames → AllByRecursion (λ (frame : Frame). frame.from < frame.end) frames → Follow (in_order_of_place most frames)
+unfolding in_order_of_place
 follow_in_order most frames all some = places_follow frames 0 most all some
 
 -- so they are distinguished
@@ -223,7 +223,7 @@ kept_are_reported classes bytes frames are kept = record {
 }
   where
     ordered : List Frame
-    ordered = in_place_order (length bytes) frames
+    ordered = in_order_of_place (length bytes) frames
 
     some : (others : List Frame) → AllByRecursion (IsFound bytes) others → AllByRecursion (λ (frame : Frame). frame.from < frame.end) others
     some [] all = tt

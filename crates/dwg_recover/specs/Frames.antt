@@ -64,8 +64,8 @@ candidates bytes number [] = []
 candidates bytes number (pair ∷ pairs) = cons_option (candidate bytes number pair) (candidates bytes (number + 1) pairs)
 
 -- the frames that begin before a place, in order of place, and at one place as they come
-unfoldable pub in_place_order : ℕ → List Frame → List Frame
-in_place_order most frames = flat_map (λ place. filter (λ (frame : Frame). frame.from == place) frames) (range_with_len 0 most)
+unfoldable pub in_order_of_place : ℕ → List Frame → List Frame
+in_order_of_place most frames = flat_map (λ place. filter (λ (frame : Frame). frame.from == place) frames) (range_with_len 0 most)
 
 -- the frames kept, and the next candidate where it is kept: it follows all of them, and has a new handle
 abbrev pub keep_mapped : List Frame → Frame → List Frame
@@ -77,7 +77,7 @@ mapped_of ordered = fold keep_mapped [] ordered
 
 -- the frames that are kept for the pairs of the map
 unfoldable pub mapped_frames : List ℕ → List Pair → List Frame
-mapped_frames bytes pairs = mapped_of (in_place_order (length bytes) (candidates bytes 0 pairs))
+mapped_frames bytes pairs = mapped_of (in_order_of_place (length bytes) (candidates bytes 0 pairs))
 
 -- whether an object is read with its common part
 abbrev pub has_common_part : ObjectValue → Bool

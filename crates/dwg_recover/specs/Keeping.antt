@@ -1,4 +1,4 @@
--- What runs, sets and an end note of frames: their bytes, their handles, the numbers of their pairs, and where the last ends. A rule of this project.
+-- What runs, sets and an end keep of frames: their bytes, their handles, the numbers of their pairs, and where the last ends. A rule of this project.
 use Rattle.std.specs.Prelude.{◌≡◌, ℕ, List, nat_le, ◌==◌}
 use Rattle.std.specs.List.{list_any}
 use Rattle.std.specs.Ordering.{nat_cmp}

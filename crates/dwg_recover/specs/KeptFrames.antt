@@ -7,7 +7,7 @@ use Rattle.dwg_classes.specs.declared.class.Class.{Class}
 use Rattle.dwg_objmap.specs.declared.pair.Pair.{Pair}
 use Rattle.dwg_recover.specs.declared.frame.Frame.{Frame}
 use Rattle.dwg_recover.specs.Placing.{IsFound}
-use Rattle.dwg_recover.specs.Frames.{candidates, in_place_order, mapped_frames, scanned, with_scanned}
+use Rattle.dwg_recover.specs.Frames.{candidates, in_order_of_place, mapped_frames, scanned, with_scanned}
 use Rattle.dwg_recover.specs.ListMembers.{IsOneOf}
 use Rattle.std.specs.List.Sorted.{IsPermutation}
 use Rattle.dwg_recover.specs.Recovering.{classes_found, drawing_recovered, frames_kept, frames_mapped, object_of, pairs_read, frame_body}
@@ -27,7 +27,7 @@ pub record AreKept (bytes : List ℕ) (frames : List Frame) : Type 0 where
 -- a candidate in order of place is kept exactly where it begins at or after the end of every candidate before it that is kept, and has another handle than each
 abbrev pub MapKeepsExactly : Type 0
 MapKeepsExactly =
-    (bytes : List ℕ) (pairs : List Pair) (before : List Frame) (frame : Frame) (after : List Frame) → in_place_order (length bytes) (candidates bytes 0 pairs) ≡ before ++ frame ∷ after
+    (bytes : List ℕ) (pairs : List Pair) (before : List Frame) (frame : Frame) (after : List Frame) → in_order_of_place (length bytes) (candidates bytes 0 pairs) ≡ before ++ frame ∷ after
     → IsOneOf frame (mapped_frames bytes pairs)
     ↔ ((other : Frame) → IsOneOf other before → IsOneOf other (mapped_frames bytes pairs) → (other.end ≤ frame.from) × (other.handle ≢ frame.handle))
 
@@ -44,7 +44,7 @@ ScanKeepsExactly =
 -- a frame that is kept for a pair is one of the candidates, and any other that is kept is what the scan finds at its place
 abbrev pub NoOthersAreKept : Type 0
 NoOthersAreKept = (bytes : List ℕ) (frame : Frame)
-    → (IsOneOf frame (frames_mapped bytes) → IsOneOf frame (in_place_order (length bytes) (candidates bytes 0 (pairs_read bytes))))
+    → (IsOneOf frame (frames_mapped bytes) → IsOneOf frame (in_order_of_place (length bytes) (candidates bytes 0 (pairs_read bytes))))
     × (IsOneOf frame (frames_kept bytes) → IsOneOf frame (frames_mapped bytes) ⊎ ((frame.from < length bytes) × (scanned (classes_found bytes) bytes frame.from ≡ Some frame)))
 
 -- a frame is read as its object: the object has the form of the frame's body, and the frame's handle, which is positive

@@ -36,7 +36,7 @@ pub mod Placing
 pub mod MapFrames
 -- The objects of the frames that are kept, and what the scan reports of a place.
 pub mod KeptObjects
--- What runs, sets and an end note of frames: their bytes, their handles, the numbers of their pairs, and where the last ends.
+-- What runs, sets and an end keep of frames: their bytes, their handles, the numbers of their pairs, and where the last ends.
 pub mod Keeping
 -- A member of a list, whatever it lists, and where it stands there.
 pub mod ListMembers

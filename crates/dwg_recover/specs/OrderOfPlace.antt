@@ -2,7 +2,7 @@
 use Rattle.std.specs.Prelude.{◌≡◌, ⊤, ℕ, ◌<◌, ◌≤◌, ◌==◌, List, [], ◌∷◌}
 use Rattle.std.specs.List.{AllByRecursion, filter}
 use Rattle.dwg_recover.specs.declared.frame.Frame.{Frame}
-use Rattle.dwg_recover.specs.Frames.{in_place_order}
+use Rattle.dwg_recover.specs.Frames.{in_order_of_place}
 
 -- the frames at a place
 abbrev pub at_place : List Frame → ℕ → List Frame
@@ -15,9 +15,9 @@ AreUp (frame ∷ frames) = AllByRecursion (λ (after : Frame). frame.from ≤ af
 
 -- frames in order of place begin before the place most and no later than those after them, and the frames at a place are those that were there, in their order
 pub record AreInOrder (most : ℕ) (frames : List Frame) : Type 0 where
-  pub up : AreUp (in_place_order most frames)
-  pub within : AllByRecursion (λ (frame : Frame). frame.from < most) (in_place_order most frames)
-  pub same : (place : ℕ) → place < most → at_place (in_place_order most frames) place ≡ at_place frames place
+  pub up : AreUp (in_order_of_place most frames)
+  pub within : AllByRecursion (λ (frame : Frame). frame.from < most) (in_order_of_place most frames)
+  pub same : (place : ℕ) → place < most → at_place (in_order_of_place most frames) place ≡ at_place frames place
 
 -- and so are any frames when they are put into that order
 abbrev pub PlacesAreInOrder : Type 0

@@ -29,7 +29,7 @@ use Rattle.dwg_recover.specs.declared.frame.Frame.{Frame}
 use Rattle.dwg_recover.specs.declared.loss.Kept.{Kept}
 use Rattle.dwg_recover.specs.declared.loss.Loss.{Loss}
 use Rattle.dwg_recover.specs.declared.loss.Loss.TheVariants as losses
-use Rattle.dwg_recover.specs.Frames.{in_place_order, kept_of, lost_pairs, mapped_frames, span_found, with_scanned}
+use Rattle.dwg_recover.specs.Frames.{in_order_of_place, kept_of, lost_pairs, mapped_frames, span_found, with_scanned}
 use Rattle.dwg_recover.specs.Sections.{classes_of, header_of, locators_of, lost_if, lost_sections, section_found, variables_of}
 use Rattle.dwg_recover.specs.Walks.{Walk, lost_end, lost_pages, pairs_of, walk_from}
 
@@ -119,7 +119,7 @@ losses_of bytes =
 
 -- frames as they are reported, in order of place
 unfoldable pub reported : List ℕ → List Frame → List Kept
-reported bytes frames = map kept_of (in_place_order (length bytes) frames)
+reported bytes frames = map kept_of (in_order_of_place (length bytes) frames)
 
 -- what is recovered of a damaged input
 unfoldable pub recovered_damaged : List ℕ → RecoveredValue

@@ -3,7 +3,7 @@
 ghost use Rattle.std.specs.Prelude.{◌≡◌, ◌+◌, ◌*◌, ◌≤◌, ◌<◌, ℕ, [], ◌++◌, length, IfOk};
 ghost use Rattle.std.specs.List.{AllByRecursion, cons_option};
 ghost use Rattle.dwg_recover.specs.declared.frame.Frame.{Frame};
-ghost use Rattle.dwg_recover.specs.Frames.{candidate, candidates, in_place_order, keep_mapped, mapped_frames, mapped_of};
+ghost use Rattle.dwg_recover.specs.Frames.{candidate, candidates, in_order_of_place, keep_mapped, mapped_frames, mapped_of};
 ghost use Rattle.dwg_recover.specs.Placing.{IsPlaced};
 
 use crate::frame::{Frame, own_of_span};
@@ -83,8 +83,8 @@ fn candidates<L: Ledger>(
 }
 
 /// Frames in order of place, and at one place as they came. Err: out of memory.
-pub(crate) fn in_place_order(alloc: Global, frames: Vec<Frame>) -> Result<Vec<Frame>, NoMemory>
-    ensures { IfOk result (λ ordered. (most : ℕ) → AllByRecursion (IsPlaced most) frames.items → ordered.items ≡ in_place_order most frames.items) }
+pub(crate) fn in_order_of_place(alloc: Global, frames: Vec<Frame>) -> Result<Vec<Frame>, NoMemory>
+    ensures { IfOk result (λ ordered. (most : ℕ) → AllByRecursion (IsPlaced most) frames.items → ordered.items ≡ in_order_of_place most frames.items) }
 {
     let mut frames = frames;
     frames.sort_by_key(|frame| frame.from)?;
@@ -130,6 +130,6 @@ pub(crate) fn mapped_frames<L: Ledger>(
     ensures kept { IfOk result (λ kept. kept ≡ mapped_frames bytes.now pairs.now) }
     ensures steps { steps.new ≤ steps.old + 15 * length pairs.now }
 {
-    let ordered = in_place_order(alloc, candidates(alloc, bytes, checks, pairs, steps)?)?;
+    let ordered = in_order_of_place(alloc, candidates(alloc, bytes, checks, pairs, steps)?)?;
     keep_all(alloc, ordered)
 }

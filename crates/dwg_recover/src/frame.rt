@@ -6,7 +6,7 @@ ghost use Rattle.dwg_object.specs.Frames.{SpanAt};
 ghost use Rattle.dwg_recover.specs.Frames.{own_of_span};
 
 use dwg_base::{Handle, Version};
-use dwg_check::{FRAME_START, SpanChecks};
+use dwg_check::{CHECK_SEED, SpanChecks};
 use dwg_object::{Span, own_handle, span_body, span_word};
 use dwg_steps::Steps;
 use std::sync::ledger::Ledger;
@@ -39,7 +39,7 @@ fn is_checked_span<L: Ledger>(
     ensures steps { steps.new ≤ steps.old + 15 }
 {
     let word = checks.of(
-        FRAME_START,
+        CHECK_SEED,
         span.from as usize,
         span.body_end as usize,
         steps,

@@ -11,7 +11,7 @@ ghost use Rattle.dwg_file.specs.FileLines.{ALL_LINES, frames_tried};
 ghost use Rattle.dwg_file.specs.ObjectFrames.{frame_of};
 ghost use Rattle.dwg_object.specs.Objects.{value_of};
 ghost use Rattle.dwg_recover.specs.Finding.{AreFound};
-ghost use Rattle.dwg_recover.specs.Frames.{kept_of, in_place_order};
+ghost use Rattle.dwg_recover.specs.Frames.{kept_of, in_order_of_place};
 ghost use Rattle.dwg_recover.specs.KeptObjects.{HoldsObjects};
 ghost use Rattle.dwg_recover.specs.MapFrames.{all_numbered, numbered};
 ghost use Rattle.dwg_recover.specs.Placing.{IsPlaced};
@@ -21,7 +21,7 @@ ghost use Rattle.dwg_recover.specs.Sections.{header_of, locators_of, section_fou
 ghost use Rattle.dwg_recover.specs.Walks.{lost_end, lost_pages};
 ghost use Rattle.dwg_recover.specs.declared.frame.Frame.{Frame};
 
-use crate::candidates::{in_place_order, mapped_frames};
+use crate::candidates::{in_order_of_place, mapped_frames};
 use crate::frame::Frame;
 use crate::kept::KeptFrames;
 use crate::laws::recovered_laws;
@@ -86,7 +86,7 @@ fn reported(alloc: Global, bytes: &[u8], frames: Vec<Frame>) -> Result<Items<Kep
     requires { AllByRecursion (IsPlaced (length bytes.now)) frames.items }
     ensures { IfOk result (λ kept. kept ≡ reported bytes.now frames.items) }
 {
-    let ordered = in_place_order(alloc, frames)?;
+    let ordered = in_order_of_place(alloc, frames)?;
     all_kept(alloc, ordered.as_slice())
 }
 

@@ -6,7 +6,7 @@ ghost use Rattle.std.specs.Result.{is_ok};
 ghost use Rattle.memchr.specs.Find.{OccursAt};
 ghost use Rattle.dwg_base.specs.Devices.{MOST_BYTES};
 ghost use Rattle.dwg_base.specs.Refusals.{first_fault};
-ghost use Rattle.dwg_check.specs.CheckWord.{FRAME_START, check_word};
+ghost use Rattle.dwg_check.specs.CheckWord.{CHECK_SEED, check_word};
 ghost use Rattle.dwg_classes.specs.ClassLines.{tried_classes};
 ghost use Rattle.dwg_codes.specs.Parts.{part_bytes};
 ghost use Rattle.dwg_recover.specs.Sections.{classes_of, first_whole, header_of, is_whole, locators_of, number_of_section, section_found, variables_of};
@@ -15,7 +15,7 @@ ghost use Rattle.dwg_sections.specs.FramedLines.{BEFORE_CONTENT, content_at, fra
 ghost use Rattle.dwg_sections.specs.HeaderLines.{bytes_at, place_of, rs_at};
 
 use dwg_base::{Fault, Items, NoMemory, bytes_after};
-use dwg_check::{FRAME_START, SpanChecks};
+use dwg_check::{CHECK_SEED, SpanChecks};
 use dwg_classes::{Class, read_classes};
 use dwg_codes::BytePart;
 use dwg_sections::{
@@ -59,11 +59,11 @@ fn is_checked_section<L: Ledger>(
 ) -> bool
     requires same { checks.now ≡ bytes.now }
     requires within { place + 22 + size ≤ length bytes.now }
-    ensures test { result ≡ (rs_at bytes.now (place + 20 + size) == check_word FRAME_START (bytes_at bytes.now (place + 16) (4 + size))) }
+    ensures test { result ≡ (rs_at bytes.now (place + 20 + size) == check_word CHECK_SEED (bytes_at bytes.now (place + 16) (4 + size))) }
     ensures steps { steps.new ≤ steps.old + 15 }
 {
     let content = place + CONTENT_PLACE;
-    let word = checks.of(FRAME_START, place + SIZE_PLACE, content + size, steps);
+    let word = checks.of(CHECK_SEED, place + SIZE_PLACE, content + size, steps);
     rs(bytes, content + size) == word
 }
 

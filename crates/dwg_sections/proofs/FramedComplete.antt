@@ -2,7 +2,7 @@
 use Rattle.std.proofs.Common.{◌≡◌, ℕ, ◌+◌, ◌≤◌, List, ◌++◌, length, sym, ap, ap₂, subst, ◌∙◌, refl, w16, w32, arith, append_assoc, length-append}
 use Rattle.std.specs.Int.{from_le_bytes, to_le_bytes}
 use Rattle.std.proofs.lemmas.Nat.{from_le_bytes-to_le_bytes_2, from_le_bytes-to_le_bytes_4}
-use Rattle.dwg_check.specs.CheckWord.{FRAME_START, check_word}
+use Rattle.dwg_check.specs.CheckWord.{CHECK_SEED, check_word}
 use Rattle.dwg_check.proofs.CheckWordLaws.{check_word_fits}
 use Rattle.dwg_sections.specs.declared.framed.Framed.{Framed}
 use Rattle.dwg_sections.specs.declared.framed.Framed.TheVariants.{Variables, Classes}
@@ -72,12 +72,12 @@ length_of_end Classes = refl
 -- the parts of a section that stands at a place
 abbrev SectionStands : List ℕ → ℕ → Framed → List ℕ → Type 0
 SectionStands bytes place which content =
-    PartsStand bytes (begin_sentinel which) (to_le_bytes w32 (length content)) content (to_le_bytes w16 (check_word FRAME_START (sized_content content))) (end_sentinel which) place (length content)
+    PartsStand bytes (begin_sentinel which) (to_le_bytes w32 (length content)) content (to_le_bytes w16 (check_word CHECK_SEED (sized_content content))) (end_sentinel which) place (length content)
 
 -- they stand at their places
 section_parts : (bytes : List ℕ) (place : ℕ) (which : Framed) (content : List ℕ) → FramedAt bytes place which content → SectionStands bytes place which content
 section_parts bytes place which content there =
-    parts_stand bytes there.stands.before (begin_sentinel which) (to_le_bytes w32 (length content)) content (to_le_bytes w16 (check_word FRAME_START (sized_content content))) (end_sentinel which)
+    parts_stand bytes there.stands.before (begin_sentinel which) (to_le_bytes w32 (length content)) content (to_le_bytes w16 (check_word CHECK_SEED (sized_content content))) (end_sentinel which)
     there.stands.after place (length content) there.stands.whole there.stands.far (length_of_begin which) refl refl refl (length_of_end which)
 
 -- the size is read where it stands
@@ -87,12 +87,12 @@ size_read bytes place which content there parts =
 
 -- parts that stand there are as each line asks
 passes_with_size : (bytes : List ℕ) (place : ℕ) (which : Framed) (content : List ℕ) (size : ℕ) → length content ≡ size → SectionStands bytes place which content
-    → (rs_at bytes (place + 20 + size) ≡ check_word FRAME_START (bytes_at bytes (place + 16) (4 + size))) × (bytes_at bytes (place + 22 + size) 16 ≡ end_sentinel which)
+    → (rs_at bytes (place + 20 + size) ≡ check_word CHECK_SEED (bytes_at bytes (place + 16) (4 + size))) × (bytes_at bytes (place + 22 + size) 16 ≡ end_sentinel which)
 passes_with_size bytes place which content size same parts =
-    let word : rs_at bytes (place + 20 + length content) ≡ check_word FRAME_START (sized_content content) =
-    ap (from_le_bytes w16) parts.check_at ∙ from_le_bytes-to_le_bytes_2 _ (check_word_fits FRAME_START (sized_content content) (omega arith)) in
-    let Holds : ℕ → Type 0 = λ n. (rs_at bytes (place + 20 + n) ≡ check_word FRAME_START (bytes_at bytes (place + 16) (4 + n))) × (bytes_at bytes (place + 22 + n) 16 ≡ end_sentinel which) in
-    subst Holds same (word ∙ ap (check_word FRAME_START) (sym parts.sized_at), parts.end_at)
+    let word : rs_at bytes (place + 20 + length content) ≡ check_word CHECK_SEED (sized_content content) =
+    ap (from_le_bytes w16) parts.check_at ∙ from_le_bytes-to_le_bytes_2 _ (check_word_fits CHECK_SEED (sized_content content) (omega arith)) in
+    let Holds : ℕ → Type 0 = λ n. (rs_at bytes (place + 20 + n) ≡ check_word CHECK_SEED (bytes_at bytes (place + 16) (4 + n))) × (bytes_at bytes (place + 22 + n) 16 ≡ end_sentinel which) in
+    subst Holds same (word ∙ ap (check_word CHECK_SEED) (sym parts.sized_at), parts.end_at)
 
 -- where a section stands at a place, the bytes are as each line asks
 passes_from_section : (bytes : List ℕ) (place : ℕ) (which : Framed) (content : List ℕ) → size_at bytes place ≡ length content → SectionStands bytes place which content → FramedPasses bytes place which
@@ -121,7 +121,7 @@ pub section_is_counted : SectionIsCounted
 section_is_counted which content =
     let begin = begin_sentinel which in
     let sized = sized_content content in
-    let check = to_le_bytes w16 (check_word FRAME_START sized) in
+    let check = to_le_bytes w16 (check_word CHECK_SEED sized) in
     length-append (begin ++ sized ++ check) (end_sentinel which)
     ∙ ap₂ ◌+◌ (length-append (begin ++ sized) check ∙ ap (λ n. n + 2) (length-append begin sized ∙ ap₂ ◌+◌ (length_of_begin which) (length-append (to_le_bytes w32 (length content)) content))) (length_of_end which)
     ∙ omega arith

@@ -2,7 +2,7 @@
 use Rattle.std.proofs.Common.{◌≡◌, ℕ, ◌+◌, ◌≤◌, List, length, None, refl, ltb-false, le-ltb, eqb-true, eq-eqb}
 use Rattle.std.proofs.lemmas.Bool.{not-false, not_from_true}
 use Rattle.dwg_base.specs.Refusals.{first_fault}
-use Rattle.dwg_check.specs.CheckWord.{FRAME_START, check_word}
+use Rattle.dwg_check.specs.CheckWord.{CHECK_SEED, check_word}
 use Rattle.dwg_sections.specs.declared.framed.Framed.{Framed}
 use Rattle.dwg_sections.specs.Framed.{begin_sentinel, end_sentinel}
 use Rattle.dwg_sections.specs.HeaderLines.{bytes_at, rs_at}
@@ -14,7 +14,7 @@ pub record FramedPasses (bytes : List ℕ) (place : ℕ) (which : Framed) : Type
   pub long : place + 20 ≤ length bytes
   pub begins : bytes_at bytes place 16 ≡ begin_sentinel which
   pub whole : place + 38 + size_at bytes place ≤ length bytes
-  pub check : rs_at bytes (place + 20 + size_at bytes place) ≡ check_word FRAME_START (bytes_at bytes (place + 16) (4 + size_at bytes place))
+  pub check : rs_at bytes (place + 20 + size_at bytes place) ≡ check_word CHECK_SEED (bytes_at bytes (place + 16) (4 + size_at bytes place))
   pub ends : bytes_at bytes (place + 22 + size_at bytes place) 16 ≡ end_sentinel which
 
 -- bytes in which no line fails are as each line asks

@@ -5,7 +5,7 @@ use Rattle.std.specs.Option.{option_or}
 use Rattle.std.proofs.lemmas.Bool.{not-false, not_from_true}
 use Rattle.std.proofs.lemmas.Bool.Decides.{nat_tests}
 use Rattle.dwg_base.specs.declared.refusal.Refusal.{Refusal}
-use Rattle.dwg_check.specs.CheckWord.{FRAME_START, check_word}
+use Rattle.dwg_check.specs.CheckWord.{CHECK_SEED, check_word}
 use Rattle.dwg_sections.specs.declared.framed.Framed.{Framed}
 use Rattle.dwg_sections.specs.Framed.{begin_sentinel, end_sentinel}
 use Rattle.dwg_sections.specs.HeaderLines.{bytes_at, rs_at}
@@ -83,7 +83,7 @@ test_of_other some wanted other = of_test (not (some == wanted)) refl
 refused_of_first : (which : Framed) (place : ℕ) (bytes : List ℕ) (refusal : Refusal)
     → FirstOfFive (nat_lt (length bytes) (place + 20)) (not (bytes_eq (bytes_at bytes place 16) (begin_sentinel which)))
     (nat_lt (length bytes) (place + 38 + size_at bytes place))
-    (not (rs_at bytes (place + 20 + size_at bytes place) == check_word FRAME_START (bytes_at bytes (place + 16) (4 + size_at bytes place))))
+    (not (rs_at bytes (place + 20 + size_at bytes place) == check_word CHECK_SEED (bytes_at bytes (place + 16) (4 + size_at bytes place))))
     (not (bytes_eq (bytes_at bytes (place + 22 + size_at bytes place) 16) (end_sentinel which)))
     (framed_refusal (first_line which) place) (framed_refusal (first_line which + 1) place) (framed_refusal (first_line which + 2) (place + 16))
     (framed_refusal (first_line which + 3) (place + 20 + size_at bytes place)) (framed_refusal (first_line which + 4) (place + 22 + size_at bytes place)) refusal
@@ -110,7 +110,7 @@ refused_of_first which place bytes refusal (inr (inr (inr (inr (same, long, begi
 first_of_refused : (which : Framed) (place : ℕ) (bytes : List ℕ) (refusal : Refusal) → RefusesFramed which place bytes refusal
     → FirstOfFive (nat_lt (length bytes) (place + 20)) (not (bytes_eq (bytes_at bytes place 16) (begin_sentinel which)))
     (nat_lt (length bytes) (place + 38 + size_at bytes place))
-    (not (rs_at bytes (place + 20 + size_at bytes place) == check_word FRAME_START (bytes_at bytes (place + 16) (4 + size_at bytes place))))
+    (not (rs_at bytes (place + 20 + size_at bytes place) == check_word CHECK_SEED (bytes_at bytes (place + 16) (4 + size_at bytes place))))
     (not (bytes_eq (bytes_at bytes (place + 22 + size_at bytes place) 16) (end_sentinel which)))
     (framed_refusal (first_line which) place) (framed_refusal (first_line which + 1) place) (framed_refusal (first_line which + 2) (place + 16))
     (framed_refusal (first_line which + 3) (place + 20 + size_at bytes place)) (framed_refusal (first_line which + 4) (place + 22 + size_at bytes place)) refusal

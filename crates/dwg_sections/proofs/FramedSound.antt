@@ -4,7 +4,7 @@ use Rattle.std.specs.Int.{to_le_bytes}
 use Rattle.dwg_base.specs.Bytes.{AreBytes, StandsAt}
 use Rattle.dwg_base.proofs.ByteLists.{are_bytes}
 use Rattle.dwg_base.specs.Refusals.{first_fault}
-use Rattle.dwg_check.specs.CheckWord.{FRAME_START, check_word}
+use Rattle.dwg_check.specs.CheckWord.{CHECK_SEED, check_word}
 use Rattle.dwg_sections.specs.declared.framed.Framed.{Framed}
 use Rattle.dwg_sections.specs.Framed.{begin_sentinel, end_sentinel, sized_content, framed_bytes, FramedAt}
 use Rattle.dwg_sections.specs.HeaderLines.{bytes_at}
@@ -52,7 +52,7 @@ section_back bytes place which all passes =
     let whole = passes.whole in
     let size = size_at bytes place in
     let sized = sized_back bytes place all (omega arith) in
-    let word = rs_back bytes (place + 20 + size) all (omega arith) ∙ ap (to_le_bytes w16) (passes.check ∙ ap (check_word FRAME_START) sized) in
+    let word = rs_back bytes (place + 20 + size) all (omega arith) ∙ ap (to_le_bytes w16) (passes.check ∙ ap (check_word CHECK_SEED) sized) in
     record {
       size = subst (λ n. n < 2 ^ 32) (sym (length_at bytes (place + 20) size (omega arith))) (rl_below bytes (place + 16) all);
       stands = stands_at bytes (framed_bytes which (content_at bytes place)) place _ (omega arith)

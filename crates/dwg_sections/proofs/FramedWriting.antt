@@ -3,7 +3,7 @@ use Rattle.std.proofs.Common.{◌≡◌, ℕ, List, ◌++◌, length, sym, ap, a
 use Rattle.std.specs.Int.{to_le_bytes}
 use Rattle.dwg_bits.specs.Bits.{bits}
 use Rattle.dwg_bits.specs.Sink.{Written, Extends}
-use Rattle.dwg_check.specs.CheckWord.{FRAME_START, check_word}
+use Rattle.dwg_check.specs.CheckWord.{CHECK_SEED, check_word}
 use Rattle.dwg_check.proofs.CheckWordLaws.{check_word_append}
 use Rattle.dwg_sections.specs.declared.framed.Framed.{Framed}
 use Rattle.dwg_sections.specs.Framed.{begin_sentinel, end_sentinel, sized_content, framed_bytes}
@@ -11,18 +11,18 @@ use Rattle.dwg_sections.specs.Writing.{Puts}
 use Rattle.dwg_sections.proofs.BytePuts.{puts_both}
 
 -- the check word of the size, and of the content begun as that, is the section's
-word_of_section : (size content : List ℕ) (first word : ℕ) → size ≡ to_le_bytes w32 (length content) → first ≡ check_word FRAME_START size → word ≡ check_word first content
-    → word ≡ check_word FRAME_START (sized_content content)
+word_of_section : (size content : List ℕ) (first word : ℕ) → size ≡ to_le_bytes w32 (length content) → first ≡ check_word CHECK_SEED size → word ≡ check_word first content
+    → word ≡ check_word CHECK_SEED (sized_content content)
 word_of_section size content first word sized begun gone_on =
-    gone_on ∙ ap (λ start. check_word start content) begun ∙ sym (check_word_append FRAME_START size content)
-    ∙ ap (λ piece. check_word FRAME_START (piece ++ content)) sized
+    gone_on ∙ ap (λ start. check_word start content) begun ∙ sym (check_word_append CHECK_SEED size content)
+    ∙ ap (λ piece. check_word CHECK_SEED (piece ++ content)) sized
 
 -- the pieces of a section, joined, are the section
 pub pieces_of_section : (which : Framed) (content begin size checked end : List ℕ) (first word : ℕ)
-    → begin ≡ begin_sentinel which → size ≡ to_le_bytes w32 (length content) → first ≡ check_word FRAME_START size → word ≡ check_word first content → checked ≡ to_le_bytes w16 word → end ≡ end_sentinel which
+    → begin ≡ begin_sentinel which → size ≡ to_le_bytes w32 (length content) → first ≡ check_word CHECK_SEED size → word ≡ check_word first content → checked ≡ to_le_bytes w16 word → end ≡ end_sentinel which
     → begin ++ (size ++ content) ++ checked ++ end ≡ framed_bytes which content
 pieces_of_section which content begin size checked end first word begins sized begun gone_on spelled ends =
-    let closed : checked ≡ to_le_bytes w16 (check_word FRAME_START (sized_content content)) = spelled ∙ ap (to_le_bytes w16) (word_of_section size content first word sized begun gone_on) in
+    let closed : checked ≡ to_le_bytes w16 (check_word CHECK_SEED (sized_content content)) = spelled ∙ ap (to_le_bytes w16) (word_of_section size content first word sized begun gone_on) in
     ap₂ ◌++◌ (ap₂ ◌++◌ (ap₂ ◌++◌ begins (ap (λ piece. piece ++ content) sized)) closed) ends
 
 -- a sink that grew by one piece after the other grew by the section

@@ -2,7 +2,7 @@
 use Rattle.std.specs.Prelude.{ℕ, ◌-◌, ◌^◌, ◌<◌, List, [], ◌∷◌, ◌++◌, length, map}
 use Rattle.std.specs.Int.{w16, w32, to_le_bytes}
 use Rattle.dwg_base.specs.Bytes.{StandsAt}
-use Rattle.dwg_check.specs.CheckWord.{FRAME_START, check_word}
+use Rattle.dwg_check.specs.CheckWord.{CHECK_SEED, check_word}
 use Rattle.dwg_sections.specs.declared.framed.Framed.{Framed}
 use Rattle.dwg_sections.specs.declared.framed.Framed.TheVariants.{Variables, Classes}
 
@@ -34,7 +34,7 @@ sized_content content = to_le_bytes w32 (length content) ++ content
 -- the whole section: begin sentinel, size, content, RS check word, end sentinel
 abbrev pub framed_bytes : Framed → List ℕ → List ℕ
 framed_bytes which content =
-    begin_sentinel which ++ sized_content content ++ to_le_bytes w16 (check_word FRAME_START (sized_content content)) ++ end_sentinel which
+    begin_sentinel which ++ sized_content content ++ to_le_bytes w16 (check_word CHECK_SEED (sized_content content)) ++ end_sentinel which
 
 -- how many bytes a section has without its content
 abbrev pub WITHOUT_CONTENT : ℕ

@@ -1,7 +1,7 @@
 -- The lines of the table of refusals on a framed section at a place. A rule of this project, over the sections of the Open Design Specification, "R13 to R2000 file layout".
 use Rattle.std.specs.Prelude.{ℕ, ◌+◌, not, List, [], ◌∷◌, length, bytes_eq, nat_lt, ◌==◌}
 use Rattle.dwg_base.specs.Refusals.{RefusalRow, refuse_if}
-use Rattle.dwg_check.specs.CheckWord.{FRAME_START, check_word}
+use Rattle.dwg_check.specs.CheckWord.{CHECK_SEED, check_word}
 use Rattle.dwg_sections.specs.declared.framed.Framed.{Framed}
 use Rattle.dwg_sections.specs.declared.framed.Framed.TheVariants.{Variables, Classes}
 use Rattle.dwg_sections.specs.Framed.{begin_sentinel, end_sentinel}
@@ -39,7 +39,7 @@ length_line which place bytes = refuse_if (nat_lt (length bytes) (place + 38 + s
 -- a wrong check word
 unfoldable pub framed_check_line : Framed → ℕ → RefusalRow
 framed_check_line which place bytes =
-    refuse_if (not (rs_at bytes (place + 20 + size_at bytes place) == check_word FRAME_START (bytes_at bytes (place + 16) (4 + size_at bytes place))))
+    refuse_if (not (rs_at bytes (place + 20 + size_at bytes place) == check_word CHECK_SEED (bytes_at bytes (place + 16) (4 + size_at bytes place))))
     (first_line which + 3) 0 (place + 20 + size_at bytes place)
 
 -- another end sentinel

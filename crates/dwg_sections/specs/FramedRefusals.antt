@@ -2,7 +2,7 @@
 use Rattle.std.specs.Prelude.{◌≡◌, ◌⊎◌, ℕ, ◌+◌, ◌<◌, ◌≤◌, ◌↔◌, List, length, Some}
 use Rattle.dwg_base.specs.Refusals.{first_fault}
 use Rattle.dwg_base.specs.declared.refusal.Refusal.{Refusal}
-use Rattle.dwg_check.specs.CheckWord.{FRAME_START, check_word}
+use Rattle.dwg_check.specs.CheckWord.{CHECK_SEED, check_word}
 use Rattle.dwg_sections.specs.declared.framed.Framed.{Framed}
 use Rattle.dwg_sections.specs.Framed.{begin_sentinel, end_sentinel}
 use Rattle.dwg_sections.specs.HeaderLines.{bytes_at, rs_at}
@@ -24,7 +24,7 @@ pub record HasRoom (which : Framed) (bytes : List ℕ) (place : ℕ) : Type 0 wh
 
 -- the check word of the section at a place is right
 abbrev pub HasSectionCheckWord : List ℕ → ℕ → Type 0
-HasSectionCheckWord bytes place = rs_at bytes (place + 20 + size_at bytes place) ≡ check_word FRAME_START (bytes_at bytes (place + 16) (4 + size_at bytes place))
+HasSectionCheckWord bytes place = rs_at bytes (place + 20 + size_at bytes place) ≡ check_word CHECK_SEED (bytes_at bytes (place + 16) (4 + size_at bytes place))
 
 -- the end sentinel of the section at a place stands after it
 abbrev pub HasEnd : Framed → List ℕ → ℕ → Type 0

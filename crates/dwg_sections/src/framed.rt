@@ -2,7 +2,7 @@
 
 ghost use Rattle.std.specs.Prelude.{◌≡◌, ◌+◌, ◌≤◌, length, bytes_eq, ◌==◌, None, Some, IfOk, IfErr, OnOk, MatchOption};
 ghost use Rattle.dwg_base.specs.Refusals.{first_fault, IsOfTable};
-ghost use Rattle.dwg_check.specs.CheckWord.{FRAME_START, check_word};
+ghost use Rattle.dwg_check.specs.CheckWord.{CHECK_SEED, check_word};
 ghost use Rattle.dwg_sections.specs.HeaderLines.{bytes_at, rs_at};
 ghost use Rattle.dwg_sections.specs.Framed.{begin_sentinel, end_sentinel, FramedAt};
 ghost use Rattle.dwg_sections.specs.FramedLines.{first_line, size_at, content_at, framed_lines};
@@ -10,7 +10,7 @@ ghost use Rattle.dwg_sections.specs.FramedLines.{first_line, size_at, content_at
 use crate::fields::{piece, rl, rs};
 use crate::refusals::refusal;
 use dwg_base::Refusal;
-use dwg_check::{FRAME_START, check};
+use dwg_check::{CHECK_SEED, check};
 
 /// A section that stands between sentinels (Open Design Specification, "R13 to R2000 file layout").
 #[derive(Clone, Copy, Debug, PartialEq, Eq)]
@@ -102,10 +102,10 @@ pub fn has_end(bytes: &[u8], place: usize, which: Framed) -> bool
 /// Whether the check word after so many bytes of content is that of the size and the content.
 fn has_section_word(bytes: &[u8], place: usize, size: usize) -> bool
     requires { place + 22 + size ≤ length bytes.now }
-    ensures { result ≡ (rs_at bytes.now (place + 20 + size) == check_word FRAME_START (bytes_at bytes.now (place + 16) (4 + size))) }
+    ensures { result ≡ (rs_at bytes.now (place + 20 + size) == check_word CHECK_SEED (bytes_at bytes.now (place + 16) (4 + size))) }
 {
     let sized = piece(bytes, place + SIZE_PLACE, SIZE_BYTES + size);
-    rs(bytes, place + CONTENT_PLACE + size) == check(FRAME_START, sized)
+    rs(bytes, place + CONTENT_PLACE + size) == check(CHECK_SEED, sized)
 }
 
 /// The first line on the section at a place that fails. Where none fails, the input has all bytes of the section.

@@ -8,7 +8,7 @@ ghost use Rattle.dwg_sections.specs.Framed.{framed_bytes};
 use crate::appending::put;
 use crate::framed::{Framed, begin_sentinel, end_sentinel};
 use dwg_bits::BitSink;
-use dwg_check::{FRAME_START, check};
+use dwg_check::{CHECK_SEED, check};
 
 /// What stands around the content of a framed section.
 #[derive(Clone, Copy, Debug, PartialEq, Eq)]
@@ -31,7 +31,7 @@ pub fn framed_pieces(which: Framed, content: &[u8]) -> FramedPieces
     ensures { result.begin ++ (result.size ++ content.now) ++ result.word ++ result.end ≡ framed_bytes which content.now }
 {
     let size = (content.len() as u32).to_le_bytes();
-    let word = check(check(FRAME_START, &size), content);
+    let word = check(check(CHECK_SEED, &size), content);
     FramedPieces {
         begin: begin_sentinel(which),
         size,

@@ -8,6 +8,7 @@ ghost use Rattle.dwg_sections.specs.HeaderLines.{HEADER_LINES, begins_with_versi
 
 use crate::fields::{piece, rl, rs};
 use crate::header_places::{COUNT_PLACE, LOCATOR_SIZE, LOCATORS_PLACE};
+use crate::header_sentinel::SENTINEL_BYTES;
 use crate::locator_lines::refusal_of_locators;
 use crate::refusals::refusal;
 use dwg_base::{Refusal, Version};
@@ -25,11 +26,6 @@ const CUT_LINE: u8 = 4;
 const CHECK_LINE: u8 = 5;
 
 const SENTINEL_LINE: u8 = 6;
-
-/// The sixteen bytes after the check word.
-pub const SENTINEL_BYTES: [u8; 16] = [
-    0x95, 0xA0, 0x4E, 0x28, 0x99, 0x82, 0x1A, 0xE5, 0x5E, 0x41, 0xE0, 0x5F, 0x9D, 0x3A, 0x4D, 0x00,
-];
 
 /// The fewest locators of a header.
 const LEAST_COUNT: u32 = 3;

@@ -10,7 +10,7 @@ ghost use Rattle.dwg_sections.specs.Writing.{Puts};
 
 use crate::appending::put;
 use crate::header::{FileHeader, Locator};
-use crate::header_lines::SENTINEL_BYTES;
+use crate::header_sentinel::SENTINEL_BYTES;
 use dwg_bits::BitSink;
 use dwg_check::header_word;
 

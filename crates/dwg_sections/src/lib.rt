@@ -9,6 +9,7 @@ mod framed_writer;
 mod header;
 mod header_lines;
 mod header_places;
+mod header_sentinel;
 mod header_writer;
 mod laws;
 mod locator_lines;

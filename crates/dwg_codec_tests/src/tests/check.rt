@@ -4,7 +4,7 @@ ghost use Rattle.std.specs.Prelude.{◌≡◌, ◌≤◌, ◌<◌, length};
 
 use crate::tests::lines::{Line, Tale, all_hold};
 use crate::tests::reported::Reported;
-use dwg_check::{FRAME_START, SpanChecks, check, header_word, shift};
+use dwg_check::{CHECK_SEED, SpanChecks, check, header_word, shift};
 use dwg_steps::Steps;
 use std::alloc::Global;
 use std::marker::Brand;
@@ -118,7 +118,7 @@ fn spans_like_shifts(checks: &SpanChecks<'_>, count: usize, to: usize) -> usize
 {
     'places: for from in 0..count {
         let zeros = (to - from) as u64;
-        if span_word(checks, FRAME_START, from, to) != shift(FRAME_START, zeros) {
+        if span_word(checks, CHECK_SEED, from, to) != shift(CHECK_SEED, zeros) {
             return from;
         }
     }

@@ -37,7 +37,7 @@ fn report_least(reported: &mut String, bytes: &[u8], count: u64, entity: bool) -
 }
 
 /// Adds what is read of the bits before `count`: the size in hexadecimal digits, and the place after it.
-fn report_size(reported: &mut String, bytes: &[u8], count: u64, entity: bool) -> Option<()> {
+fn put_size(reported: &mut String, bytes: &[u8], count: u64, entity: bool) -> Option<()> {
     let mut cursor = cursor_to(bytes, count)?;
     match read_size(&mut cursor, entity, own()?) {
         Some(size) => reported::hexadecimal(reported, u64::from(size))?,
@@ -52,7 +52,7 @@ fn report_sizes(alloc: Global, reported: &mut String, input: &str, entity: bool)
     bits.push_text(input)?;
     let count = bits.length() as u64;
     let bytes = bits.to_bytes(alloc)?;
-    report_size(reported, &bytes, count, entity)?;
+    put_size(reported, &bytes, count, entity)?;
     report_least(reported, &bytes, count, entity)
 }
 

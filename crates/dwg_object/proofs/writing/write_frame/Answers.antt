@@ -1,5 +1,5 @@
 use Rattle.std.proofs.Common.{◌∙◌, ap, ℕ, ◌/◌}
-use Rattle.dwg_check.specs.CheckWord.{FRAME_START, check_word}
+use Rattle.dwg_check.specs.CheckWord.{CHECK_SEED, check_word}
 use Rattle.dwg_object.specs.Objects.{value_of}
 use Rattle.dwg_object.specs.Written.{body_bytes}
 use Rattle.dwg_object.proofs.FrameWriting.{sized_are_bytes, written_after, frame_written}
@@ -11,4 +11,4 @@ returns c =
     let both = c.write_sized_body.ensures.written in
     let are = sized_are_bytes (body_bytes c.args.version value) c.write_sized_body.ensures.bytes c.requires.few in
     let after = written_after _ _ _ _ c.requires.aligned (ap (λ (n : ℕ). n / 8) c.length-from.ensures) are both in
-    frame_written _ _ _ c.args.version value c.to_le_bytes.result c.word_after-word.result (c.word_after-word.ensures ∙ ap (check_word FRAME_START) after) c.to_le_bytes.ensures both c.push_bytes.ensures
+    frame_written _ _ _ c.args.version value c.to_le_bytes.result c.word_after-word.result (c.word_after-word.ensures ∙ ap (check_word CHECK_SEED) after) c.to_le_bytes.ensures both c.push_bytes.ensures

@@ -3,7 +3,7 @@ use Rattle.std.specs.Int.{w16, to_le_bytes}
 use Rattle.dwg_base.specs.Bytes.{AreBytes}
 use Rattle.dwg_base.specs.declared.version.Version.{Version}
 use Rattle.dwg_base.proofs.ByteLists.{are_bytes}
-use Rattle.dwg_check.specs.CheckWord.{FRAME_START, check_word}
+use Rattle.dwg_check.specs.CheckWord.{CHECK_SEED, check_word}
 use Rattle.dwg_object.specs.Forms.{FormOf}
 use Rattle.dwg_object.specs.Frames.{FrameAt}
 use Rattle.dwg_object.specs.Objects.{ObjectValue, value_of}
@@ -17,7 +17,7 @@ can_be_written : (version : Version) (bytes : List ℕ) (object : ObjectValue) (
     → (body : List ℕ) × FrameAt bytes 0 body end × FormOf version [] body object
     → PartsFit version object × AreBytes (body_bytes version object) × (length (body_bytes version object) < 2 ^ 29)
 can_be_written version bytes object end are few (body, stands, form) =
-    let word : List ℕ = to_le_bytes w16 (check_word FRAME_START (stands.size ++ body)) in
+    let word : List ℕ = to_le_bytes w16 (check_word CHECK_SEED (stands.size ++ body)) in
     let inside = stands_next bytes 0 stands.size body (stands_first bytes 0 (stands.size ++ body) word stands.stands) in
     let within = stands_within bytes (0 + length stands.size) body inside in
     valid_fits version [] object (form_is_valid version [] body object (stands_bytes bytes (0 + length stands.size) body are inside) (omega (arith, few, within)) form).0

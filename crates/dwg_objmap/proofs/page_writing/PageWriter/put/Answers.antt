@@ -11,8 +11,8 @@ returns-then-has_room-clause-bytes g c =
 
 pub returns-then-has_room-clause-page : goal.returns-then-has_room-clause-page
 returns-then-has_room-clause-page g c =
-    page_put c.self.inside.page.items c.append_pair.new.page.items c.self.inside.last c.reported_from-before.result c.args.pair c.self.inside.ended c.has_room.result c.args.self.now c.self.view_is c.requires.open
-    c.self.invariant.0.least (rw c.as_slice.ensures.value at c.has_room.ensures) c.if-has_room.true (rw c.as_slice-then-has_room.ensures.value at c.reported_from-before.ensures) c.append_pair.ensures.both
+    page_put c.self.inside.page.items c.append_pair.new.page.items c.self.inside.last c.written_from-before.result c.args.pair c.self.inside.ended c.has_room.result c.args.self.now c.self.view_is c.requires.open
+    c.self.invariant.0.least (rw c.as_slice.ensures.value at c.has_room.ensures) c.if-has_room.true (rw c.as_slice-then-has_room.ensures.value at c.written_from-before.ensures) c.append_pair.ensures.both
 
 pub returns-in-Err-clause-bytes : goal.returns-in-Err-clause-bytes
 returns-in-Err-clause-bytes g c =

@@ -2,7 +2,7 @@ use Rattle.std.proofs.Common.{rules}
 use Rattle.std.proofs.lemmas.List.Sorted.{IsNonDecreasingBy-from_sort_by_key, answers_always}
 use Rattle.dwg_recover.specs.declared.frame.Frame.{Frame}
 use Rattle.dwg_recover.proofs.PlaceOrder.{sorted_in_place_order}
-use Rattle.dwg_recover.proofs.candidates.in_place_order.Goals as goal
+use Rattle.dwg_recover.proofs.candidates.in_order_of_place.Goals as goal
 
 pub returns : goal.returns
 returns c = λ most.
