@@ -30,6 +30,13 @@ lib = $(call quoted,$(top)/lib/dwg)
 man = $(call quoted,$(top)/share/man)
 completions = $(call quoted,$(top)/share/bash-completion/completions)
 
+# The final place of what is installed, as a word of the shell; of a PREFIX that isn't whole and has no DESTDIR it is here.
+final = $(if $(value DESTDIR)$(filter /%,$(firstword $(value PREFIX))),$(call quoted,$(value PREFIX)),"$$PWD"/$(call quoted,$(value PREFIX)))
+# Whether two folders are one.
+is_one = [ "$$(CDPATH= cd -P $(1) 2>/dev/null && pwd -P)" = "$$(CDPATH= cd -P $(2) && pwd -P)" ]
+# What leads from bin and from lib/dwg to PREFIX: by a link in the place of a folder on the way that is its whole name.
+way = if $(call is_one,$(bin)/../lib/dwg,$(lib)) && $(call is_one,$(lib)/../../bin,$(bin)); then from_bin=..; from_lib=../..; else from_bin=$(final); from_lib=$(final); fi
+
 .PHONY: build test check-tools bench install uninstall
 
 build:
@@ -54,10 +61,10 @@ install: build
 	{ [ -e .git ] && unset GIT_DIR GIT_WORK_TREE GIT_COMMON_DIR GIT_INDEX_FILE && git describe --always --dirty=' and changes' --exclude='*' --abbrev=40 2>/dev/null || echo; } > $(lib)/COMMIT
 	chmod 644 $(lib)/COMMIT
 	install -m 755 $(call quoted,$(value PROGRAM)) $(bin)/dwg
-	ln -sfn ../../bin/dwg $(lib)/dwg
+	$(way); ln -sfn "$$from_lib/bin/dwg" $(lib)/dwg
 	install -m 644 $(MODULES) $(lib)/tools/dwgtools
 	install -m 755 $(addprefix tools/,$(TOOLS)) $(lib)/tools
-	for tool in $(TOOLS); do ln -sfn "../lib/dwg/tools/$$tool" $(bin)/"$$tool"; done
+	$(way); for tool in $(TOOLS); do ln -sfn "$$from_bin/lib/dwg/tools/$$tool" $(bin)/"$$tool"; done
 	install -m 644 docs/dwg.1 $(man)/man1
 	install -m 644 docs/dwg-tools.7 $(man)/man7
 	for tool in $(TOOLS); do rm -f $(man)/man1/"$$tool".1 && echo .so man7/dwg-tools.7 > $(man)/man1/"$$tool".1 && chmod 644 $(man)/man1/"$$tool".1; done
@@ -71,4 +78,4 @@ uninstall:
 	[ ! -e $(lib)/COMMIT ] || rm -f $(bin)/dwg $(lib)/dwg $(man)/man1/dwg.1 $(man)/man7/dwg-tools.7 $(completions)/dwg
 	rm -f $(lib)/COMMIT
 	rm -rf $(lib)/tools/dwgtools/__pycache__
-	for folder in $(lib)/tools/dwgtools $(lib)/tools $(lib); do [ ! -d "$$folder" ] || rmdir "$$folder" || :; done
+	for folder in $(lib)/tools/dwgtools $(lib)/tools $(lib); do [ ! -d "$$folder" ] || [ -L "$$folder" ] || rmdir "$$folder" || :; done

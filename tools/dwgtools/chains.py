@@ -5,6 +5,7 @@ from __future__ import annotations
 from dataclasses import dataclass, field
 from typing import Dict, Iterator, List, Optional, Set
 
+from .names import LONGEST_NAME
 from .survey import Block, Survey
 
 
@@ -107,4 +108,8 @@ class Chains:
         if handle == 0:
             return "missing"
         kind = self.survey.kinds.get(handle)
-        return f"{handle:X}, which isn't there" if kind is None else f"{handle:X}, of kind {kind}, which is no member of the block"
+        if kind is None:
+            return f"{handle:X}, which isn't there"
+        # (a kind may have the name of a class, and stand at many breaks)
+        named = "" if len(kind) > LONGEST_NAME else f", of kind {kind}"
+        return f"{handle:X}{named}, which is no member of the block"

@@ -6,14 +6,14 @@ import json
 import re
 from array import array
 from dataclasses import dataclass
-from functools import lru_cache
+from functools import cached_property, lru_cache
 from itertools import accumulate, chain
 from typing import Any, Callable, Dict, Iterable, Iterator, List, Mapping, Optional, Sequence, Tuple
 
 from .drawings import Drawing
 from .encodings import code_page, decoded
 from .escapes import one_line
-from .pieces import names_in
+from .pieces import Course, pass_same
 from .show import Class, Object, Prefix
 from .values import BadText, Bytes, Reference, Text, Value, Words, number, read_field, read_value
 
@@ -25,12 +25,16 @@ NUMBERS = 1 << 16
 Fields = Dict[str, Value]
 
 
-@dataclass(frozen=True)
 class Side:
-    """One of the two drawings: its names by handle, and its code page."""
+    """One of the two drawings: its code page, which is known once it is shown, and its names by handle."""
 
-    names: Mapping[int, Text]
-    page: str
+    def __init__(self, drawing: Drawing) -> None:
+        self.drawing, self.page = drawing, ""
+
+    @cached_property
+    def names(self) -> Mapping[int, Text]:
+        """The names, for which the drawing is shown once more; where nothing differs none is asked for."""
+        return self.drawing.names()
 
     def text(self, value: bytes) -> str:
         """A text, decoded."""
@@ -206,12 +210,36 @@ class Numbered:
     fields: Callable[[int], Fields]
 
 
+class OfOld(Exception):
+    """A fault of the old drawing's text, which isn't one of the new drawing's, though that is shown too."""
+
+    def __init__(self, fault: Exception) -> None:
+        super().__init__(fault)
+        self.fault = fault
+
+
 class Comparison:
     """Compares two drawings, and counts how many objects were added, removed and changed."""
 
-    def __init__(self, old: Side, new: Side, ignored: Ignored) -> None:
-        self.old, self.new, self.ignored = old, new, ignored
+    def __init__(self, old: Drawing, new: Drawing, ignored: Ignored) -> None:
+        self.old, self.new, self.ignored = Side(old), Side(new), ignored
         self.counts = {"added": 0, "removed": 0, "changed": 0}
+
+    def differences(self) -> Iterator[Difference]:
+        """All that differs, while both drawings are shown."""
+        with self.old.drawing.text() as (prefix, text):
+            self.old.page = code_page(prefix.codepage)
+            try:
+                yield from self.beside(prefix, Course(text, prefix.count, OfOld))
+            except OfOld as why:
+                raise why.fault from None
+
+    def beside(self, old_prefix: Prefix, old: Course) -> Iterator[Difference]:
+        """All that differs, while the new drawing is shown beside the old one."""
+        with self.new.drawing.text() as (prefix, text):
+            self.new.page = code_page(prefix.codepage)
+            yield from self.prefixes(old_prefix, prefix)
+            yield from self.objects(old, Course(text, prefix.count))
 
     def changed(self, what: str, head: Dict[str, Any], changes: Iterator[Change]) -> Iterator[Difference]:
         """What is changed, where any field differs that isn't ignored."""
@@ -241,21 +269,26 @@ class Comparison:
                 yield Difference("added", what, {"number": new.numbers[place]})
         yield from self.changed(all_of_them, {}, order_changes(old.numbers, new.numbers))
 
-    def objects(self, old: Iterator[Object], new: Iterator[Object]) -> Iterator[Difference]:
+    def objects(self, old: Course, new: Course) -> Iterator[Difference]:
         """What differs in the objects, which both drawings have in ascending order of handle."""
-        one, other = next(old, None), next(new, None)
-        while one or other:
-            if other is None or (one and one.handle < other.handle):
-                assert one is not None
+        one: Optional[Object] = None
+        other: Optional[Object] = None
+        while True:
+            if one is None and other is None and old.is_between and new.is_between:
+                pass_same(old, new)
+            one, other = one or old.take(), other or new.take()
+            if one is not None and (other is None or one.handle < other.handle):
                 yield self.counted(Difference("removed", "object", head_of(one, self.old)))
-                one = next(old, None)
-            elif one is None or other.handle < one.handle:
+                one = None
+            elif other is not None and (one is None or other.handle < one.handle):
                 yield self.counted(Difference("added", "object", head_of(other, self.new)))
-                other = next(new, None)
-            else:
+                other = None
+            elif one is not None and other is not None:
                 if one != other:
                     yield from map(self.counted, self.changed("object", head_of(other, self.new), object_changes(one, other)))
-                one, other = next(old, None), next(new, None)
+                one = other = None
+            else:
+                return
 
     def counted(self, difference: Difference) -> Difference:
         """The difference itself, counted."""
@@ -362,16 +395,3 @@ def json_pieces(difference: Difference, old: Side, new: Side) -> Iterator[str]:
         yield prefix + json.dumps({"field": one.path, "old": old.json(one.old), "new": new.json(one.new)})
         prefix = ", "
     yield "]}"
-
-
-def differences(comparison: Comparison, one: Drawing, other: Drawing) -> Iterator[Difference]:
-    """All that differs, while both drawings are shown."""
-    with one.show() as (old_prefix, old), other.show() as (new_prefix, new):
-        yield from comparison.prefixes(old_prefix, new_prefix)
-        yield from comparison.objects(old, new)
-
-
-def side_of(drawing: Drawing) -> Side:
-    """The names and the code page of a drawing; here it is refused where it is none."""
-    with drawing.text() as (prefix, text):
-        return Side(names_in(text, prefix.count), code_page(prefix.codepage))

@@ -18,6 +18,10 @@ from .temporary import TemporaryFull, temporary_told
 from .values import BadText
 
 
+class Told(ToolError):
+    """A fault that is told with the name of its drawing."""
+
+
 class Drawing:
     """A drawing that can be shown more than once: a file, or what comes by a pipe, kept in a file without a name meanwhile."""
 
@@ -40,11 +44,11 @@ class Drawing:
             try:
                 os.lseek(self.file.fileno(), 0, os.SEEK_SET)
                 yield from self._shown()
-            except (NoTemporary, TemporaryFull):
+            except (NoTemporary, TemporaryFull, Told):
                 raise
             except ToolError as fault:
                 message = str(fault)
-                raise ToolError(f"{self.name}: {message[5:] if message.startswith('dwg: ') else message}", fault.status) from None
+                raise Told(f"{self.name}: {message[5:] if message.startswith('dwg: ') else message}", fault.status) from None
 
     def _shown(self) -> Iterator[Tuple[Prefix, IO[bytes]]]:
         """Yields once, and reads on after that to the end, so that the program's status is told before any fault of the text."""

@@ -204,15 +204,23 @@ def end_of_drawing(data: bytes, told: Sections) -> int:
     return max(*ends, end_of_second_header(data, after_map, ends))
 
 
+def entries_of_preview(section: bytes, place: int) -> Optional[List[Tuple[int, int, int]]]:
+    """The entries of a preview section at a place of a file, each with its code, its place and its size, by the rule by which `carry` carries one
+    (docs/FORMAT.md, Preview section); None where there is none."""
+    size = little(section, 16, 4)
+    begin, end = 20, 20 + size
+    if not size or section[:16] != PREVIEW_SENTINEL or section[end : end + 16] != complement(PREVIEW_SENTINEL):
+        return None
+    further = begin + 1 + 9 * section[begin]
+    entries = [(section[at], little(section, at + 1, 4), little(section, at + 5, 4)) for at in range(begin + 1, further, 9)] if further <= end else None
+    if entries is None or any(count and not further <= at - place <= end - count for _, at, count in entries):
+        return None
+    return entries
+
+
 def preview_of(data: bytes) -> Optional[Preview]:
-    """The preview section of a whole drawing by the rule by which `carry` carries one (docs/FORMAT.md, Preview section); None where it has none."""
+    """The preview section of a whole drawing; None where it has none."""
     place = little(data, PREVIEW_PLACE, 4)
     size = little(data, place + 16, 4)
-    begin, end = place + 20, place + 20 + size
-    if not size or data[place : place + 16] != PREVIEW_SENTINEL or data[end : end + 16] != complement(PREVIEW_SENTINEL):
-        return None
-    further = begin + 1 + 9 * data[begin]
-    entries = [(data[at], little(data, at + 1, 4), little(data, at + 5, 4)) for at in range(begin + 1, further, 9)] if further <= end else None
-    if entries is None or any(count and not further <= at <= end - count for _, at, count in entries):
-        return None
-    return Preview(size, tuple(Picture(code, count) for code, _, count in entries if count))
+    entries = entries_of_preview(data[place : place + 36 + size], place)
+    return None if entries is None else Preview(size, tuple(Picture(code, count) for code, _, count in entries if count))

@@ -11,7 +11,7 @@ import struct
 from sys import intern
 from typing import Dict, List, Tuple
 
-from .json_values import LONGEST_NAME, Speaker, put
+from .json_values import Speaker, put
 from .values import BYTES, BadText, read_value
 
 # How many lines are kept for a while; and how many names of fields the plans have that are kept.
@@ -106,9 +106,6 @@ class Fragments:
         """A reference, with the name of where it leads."""
         target = int(handle, 16)
         name = self.speaker.names.get(target)
-        # What is said of a piece, and what is kept, is held whole: references of a few bytes would have it be gigabytes.
-        if name is not None and len(name) > LONGEST_NAME:
-            raise Odd
         named = "" if name is None else f', "name": {self._encode(self.speaker.text(name))}'
         return f'{{"code": {int(code, 16)}, "handle": "{target:X}"{named}}}'
 

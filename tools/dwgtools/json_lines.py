@@ -103,10 +103,9 @@ class Lines:
             self._put(one)
 
     def _put(self, one: Object) -> None:
-        """Writes an object, piece by piece where it is long, or has a long name."""
-        before, is_short = self._speaker.said_long, len(one.text) < LONG
-        said = self._speaker.object(one) if is_short else self._speaker.long_object(one)
-        for piece in [self._encoder.encode(said)] if is_short and self._speaker.said_long == before else self._encoder.iterencode(said):
+        """Writes an object, piece by piece where it is long."""
+        is_short = len(one.text) < LONG
+        for piece in [self._encoder.encode(self._speaker.object(one))] if is_short else self._encoder.iterencode(self._speaker.long_object(one)):
             self._out.write(piece.encode("ascii"))
         self._out.write(b"\n")
 

@@ -2,17 +2,14 @@
 
 from __future__ import annotations
 
-from dataclasses import dataclass, field
-from typing import Any, Callable, Dict, Iterator, List, Mapping, Tuple, Union
+from dataclasses import dataclass
+from typing import Any, Callable, Dict, Iterator, List, Mapping, Union
 
 from .encodings import decoded
 from .show import Class, Object, Prefix
 from .values import BadText, Bytes, Reference, Text, Value, Words, number, read_field, read_value, steps
 
 Tree = Union[Dict[str, Any], List[Any]]
-
-# How long a name is that may be held for each reference that leads to it: longer ones are rare, and said more slowly.
-LONGEST_NAME = 255
 
 
 def put(tree: Dict[str, Any], path: str, value: Any) -> None:
@@ -59,9 +56,6 @@ class Speaker:
     names: Mapping[int, Text]
     page: str
     undecoded: int = 0
-    # How often a long name was said; and these by handle, each with how many texts of it couldn't be decoded whole.
-    said_long: int = 0
-    _long: Dict[int, Tuple[str, int]] = field(default_factory=dict)
 
     def text(self, value: bytes) -> str:
         """A text by the code page."""
@@ -75,18 +69,7 @@ class Speaker:
         said: Dict[str, Any] = {"code": value.code, "handle": f"{value.handle:X}"}
         name = self.names.get(value.handle)
         if name is not None:
-            said["name"] = self.text(name) if len(name) <= LONGEST_NAME else self._long_name(value.handle, name)
-        return said
-
-    def _long_name(self, handle: int, name: Text) -> str:
-        """A long name, which is held once, however many references lead to it."""
-        if handle not in self._long:
-            before = self.undecoded
-            self._long[handle] = self.text(name), self.undecoded - before
-            self.undecoded = before
-        said, undecoded = self._long[handle]
-        self.undecoded += undecoded
-        self.said_long += 1
+            said["name"] = self.text(name)
         return said
 
     def value(self, value: Value) -> Any:

@@ -5,6 +5,7 @@ from __future__ import annotations
 import math
 import re
 from dataclasses import dataclass
+from functools import lru_cache
 from typing import Iterator, List
 from xml.sax.saxutils import escape
 
@@ -19,11 +20,18 @@ FONT = 100.0
 CAPITAL, DEPTH = 0.72 * FONT, 0.24 * FONT
 
 SIGNS = {"d": "\u00b0", "c": "\u2300", "p": "\u00b1", "%": "%", "u": "", "o": "", "k": ""}
-_SIGN = re.compile(r"%%([0-9]{3}|[dcpuok%])|((?:\\U\+[0-9A-F]{4})+)", re.IGNORECASE)
 _UNSAID = re.compile("[\x00-\x08\x0b\x0c\x0e-\x1f\ufffe\uffff\ud800-\udfff]")
 # What is written as a number: what turns the direction of a terminal, which a picture needs, controls of one that XML allows, and what a reader of
 # XML would make another space.
 _NUMBERED = {letter: f"&#{ord(letter)};" for letter in (*sorted(DIRECTIONS), *map(chr, range(0x7F, 0xA0)), "\t", "\n", "\r")}
+
+
+@lru_cache(maxsize=None)
+def _signs(page: str) -> "re.Pattern[str]":
+    """The signs in a text of a code page, of which cp864 has another letter for the byte of `%`; all of them begin as ASCII, and no second byte of a
+    letter is that one."""
+    percent = re.escape(b"%".decode(page))
+    return re.compile(rf"{percent}{percent}([0-9]{{3}}|[dcpuok{percent}])|((?:\\U\+[0-9A-F]{{4}})+)", re.IGNORECASE)
 
 
 def readable(text: bytes, page: str) -> str:
@@ -34,9 +42,9 @@ def readable(text: bytes, page: str) -> str:
         if letters:
             # Two halves of one letter that stand side by side are that letter.
             return bytes.fromhex(letters[3:].replace("\\U+", "").replace("\\u+", "")).decode("utf-16-be", "surrogatepass")
-        return bytes([int(code) & 255]).decode(page, "replace") if code.isdigit() else SIGNS[code.lower()]
+        return bytes([int(code) & 255]).decode(page, "replace") if code.isdigit() else SIGNS.get(code.lower(), "%")
 
-    return _UNSAID.sub("\ufffd", _SIGN.sub(sign, decoded(text, page)))
+    return _UNSAID.sub("\ufffd", _signs(page).sub(sign, decoded(text, page)))
 
 
 def said(content: str) -> str:

@@ -236,6 +236,11 @@ class Log:
         except OSError as fault:
             raise ToolError(f"{self.name}: {fault.strerror}", Exit.FAILURE) from None
 
+    @property
+    def is_link(self) -> bool:
+        """Whether LOG is named by a link."""
+        return os.path.islink(self._path)
+
     def _refuse(self) -> None:
         """Refuses a file that isn't LOG, and LOG that another run has."""
         if not stat.S_ISREG(self.place.st_mode):
@@ -266,7 +271,7 @@ class Log:
                 head = maker_of_head(told)
                 last = last if head is None else head
                 if head is None:
-                    self._take(*read_row(told), last == own)
+                    self.take_line(told, last == own)
             except NoLine:
                 damaged.append(number)
         self._seen = seen
@@ -280,6 +285,10 @@ class Log:
                 self._append(json.dumps({**HEAD, **asdict(own), "tools": commit() or None}).encode("ascii") + b"\n")
         except OSError as fault:
             raise ToolError(f"{self.name}: {fault.strerror}", Exit.FAILURE) from None
+
+    def take_line(self, told: Dict[str, Any], is_current: bool) -> None:
+        """Takes a line that is no head, made by this program and these rules or by others; NoLine where it isn't as it should be."""
+        self._take(*read_row(told), is_current)
 
     def _take(self, absolute: str, row: Row, is_current: bool) -> None:
         """Knows a file again; what it is found to be counts only where this program found it, by these rules."""
@@ -323,10 +332,10 @@ class Log:
             row = replace(row, verdict="changed", detail=f"{row.verdict}: {row.detail}" if row.detail else row.verdict)
         is_there = key in self._current and old is not None and old.sha256 == row.sha256
         if not is_there and not (row.verdict == "unreadable" and (absolute, row.detail) in self._unreadable):
-            self._add(absolute, row)
+            self.add_line(absolute, row)
         return row
 
-    def _add(self, absolute: str, row: Row) -> None:
+    def add_line(self, absolute: str, row: Row) -> None:
         """Adds a line; where that fails it is told at once, and nothing more is added."""
         line = json.dumps({**as_object(row), "absolute": absolute}).encode("ascii") + b"\n"
         if len(line) > LONGEST:

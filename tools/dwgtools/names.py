@@ -13,17 +13,27 @@ from .values import BadText, Text
 # The kinds of objects that others refer to by a name.
 NAMED = {"LAYER", "STYLE", "LTYPE", "APPID", "BLOCK HEADER"}
 
+# A name of more bytes isn't told with what refers to it: with each of a million references it would make gigabytes of a small drawing.
+LONGEST_NAME = 255
+
 
 class Names(Mapping[int, Text]):
-    """Names by handle, which were put in by ascending handles, packed: a table may have more than a million entries of twenty bytes each."""
+    """Names by handle, which were put in by ascending handles, packed: a table may have more than a million entries of twenty bytes each.
+
+    Those that are longer than is told aren't held.
+    """
 
     def __init__(self) -> None:
+        self._last = -1
         self._handles, self._ends, self._letters = array("Q"), array("I"), bytearray()
 
     def put(self, handle: int, name: Text) -> None:
         """Puts in the name of a handle; BadText where that isn't above those before."""
-        if not (self._handles[-1] if self._handles else -1) < handle < 1 << 63:
+        if not self._last < handle < 1 << 63:
             raise BadText("object %X after one of a handle that isn't below" % handle)
+        self._last = handle
+        if len(name) > LONGEST_NAME:
+            return
         self._handles.append(handle)
         self._letters += name
         self._ends.append(len(self._letters))

@@ -4,10 +4,11 @@ from __future__ import annotations
 
 import contextlib
 import errno
+import functools
 import os
+import secrets
 import stat
 import sys
-import tempfile
 from typing import IO, Iterator, Optional, Sequence, Set, Tuple
 
 from .signals import uninterrupted
@@ -17,6 +18,10 @@ from .streams import is_one_file, is_standard, output_name, refuse_streams, stat
 # Files that were begun and don't have their name yet, each by its folder's descriptor and its name there: what an interrupt leaves of them,
 # the end of the tool removes.
 _unplaced: Set[Tuple[int, str]] = set()
+
+
+# How many names are tried for a file that is begun: each has eight bytes by chance.
+TRIES = 9
 
 
 def remove_unplaced() -> None:
@@ -32,31 +37,71 @@ class WholeFile:
 
     Used as a context; `file` is where to write. Unless `force`, a file that has the name meanwhile is left, with FileExistsError;
     with it a regular file is replaced, and keeps its mode and its owner, and what is no regular file is left.
+    All of it is in the folder that was opened first, at `at`, wherever that is moved; no whole name is made by text.
     """
 
     file: IO[bytes]
 
     def __init__(self, path: str, force: bool = False) -> None:
         self.path, self.force = path, force
-        self._folder = os.path.dirname(path) or "."
+        self.name, self.at = os.path.basename(path), -1
         self._temporary = ""
-        # The folder may be moved, and the file is removed where it is then.
-        self._at = -1
 
     def __enter__(self) -> "WholeFile":
-        # A letter has four bytes at the most, and a name 255.
-        prefix = f".{os.path.basename(self.path)[:25]}."
         try:
             with uninterrupted():
                 # (a folder need not be readable for this, where the system has a way)
-                self._at = os.open(self._folder, getattr(os, "O_PATH", os.O_RDONLY))
-                handle, self._temporary = tempfile.mkstemp(prefix=prefix, suffix=".part", dir=self._folder)
-                _unplaced.add((self._at, os.path.basename(self._temporary)))
-                self.file = os.fdopen(handle, "w+b")
+                self.at = os.open(os.path.dirname(self.path) or os.curdir, getattr(os, "O_PATH", os.O_RDONLY))
+                self.file = os.fdopen(self._begun(), "w+b")
         except BaseException:
             self.__exit__()
             raise
         return self
+
+    def _begun(self) -> int:
+        """Begins the file under a name that nothing has."""
+        for _ in range(TRIES):
+            name = self.spare_name()
+            with contextlib.suppress(FileExistsError):
+                handle = os.open(name, os.O_RDWR | os.O_CREAT | os.O_EXCL, 0o600, dir_fd=self.at)
+                self._temporary = name
+                _unplaced.add((self.at, name))
+                return handle
+        raise OSError(errno.EBUSY, "no name is free for a temporary file", self.path)
+
+    def spare_name(self) -> str:
+        """A name beside the file's, as files have that are begun."""
+        # A letter has four bytes at the most, and a name 255.
+        return f".{self.name[:25]}.{secrets.token_hex(8)}.part"
+
+    def beside(self, name: str) -> str:
+        """What another file of the folder is called in messages."""
+        return os.path.join(os.path.dirname(self.path), name)
+
+    def there(self, name: str) -> Optional[os.stat_result]:
+        """What has a name of the folder; None where nothing has."""
+        try:
+            return os.stat(name, dir_fd=self.at, follow_symlinks=False)
+        except FileNotFoundError:
+            return None
+
+    def has(self, name: str) -> bool:
+        """Whether anything is seen to have a name of the folder."""
+        with contextlib.suppress(OSError):
+            return self.there(name) is not None
+        return False
+
+    def rename(self, old: str, new: str) -> None:
+        """Gives what has a name of the folder another one, which it takes from what has that."""
+        os.replace(old, new, src_dir_fd=self.at, dst_dir_fd=self.at)
+
+    def link(self, old: str, new: str) -> None:
+        """Gives what has a name of the folder another one too, that nothing has."""
+        os.link(old, new, src_dir_fd=self.at, dst_dir_fd=self.at, follow_symlinks=False)
+
+    def unlink(self, name: str) -> None:
+        """Takes a name of the folder away."""
+        os.unlink(name, dir_fd=self.at)
 
     def finish(self) -> None:
         """Sees to it that all that was written is on the disk."""
@@ -65,22 +110,26 @@ class WholeFile:
         if old:
             with contextlib.suppress(OSError):
                 os.fchown(handle, old.st_uid, old.st_gid)
-        os.fchmod(handle, stat.S_IMODE(old.st_mode) & 0o777 if old else 0o666 & ~_mask())
+        os.fchmod(handle, stat.S_IMODE(old.st_mode) & 0o777 if old else 0o666 & ~mask_of_modes())
         os.fsync(handle)
 
     def place(self) -> None:
         """Gives the file its name."""
         if self.force:
             self.replaced()
-            os.replace(self._temporary, self.path)
+            self.rename(self._temporary, self.name)
         else:
             self._link()
         self.sync_folder()
 
+    def readable_folder(self) -> int:
+        """The folder, opened to be read, which not all are that can be written."""
+        return os.open(os.curdir, os.O_RDONLY, dir_fd=self.at)
+
     def sync_folder(self) -> None:
         """Sees to it that the names of the folder are on the disk, where it can be read."""
         with contextlib.suppress(OSError):
-            folder = os.open(self._folder, os.O_RDONLY)
+            folder = self.readable_folder()
             try:
                 os.fsync(folder)
             finally:
@@ -88,30 +137,32 @@ class WholeFile:
 
     def replaced(self) -> Optional[os.stat_result]:
         """The regular file that is to be replaced; None where there is none, and FileExistsError where what has the name must stay."""
-        if not self.force:
-            return None
-        try:
-            there = os.lstat(self.path)
-        except FileNotFoundError:
-            return None
-        if not stat.S_ISREG(there.st_mode):
+        there = self.there(self.name) if self.force else None
+        if there is not None and not stat.S_ISREG(there.st_mode):
             raise FileExistsError(errno.EEXIST, "File exists", self.path)
         return there
 
     def _link(self) -> None:
         """Gives the file its name where no other has it: by a link, which never replaces, or else by a rename over a name that is taken first."""
         try:
-            os.link(self._temporary, self.path)
+            self.link(self._temporary, self.name)
         except FileExistsError:
             raise FileExistsError(errno.EEXIST, "File exists", self.path) from None
         except OSError:
             with uninterrupted():
-                os.close(os.open(self.path, os.O_WRONLY | os.O_CREAT | os.O_EXCL))
+                self._take_name()
                 try:
-                    os.replace(self._temporary, self.path)
+                    self.rename(self._temporary, self.name)
                 except OSError:
-                    os.unlink(self.path)
+                    self.unlink(self.name)
                     raise
+
+    def _take_name(self) -> None:
+        """Has an empty file take the name where nothing has it."""
+        try:
+            os.close(os.open(self.name, os.O_WRONLY | os.O_CREAT | os.O_EXCL, dir_fd=self.at))
+        except FileExistsError:
+            raise FileExistsError(errno.EEXIST, "File exists", self.path) from None
 
     def __exit__(self, *_: object) -> None:
         with uninterrupted():
@@ -119,17 +170,17 @@ class WholeFile:
             with contextlib.suppress(OSError, AttributeError):
                 self.file.close()
             if self._temporary:
-                name = os.path.basename(self._temporary)
                 with contextlib.suppress(OSError):
-                    os.unlink(name, dir_fd=self._at)
-                _unplaced.discard((self._at, name))
-            if self._at >= 0:
-                os.close(self._at)
-                self._at = -1
+                    self.unlink(self._temporary)
+                _unplaced.discard((self.at, self._temporary))
+            if self.at >= 0:
+                os.close(self.at)
+                self.at = -1
 
 
-def _mask() -> int:
-    """The mask of modes of new files."""
+@functools.lru_cache(maxsize=None)
+def mask_of_modes() -> int:
+    """The mask of modes of new files. It can be read only by changing it, so who works in threads asks for it before."""
     mask = os.umask(0o077)
     os.umask(mask)
     return mask

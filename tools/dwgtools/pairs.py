@@ -5,7 +5,6 @@ from __future__ import annotations
 import contextlib
 import fcntl
 import os
-import secrets
 import select
 import time
 from dataclasses import dataclass, field
@@ -61,10 +60,11 @@ class Written:
 
 
 @contextlib.contextmanager
-def alone_in(folder: str) -> Iterator[None]:
+def alone_beside(file: WholeFile) -> Iterator[None]:
     """Keeps other runs from giving files of a folder their names meanwhile: one that comes waits for a while, and is refused then."""
+    folder = os.path.dirname(file.path) or os.curdir
     try:
-        handle = os.open(folder, os.O_RDONLY)
+        handle = file.readable_folder()
     except PermissionError as fault:
         unlocked(folder, fault)
         yield
@@ -101,81 +101,76 @@ def place_both(whole: WholeFile, notes: WholeFile, written: Written) -> None:
     """Gives the output its name, and then its notes theirs, or neither where that fails. Notes that were there are away before, so that at no
     moment the output of one run stands beside the notes of another."""
     with uninterrupted():
-        is_new, old, old_notes = not os.path.lexists(whole.path), None, moved_aside(notes)
+        is_new, old, old_notes = not whole.has(whole.name), None, moved_aside(notes)
         try:
             old = linked_aside(whole)
             whole.place()
             written.stands = True
             notes.place()
         except BaseException:
-            if written.stands and not is_taken_back(whole.path, old, is_new):
+            if written.stands and not is_taken_back(whole, old, is_new):
                 # (old notes never stand beside a new output)
                 written.has_notes = False
-                written.left = [*left_aside(whole.path, old), *left_aside(notes.path, old_notes)]
+                written.left = [*left_aside(whole, old), *left_aside(notes, old_notes)]
             else:
                 written.stands = False
-                dropped(old)
-                written.left = [] if is_put_back(notes.path, old_notes) else left_aside(notes.path, old_notes)
+                dropped(whole, old)
+                written.left = [] if is_put_back(notes, old_notes) else left_aside(notes, old_notes)
             raise
-        dropped(old)
-        dropped(old_notes)
+        dropped(whole, old)
+        dropped(notes, old_notes)
 
 
-def is_taken_back(path: str, old: Optional[str], is_new: bool) -> bool:
+def is_taken_back(file: WholeFile, old: Optional[str], is_new: bool) -> bool:
     """Whether a new output has its name no more: the old one has it again, or nothing. Where the file system has no links it keeps it."""
     with contextlib.suppress(OSError):
         if old is not None:
-            os.replace(old, path)
+            file.rename(old, file.name)
             return True
         if is_new:
-            os.unlink(path)
+            file.unlink(file.name)
             return True
     return False
 
 
-def is_put_back(path: str, aside: Optional[str]) -> bool:
+def is_put_back(file: WholeFile, aside: Optional[str]) -> bool:
     """Whether what was moved aside has its name again, where anything was."""
     with contextlib.suppress(OSError):
-        if aside is not None and not os.path.lexists(path):
-            os.rename(aside, path)
+        if aside is not None and not file.has(file.name):
+            file.rename(aside, file.name)
             return True
     return aside is None
 
 
-def left_aside(path: str, aside: Optional[str]) -> List[str]:
+def left_aside(file: WholeFile, aside: Optional[str]) -> List[str]:
     """What is said of a file that was kept aside and isn't put back, where there was one."""
     if aside is None:
         return []
-    return [f"what was {one_line(path)} before is {f'in {one_line(aside)}' if os.path.lexists(aside) else 'gone'}"]
-
-
-def spare_name(path: str) -> str:
-    """A name beside that of a file, as temporary files have."""
-    return os.path.join(os.path.dirname(path), f".{os.path.basename(path)[:25]}.{secrets.token_hex(8)}.part")
+    return [f"what was {one_line(file.path)} before is {f'in {one_line(file.beside(aside))}' if file.has(aside) else 'gone'}"]
 
 
 def moved_aside(file: WholeFile) -> Optional[str]:
     """Takes the file away that is to be replaced, and gives the name that it has then; None where there is none."""
     if file.replaced() is None:
         return None
-    aside = spare_name(file.path)
-    os.rename(file.path, aside)
+    aside = file.spare_name()
+    file.rename(file.name, aside)
     file.sync_folder()
     return aside
 
 
 def linked_aside(file: WholeFile) -> Optional[str]:
     """Gives the file that is to be replaced another name too; None where there is none, or the file system has no links."""
-    aside = spare_name(file.path)
+    aside = file.spare_name()
     with contextlib.suppress(OSError):
         if file.replaced() is not None:
-            os.link(file.path, aside, follow_symlinks=False)
+            file.link(file.name, aside)
             return aside
     return None
 
 
-def dropped(aside: Optional[str]) -> None:
+def dropped(file: WholeFile, aside: Optional[str]) -> None:
     """Removes what was kept aside, where it is there still."""
     if aside is not None:
         with contextlib.suppress(OSError):
-            os.unlink(aside)
+            file.unlink(aside)

@@ -8,12 +8,13 @@ from __future__ import annotations
 import io
 import re
 from sys import intern
-from typing import IO, Iterator, List, Optional, Tuple, Union
+from typing import IO, Callable, Iterator, List, Optional, Tuple, Union
 
 from . import show
 from .names import Names
 from .show import Lists, Object, further_objects, refuse_count, refuse_more, told_apart
-from .values import Text, read_value
+from .statuses import ToolError
+from .values import BadText, Text, read_value
 
 # How many bytes a piece has, but for the object that it ends with.
 SIZE = 1 << 16
@@ -76,12 +77,19 @@ def objects_in(text: IO[bytes], count: int, lists: Lists = Lists.TEXT) -> Iterat
     """The objects of a text of so many, as `read_objects` gives them."""
     found = 0
     for piece in pieces_of(text):
-        for lines, one in _divided(piece, lists):
-            refuse_more(found, count)
-            for each in further_objects(lines, found, count, lists) if one is None else (one,):
-                found += 1
-                yield each
+        for one in _objects_of(piece, found, count, lists):
+            found += 1
+            yield one
     refuse_count(found, count)
+
+
+def _objects_of(piece: Piece, found: int, count: int, lists: Lists) -> Iterator[Object]:
+    """The objects of a piece, before which so many were found."""
+    for lines, one in _divided(piece, lists):
+        refuse_more(found, count)
+        for each in further_objects(lines, found, count, lists) if one is None else (one,):
+            found += 1
+            yield each
 
 
 def _divided(piece: Piece, lists: Lists) -> Iterator[Tuple[Iterator[bytes], Optional[Object]]]:
@@ -107,6 +115,12 @@ def _object(part: bytes, lists: Lists) -> Optional[Object]:
     return told_apart(one, text)
 
 
+def _sound_parts_of(piece: Piece) -> Optional[List[bytes]]:
+    """The objects of a piece as `parts_of` has them; None where one has a head that is to be read by itself, or too much text."""
+    parts = parts_of(piece)
+    return parts if parts and max(map(len, parts)) < show.MOST_TEXT and all(map(_HEAD.match, parts)) else None
+
+
 def _take_names(parts: List[bytes], names: Names) -> None:
     """Takes the names of the objects that have one."""
     for head in filter(None, map(_NAMED.match, parts)):
@@ -120,8 +134,8 @@ def names_in(text: IO[bytes], count: int) -> Names:
     """The names of layers, styles, linetypes, applications and blocks, by handle, in a text of so many objects."""
     names, found = Names(), 0
     for piece in pieces_of(text):
-        parts = parts_of(piece)
-        if parts and found + len(parts) <= count and max(map(len, parts)) < show.MOST_TEXT and all(map(_HEAD.match, parts)):
+        parts = _sound_parts_of(piece)
+        if parts and found + len(parts) <= count:
             _take_names(parts, names)
             found += len(parts)
             continue
@@ -130,3 +144,113 @@ def names_in(text: IO[bytes], count: int) -> Names:
             names.take(one)
     refuse_count(found, count)
     return names
+
+
+class Course:
+    """The objects of a text of so many, which are taken one by one, or passed over where another text has the same."""
+
+    def __init__(self, text: IO[bytes], count: int, told: Callable[[Exception], Exception] = lambda fault: fault) -> None:
+        self.text, self.count, self.found = text, count, 0
+        # What becomes of its faults.
+        self.told = told
+        # What is held, where an object begins in it, and whether nothing comes after.
+        self.held, self.at, self.is_whole = b"", 0, False
+        # The objects of the piece in hand, which is one object but where a head is to be read by itself, and the next of these.
+        self._objects: Iterator[Object] = iter(())
+        self._next: Optional[Object] = None
+
+    def fill(self) -> None:
+        """Holds as much as a piece from where an object begins on, unless the text ends."""
+        if not self.is_whole and len(self.held) - self.at < SIZE:
+            block = self.text.read(SIZE)
+            self.held, self.at, self.is_whole = self.held[self.at :] + block, 0, not block
+
+    @property
+    def is_between(self) -> bool:
+        """Whether no object is in hand."""
+        return self._next is None
+
+    def take(self) -> Optional[Object]:
+        """The next object; None after the last."""
+        one = self._next
+        if one is None:
+            self._objects = self._counted(self._piece())
+            one = next(self._objects, None)
+        # (a long object is read to its end by this, so that the text goes on at the next)
+        self._next = next(self._objects, None)
+        return one
+
+    def _piece(self) -> Piece:
+        """The text of the next object, or the lines of one that is longer than a piece; nothing after the last."""
+        self.fill()
+        begin, end = self.at, self.held.find(BETWEEN, self.at) + 1
+        if not end and not self.is_whole:
+            return self._long()
+        self.at = end or len(self.held)
+        return self.held[begin : self.at]
+
+    def _long(self) -> Iterator[bytes]:
+        """The lines of the next object; what stands after it is held then."""
+        after: List[bytes] = []
+        yield from _lines(self.held[self.at :], self.text, after)
+        self.held, self.at = b"".join(after), 0
+
+    def _counted(self, piece: Piece) -> Iterator[Object]:
+        """The objects of a piece, which are counted; nothing stands after the last one that is said."""
+        try:
+            if not piece:
+                refuse_count(self.found, self.count)
+                return
+            for one in _objects_of(piece, self.found, self.count, Lists.TEXT):
+                self.found += 1
+                yield one
+        except (BadText, ToolError) as fault:
+            raise self.told(fault) from None
+
+    def whole(self, size: int) -> int:
+        """How many of so many bytes are whole objects, by what is held of them."""
+        end = self.at + size
+        return size if self.is_whole and end == len(self.held) else self.held.rfind(BETWEEN, self.at, end) + 1 - self.at
+
+    def pass_over(self, piece: bytes, parts: Optional[List[bytes]]) -> None:
+        """Passes over a piece that begins here, whose objects are these, or are to be read line by line."""
+        self.at += len(piece)
+        if parts and self.found + len(parts) <= self.count:
+            self.found += len(parts)
+            return
+        for _ in self._counted(piece):
+            pass
+
+
+def pass_same(one: Course, other: Course) -> None:
+    """Passes over the objects that two texts have in common from where they are."""
+    while True:
+        one.fill()
+        other.fill()
+        size = _common(one, other)
+        size = min(one.whole(size), other.whole(size))
+        if size <= 0:
+            return
+        piece = one.held[one.at : one.at + size]
+        parts = _sound_parts_of(piece)
+        one.pass_over(piece, parts)
+        other.pass_over(piece, parts)
+
+
+# How many bytes are compared first.
+FIRST = 64
+
+
+def _common(one: Course, other: Course) -> int:
+    """How many bytes of what is held are the same, or few less: steps are as long as all before, and half as long each from where one differs."""
+    most = min(len(one.held) - one.at, len(other.held) - other.at)
+    size, step, is_same = 0, FIRST, True
+    while step and size < most:
+        step = min(step, most - size)
+        begin, beside = one.at + size, other.at + size
+        if one.held[begin : begin + step] == other.held[beside : beside + step]:
+            size += step
+            step = max(size, FIRST) if is_same else step // 2
+        else:
+            is_same, step = False, step // 2
+    return size

@@ -76,13 +76,18 @@ def find_program(given: Optional[str] = None) -> str:
             hush_where_named([path])
             if not is_command(path):
                 raise ToolError(f"{one_line(path)}, which {origin} names, is no program", Exit.NO_PROGRAM)
-            return os.path.abspath(path)
+            return in_folder(path)
     beside = os.path.join(TOP, "dwg")
     found = beside if is_command(beside) else shutil.which("dwg")
     if not found:
         raise ToolError("the program dwg isn't found; name it with --program PATH", Exit.NO_PROGRAM)
     hush_where_named([found])
-    return found
+    return in_folder(found)
+
+
+def in_folder(path: str) -> str:
+    """A name that is looked for in its folder alone, and never on the PATH; the system follows what links are in it, which no text can."""
+    return os.path.join(os.curdir, path)
 
 
 class ProgramFailed(ToolError):
@@ -279,8 +284,13 @@ def _status_of(code: int, notes: bytes) -> Status:
         raise ProgramFailed(f"status {code}: {said}" if said else f"status {code}") from None
 
 
+# What the launcher of a checkout begins with, in all of its versions.
+LAUNCHER = b"#!/bin/sh\n# Runs the program dwg with these words, standard input and output"
+
+
 def program_file(path: str) -> str:
-    """The file of the program that a name leads to: where that is the launcher of a checkout, what it has built."""
-    real = os.path.realpath(path)
-    built = os.path.join(os.path.dirname(real), "crates", "dwg_cli", "out", "dwg_cli")
-    return built if os.path.isfile(built) else real
+    """The file of the program that answers by a name: where that leads to the launcher of a checkout, and to no other file in it, what it has built."""
+    with open(path, "rb") as file:
+        is_launcher = file.read(len(LAUNCHER)) == LAUNCHER
+    built = os.path.join(os.path.dirname(os.path.realpath(path)), "crates", "dwg_cli", "out", "dwg_cli")
+    return built if is_launcher and os.path.isfile(built) else path

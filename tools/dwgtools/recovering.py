@@ -13,7 +13,7 @@ from .file import version_of_rest
 from .inputs import refuse_changed, state_of
 from .notes import Recovery, read_recovery
 from .outputs import WholeFile
-from .pairs import Written, alone_in, place_both
+from .pairs import Written, alone_beside, place_both
 from .program import Answer, Program, ProgramFailed
 from .report import ReadAs
 from .statuses import Exit, Status, ToolError
@@ -39,7 +39,7 @@ def recovered(program: Program, source: IO[bytes], options: argparse.Namespace, 
             notes.finish()
             whole.finish()
             kept = again(whole.file)
-            with alone_in(os.path.dirname(options.out) or "."):
+            with alone_beside(whole):
                 place_both(whole, notes, written)
             return told, read, kept
     except FileExistsError as fault:
@@ -71,8 +71,9 @@ def run_recover(program: Program, source: IO[bytes], out: IO[bytes], notes: IO[b
     return told, read
 
 
-def read_back(program: Program, out: IO[bytes]) -> None:
-    """Has the program read what it wrote, before that has a name and replaces anything; ProgramFailed where it is no drawing."""
+def read_back(program: Program, out: IO[bytes]) -> int:
+    """Has the program read what it wrote, before that has a name and replaces anything; ProgramFailed where it is no drawing. How many findings
+    `audit` has."""
     os.lseek(out.fileno(), 0, os.SEEK_SET)
     answer = program.tally(["audit"], out)
     if answer.status == Status.NO_MEMORY:
@@ -82,6 +83,7 @@ def read_back(program: Program, out: IO[bytes]) -> None:
     end = b"audit yes" if answer.status == Status.DONE else b"audit no %d" % (answer.count - 1)
     if answer.status not in (Status.DONE, Status.FOUND) or answer.last != end:
         raise ProgramFailed("what it wrote is read as no drawing")
+    return answer.count - 1
 
 
 def told_by(answer: Answer, notes: IO[bytes], source: str, out: str) -> Recovery:

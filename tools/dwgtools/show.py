@@ -52,6 +52,15 @@ PIECE, ELEMENTS_AT_ONCE = 1 << 16, 1 << 12
 
 
 @dataclass
+class _Waiting:
+    """A list of numbers or points: how many letters the words of an element have, how many elements were taken, and the text of the last ones."""
+
+    width: int
+    taken: int = 0
+    values: List[bytes] = field(default_factory=list)
+
+
+@dataclass
 class Object:
     """An object of a drawing: handle, kind, form (`typed`, `plain`, `raw`), type number, and its fields as they are printed.
 
@@ -66,24 +75,27 @@ class Object:
     # The numbers of lists of numbers or points, by name without brackets, where these aren't in the text; and how much text there was in all.
     lists: Dict[str, "array[float]"] = field(default_factory=dict)
     size: int = 0
-    waiting: Dict[bytes, List[bytes]] = field(default_factory=dict)
+    waiting: Dict[bytes, "_Waiting"] = field(default_factory=dict)
 
     def take(self, printed: bytes) -> bool:
-        """Takes the numbers of an element of a list, each after those of the one before; False where it has none. `settle` is called after the last."""
+        """Takes the numbers of an element of a list, each after those of the one before; False where it has none. `settle` is called after the last.
+
+        Elements of a list of numbers or points follow each other without a gap, and have as many words each.
+        """
         name, _, value = printed.partition(b" ")
-        at = name.index(b"[")
-        listed = name[:at] + name[name.index(b"]") + 1 :]
+        at, end = name.index(b"["), name.index(b"]")
+        listed = name[:at] + name[end + 1 :]
         # (of many the text is kept for a while, since one is read alone ten times as slowly)
         some = self.waiting.get(listed)
         if some is None:
-            if not isinstance(read_value(listed, value), Words):
+            if b"[" in listed or not isinstance(read_value(listed, value), Words):
                 return False
-            some = self.waiting[listed] = []
-        elif not _WORDS.fullmatch(value):
-            read_value(listed, value)
-            return False
-        some.append(value)
-        if len(some) >= ELEMENTS_AT_ONCE:
+            some = self.waiting[listed] = _Waiting(len(value))
+        if len(value) != some.width or name[at + 1 : end] != b"%d" % some.taken or not _WORDS.fullmatch(value):
+            raise BadText("%s %r after %d elements of %d letters" % (name[:80].decode("ascii", "replace"), value[:80], some.taken, some.width))
+        some.taken += 1
+        some.values.append(value)
+        if len(some.values) >= ELEMENTS_AT_ONCE:
             self.settle()
         return True
 
@@ -91,14 +103,11 @@ class Object:
         """Makes numbers of all that is kept as text of lists."""
         for listed, some in self.waiting.items():
             numbers = array("d")
-            try:
-                numbers.frombytes(bytes.fromhex(b" ".join(some).decode("ascii")))
-            except ValueError:
-                raise BadText("no value of %s: %r" % (listed[:80].decode("ascii", "replace"), some[0])) from None
+            numbers.frombytes(bytes.fromhex(b" ".join(some.values).decode("ascii")))
             if sys.byteorder == "little":
                 numbers.byteswap()
             self.lists.setdefault(listed.decode("ascii", "replace"), array("d")).extend(numbers)
-            some.clear()
+            some.values.clear()
 
     @property
     def lines(self) -> Iterator[bytes]:

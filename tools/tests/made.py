@@ -24,7 +24,7 @@ sys.path.insert(0, str(TOOLS))
 
 from dwgtools.program import find_program  # noqa: E402  pylint: disable=wrong-import-position
 
-PROGRAM = find_program()
+PROGRAM = os.path.realpath(find_program())
 # No test waits for answers without a proof.
 os.environ["DWG_PROVED_ONLY"] = "1"
 

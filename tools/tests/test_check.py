@@ -561,6 +561,17 @@ class Check(Base):
         ran = tool("dwg-check", "--quiet", "--program", folder + b"/dwg", path)
         self.assertEqual((ran.returncode, ran.stderr, ran.stdout.count(b"\tsound\t")), (0, b"", 1))
 
+    def test_a_program_is_what_the_system_finds_by_its_name(self) -> None:
+        """`link/../dwg` stands beside what the link leads to."""
+        self.some(["a.dwg", "real/deep/none", "here/none"])
+        (self.folder / "here/link").symlink_to("../real/deep")
+        shutil.copy(program_file(made.PROGRAM), self.folder / "real/dwg")
+        program_that(self.folder / "here", "dwg", ['[ "$1" != audit ] || { echo "dwg: refused: objects 3 at 400: check" >&2; exit 3; }', 'exec "$REAL" "$@"'])
+        for name, words in (("link/../dwg", ["--program", "link/../dwg"]), ("link/../dwg", []), ("../real/dwg", []), ("dwg", [])):
+            said = [str(TOOLS / "dwg-check"), "--quiet", *words, "../a.dwg"]
+            ran = subprocess.run(said, capture_output=True, check=False, cwd=self.folder / "here", env={**os.environ, "DWG": name})
+            self.assertEqual((ran.returncode, ran.stdout.count(b"\tsound\t")), (1, 0) if name == "dwg" else (0, 1), (name, ran.stderr))
+
     def test_which_files(self) -> None:
         self.some(["b/2.DWG", "b/1.dwg", "b/c/3.dwg", "a.dwg", "z.bak", "b.dwg/inside.dwg"])
         (self.folder / "link.dwg").symlink_to("a.dwg")
@@ -832,35 +843,6 @@ class Check(Base):
         os.close(ours)
         self.assertEqual((ran.returncode, ran.stderr.splitlines()[-1]), (64, b"dwg-check: --print0 prints names as they are, and standard output is a terminal"))
 
-    def test_the_recipe_recovers_all_that_is_damaged(self) -> None:
-        page = (made.TOP / "docs" / "dwg-tools.7").read_text()
-        recipe = page.split("\nRecover all that is damaged", 1)[1].split("-offset indent\n", 1)[1].split(".Ed\n", 1)[0]
-        recipe = recipe.replace("\\(dq", '"').replace("\\e", "\\")
-        folders = ["a", "b", "c d\n", "-e", "f\\t\t"]
-        names = ["plan.dwg", "it's \"$x\".dwg", "-n.dwg", " \n.dwg", "\udce4\\.dwg"]
-        data = made.made(5)
-        lost = flipped(data, layout(data).frames[20].place + 4)
-        for folder in folders:
-            (self.folder / "plans" / folder).mkdir(parents=True)
-            for name in names:
-                (self.folder / "plans" / folder / name).write_bytes(lost)
-            (self.folder / "plans" / folder / "whole.dwg").write_bytes(data)
-        environment = {**os.environ, "DWG": made.PROGRAM, "PATH": f"{TOOLS}:{os.environ['PATH']}"}
-        (self.folder / "whole" / "plans").mkdir(parents=True)
-        (self.folder / "whole" / "plans" / "a.dwg").write_bytes(data)
-        subprocess.run(["sh", "-c", recipe], cwd=self.folder / "whole", check=True, env=environment)
-        self.assertEqual(os.listdir(self.folder / "whole"), ["plans"])
-        subprocess.run(["sh", "-c", recipe], cwd=self.folder, check=False, env=environment)
-        expected = {f"{folder}/{name}{more}" for folder in folders for name in names for more in ("", ".notes", ".txt")}
-        under = self.folder / "recovered" / "plans"
-        found = {str(path.relative_to(under)) for path in under.rglob("*") if path.is_file()}
-        self.assertEqual(found, expected)
-        reports = {path: path.read_bytes() for path in under.rglob("*.txt")}
-        self.assertTrue(all(b" is damaged: objects 20 " in report for report in reports.values()))
-        # What is there already stays.
-        subprocess.run(["sh", "-c", recipe], cwd=self.folder, check=False, env=environment, stderr=subprocess.DEVNULL)
-        self.assertEqual({path: path.read_bytes() for path in under.rglob("*.txt")}, reports)
-
     def test_nothing_is_written(self) -> None:
         self.some(["a.dwg"])
         before = sorted((path.name, path.stat().st_mtime_ns) for path in self.folder.iterdir())
@@ -941,6 +923,31 @@ class Logs(Base):
             ran = subprocess.run([str(TOOLS / "dwg-check"), "--resume", str(other), path], stdout=subprocess.PIPE, stderr=out, check=False, env={**os.environ, "DWG": made.PROGRAM})
         self.assertEqual((ran.returncode, ran.stdout), (73, b""))
         self.assertEqual(other.read_bytes(), b"")
+
+    def test_a_log_that_is_a_link_to_a_file_to_check_is_refused(self) -> None:
+        empty = self.folder / "d" / "empty.txt"
+        empty.write_bytes(b"")
+        self.log.symlink_to(empty)
+        ran = self.resume("--all")
+        self.assertEqual((ran.returncode, ran.stdout, empty.read_bytes()), (73, b"", b""), ran.stderr)
+        self.assertIn(b"is a file to check, and LOG too", ran.stderr)
+
+    def test_log_is_of_the_program_that_answers(self) -> None:
+        """A file at the top of a checkout answers itself; its launcher alone answers by what the checkout has built."""
+        path, launcher = self.some(["a.dwg"])[0], made.TOP / "dwg"
+        top, built = self.folder / "top", self.folder / "top/crates/dwg_cli/out/dwg_cli"
+        built.parent.mkdir(parents=True)
+        shutil.copy(program_file(made.PROGRAM), built)
+        (top / "other").write_bytes(program_that(self.folder, "refusing", ['[ "$1" != audit ] || { echo "dwg: refused: objects 3 at 400: check" >&2; exit 3; }', 'exec "$REAL" "$@"']).read_bytes())
+        for copy in ("dwg", "older"):
+            shutil.copy(launcher, top / copy)
+        (top / "other").chmod(0o755)
+        (self.folder / "link").symlink_to("top/dwg")
+        for name, answers, verdict in (("top/other", top / "other", "damaged"), ("top/dwg", built, "sound"), ("link", built, "sound"), ("top/older", built, "sound"), ("top/other", top / "other", "damaged"), ("top/crates/dwg_cli/out/dwg_cli", built, "sound")):
+            ran = tool("dwg-check", "--quiet", "--program", self.folder / name, "--resume", self.log, path, DWG_BUILT="1")
+            self.assertIn(f"\t{verdict}\t".encode(), ran.stdout, (name, ran.stderr))
+            heads = [told["program"] for told in map(json.loads, self.log.read_bytes().splitlines()) if "log" in told]
+            self.assertEqual(heads[-1], hashlib.sha256(answers.read_bytes()).hexdigest(), name)
 
     def test_the_head_names_the_program(self) -> None:
         self.some(["d/a.dwg", "d/b.dwg"])

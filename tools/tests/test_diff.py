@@ -2,16 +2,27 @@
 
 from __future__ import annotations
 
+import contextlib
+import io
 import itertools
 import json
 import os
+import random
 import subprocess
 import unittest
-from typing import Any, Dict, List, Sequence, Tuple
+import unittest.mock
+from typing import IO, Any, Dict, Iterator, List, Sequence, Tuple
 
 import common
 import spelled
-from made import PROGRAM, TOOLS, dwg, made, needs_program, tool
+import test_limits
+import test_pieces
+from made import PROGRAM, TOOLS, dwg, made, needs_program, program_that, tool
+
+from dwgtools.differences import Comparison, Ignored, said_lines
+from dwgtools.names import Names
+from dwgtools.pieces import names_in
+from dwgtools.show import Prefix, read_objects, read_prefix
 
 needs_program()
 
@@ -93,6 +104,21 @@ class Diff(common.InFolder):
         self.assertEqual(self.fields(layer=b"W\xe4nde"), {"entry.name": ("WALLS", "Wände")})
         self.assertEqual(self.fields(page=29), {"codepage": (30, 29)})
         self.assertEqual(self.fields(dxf=b"OTHER"), {"dxf": ("WIPEOUT", "OTHER")})
+
+    def test_a_long_name_is_told_where_it_is_changed_alone(self) -> None:
+        paths = []
+        for name, end in ((b"\x80" * 65_535, 1), (b"\x80" * 65_534 + b"x", 2)):
+            one = spelled.Drawing()
+            layer = one.layer(one.free(), name, 1)
+            for k in range(100):
+                one.point((k, end, 0), layer=layer if k else one.WALLS if end == 1 else layer)
+            paths.append(self.file(f"{end}.dwg", one.file()))
+        for words, head in (([], f'    layer: 5.11 "WALLS" -> 5.{layer:X}'), (["--json"], f'"new": {{"code": 5, "handle": "{layer:X}"}}}}')):
+            ran = tool("dwg-diff", *words, *paths)
+            said = ran.stdout.decode()
+            self.assertEqual((ran.returncode, ran.stderr, said.count("POINT")), (1, b"", 100))
+            self.assertIn(head.strip(), said)
+            self.assertEqual((said.count("\u20ac" * 65_534) + said.count("\\u20ac" * 65_534), said.count("\u20ac" * 65_535) + said.count("\\u20ac" * 65_535)), (2, 1))
 
     def test_lists(self) -> None:
         self.assertEqual(self.fields(points=[(0, 0), (1, 0), (5, 5), (1, 1), (0, 1)]), {"points[2]": (None, [5.0, 5.0])})
@@ -181,6 +207,136 @@ class Diff(common.InFolder):
         for lines in (["exit 6"], ['"$REAL" show | head -n 100'], ["kill -9 $$"]):
             answer = tool("dwg-diff", path, path, "--program", self.failing(*lines))
             self.assertEqual((answer.returncode, answer.stdout), (2, b""))
+
+    def test_a_text_that_is_none_is_told_of_its_own_drawing(self) -> None:
+        """Both are shown at once, and a fault of one isn't told as one of the other, nor of both."""
+        good = test_limits.PREFIX.format(count=1) + "object 31 SEQEND typed 6\n"
+        bad = {"more": good + "object 32 SEQEND typed 6\n", "fewer": good.replace("objects 1", "objects 2")}
+        bad.update({"odd": good + "x\n", "late": good + "  a 1\n" * 3 + "y\n", "none": "z\n"})
+        for name, text in {"good": good, **bad}.items():
+            self.file(f"{name}.dwg", text.encode())
+        program = program_that(self.folder, "showing", ['[ "$1" != show ] || exec cat'])
+        for name in bad:
+            for pair in ((name, "good"), ("good", name), (name, name)):
+                answer = tool("dwg-diff", *(self.folder / f"{each}.dwg" for each in pair), "--program", program)
+                begin = f"dwg-diff: {self.folder}/{name}.dwg: the text of `show` isn't as it should be: "
+                self.assertEqual((answer.returncode, answer.stderr.startswith(begin.encode()), answer.stderr.count(b".dwg")), (2, True, 1), answer.stderr)
+
+
+class Shown:
+    """A drawing by the text that is shown of it, and how often that is asked for."""
+
+    def __init__(self, shown: bytes) -> None:
+        self.shown, self.times = shown, 0
+
+    @contextlib.contextmanager
+    def text(self) -> Iterator[Tuple[Prefix, IO[bytes]]]:
+        """As that of a drawing."""
+        self.times += 1
+        file = io.BytesIO(self.shown)
+        yield read_prefix(file), file
+
+    def names(self) -> Names:
+        """And so its names."""
+        with self.text() as (prefix, text):
+            return names_in(text, prefix.count)
+
+
+def elements(count: int) -> str:
+    """The lines of a list."""
+    return "".join(f"  b[{at}] 1\n" for at in range(count))
+
+
+SIZES = (40, 64, 150, 333, 1000, 1 << 16)
+
+
+class Texts(unittest.TestCase):
+    """Equal texts are passed over as bytes, in pieces of whatever size, and what differs is told object by object."""
+
+    def shown(self, objects: Dict[int, str]) -> Shown:
+        """A drawing of objects by handle, each the lines of its fields; the handle 10 is that of a layer."""
+        layer = 'object 10 LAYER typed 51\n  entry.name "WALLS"\n'
+        lines = [f"object {handle:X} LINE typed 19\n{objects[handle]}" for handle in sorted(objects)]
+        return Shown((test_limits.PREFIX.format(count=1 + len(lines)) + layer + "".join(lines)).encode())
+
+    def told(self, old: Any, new: Any) -> List[str]:
+        """The lines that are told, and the counts."""
+        comparison = Comparison(old, new, Ignored([]))
+        lines = [line for one in comparison.differences() for line in said_lines(one, comparison.old, comparison.new)]
+        return [*lines, str(comparison.counts)]
+
+    def expected(self, old: Dict[int, str], new: Dict[int, str]) -> List[str]:
+        """What is to be told of fields `a`, the first line of each object."""
+        lines, counts = [], {"added": 0, "removed": 0, "changed": 0}
+        for handle in sorted({*old, *new}):
+            one, other = old.get(handle), new.get(handle)
+            change = "added" if one is None else "removed" if other is None else "changed" if one != other else ""
+            if change:
+                counts[change] += 1
+                lines.append(f'{change} object {handle:X} LINE on "WALLS"')
+            if change == "changed":
+                lines.append(f"  a: {one.split()[1]} -> {other.split()[1]}")
+        return [*lines, str(counts)]
+
+    def compare(self, old: Dict[int, str], new: Dict[int, str]) -> None:
+        """Both ways, in pieces of each size."""
+        for one, other in ((old, new), (new, old)):
+            for size in SIZES:
+                with unittest.mock.patch("dwgtools.pieces.SIZE", size):
+                    self.assertEqual(self.told(self.shown(one), self.shown(other)), self.expected(one, other), size)
+
+    def lines(self, count: int) -> Dict[int, str]:
+        """Objects of some handles, whose texts have many lengths."""
+        return {0x30 + 2 * at: f"  a {at}\n  layer 5.10\n" + elements(at * 7 % 11) for at in range(count)}
+
+    def test_where_objects_differ(self) -> None:
+        objects = self.lines(40)
+        handles = list(objects)
+        places: List[List[int]] = [[], [0], [39], [0, 39], [20], [20, 21], [20, 22], list(range(15, 25)), list(range(0, 40, 2)), list(range(40))]
+        for some in places:
+            self.compare(objects, {**objects, **{handles[at]: objects[handles[at]].replace(f"  a {at}\n", "  a 777\n") for at in some}})
+
+    def test_runs_that_were_added(self) -> None:
+        objects = self.lines(40)
+        handles = list(objects)
+        for begin, end in ((0, 1), (0, 20), (39, 40), (20, 40), (13, 14), (13, 29), (0, 40)):
+            left = {handle: objects[handle] for handle in handles[:begin] + handles[end:]}
+            self.compare(left, objects)
+            # Others stand in their place, or after a change.
+            self.compare({**left, **{handle + 1: objects[handle] for handle in handles[begin:end]}}, objects)
+            self.compare({**left, handles[begin]: objects[handles[begin]].replace("  a ", "  a 9")}, objects)
+
+    def test_chance(self) -> None:
+        chance = random.Random(4)
+        for _ in range(30):
+            old, new = ({handle: lines for handle, lines in self.lines(30).items() if chance.random() < 0.9} for _ in range(2))
+            self.compare(old, {handle: lines if chance.random() < 0.8 else lines.replace("  a ", "  a 5") for handle, lines in new.items()})
+
+    def test_long_objects(self) -> None:
+        long = "  a 1\n  layer 5.10\n" + elements(400)
+        for handle in (0x2F, 0x43, 0x99):
+            for other in (long, long.replace("  a 1", "  a 2"), ""):
+                self.compare({**self.lines(20), handle: long}, {**self.lines(20), **({handle: other} if other else {})})
+
+    def test_names_are_looked_for_where_something_differs(self) -> None:
+        objects = self.lines(50)
+        for change, times in ((None, (1, 1)), ({0x30: "  a 9\n"}, (2, 1)), ({0x29: "  a 9\n  layer 5.10\n"}, (1, 2))):
+            old, new = self.shown(objects), self.shown({**objects, **(change or {})})
+            self.told(old, new)
+            self.assertEqual((old.times, new.times), times)
+
+    def test_a_text_that_is_none_is_told_as_line_by_line(self) -> None:
+        by_lines = lambda text, count, _: read_objects(text, count)
+        whole, chance = 0, random.Random(5)
+        for text in test_pieces.texts():
+            plain = test_pieces.told(by_lines, text, None)
+            with unittest.mock.patch("dwgtools.pieces.SIZE", chance.choice(SIZES)):
+                comparison: Any = Comparison(Shown(text), Shown(text), Ignored([]))  # type: ignore[arg-type]
+                told = test_pieces.told(lambda *_: comparison.differences(), text, None)
+            self.assertEqual(told[1:], plain[1:], text)
+            self.assertEqual(told[0], [], text)
+            whole += len(plain) == 1
+        self.assertGreater(whole, 40)
 
 
 if __name__ == "__main__":

@@ -2,6 +2,7 @@
 
 from __future__ import annotations
 
+import errno
 import io
 import os
 import pathlib
@@ -9,6 +10,7 @@ import shutil
 import subprocess
 import tempfile
 import unittest
+import unittest.mock
 
 import made
 from dwgtools.escapes import one_line, one_message
@@ -167,9 +169,20 @@ class Whole(unittest.TestCase):
         self.assertEqual((self.path.read_bytes(), os.listdir(self.folder)), (b"one", ["file"]))
 
     @staticmethod
-    def no_link(*_: object) -> None:
+    def no_link(*_: object, **__: object) -> None:
         """A file system that has no links."""
         raise PermissionError(1, "Operation not permitted")
+
+    def test_a_temporary_name_that_is_taken(self) -> None:
+        """Another name is tried, a few times, and what has one stays."""
+        taken = self.folder / ".file.00.part"
+        taken.write_bytes(b"own")
+        with unittest.mock.patch("secrets.token_hex", side_effect=["00", "00", "01"]):
+            write_whole(str(self.path), b"one")
+        self.assertEqual((self.path.read_bytes(), taken.read_bytes()), (b"one", b"own"))
+        with unittest.mock.patch("secrets.token_hex", return_value="00"), self.assertRaises(OSError) as raised:
+            write_whole(str(self.path), b"two", force=True)
+        self.assertEqual((raised.exception.errno, taken.read_bytes(), self.path.read_bytes()), (errno.EBUSY, b"own", b"one"))
 
     def test_left(self) -> None:
         with self.assertRaises(KeyError), WholeFile(str(self.path)) as whole:

@@ -84,7 +84,9 @@ class House(unittest.TestCase):
         self.assertEqual(self.completed("dwg", "c"), ["carry", "certify", "classes"])
         self.assertEqual(self.completed("dwg", "make", ""), [])
         self.assertEqual(self.completed("dwg-check", "--j"), ["--jobs", "--json"])
-        self.assertEqual(self.completed("dwg-recover", "--"), ["--before", "--even-empty", "--force", "--help", "--json", "--program", "--version"])
+        self.assertEqual(self.completed("dwg-recover", "--"), ["--all", "--before", "--even-empty", "--force", "--help", "--jobs", "--json", "--program", "--quiet", "--tree", "--version", "--whole"])
+        self.assertEqual(self.completed("dwg-recover", "--tree", "p"), ["plans"])
+        self.assertEqual(self.completed("dwg-recover", "--whole", ""), ["copy", "skip"])
         self.assertEqual(self.completed("dwg-check", "p"), ["plan a.dwg", "plans"])
         self.assertEqual(self.completed("dwg-check", "--json", "P"), ["PLAN.DWG"])
         self.assertEqual(self.completed("dwg-check", "--resume", "n"), ["notes.txt"])
@@ -134,6 +136,34 @@ class House(unittest.TestCase):
             ran = subprocess.run([str(installed / "dwg-check"), str(self.folder / "a.dwg")], capture_output=True, check=False, env=environment)
             self.assertEqual(ran.returncode, 0, ran.stderr)
         self.uninstalled(words, top)
+
+    def test_install_through_links(self) -> None:
+        """Folders of PREFIX may be links; with DESTDIR all holds once the tree is where it is to be."""
+        if not shutil.which("make"):
+            self.skipTest("make install, as make isn't installed")
+        made.needs_program()
+        program = self.folder / "program"
+        shutil.copy(pathlib.Path(made.PROGRAM).resolve(), program)
+        for link, is_staged in (("lib", False), ("bin", False), ("lib/dwg", True), ("lib", True), ("", False)):
+            top, elsewhere = self.folder / "it's", self.folder / "x" / "y" / "z"
+            stage = self.folder / "stage" if is_staged else None
+            now = pathlib.Path(f"{stage or ''}{top}") / link
+            now.parent.mkdir(parents=True, exist_ok=True)
+            elsewhere.mkdir(parents=True)
+            now.symlink_to(elsewhere)
+            words = ["make", "-s", f"PREFIX={top}", "DWG=true", f"PROGRAM={program}", *([f"DESTDIR={stage}"] if stage else [])]
+            subprocess.run([*words, "install"], cwd=TOP, check=True)
+            if stage:
+                pathlib.Path(f"{stage}{top}").rename(top)
+            if pathlib.Path(made.PROGRAM).resolve() != TOP / "dwg":
+                environment = {key: value for key, value in os.environ.items() if key != "DWG"}
+                ran = subprocess.run([str(top / "bin/dwg-check"), "--quiet", str(made.DATA / "items.dwg")], capture_output=True, check=False, env=environment)
+                self.assertEqual((ran.returncode, ran.stderr), (0, b""), (link, is_staged))
+            self.assertEqual([path for path in self.folder.rglob("*") if not path.exists()], [], (link, is_staged))
+            subprocess.run([*words[:5], "uninstall"], cwd=TOP, check=True)
+            self.assertEqual([path for path in top.rglob("*") if path.is_file()] + [path for path in elsewhere.rglob("*") if path.is_file()], [], link)
+            for folder in (top, self.folder / "x", self.folder / "stage"):
+                folder.unlink() if folder.is_symlink() else shutil.rmtree(folder, ignore_errors=True)
 
     def test_a_folder_where_a_file_or_a_link_should_be_is_refused(self) -> None:
         if not shutil.which("make"):

@@ -9,8 +9,7 @@ from typing import Any, Dict, List
 
 import common
 import spelled
-import test_limits
-from made import dwg, made, needs_program, program_that, tool
+from made import made, needs_program, tool
 
 needs_program()
 
@@ -103,25 +102,24 @@ class Json(common.InFolder):
         self.assertEqual(plain["refs"], [{"code": 5, "handle": "11", "name": "WALLS"}])
         self.assertEqual((raw["kind"], raw["form"], raw["type"]), ("UNKNOWN", "raw", 300))
 
-    def test_a_long_name_that_many_references_lead_to(self) -> None:
-        """What is said of a few bytes of a drawing is much, and isn't held: an object has 67 MB here, and the address space 180."""
-        long, out = b"\xe9" * 15_000 + b"\x81", self.folder / "out"
-        for words in ([], ["--pretty"]):
-            said = []
-            for name in (b"?", long):
-                one = spelled.Drawing()
-                one.layer(0x20, name, 1)
-                for handle in (0x200, 0x201):
-                    one.object(50, handle, spelled.long(740), [(2, 0x20)] * 740, owner=0)
-                text = self.file("text", dwg("show", given=one.file()).stdout)
-                showing = program_that(self.folder, "showing", [f'[ "$1" != show ] || exec cat "{text}"'])
-                small = "import resource\nresource.setrlimit(resource.RLIMIT_AS, (180_000_000, 180_000_000))"
-                ran = test_limits.otherwise("dwg-json", small, *words, "--program", showing, "--output", out, "--force", self.file("a.dwg", b"AC1015"))
-                self.assertEqual(ran.returncode, 0, ran.stderr)
-                said.append(out.read_bytes())
-            self.assertIn(b"doesn't have: 1481\n", ran.stderr)
-            self.assertEqual(said[0].count(b'"?"'), 1481)
-            self.assertTrue(said[0].replace(b'"?"', b'"' + b"\\u00e9" * 15_000 + b'\\udc81"') == said[1])
+    def test_a_long_name_stands_in_its_entry_alone(self) -> None:
+        """With each reference it would make gigabytes of a small drawing, or be held."""
+        for length, is_told in ((255, True), (256, False), (9_000, False)):
+            one, long = spelled.Drawing(), b"\x80" * length
+            layer = one.layer(one.free(), long, 1)
+            handles = [one.point((k, 0, 0), layer=layer) for k in range(300)]
+            # (one whose references are many is said piece by piece)
+            many = one.object(50, one.free(), spelled.long(3000), [(2, layer)] * 3000, owner=0)
+            path = self.file("long.dwg", one.file())
+            for words in ([], ["--pretty"]):
+                ran = tool("dwg-json", *words, path)
+                self.assertEqual((ran.returncode, ran.stderr), (0, b""))
+                self.assertEqual(ran.stdout.count(b"\\u20ac" * length), 1 + 3300 * is_told, (length, words))
+            found = {said.get("object"): said for said in lines_of(tool("dwg-json", path))}
+            self.assertEqual(found[f"{layer:X}"]["entry"]["name"], "\u20ac" * length)
+            expected = {"code": 5, "handle": f"{layer:X}", **({"name": "\u20ac" * length} if is_told else {})}
+            self.assertEqual(found[f"{handles[0]:X}"]["layer"], expected)
+            self.assertEqual("name" in found[f"{many:X}"]["entries"][2999], is_told)
 
     def test_output(self) -> None:
         path, out = self.file("a b.dwg", made(3, 1)), self.folder / "out.json"

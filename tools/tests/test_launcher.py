@@ -403,6 +403,21 @@ class Unproved(InTree):
         ran = subprocess.run(["./dwg", "show"], cwd=self.tree, input=b"", capture_output=True, env=self.environment({}), check=False)
         self.assertIn(b"; `make` proves and builds it", ran.stderr)
 
+    def test_a_folder_that_is_a_link(self) -> None:
+        """`link/..` is the folder of what the link leads to."""
+        for folder in ("dot/bin", "home/u", "home/tree", "tree/deep"):
+            (self.folder / folder).mkdir(parents=True)
+        shutil.copytree(self.tree / "crates", self.folder / "home/tree/crates")
+        (self.folder / "dot/bin/dwg").symlink_to("../../tree/dwg")
+        (self.folder / "home/u/bin").symlink_to("../../dot/bin")
+        (self.folder / "home/link").symlink_to("../tree/deep")
+        for shell in ([], ["dash"], ["bash"]):
+            for name in ("home/u/bin/dwg", "home/link/../dwg"):
+                if not shell or shutil.which(shell[0]):
+                    ran = subprocess.run([*shell, name, "show"], cwd=self.folder, input=b"input", capture_output=True, env=self.environment({}), check=False)
+                    self.expect_unproved(ran, "show", "input")
+                    self.assertIn(f"`make -C {self.tree.resolve()}` proves".encode(), ran.stderr, (shell, name))
+
     def test_cdpath(self) -> None:
         other = self.folder / "elsewhere" / "tree"
         other.mkdir(parents=True)

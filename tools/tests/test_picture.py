@@ -25,7 +25,7 @@ from typing import Any, Callable, Dict, Iterator, List, Sequence, Tuple
 import common
 import spelled
 import test_limits
-from made import PROGRAM, TOOLS, made, needs_program, shown, tool
+from made import PROGRAM, TOOLS, dwg, made, needs_program, program_that, shown, tool
 
 from dwgtools import lettering, plane, shapes
 from dwgtools.drawings import Drawing
@@ -790,6 +790,17 @@ class Pictures(common.InFolder):
                 content = lettering.readable(one, page)
                 self.assertEqual(ElementTree.fromstring(f"<text>{lettering.said(content)}</text>").text, content, (page, one))
 
+    def test_signs_of_texts_of_each_code_page(self) -> None:
+        """cp864 has another letter for the byte of a percent sign; and some letters of two bytes end with that of a backslash."""
+        for page in sorted(set(CODE_PAGES.values())):
+            content = lettering.readable(b"45%%d %%C5 %%p1 %%uA%%u%%066 \\U+20AC%%%", page)
+            self.assertEqual(content, "45\u00b0 \u23005 \u00b11 AB \u20ac%", page)
+        self.assertEqual(lettering.readable(b"\x95\\U+20AC%%d", "cp932"), "\u8868U+20AC\u00b0")
+        self.assertEqual(lettering.readable(b"100%", "cp864"), "100\u066a")
+        one = spelled.Drawing()
+        one.text(b"45%%d", (0, 0), 1.0)
+        self.assertIn(">45\u00b0<", tool("dwg-picture", self.file("a.dwg", one.file(19))).stdout.decode())
+
     def test_texts(self) -> None:
         one = spelled.Drawing()
         one.text(b"plain", (1, 2), 0.72)
@@ -1117,6 +1128,17 @@ class Pictures(common.InFolder):
         self.assertEqual(len(figures), 1 + 199)
         self.assertLess(size, 199 * 2000)
         self.assertGreater(len(list(figures[1].around(shapes.Frame()))), 250)
+
+    def test_elements_of_a_list_are_alike_and_follow_each_other(self) -> None:
+        """What another program than the proved one says wrongly of a list is no text of `show`: nothing of a picture is left out for it."""
+        path = self.file("a.dwg", made(12, 3))
+        self.assertIn(b"\n  points[1] ", dwg("show", given=path.read_bytes()).stdout)
+        for change in (r"s/^  points\[1\] .*/  points[1] 5.10/", r"s/^  points\[1\] .*/  points[1] 12/", r'''s/^  points\[1\] .*/  points[1] "a"/''',
+                       r"s/^  points\[1\] \([0-9A-F]*\) .*/  points[1] \1/", r"s/^  points\[1\] \([0-9A-F]*\) .*/& \1/", r"s/^  points\[1\]/  points[7]/", r"s/^  points\[0\]/  points[1]/",
+                       r"s/^  points\[1\]/  points[01]/", r"s/^  points\[1\] .\{16\} /  points[1] 4050FD94 4FE0000  /", r"/^  points\[1\] /d"):
+            odd = program_that(self.folder, "odd", ['[ "$1" = show ] || exec "$REAL" "$@"', f""""$REAL" show | sed '{change}'"""])
+            ran = tool("dwg-picture", "--program", odd, path)
+            self.assertEqual((ran.returncode, ran.stdout, ran.stderr.count(b"\n")), (70, b"", 1), (change, ran.stderr))
 
     def test_copies_through_nesting(self) -> None:
         one = spelled.Drawing()

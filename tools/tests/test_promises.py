@@ -20,7 +20,7 @@ TABLE = re.compile(r"^\| promise \| (?:function \| clause|clause of `(?P<functio
 EDITS = re.compile(r"(\d+) (?:edits stand )?in the (?:long )?gate \(`([^`]*)`\)")
 
 # Words between backticks that stand for what a reader names: a code of one's own, and the end of names.
-STAND_FOR_OTHERS = {"mycode", "mycode_is_code", "Lemmas", "_LINE"}
+STAND_FOR_OTHERS = {"mycode", "mycode_is_code", "Lemmas"}
 
 SOURCES = ("crates/*/src/**/*.rt", "crates/*/specs/**/*.antt", "crates/*/proofs/**/*.antt", "tools/*", "tools/**/*.py", "bench/*", "dwg")
 PLACES = ("*", "docs/*", "edits/*", "crates/*/*", "crates/*/src/**/*", "crates/*/proofs/**/*", "crates/*/must-fail/*")

@@ -487,6 +487,14 @@ class Chains(unittest.TestCase):
         self.assertEqual(self.breaks({5: 6, 6: 0, 7: 7}, 5, 6), ["after 7: what follows is 7, a ring of 1 that stands apart"])
         self.assertEqual(self.breaks({5: 0x2F, 6: 0}, 5, 6, [0x2F]), ["after 5: what follows is 2F, of kind LAYER, which is no member of the block"])
 
+    def test_the_long_name_of_a_class_is_not_told_with_each_break(self) -> None:
+        survey = Survey()
+        survey.spaces, survey.blocks[1] = [(1, 2)], Block("B", 5, 5)
+        for length, told in ((255, ", of kind " + "X" * 255), (256, "")):
+            survey.kinds[5] = "X" * length
+            (chain,) = chains.Chains(survey).broken()
+            self.assertEqual(str(chain.breaks[0]), f"at its begin: its first is 5{told}, which is no member of the block")
+
     def test_chains_are_walked_once(self) -> None:
         """Chains that no first leads to: descending handles, tails that lead into rings, and many rings, each linear in its members."""
         count = 60_000

@@ -206,15 +206,50 @@ class Outputs(common.InFolder):
         self.assertTrue(ran.stderr.startswith(b"dwg-json: a temporary file: No usable temporary directory found in "), ran.stderr)
         self.assertEqual(sorted(os.listdir(self.folder)), ["a.dwg", "out", "out.notes", "temporary", "text"])
 
-    def test_a_folder_that_is_moved_keeps_no_temporary_file(self) -> None:
+    def test_an_output_is_in_its_folder_wherever_that_is_moved(self) -> None:
         path = self.file("a.dwg", drawn(3, 1))
         moving = program_that(self.folder, "moving", [f'[ "$1" = drill ] || mv "{self.folder}/new" "{self.folder}/moved" 2>/dev/null', 'exec "$REAL" "$@"'])
         for name, words in WRITERS.items():
             for force in ([], ["--force"]):
-                (self.folder / "new").mkdir()
-                ran = tool(name, "--program", moving, *words(path, self.folder / "new/out"), *force)
-                self.assertEqual((ran.returncode, os.listdir(self.folder / "moved")), (5, []), (name, force, ran.stderr))
-                (self.folder / "moved").rmdir()
+                for place, out in ((None, self.folder / "new/out"), (self.folder / "new", "out")):
+                    (self.folder / "new").mkdir()
+                    said = [str(TOOLS / name), "--program", str(moving), *map(str, words(path, out)), *force]
+                    ran = subprocess.run(said, capture_output=True, check=False, cwd=place)
+                    found = sorted(os.listdir(self.folder / "moved"))
+                    self.assertEqual((ran.returncode, found), (0, ["out", "out.notes"] if name == "dwg-recover" else ["out"]), (name, force, ran.stderr))
+                    shutil.rmtree(self.folder / "moved")
+
+    def test_an_output_is_where_links_lead_to_and_nothing_is_left_elsewhere(self) -> None:
+        path = self.file("a.dwg", drawn(3, 1))
+        for folder in ("real/deep", "here"):
+            (self.folder / folder).mkdir(parents=True)
+        (self.folder / "here/link").symlink_to("../real/deep")
+        for name, words in WRITERS.items():
+            for force in ([], ["--force"], ["--force"]):
+                said = [str(TOOLS / name), "--program", made.PROGRAM, *map(str, words(path, "link/../out")), *force]
+                ran = subprocess.run(said, capture_output=True, check=False, cwd=self.folder / "here")
+                self.assertEqual((ran.returncode, ran.stderr, os.listdir(self.folder / "here")), (0, b"", ["link"]), name)
+                for out in (self.folder / "real").iterdir():
+                    self.assertEqual(out.stat().st_nlink if out.is_file() else 1, 1, out)
+            self.assertIn("out", os.listdir(self.folder / "real"))
+            for out in (self.folder / "real").glob("out*"):
+                out.unlink()
+
+    def test_an_output_in_a_folder_that_has_no_whole_name(self) -> None:
+        """No system call takes one of more than 4,096 bytes."""
+        path = self.file("a.dwg", drawn(3, 1))
+
+        def deep() -> None:
+            os.chdir(self.folder)
+            for _ in range(17):
+                os.makedirs("x" * 250, exist_ok=True)
+                os.chdir("x" * 250)
+
+        for name, words in WRITERS.items():
+            for force in ([], ["--force"]):
+                said = [str(TOOLS / name), "--program", made.PROGRAM, *map(str, words(path, f"{name}.out")), *force]
+                ran = subprocess.run(said, capture_output=True, check=False, preexec_fn=deep)
+                self.assertEqual((ran.returncode, ran.stderr), (0, b""), name)
 
     def test_long_names(self) -> None:
         path = self.file("a.dwg", drawn(3, 1))

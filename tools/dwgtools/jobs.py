@@ -1,0 +1,25 @@
+"""How many files are worked on at a time."""
+
+from __future__ import annotations
+
+import argparse
+import re
+import resource
+
+MOST_JOBS = 1000
+
+# How many descriptors the tool itself has open at the most.
+OPEN_BY_TOOL = 32
+
+
+def count_of(word: str) -> int:
+    """How many files a word of the command line says."""
+    if not re.fullmatch("[0-9]{1,4}", word) or not 1 <= int(word) <= MOST_JOBS:
+        raise argparse.ArgumentTypeError(f"{word!r} is no number from 1 to {MOST_JOBS}")
+    return int(word)
+
+
+def most_at_once(open_by_one: int, pipes: int = 0) -> int:
+    """How many files can be worked on at a time with the descriptors that this process may have open, of which one file takes so many."""
+    most = resource.getrlimit(resource.RLIMIT_NOFILE)[0]
+    return MOST_JOBS if most == resource.RLIM_INFINITY else max(1, (most - OPEN_BY_TOOL - 2 * pipes) // open_by_one)

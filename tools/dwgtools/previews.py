@@ -1,0 +1,114 @@
+"""The pictures of the preview section of a drawing."""
+
+from __future__ import annotations
+
+from dataclasses import dataclass
+from typing import IO, Any, Dict, List, Optional
+
+from .drawings import Drawing
+from .file import PREVIEW_PLACE, entries_of_preview, little
+from .inputs import from_begin, pieces_of, refuse_changed, state_of
+from .statuses import Exit, Status, ToolError
+from .versions import LIMIT, MOST_HEADER
+
+# What the codes of pictures mean. The first is no picture: it stands before them, of zeros.
+HEADER = "header"
+KINDS = {1: HEADER, 2: "BMP", 3: "WMF", 6: "PNG"}
+PICTURES = ("BMP", "WMF", "PNG")
+
+
+@dataclass(frozen=True)
+class Entry:
+    """An entry of a preview section that isn't empty: its code, and where its bytes stand in the file and how many they are."""
+
+    code: int
+    place: int
+    size: int
+
+    @property
+    def kind(self) -> str:
+        """What it is, in a word."""
+        return KINDS.get(self.code, "unknown")
+
+
+@dataclass(frozen=True)
+class Section:
+    """A preview section: how many bytes its content has, and its entries that have any."""
+
+    size: int
+    entries: List[Entry]
+
+    def told(self) -> Dict[str, Any]:
+        """The section as JSON has it."""
+        pictures = [{"number": at, "code": one.code, "kind": one.kind, "bytes": one.size} for at, one in enumerate(self.entries, 1)]
+        return {"bytes": self.size, "pictures": pictures}
+
+
+def bytes_at(file: IO[bytes], place: int, count: int) -> bytes:
+    """So many bytes of a file from a place on, fewer where it ends before."""
+    return b"".join(pieces_of(file, place + min(count, LIMIT), place))
+
+
+def section_of(file: IO[bytes]) -> Optional[Section]:
+    """The preview section that stands where the header of a file says; None where none does."""
+    place = little(bytes_at(file, 0, MOST_HEADER), PREVIEW_PLACE, 4)
+    size = little(bytes_at(file, place + 16, 4), 0, 4)
+    entries = entries_of_preview(bytes_at(file, place, size + 36), place)
+    return None if entries is None else Section(size, [Entry(*one) for one in entries if one[2]])
+
+
+def refuse_header(drawing: Drawing) -> None:
+    """Refuses what has no whole file header, as the program does."""
+    answer = drawing.program.run(["sections"], from_begin(drawing.file))
+    if answer.status != Status.DONE:
+        said = answer.notes.decode("utf-8", "replace").strip() or f"status {int(answer.status)}"
+        raise ToolError(f"{drawing.name}: {said[5:] if said.startswith('dwg: ') else said}", answer.status)
+
+
+def picture_of(drawing: Drawing, number: Optional[int]) -> bytes:
+    """The file of a picture of a drawing, of which the header alone must be whole: that of a number, else the first that is one of a known kind."""
+    before = state_of(drawing.file)
+    refuse_header(drawing)
+    section = section_of(drawing.file)
+    entries = section.entries if section else []
+    chosen = entries[number - 1 : number] if number is not None else [one for one in entries if one.kind in PICTURES][:1]
+    if not chosen:
+        which = "" if number is None or not entries else f" {number}, but {len(entries)} in all"
+        raise ToolError(f"{drawing.name}: it has no preview picture{which}", Exit.NOTHING_FOUND)
+    data = bytes_at(drawing.file, chosen[0].place, chosen[0].size)
+    refuse_changed(drawing.file, before, drawing.name)
+    if chosen[0].kind != "BMP":
+        return data
+    found = bitmap_file(data)
+    if found is None:
+        raise ToolError(f"{drawing.name}: its picture is no whole BMP", Exit.NOTHING_FOUND)
+    return found
+
+
+# How long the header of a bitmap may be, and how many bytes of masks stand after one of the usual length, by how it is compressed.
+OLDEST, USUAL, LENGTHS = 12, 40, (40, 52, 56, 64, 108, 124)
+MASKS = {3: 12, 6: 16}
+
+
+def bitmap_file(bitmap: bytes) -> Optional[bytes]:
+    """A bitmap with the header of a file of BMP before it, which a drawing leaves out; None where it isn't whole."""
+    if bitmap[:2] == b"BM":
+        return bitmap
+    before = before_bits(bitmap)
+    if before is None or before > len(bitmap):
+        return None
+    return b"".join((b"BM", (14 + len(bitmap)).to_bytes(4, "little"), bytes(4), (14 + before).to_bytes(4, "little"), bitmap))
+
+
+def before_bits(bitmap: bytes) -> Optional[int]:
+    """How many bytes of a bitmap stand before its bits: its header, the masks after it, and its palette. None where it begins as no bitmap."""
+    length = little(bitmap, 0, 4)
+    if length == OLDEST <= len(bitmap):
+        bits = little(bitmap, 10, 2)
+        return length + (3 << bits if bits <= 8 else 0)
+    if length not in LENGTHS or len(bitmap) < length:
+        return None
+    bits, compression, used = little(bitmap, 14, 2), little(bitmap, 16, 4), little(bitmap, 32, 4)
+    colours = used or (1 << bits if 0 < bits <= 8 else 0)
+    return length + (MASKS.get(compression, 0) if length == USUAL else 0) + 4 * colours
+

@@ -1,0 +1,65 @@
+"""The texts of a drawing, and the attributes of its inserts."""
+
+from __future__ import annotations
+
+import re
+from typing import Any, Dict, Iterator, Mapping, Tuple
+
+from .drawings import Drawing
+from .encodings import code_page, decoded
+from .kinds import INSERTS
+from .names import Names, class_names, type_name
+from .numbered import Numbered
+from .show import Lists, Object
+from .spools import Rows
+from .values import Text, read_text
+
+# The field that holds what an entity says: `text` itself, or as a member of what holds a text. A kind that calls it otherwise needs its name here.
+_CONTENT = re.compile(rb'\n(?:[a-z_]+\.)*text ("[^"\n]*")(?=\n)')
+
+TEXT_COLUMNS: Tuple[str, ...] = ("handle", "kind", "layer", "text")
+ATTRIBUTE_COLUMNS: Tuple[str, ...] = ("insert", "block", "layer", "tag", "value")
+
+
+def contents_of(one: Object, page: str) -> Iterator[str]:
+    """What an entity says."""
+    if b'text "' in one.text and one.is_entity:
+        for found in _CONTENT.finditer(one.text):
+            yield decoded(read_text(found[1]), page)
+
+
+def name_of(names: Mapping[int, Text], handle: int, page: str) -> str:
+    """A name by its handle; empty where nothing has it."""
+    return decoded(names.get(handle, b""), page)
+
+
+def texts_in(drawing: Drawing, pattern: "re.Pattern[str]") -> Iterator[Dict[str, Any]]:
+    """The texts in which a pattern is found, once all of a drawing is read."""
+    rows, names = Rows(), Names()
+    with drawing.show(Lists.NONE) as (prefix, found):
+        page, classes = code_page(prefix.codepage), class_names(prefix)
+        for one in found:
+            names.take(one)
+            for content in filter(pattern.search, contents_of(one, page)):
+                rows.put(one.handle, type_name(one, classes), one.target("layer"), content)
+    return ({"handle": f"{handle:X}", "kind": kind, "layer": name_of(names, layer, page), "text": content} for handle, kind, layer, content in rows)
+
+
+def attributes_in(drawing: Drawing) -> Iterator[Dict[str, Any]]:
+    """The attributes of inserts in order of handle, once all of a drawing is read."""
+    rows, names, inserts = Rows(), Names(), Numbered(2)
+    with drawing.show(Lists.NONE) as (prefix, found):
+        page = code_page(prefix.codepage)
+        for one in found:
+            names.take(one)
+            if one.form == "typed" and one.kind in INSERTS:
+                inserts.put(one.handle, one.target(f"{INSERTS[one.kind]}block"), one.target("layer"))
+            elif one.form == "typed" and one.kind == "ATTRIB":
+                tag, content = (one.value(field) for field in ("tag", "text.text"))
+                rows.put(one.target("owner"), *(decoded(value, page) if isinstance(value, Text) else "" for value in (tag, content)))
+
+    def told(insert: int, tag: str, content: str) -> Dict[str, Any]:
+        block, layer = inserts.of(insert) or (0, 0)
+        return {"insert": f"{insert:X}", "block": name_of(names, block, page), "layer": name_of(names, layer, page), "tag": tag, "value": content}
+
+    return (told(*row) for row in rows)

@@ -1,0 +1,928 @@
+"""dwg-recover over trees. What is expected of a file is what the program says of it alone, and what was done to it."""
+
+from __future__ import annotations
+
+import collections
+import contextlib
+import hashlib
+import itertools
+import json
+import os
+import re
+import resource
+import shutil
+import signal
+import subprocess
+import time
+import unittest
+from dataclasses import asdict
+from pathlib import Path
+from types import SimpleNamespace
+from typing import Any, Callable, Dict, Iterator, List, Optional, Tuple, Union
+
+import common
+import made
+import test_limits
+from made import TOOLS, TOP, dwg, flipped, hole, layout, made as drawn, program_that, tool, unescaped
+
+from dwgtools import growing
+from dwgtools.log import NoLine
+from dwgtools.tree_lines import Line, Made
+from dwgtools.tree_log import read_made
+from dwgtools.trees import Planned
+
+made.needs_program()
+
+COLUMNS = ["path", "outcome", "detail", "kept", "lost", "found", "findings", "status", "output"]
+LOG = "dwg-recover.log"
+
+# A file below OUT by its name there, and what it has.
+Files = Dict[bytes, bytes]
+
+
+def older(data: bytes) -> bytes:
+    """A drawing with an object changed in its middle."""
+    frames = layout(data).frames
+    frame = frames[len(frames) // 2]
+    return flipped(data, frame.place + 2 + frame.size // 2)
+
+
+def some_files() -> Dict[bytes, Tuple[bytes, str]]:
+    """Forty files by their names in a folder, and what becomes of each."""
+    files: Dict[bytes, Tuple[bytes, str]] = {}
+    for count in (1, 5, 20):
+        data = drawn(count, count)
+        parts = layout(data)
+        files[b"sound/%d.dwg" % count] = data, "sound"
+        files[b"flips/%d.dwg" % count] = older(data), "recovered"
+        files[b"holes/map %d.dwg" % count] = hole(data, parts.map + 4, 30), "recovered"
+        files[b"holes/variables %d.dwg" % count] = hole(data, parts.variables + 20, 8), "recovered"
+        files[b"holes/header %d.dwg" % count] = hole(data, 0, 70), "recovered"
+        files[b"cuts/%d.DWG" % count] = data[: parts.map - 5], "recovered"
+    for index, (name, data) in enumerate(common.foreign().items()):
+        # (a drawing of which the first six bytes alone are of another version is read as one of AC1015)
+        outcome = "recovered" if re.fullmatch("AC10..", name) else "no drawing"
+        files[b"others/%d.Dwg" % index] = data, outcome
+    files[b"others/older.dwg"] = b"AC1009" + bytes(range(256)), "other version"
+    files[b"others/newer.dwg"] = b"AC1032" + bytes(2000), "other version"
+    files[b"trailing.dwg"] = drawn(4, 1) + b"more", "trailing bytes"
+    files[b"unsound.dwg"] = (made.DATA / "unsound.dwg").read_bytes(), "unsound"
+    files[b"nothing.dwg"] = b"AC1015" + bytes(range(200)), "nothing kept"
+    # (names that a table can't have as they are)
+    for name in (b"a b.dwg", b"line\nfeed.dwg", b"\xe4\xff.dwg", b"back\\slash\t.dwg"):
+        files[b"names/" + name] = older(drawn(9, len(files))), "recovered"
+    return files
+
+
+FILES = some_files()
+
+
+def write_all(folder: Path, files: Dict[bytes, Tuple[bytes, str]]) -> None:
+    """Writes files into a folder."""
+    for name, (data, _) in files.items():
+        path = os.path.join(os.fsencode(folder), name)
+        os.makedirs(os.path.dirname(path), exist_ok=True)
+        with open(path, "wb") as file:
+            file.write(data)
+
+
+def tree_of(folder: Path) -> Files:
+    """All files below a folder but LOG."""
+    found: Files = {}
+    top = os.fsencode(folder)
+    for place, _, names in os.walk(top):
+        for name in names:
+            path = os.path.join(place, name)
+            if os.path.relpath(path, top) != os.fsencode(LOG):
+                with open(path, "rb") as file:
+                    found[os.path.relpath(path, top)] = file.read()
+    return found
+
+
+def expected_tree(name: str, files: Dict[bytes, Tuple[bytes, str]], copies: bool = False) -> Files:
+    """What stands below OUT of files in a folder of such a name."""
+    expected: Files = {}
+    for path, (data, outcome) in files.items():
+        at = os.path.join(os.fsencode(name), path)
+        if outcome == "recovered":
+            answer = dwg("recover", given=data)
+            expected[at], expected[at + b".notes"] = answer.stdout, answer.stderr
+        elif copies and outcome in ("sound", "unsound", "trailing bytes"):
+            expected[at] = data
+    return expected
+
+
+def state_below(folder: Path) -> Dict[str, Tuple[int, int, bytes]]:
+    """What a folder has, with the times of changes."""
+    paths = [path for path in folder.rglob("*") if path.is_file() and not path.is_symlink()]
+    return {str(path): (path.stat().st_mtime_ns, path.stat().st_nlink, path.read_bytes()) for path in paths}
+
+
+def rows(table: bytes) -> List[Dict[str, str]]:
+    """The lines of a table, by the names of their columns."""
+    head, *lines = table.decode("utf-8").splitlines()
+    assert head.split("\t") == COLUMNS, head
+    return [dict(zip(COLUMNS, line.split("\t"))) for line in lines]
+
+
+def digest(data: bytes) -> str:
+    """A SHA-256."""
+    return hashlib.sha256(data).hexdigest()
+
+
+class Tree(common.InFolder):
+    """A test has a folder of drawings, and one beside that is written to."""
+
+    maxDiff = None
+
+    def setUp(self) -> None:
+        super().setUp()
+        self.plans, self.out = self.folder / "plans", self.folder / "out"
+        self.plans.mkdir()
+
+    def grown(self, status: int, *words: object, said: Optional[str] = None) -> List[Dict[str, str]]:
+        """The lines of the table of a run, which ends with a status; what it reads is as it was."""
+        before = state_below(self.plans)
+        ran = tool("dwg-recover", "--tree", self.out, *words)
+        self.assertEqual((ran.returncode, state_below(self.plans)), (status, before), ran.stderr)
+        if said is None:
+            self.assertRegex(ran.stderr.decode(), r"\Adwg-recover: \d+ files: [a-z0-9 ,]+\n\Z")
+        else:
+            self.assertEqual(ran.stderr.decode(), said)
+        return rows(ran.stdout)
+
+    def refused(self, status: int, *words: object, out: Union[Path, str, None] = None) -> str:
+        """What is said of words that are refused before anything is written."""
+        before, entries = state_below(self.folder), sorted(self.folder.rglob("*"))
+        ran = tool("dwg-recover", "--tree", self.out if out is None else out, *words)
+        self.assertEqual((ran.returncode, ran.stdout), (status, b""), ran.stderr)
+        self.assertEqual((state_below(self.folder), sorted(self.folder.rglob("*"))), (before, entries))
+        return ran.stderr.decode()
+
+    def logged(self) -> List[Dict[str, Any]]:
+        """The lines of LOG after its heads."""
+        told = [json.loads(line) for line in (self.out / LOG).read_bytes().splitlines()]
+        return [one for one in told if "path" in one]
+
+    def noting(self) -> Path:
+        """A program that notes its commands in a file `runs`."""
+        return program_that(self.folder, "noting", [f'echo "$1" >>"{self.folder}/runs"', 'exec "$REAL" "$@"'])
+
+    def runs(self) -> List[str]:
+        """The commands that ran since this was last asked, but for the one that a tool begins with."""
+        path = self.folder / "runs"
+        told = path.read_text().split() if path.exists() else []
+        path.write_text("")
+        return [one for one in told if one != "drill"]
+
+
+class Outcomes(Tree):
+    """What becomes of the files, and what the table says."""
+
+    def check_lines(self, table: List[Dict[str, str]], copies: bool) -> None:
+        """Each line says what became of its file."""
+        self.assertEqual(sorted(unescaped(row["path"]) for row in table), sorted(os.path.join(os.fsencode(self.plans), name) for name in FILES))
+        statuses = {"recovered": "1", "sound": "0", "unsound": "0", "trailing bytes": "0", "no drawing": "65", "other version": "65", "nothing kept": "65"}
+        for row in table:
+            name = os.path.relpath(unescaped(row["path"]), os.fsencode(self.plans))
+            data, outcome = FILES[name]
+            self.assertEqual((row["outcome"], row["status"]), (outcome, statuses[outcome]), row)
+            is_written = outcome == "recovered" or copies and row["status"] == "0"
+            self.assertEqual(unescaped(row["output"]), os.path.join(os.fsencode(self.out), b"plans", name) if is_written else b"")
+            if outcome == "recovered":
+                self.check_numbers(row, data)
+            else:
+                self.assertEqual((row["kept"], row["lost"], row["found"]), ("", "", ""))
+
+    def check_numbers(self, row: Dict[str, str], data: bytes) -> None:
+        """What is lost is told in numbers, which are those of the notes."""
+        answer = dwg("recover", given=data)
+        notes = answer.stderr.decode().splitlines()
+        counts = [re.fullmatch(r"kept (\d+)", notes[-1])[1], sum(line.startswith("lost: object ") for line in notes), sum(line.startswith("found: ") for line in notes)]  # type: ignore[index]
+        self.assertEqual([row["kept"], row["lost"], row["found"]], list(map(str, counts)))
+        findings = dwg("audit", given=answer.stdout).stdout.decode().splitlines()
+        self.assertEqual(int(row["findings"]), len(findings) - 1)
+        parts = re.findall(r"(?m)^lost: (?!object)([a-z ]+?)(?: \d+)?(?: at \d+)?$", answer.stderr.decode())
+        told = row["detail"].partition("; lost: ")[2]
+        self.assertEqual([re.sub(r"^\d+ (.*)s$", r"\1", one) for one in told.split(", ") if one], list(dict.fromkeys(parts)), row)
+        self.assertTrue(row["detail"].startswith(notes[0][len("dwg: refused: ") :]), row)
+
+    def test_a_tree(self) -> None:
+        self.assertEqual(len(FILES), 37)
+        write_all(self.plans, FILES)
+        tables, trees = [], []
+        for jobs in (1, 4):
+            for copies in (False, True):
+                table = self.grown(65, "--jobs", str(jobs), "--whole", "copy" if copies else "skip", self.plans)
+                self.check_lines(table, copies)
+                self.assertEqual(tree_of(self.out), expected_tree("plans", FILES, copies))
+                tables.append(table)
+                trees.append(state_below(self.out))
+                mask = os.umask(0)
+                os.umask(mask)
+                modes = {path.stat().st_mode & 0o777 for path in self.out.rglob("*.dwg")}
+                self.assertEqual(modes, {0o666 & ~mask})
+            shutil.rmtree(self.out)
+        self.assertEqual(tables[:2], tables[2:])
+        # Folders stand where something is written alone.
+        self.grown(65, self.plans)
+        self.assertEqual(sorted(path.name for path in (self.out / "plans").iterdir() if path.is_dir()), ["cuts", "flips", "holes", "names", "others"])
+
+    def test_counts(self) -> None:
+        write_all(self.plans, FILES)
+        counts = collections.Counter(outcome for _, outcome in FILES.values())
+        ran = tool("dwg-recover", "--tree", self.out, self.plans)
+        head, *told = re.split(": |, ", ran.stderr.decode().strip())
+        self.assertEqual((head, sorted(told)), ("dwg-recover", sorted([f"{len(FILES)} files", *(f"{count} {outcome}" for outcome, count in counts.items())])))
+        self.assertEqual([int(one.split()[0]) for one in told[1:]], sorted(counts.values(), reverse=True))
+        self.grown(65, "--quiet", self.plans, said="")
+
+    def test_statuses(self) -> None:
+        """The status of a run is the greatest of its files, each of which has the one that it has alone."""
+        data = drawn(7, 7)
+        for name, given, status in (("a", data, 0), ("b", older(data), 1), ("c", b"no drawing", 65), ("d", None, 4), ("e", bytes(8) + b"\x80" * 33_554_433, 7)):
+            path = self.plans / f"{name}.dwg"
+            if given is not None:
+                path.write_bytes(given)
+            alone = tool("dwg-recover", path, self.folder / f"{name}.out").returncode
+            (row,) = self.grown(status, path)
+            self.assertEqual((alone, row["status"]), (status, str(status)), row)
+        self.assertEqual(self.grown(0, self.plans / "a.dwg")[0]["outcome"], "sound")
+        table = self.grown(1, self.plans / "b.dwg", self.plans / "a.dwg")
+        self.assertEqual([row["outcome"] for row in table], ["recovered", "sound"])
+
+    def test_json(self) -> None:
+        write_all(self.plans, FILES)
+        table = self.grown(65, self.plans)
+        ran = tool("dwg-recover", "--tree", self.out, "--json", self.plans)
+        told = [json.loads(line) for line in ran.stdout.splitlines()]
+        self.assertEqual(len(told), len(table))
+        for one, row in zip(told, table):
+            path = one["path"].encode("utf-8", "surrogateescape")
+            self.assertEqual(path, unescaped(row["path"]))
+            self.assertEqual(["" if one[name] is None else str(one[name]) for name in COLUMNS[3:8]], [row[name] for name in COLUMNS[3:8]])
+            data, outcome = FILES[os.path.relpath(path, os.fsencode(self.plans))]
+            self.assertEqual((one["outcome"], one["sha256"], one["bytes"], one["output"] is None), (outcome, digest(data), len(data), outcome != "recovered"))
+            self.assertEqual(one["refusal"] is None, one["verdict"] != "damaged")
+
+    def test_an_empty_drawing_is_written_where_that_is_wanted(self) -> None:
+        write_all(self.plans, {b"a.dwg": FILES[b"nothing.dwg"]})
+        self.assertEqual(self.grown(65, self.plans)[0]["outcome"], "nothing kept")
+        self.assertEqual(tree_of(self.out), {})
+        (row,) = self.grown(1, "--even-empty", self.plans)
+        self.assertEqual((row["outcome"], row["kept"]), ("recovered", "0"))
+        expected = expected_tree("plans", {b"a.dwg": (FILES[b"nothing.dwg"][0], "recovered")})
+        self.assertEqual(tree_of(self.out), expected)
+        self.assertEqual(self.grown(65, self.plans)[0]["outcome"], "nothing kept")
+        # What stands is that of another content then, which is told.
+        (self.plans / "a.dwg").write_bytes(FILES[b"nothing.dwg"][0] + b"\xff")
+        (row,) = self.grown(65, self.plans)
+        self.assertEqual((row["outcome"], row["output"], tree_of(self.out)), ("nothing kept", "", expected))
+        self.assertTrue(row["detail"].endswith(f"; {self.out}/plans/a.dwg is there from before"), row)
+
+    def test_links_and_names(self) -> None:
+        """What dwg-check looks at in a folder, that is recovered."""
+        data = older(drawn(5, 5))
+        (self.plans / "inner").mkdir()
+        for name in ("a.dwg", "inner/b.DWG", "c.bak", "inner/d"):
+            (self.plans / name).write_bytes(data)
+        (self.plans / "link.dwg").symlink_to("a.dwg")
+        (self.plans / "loop").symlink_to(".")
+        (self.plans / "none.dwg").symlink_to("nowhere")
+        self.assertEqual([Path(row["path"]).name for row in self.grown(1, self.plans)], ["a.dwg", "b.DWG"])
+        self.assertEqual(len(self.grown(1, "--all", self.plans)), 4)
+        self.assertEqual(set(tree_of(self.out)), {f"plans/{name}{more}".encode() for name in ("a.dwg", "inner/b.DWG", "c.bak", "inner/d") for more in ("", ".notes")})
+        # A link that is named is followed, and has its own name.
+        for word, name in ((self.plans / "link.dwg", "link.dwg"), (f"{self.plans}/loop/", "loop/a.dwg"), (f"{self.plans}/inner/..", "plans/a.dwg")):
+            row = self.grown(1, word)[0]
+            self.assertEqual((row["outcome"], row["output"]), ("recovered", f"{self.out}/{name}"))
+
+    def test_equal_names_in_two_folders(self) -> None:
+        first, second = older(drawn(5, 1)), older(drawn(6, 2))
+        for name, data in (("a/plan.dwg", first), ("b/plan.dwg", second), ("c/a/plan.dwg", second), ("plan.dwg", first)):
+            (self.plans / name).parent.mkdir(parents=True, exist_ok=True)
+            (self.plans / name).write_bytes(data)
+        table = self.grown(1, self.plans / "a", self.plans / "b")
+        self.assertEqual([row["output"] for row in table], [f"{self.out}/a/plan.dwg", f"{self.out}/b/plan.dwg"])
+        self.assertEqual(tree_of(self.out)[b"b/plan.dwg"], dwg("recover", given=second).stdout)
+        # Folders of one last name would be one below OUT, and so would a file and itself.
+        for words in (["a", "c/a"], ["a", "a"], ["a", "a/"], ["plan.dwg", "b/plan.dwg"], ["a", "b/../a"]):
+            said = self.refused(64, *(f"{self.plans}/{word}" for word in words))
+            self.assertIn("would both be ", said)
+        (self.folder / LOG).mkdir()
+        self.assertIn("would both be ", self.refused(64, self.folder / LOG))
+
+    def test_names_that_notes_would_have(self) -> None:
+        data = older(drawn(5, 1))
+        for name in ("a.dwg", "a.dwg.notes", "b.dwg", "b.dwg.notes/c.dwg"):
+            (self.plans / name).parent.mkdir(exist_ok=True)
+            (self.plans / name).write_bytes(data)
+        for jobs in (1, 4):
+            table = self.grown(73, "--all", "--jobs", str(jobs), self.plans)
+            self.assertEqual([row["outcome"] for row in table], ["recovered", "refused", "refused", "recovered"])
+            self.assertEqual(set(tree_of(self.out)), {b"plans/a.dwg", b"plans/a.dwg.notes", b"plans/b.dwg.notes/c.dwg", b"plans/b.dwg.notes/c.dwg.notes"})
+
+    def test_a_name_too_long_for_notes_is_copied(self) -> None:
+        name = "x" * 251 + ".dwg"
+        (self.plans / name).write_bytes(drawn(5, 5))
+        self.grown(0, "--whole", "copy", self.plans)
+        self.assertEqual((self.out / "plans" / name).read_bytes(), drawn(5, 5))
+
+    def test_long_names(self) -> None:
+        (self.plans / ("x" * 251 + ".dwg")).write_bytes(older(drawn(5, 1)))
+        (row,) = self.grown(5, self.plans)
+        self.assertEqual((row["outcome"], tree_of(self.out)), ("failed", {}))
+        self.assertIn("File name too long", row["detail"])
+
+    def test_unreadable(self) -> None:
+        data = older(drawn(5, 1))
+        (self.plans / "a.dwg").write_bytes(data)
+        os.mkfifo(self.plans / "fifo.dwg")
+        (row, other) = self.grown(4, self.plans)
+        self.assertEqual((row["outcome"], other["outcome"], other["detail"]), ("recovered", "unreadable", "no regular file"))
+        if os.getuid():
+            (self.plans / "a.dwg").chmod(0)
+            self.assertEqual(self.grown(4, self.plans)[0]["outcome"], "unreadable")
+
+    def test_nothing_found(self) -> None:
+        (self.plans / "a.txt").write_bytes(b"text")
+        self.assertIn("nothing was found", self.refused(66, self.plans))
+
+
+class Refusals(Tree):
+    """Nothing is written into what is read, nor over what another wrote."""
+
+    def setUp(self) -> None:
+        super().setUp()
+        self.data = older(drawn(8, 1))
+        (self.plans / "in").mkdir()
+        self.plan = self.plans / "in" / "a.dwg"
+        self.plan.write_bytes(self.data)
+        self.answer = dwg("recover", given=self.data)
+        self.place = self.out / "plans" / "in" / "a.dwg"
+
+    def test_words(self) -> None:
+        for words in ([], ["-"], [self.plans, "--before", self.plan], [self.plans, "--jobs", "0"], [self.plans, "--whole", "move"], [self.plans, "--nothing"]):
+            self.refused(64, *words)
+        self.assertEqual(tool("dwg-recover", "--tree", "", self.plans).returncode, 64)
+        for words in (["--jobs", "3"], ["--whole", "copy"], ["--all"], ["--quiet"]):
+            ran = tool("dwg-recover", *words, self.plan, self.folder / "x.dwg")
+            self.assertEqual((ran.returncode, (self.folder / "x.dwg").exists()), (64, False))
+        self.refused(69, "--program", "/nowhere/dwg", self.plans)
+        # (what stands after -- is a name)
+        (self.plans / "--tree").write_bytes(self.data)
+        ran = subprocess.run([str(TOOLS / "dwg-recover"), "--", "--tree", "o.dwg"], cwd=self.plans, capture_output=True, check=False, env={**os.environ, "DWG": made.PROGRAM})
+        self.assertEqual((ran.returncode, (self.plans / "o.dwg").exists()), (1, True), ran.stderr)
+
+    def test_out_in_what_is_read(self) -> None:
+        (self.folder / "link").symlink_to("plans")
+        (self.folder / "inner").symlink_to("plans/in")
+        outs = [self.plans, self.plans / "new", self.plans / "in" / "new" / "deep", self.folder / "link", self.folder / "inner" / "new", f"{self.folder}/none/../plans/new"]
+        words = [self.plans, self.folder / "link", f"{self.plans}/", f"{self.plans}/in/.."]
+        for out, word, force in zip(outs, itertools.cycle(words), itertools.cycle(([], ["--force"], []))):
+            self.assertIn(" is in ", self.refused(73, *force, word, out=out))
+        words = [self.plans / "in", self.plan, self.folder / "inner", self.folder / "inner" / "a.dwg"]
+        for out, word in zip([self.folder, self.plans, self.folder / "link", f"{self.folder}/."], words):
+            self.assertIn(" is in ", self.refused(73, word, out=out))
+        self.assertIn(" is in ", self.refused(73, "/", out=self.out))
+
+    def test_out_that_is_no_folder(self) -> None:
+        (self.folder / "file").write_bytes(b"own")
+        (self.folder / "nowhere").symlink_to("none")
+        for out in ("file", "nowhere"):
+            self.assertIn("no folder", self.refused(73, self.plans, out=self.folder / out))
+        self.assertEqual(tool("dwg-recover", "--tree", self.folder / "file" / "out", self.plans).returncode, 5)
+
+    def test_a_link_below_out_leads_nowhere(self) -> None:
+        """A link to what is read that stands where a folder is to be made is not gone through."""
+        (self.folder / "elsewhere").mkdir()
+        for target in (self.plans / "in", self.folder / "elsewhere", "nowhere"):
+            (self.out / "plans").mkdir(parents=True)
+            (self.out / "plans" / "in").symlink_to(target)
+            for force in ([], ["--force"]):
+                for whole in ("skip", "copy"):
+                    (row,) = self.grown(73, *force, "--whole", whole, self.plans)
+                    self.assertEqual((row["outcome"], row["detail"]), ("refused", f"objects {self.index()}: check; {self.out}/plans/in is there, and no folder"))
+            self.assertEqual((sorted(os.listdir(self.plans / "in")), os.listdir(self.folder / "elsewhere")), (["a.dwg"], []))
+            shutil.rmtree(self.out)
+
+    def index(self) -> str:
+        """The first fault of the drawing, without its reason."""
+        return self.answer.stderr.decode().split("\n", 1)[0].split("objects ", 1)[1].rsplit(":", 1)[0]
+
+    def test_outputs_of_others_stay(self) -> None:
+        self.place.parent.mkdir(parents=True)
+        for name, content in ((self.place, b"precious"), (Path(f"{self.place}.notes"), b"precious too")):
+            name.write_bytes(content)
+            for _ in range(2):
+                (row,) = self.grown(73, self.plans)
+                self.assertEqual((row["outcome"], row["status"], row["output"]), ("refused", "73", ""))
+                self.assertIn("is there already, and isn't what a run left there", row["detail"])
+                self.assertEqual(list(tree_of(self.out).values()), [content])
+            (row,) = self.grown(1, "--force", self.plans)
+            self.assertEqual(self.standing(), (self.answer.stdout, self.answer.stderr))
+            shutil.rmtree(self.out / "plans" / "in")
+            (self.out / LOG).unlink()
+            self.place.parent.mkdir(parents=True)
+        # One file that is refused ends no run.
+        self.place.write_bytes(b"precious")
+        (self.plans / "b.dwg").write_bytes(self.data)
+        self.assertEqual([row["outcome"] for row in self.grown(73, self.plans)], ["recovered", "refused"])
+
+    def test_outputs_of_another_folder_of_the_same_name_stay(self) -> None:
+        """What a run wrote of one file is no output of another that has the same name below OUT."""
+        for year, data in (("2019", drawn(5, 5)), ("2020", self.data)):
+            (self.plans / year / "plans").mkdir(parents=True)
+            (self.plans / year / "plans" / "p.dwg").write_bytes(data)
+        place = self.out / "plans" / "p.dwg"
+        self.grown(0, "--whole", "copy", self.plans / "2019" / "plans")
+        (row,) = self.grown(73, "--whole", "copy", self.plans / "2020" / "plans")
+        self.assertEqual((row["outcome"], place.read_bytes()), ("refused", drawn(5, 5)))
+        self.grown(1, "--force", self.plans / "2020" / "plans")
+        self.assertEqual(place.read_bytes(), self.answer.stdout)
+        (row,) = self.grown(73, "--whole", "copy", self.plans / "2019" / "plans")
+        self.assertEqual((row["outcome"], place.read_bytes()), ("refused", self.answer.stdout))
+
+    def test_notes_of_others_stay_beside_a_copy(self) -> None:
+        self.grown(1, self.plans)
+        notes = Path(f"{self.place}.notes")
+        notes.write_bytes(notes.read_bytes() + b"mine")
+        next(self.plans.rglob("*.dwg")).write_bytes(drawn(5, 5))
+        (row,) = self.grown(73, "--whole", "copy", self.plans)
+        self.assertEqual((row["outcome"], self.standing()), ("refused", (self.answer.stdout, self.answer.stderr + b"mine")))
+        self.grown(0, "--force", "--whole", "copy", self.plans)
+        self.assertEqual((self.place.read_bytes(), notes.exists()), (drawn(5, 5), False))
+
+    def test_a_log_that_is_a_link(self) -> None:
+        (self.plans / "empty.txt").write_bytes(b"")
+        self.out.mkdir(exist_ok=True)
+        (self.out / LOG).symlink_to(self.plans / "empty.txt")
+        self.assertIn("is a link", self.refused(73, "--all", self.plans))
+
+    def standing(self) -> Tuple[bytes, bytes]:
+        """The output and its notes."""
+        return self.place.read_bytes(), Path(f"{self.place}.notes").read_bytes()
+
+    def test_what_was_changed_since_stays(self) -> None:
+        for name in (self.place, Path(f"{self.place}.notes")):
+            self.grown(1, self.plans)
+            before = name.stat()
+            changed = bytearray(name.read_bytes())
+            changed[5] ^= 1
+            name.write_bytes(bytes(changed))
+            os.utime(name, ns=(before.st_mtime_ns, before.st_mtime_ns))
+            (row,) = self.grown(73, self.plans)
+            self.assertEqual((row["outcome"], name.read_bytes()), ("refused", bytes(changed)))
+            name.chmod(0o640)
+            self.assertEqual(self.grown(1, "--force", self.plans)[0]["outcome"], "recovered")
+            self.assertEqual((self.standing(), name.stat().st_mode & 0o777), ((self.answer.stdout, self.answer.stderr), 0o640))
+
+    def test_what_is_no_regular_file_stays(self) -> None:
+        target = self.folder / "target"
+        target.write_bytes(b"precious")
+        makes: List[Callable[[Path], Any]] = [lambda path: path.symlink_to(target), lambda path: path.mkdir(), os.mkfifo, lambda path: path.symlink_to("nowhere")]
+        for make, is_notes in zip(makes, (False, True, False, True)):
+            for name in [Path(f"{self.place}.notes") if is_notes else self.place]:
+                self.place.parent.mkdir(parents=True)
+                make(name)
+                mode = name.lstat().st_mode
+                for force in ([], ["--force"]):
+                    self.assertEqual(self.grown(73, *force, self.plans)[0]["outcome"], "refused")
+                self.assertEqual((name.lstat().st_mode, target.read_bytes(), os.listdir(self.place.parent)), (mode, b"precious", [name.name]))
+                shutil.rmtree(self.out)
+
+    def test_the_input_by_another_name_is_no_output(self) -> None:
+        whole = self.plans / "whole.dwg"
+        whole.write_bytes(drawn(3, 3))
+        for source, place in ((self.plan, self.place), (whole, self.out / "plans" / "whole.dwg")):
+            for name in (place, Path(f"{place}.notes")):
+                place.parent.mkdir(parents=True)
+                os.link(source, name)
+                for force in ([], ["--force"]):
+                    table = self.grown(73, *force, "--whole", "copy", self.plans) if name == place or source == self.plan else []
+                    told = [row["outcome"] for row in table if row["path"] == str(source)]
+                    self.assertIn(told, (["refused"], []))
+                    self.assertTrue(os.path.samefile(source, name))
+                shutil.rmtree(self.out)
+
+    def test_the_log_is_no_output(self) -> None:
+        log = self.plans / "x" / LOG
+        log.parent.mkdir()
+        log.write_bytes(self.data)
+        self.assertIn("would both be", self.refused(64, log))
+        self.grown(1, "--all", self.plans)
+        self.assertIn(f"plans/x/{LOG}".encode(), tree_of(self.out))
+
+    def test_a_log_that_is_none(self) -> None:
+        self.out.mkdir()
+        (self.out / LOG).write_bytes(b"my own notes\n")
+        self.assertIn("doesn't begin as a log", self.refused(73, self.plans))
+        (self.out / LOG).unlink()
+        (self.out / LOG).mkdir()
+        self.assertIn("no regular file", self.refused(73, self.plans))
+
+    def test_two_runs_on_one_tree(self) -> None:
+        slow = program_that(self.folder, "slow", [f'[ "$1" != recover ] || {{ touch "{self.folder}/begun"; while [ ! -e "{self.folder}/go" ]; do sleep 0.1; done; }}', 'exec "$REAL" "$@"'])
+        with subprocess.Popen([str(TOOLS / "dwg-recover"), "--program", str(slow), "--tree", str(self.out), str(self.plans)], stdout=subprocess.PIPE, stderr=subprocess.PIPE) as first:
+            while not (self.folder / "begun").exists():
+                time.sleep(0.02)
+            ran = tool("dwg-recover", "--tree", self.out, self.plans)
+            (self.folder / "go").touch()
+            self.assertEqual((ran.returncode, ran.stdout), (73, b""))
+            self.assertIn(b"another run writes into it", ran.stderr)
+            first.communicate(timeout=60)
+        self.assertEqual((first.returncode, self.standing()), (1, (self.answer.stdout, self.answer.stderr)))
+
+    def test_streams_that_are_inputs_or_outputs(self) -> None:
+        script = 'dwg-recover --tree "$1" "$2" >> "$3"'
+        self.grown(1, self.plans)
+        environment = {**os.environ, "DWG": made.PROGRAM, "PATH": f"{TOOLS}:{os.environ['PATH']}"}
+        for stream in (self.plan, self.out / LOG, self.place, Path(f"{self.place}.notes")):
+            before = stream.read_bytes()
+            for more in (script, script.replace(">>", "2>>")):
+                ran = subprocess.run(["bash", "-c", more, "bash", str(self.out), str(self.plans), str(stream)], capture_output=True, check=False, env=environment)
+                self.assertEqual((ran.returncode, stream.read_bytes()), (73, before), (stream, more, ran.stderr))
+        # A table that is new isn't looked at, wherever it stands.
+        ran = subprocess.run(["bash", "-c", script.replace(">>", ">"), "bash", str(self.out), str(self.plans), str(self.plans / "table.dwg")], capture_output=True, check=False, env=environment)
+        self.assertEqual((ran.returncode, len(rows((self.plans / "table.dwg").read_bytes()))), (1, 1))
+
+
+class Resumed(Tree):
+    """A run that was cut off goes on, and a second one does nothing again."""
+
+    def setUp(self) -> None:
+        super().setUp()
+        self.files = {name: told for name, told in FILES.items() if name.startswith((b"sound", b"flips", b"cuts", b"names", b"others/0"))}
+        write_all(self.plans, self.files)
+
+    def test_what_stands_is_not_done_again(self) -> None:
+        program = self.noting()
+        for whole in ("skip", "copy"):
+            words = ["--program", program, "--whole", whole, self.plans]
+            table = self.grown(65, *words)
+            self.runs()
+            before, lines = state_below(self.out), len(self.logged())
+            for _ in range(2):
+                self.assertEqual(self.grown(65, *words), table)
+                self.assertEqual((self.runs(), len(self.logged())), ([], lines))
+            self.assertEqual(state_below(self.out), before)
+        # What is gone is done again, and that alone.
+        (self.out / "plans" / "flips" / "5.dwg").unlink()
+        (self.out / "plans" / "flips" / "20.dwg.notes").unlink()
+        self.assertEqual(self.grown(65, *words), table)
+        self.assertEqual((sorted(self.runs()), len(self.logged())), (["audit", "audit", "recover", "recover"], lines))
+        self.assertEqual(tree_of(self.out), expected_tree("plans", self.files, True))
+        # A tree that was moved, and inputs that were, are known by their contents.
+        os.rename(self.plans, self.folder / "moved")
+        os.rename(self.out, self.folder / "plans")
+        ran = tool("dwg-recover", "--tree", self.folder / "plans", "--program", program, "--whole", "copy", self.folder / "moved")
+        self.assertEqual((ran.returncode, self.runs().count("audit")), (65, len(expected_tree("x", self.files)) // 2))
+
+    def test_another_program_recovers_anew(self) -> None:
+        program = self.noting()
+        self.grown(65, self.plans)
+        before = tree_of(self.out)
+        self.grown(65, "--program", program, self.plans)
+        self.assertEqual((self.runs().count("recover") >= len(before) // 2, tree_of(self.out)), (True, before))
+
+    def test_a_changed_input(self) -> None:
+        """What has another content is done again, though size and time of change are the same; what was there of it may be replaced."""
+        first, second = self.plans / "flips" / "20.dwg", self.plans / "flips" / "5.dwg"
+        self.grown(65, self.plans)
+        told = first.stat()
+        data = drawn(20, 20)
+        frame = layout(data).frames[3]
+        changed = flipped(data, frame.place + 3)
+        self.assertEqual(len(changed), len(first.read_bytes()))
+        first.write_bytes(changed)
+        os.utime(first, ns=(told.st_mtime_ns, told.st_mtime_ns))
+        second.write_bytes(drawn(5, 5))
+        rows_by_path = {row["path"]: row for row in self.grown(65, "--program", self.noting(), self.plans)}
+        answer = dwg("recover", given=changed)
+        self.assertEqual(((self.out / "plans" / "flips" / "20.dwg").read_bytes(), (self.out / "plans" / "flips" / "20.dwg.notes").read_bytes()), (answer.stdout, answer.stderr))
+        # One that is whole now leaves what was recovered of it, which is told; a copy takes its place, without the notes.
+        place = self.out / "plans" / "flips" / "5.dwg"
+        row = rows_by_path[str(second)]
+        self.assertEqual((row["outcome"], row["output"], row["detail"]), ("sound", "", f"{place} is there from before"))
+        self.grown(65, "--whole", "copy", self.plans)
+        self.assertEqual((place.read_bytes(), Path(f"{place}.notes").exists()), (drawn(5, 5), False))
+        # And a damaged one that of a copy.
+        second.write_bytes(older(drawn(5, 5)))
+        self.grown(65, "--whole", "copy", self.plans)
+        self.assertEqual((place.read_bytes(), Path(f"{place}.notes").exists()), (dwg("recover", given=second.read_bytes()).stdout, True))
+
+    def test_what_is_placed_is_in_the_log_before(self) -> None:
+        """Whatever ends a run once an output stands, a later one knows it again, though the input has another content then."""
+        order: List[str] = []
+        grower = growing.Growing.__new__(growing.Growing)
+        grower.one, grower.out = Planned("a.dwg", None, "a.dwg"), "a.dwg"
+        grower.tree = SimpleNamespace(add=lambda line: order.append(f"log {line.made.output}"))
+        grower.grower = SimpleNamespace(alone=lambda file: contextlib.nullcontext())
+        grower.may_replace = lambda file, files: None
+        whole = SimpleNamespace(finish=lambda: None)
+        grower.place(None, Line("a.dwg"), Made("a.dwg", "0" * 64), [(whole, "")], lambda: order.append("place"))
+        self.assertEqual(order[:2], ["log a.dwg", "place"])
+
+    def begun(self, *words: object) -> "subprocess.Popen[bytes]":
+        """A run that has begun."""
+        said = [str(TOOLS / "dwg-recover"), "--tree", str(self.out), *map(str, words), str(self.plans)]
+        return subprocess.Popen(said, stdin=subprocess.DEVNULL, stdout=subprocess.PIPE, stderr=subprocess.PIPE, env={**os.environ, "DWG": made.PROGRAM})
+
+    def check_partial(self, expected: Files, is_tidy: bool) -> None:
+        """Nothing stands in half, and no notes beside another output."""
+        for name, data in (tree_of(self.out) if self.out.exists() else {}).items():
+            if os.path.basename(name).startswith(b".") and name.endswith(b".part"):
+                self.assertFalse(is_tidy, name)
+            else:
+                self.assertEqual(data, expected[name], name)
+
+    def parts(self) -> Iterator[Path]:
+        """Files that a run left behind that was killed outright."""
+        return self.out.rglob(".*.part")
+
+    def test_killed_and_interrupted_at_several_moments(self) -> None:
+        slow = program_that(self.folder, "slow", ['[ "$1" != recover ] || sleep 0.03', 'exec "$REAL" "$@"'])
+        expected = expected_tree("plans", self.files, True)
+        whole: Optional[List[Dict[str, str]]] = None
+        turns = ((signal.SIGKILL, -9, 1), (signal.SIGKILL, -9, 4), (signal.SIGINT, 130, 4), (signal.SIGTERM, 143, 1))
+        for number, status, jobs in turns:
+            if self.out.exists():
+                shutil.rmtree(self.out)
+            done = 0
+            for count in (2, 9):
+                with self.begun("--program", slow, "--whole", "copy", "--jobs", jobs) as started:
+                    assert started.stdout is not None
+                    for _ in range(count):
+                        started.stdout.readline()
+                    started.send_signal(number)
+                    _, said = started.communicate(timeout=60)
+                # (a run that is about to end may end by itself)
+                self.assertIn((started.returncode, b"" if status != started.returncode else said), ((status, b""), (65, b"")))
+                self.check_partial(expected, number != signal.SIGKILL)
+                now = len([name for name in tree_of(self.out) if not name.endswith(b".part")])
+                self.assertGreaterEqual(now, done)
+                done = now
+            table = self.grown(65, "--program", slow, "--whole", "copy", self.plans)
+            whole = whole or table
+            self.assertEqual(table, whole)
+            for path in self.parts():
+                path.unlink()
+            self.assertEqual(tree_of(self.out), expected)
+
+    # Kills the tool outright at a turn of the calls by which files take their names, before or after one.
+    KILLED = """
+import os, signal
+from dwgtools import growing
+place, turns = outputs.WholeFile.place, [0]
+def killing(file):
+    turns[0] += 1
+    if turns[0] == {turn} and {before}:
+        os.kill(os.getpid(), signal.SIGKILL)
+    place(file)
+    if turns[0] == {turn}:
+        os.kill(os.getpid(), signal.SIGKILL)
+outputs.WholeFile.place = killing
+"""
+
+    def test_killed_while_files_take_their_names(self) -> None:
+        expected = expected_tree("plans", self.files, True)
+        name = self.plans / "cuts" / "5.DWG"
+        expected = {b"5.DWG": expected[b"plans/cuts/5.DWG"], b"5.DWG.notes": expected[b"plans/cuts/5.DWG.notes"]}
+        for turn, before in itertools.product((1, 2), (True, False)):
+            lines = self.KILLED.format(turn=turn, before=before)
+            ran = test_limits.otherwise("dwg-recover", lines, "--program", made.PROGRAM, "--jobs", 1, "--tree", self.out, name)
+            self.assertEqual(ran.returncode, -9, ran.stderr)
+            self.check_partial(expected, False)
+            self.assertEqual(len([one for one in tree_of(self.out) if not one.endswith(b".part")]), turn - before)
+            self.assertEqual(self.grown(1, name)[0]["outcome"], "recovered")
+            for path in self.parts():
+                path.unlink()
+            self.assertEqual(tree_of(self.out), expected)
+            shutil.rmtree(self.out)
+
+    def test_a_log_that_is_gone_or_damaged(self) -> None:
+        """Without LOG what stands is known by its content, which follows from the input's."""
+        expected = expected_tree("plans", self.files, True)
+        table = self.grown(65, "--whole", "copy", self.plans)
+        before = state_below(self.out / "plans")
+        log = self.out / LOG
+        lines = log.read_bytes().splitlines(keepends=True)
+        for damage in (b"", b"".join(lines)[:-20]):
+            log.unlink()
+            if damage:
+                log.write_bytes(damage)
+            ran = tool("dwg-recover", "--tree", self.out, "--whole", "copy", self.plans)
+            self.assertEqual((ran.returncode, rows(ran.stdout), tree_of(self.out)), (65, table, expected))
+            self.assertEqual(b"damaged line is passed" in ran.stderr, bool(damage), ran.stderr)
+        self.assertEqual({path: told[2] for path, told in before.items()}, {path: told[2] for path, told in state_below(self.out / "plans").items()})
+
+    def test_lines_of_log_that_are_wrong_are_passed(self) -> None:
+        name = self.plans / "flips" / "5.dwg"
+        self.grown(1, name)
+        log = self.out / LOG
+        head, line = log.read_bytes().splitlines()
+        told = json.loads(line)
+        made_line = told["made"]
+        wrong: List[Any] = [
+            7, "x", [], {}, {**made_line, "sha256": "0"}, {**made_line, "sha256": None}, {**made_line, "notes": 7}, {**made_line, "kept": -1}, {**made_line, "lost": "1"},
+            {**made_line, "found": True}, {**made_line, "findings": 1.5}, {**made_line, "output": None}, {**made_line, "parts": None}, {**made_line, "parts": {"x": 1}},
+            {**made_line, "parts": {"map page": "1"}},
+        ]  # fmt: skip
+        for one in wrong:
+            with self.assertRaises(NoLine, msg=one):
+                read_made(one)
+        self.assertEqual(asdict(read_made(made_line)), made_line)  # type: ignore[call-overload]
+        log.write_bytes(head + b"\n" + json.dumps({**told, "made": wrong[0]}).encode() + b"\n")
+        self.grown(1, name, said=f"dwg-recover: {log}: a damaged line is passed, the first is line 2\ndwg-recover: 1 files: 1 recovered\n")
+        # Who has LOG tell another content of what stands there gives that away, and nothing else.
+        for digest_told in ("a" * 64, digest(b"own")):
+            log.write_bytes(head + b"\n" + json.dumps({**told, "made": {**made_line, "sha256": digest_told}}).encode() + b"\n")
+            self.assertEqual(self.grown(1, name)[0]["outcome"], "recovered")
+            self.assertEqual((self.out / "5.dwg").read_bytes(), dwg("recover", given=name.read_bytes()).stdout)
+
+    def test_dwg_check_reads_the_log(self) -> None:
+        self.grown(65, self.plans)
+        ran = tool("dwg-check", "--quiet", "--resume", self.out / LOG, self.plans)
+        self.assertEqual((ran.returncode, ran.stderr), (1, b""))
+        self.assertEqual(ran.stdout, tool("dwg-check", "--quiet", self.plans).stdout)
+        self.assertEqual(len(self.grown(65, self.plans)), len(self.files))
+
+
+class Faults(Tree):
+    """One file never ends a run, and each end of a run is told by its own status."""
+
+    def setUp(self) -> None:
+        super().setUp()
+        self.lost = {name: older(drawn(size, size)) for name, size in (("a.dwg", 5), ("b.dwg", 6), ("c.dwg", 7))}
+        for name, data in self.lost.items():
+            (self.plans / name).write_bytes(data)
+        self.expected = expected_tree("plans", {os.fsencode(name): (data, "recovered") for name, data in self.lost.items()})
+
+    def test_one_file_never_ends_a_run(self) -> None:
+        answers = [
+            ('[ "$1" != recover ] || { "$REAL" recover; s=$?; echo >>"$B"; exit $s; }', "failed", "it was changed while it was read", 4),
+            ('[ "$1" != recover ] || exit 0', "failed", "`recover` and `audit` don't agree", 69),
+            ('[ "$1" != recover ] || exit 5', "failed", "can't be written", 5),
+            ('[ "$1" != recover ] || exit 6', "failed", "no memory", 6),
+            ('[ "$1" != recover ] || { echo "dwg: drawing too large: 33554433 bytes" >&2; exit 8; }', "failed", "drawing too large: 33554433 bytes", 8),
+            ('[ "$1" != recover ] || exit 77', "failed", "status 77", 69),
+            ('[ "$1" != recover ] || { kill -SEGV $$; sleep 5; }', "failed", "killed by signal 11", 69),
+            ('[ "$1" != recover ] || { "$REAL" recover | head -c 700; exit 1; }', "failed", "what it wrote is read as no drawing", 69),
+            ('[ "$1" != recover ] || { "$REAL" recover 2>/dev/null; exit 1; }', "failed", "aren't", 69),
+            ('[ "$1" != recover ] || { "$REAL" recover 2>/dev/null; printf "dwg: refused: x 99999999999999999999 at 1: y\\n\\377\\n" >&2; exit 1; }', "failed", "no note of `recover`", 69),
+            ('[ "$1" != audit ] || exit 6', "failed", "no memory", 6),
+            ('[ "$1" != audit ] || exit 78', "failed", "status 78", 69),
+        ]  # fmt: skip
+        b = self.plans / "b.dwg"
+        size = len(self.lost["b.dwg"])
+        for line, outcome, why, status in answers:
+            with self.subTest(line):
+                lines = [f'B="{b}"', '[ "$1" != drill ] || exit 0', f'if [ "$(stat -Lc %s /dev/stdin)" = {size} ]; then', line, "fi", 'exec "$REAL" "$@"']
+                program = program_that(self.folder, "odd", lines)
+                ran = tool("dwg-recover", "--program", program, "--tree", self.out, self.plans)
+                table, there = rows(ran.stdout), tree_of(self.out)
+                b.write_bytes(self.lost["b.dwg"])
+                shutil.rmtree(self.out)
+                self.assertEqual(([row["outcome"] for row in table], ran.returncode), (["recovered", outcome, "recovered"], status), table)
+                self.assertEqual((table[1]["status"], why in table[1]["detail"]), (str(status), True), table[1])
+                self.assertEqual(there, {name: data for name, data in self.expected.items() if b"b.dwg" not in name})
+
+    def test_recover_without_end(self) -> None:
+        size = len(self.lost["b.dwg"])
+        program = program_that(self.folder, "endless", [f'[ "$1" != recover ] || [ "$(stat -Lc %s /dev/stdin)" != {size} ] || while :; do :; done', 'exec "$REAL" "$@"'])
+        ran = test_limits.otherwise("dwg-recover", "verdicts.MOST_SECONDS = 0.5", "--program", program, "--tree", self.out, self.plans)
+        table = rows(ran.stdout)
+        self.assertEqual([row["outcome"] for row in table], ["recovered", "failed", "recovered"])
+        self.assertEqual((ran.returncode, table[1]["status"]), (69, "69"))
+        self.assertIn("takes more than 0.5 seconds", table[1]["detail"])
+
+    def limited(self, size: int, *words: object) -> "subprocess.CompletedProcess[bytes]":
+        """A run in which no file becomes larger than so many bytes."""
+        said = [str(TOOLS / "dwg-recover"), "--program", made.PROGRAM, "--tree", str(self.out), *map(str, words), str(self.plans)]
+        limit: Callable[[], None] = lambda: resource.setrlimit(resource.RLIMIT_FSIZE, (size, size))
+        return subprocess.run(said, capture_output=True, check=False, preexec_fn=limit, timeout=100)
+
+    def test_a_full_disk(self) -> None:
+        size = len(self.expected[b"plans/b.dwg"])
+        self.assertTrue(len(self.expected[b"plans/a.dwg"]) < size < len(self.expected[b"plans/c.dwg"]))
+        for whole in ("skip", "copy"):
+            (self.plans / "whole.dwg").write_bytes(drawn(20, 20))
+            ran = self.limited(size, "--whole", whole)
+            table = rows(ran.stdout)
+            self.assertEqual([row["outcome"] for row in table], ["recovered", "recovered", "failed", "failed" if whole == "copy" else "sound"])
+            self.assertEqual((table[2]["status"], "can't be written" in table[2]["detail"]), ("5", True))
+            self.assertEqual(ran.returncode, 5 if b"isn't kept" not in ran.stderr else 70)
+            self.assertEqual(tree_of(self.out), {name: data for name, data in self.expected.items() if b"c.dwg" not in name})
+            # With room it goes on.
+            self.grown(1, "--whole", whole, self.plans)
+            self.assertEqual(set(tree_of(self.out)) - {b"plans/whole.dwg"}, set(self.expected))
+            shutil.rmtree(self.out)
+
+    def test_a_log_on_a_full_disk_is_told_at_once(self) -> None:
+        for index in range(30):
+            (self.plans / f"sound {index:02}.dwg").write_bytes(drawn(2 + index, 1))
+        ran = self.limited(6000)
+        self.assertEqual(ran.returncode, 70)
+        self.assertEqual(ran.stderr.splitlines()[0].decode(), f"dwg-recover: {self.out}/{LOG}: File too large; what is finished from now on isn't kept")
+        self.assertEqual(([row["status"] for row in rows(ran.stdout)], tree_of(self.out)), (["1"] * 3 + ["0"] * 30, self.expected))
+        self.assertTrue((self.out / LOG).read_bytes().endswith(b"}\n"))
+
+    def test_a_disk_that_is_full_indeed(self) -> None:
+        mount = self.folder / "disk"
+        mount.mkdir()
+        if subprocess.run(["mount", "-t", "tmpfs", "-o", "size=32k", "tmpfs", str(mount)], capture_output=True, check=False).returncode:
+            self.skipTest("a small file system, as none can be mounted")
+        self.addCleanup(subprocess.run, ["umount", str(mount)], check=False)
+        for index in range(20):
+            (self.plans / f"{index}.dwg").write_bytes(older(drawn(40, index)))
+        self.out = mount / "out"
+        ran = tool("dwg-recover", "--tree", self.out, self.plans)
+        self.assertIn(ran.returncode, (5, 70))
+        table = rows(ran.stdout)
+        self.assertEqual((len(table), {row["status"] for row in table}), (23, {"1", "5"}))
+        for name, data in tree_of(self.out).items():
+            self.assertFalse(name.endswith(b".part"))
+            source = (self.plans / os.path.basename(os.fsdecode(name)).replace(".notes", "")).read_bytes()
+            answer = dwg("recover", given=source)
+            self.assertEqual(data, answer.stderr if name.endswith(b".notes") else answer.stdout)
+
+    def test_closed_and_full_outputs(self) -> None:
+        environment = {**os.environ, "DWG": made.PROGRAM, "PATH": f"{TOOLS}:{os.environ['PATH']}"}
+        for index in range(40):
+            (self.plans / f"sound {index:02}.dwg").write_bytes(drawn(2, 1))
+        words = ["bash", str(self.out), str(self.plans)]
+        ran = subprocess.run(["bash", "-c", 'dwg-recover --tree "$1" "$2" | head -n 2 >/dev/null; exit ${PIPESTATUS[0]}', *words], capture_output=True, check=False, env=environment)
+        self.assertEqual((ran.returncode, ran.stderr), (141, b""))
+        self.assertLessEqual(tree_of(self.out).items(), self.expected.items())
+        if os.path.exists("/dev/full"):
+            ran = subprocess.run(["bash", "-c", 'dwg-recover --tree "$1" "$2" >/dev/full', *words], capture_output=True, check=False, env=environment)
+            self.assertEqual((ran.returncode, ran.stderr), (5, b"dwg-recover: standard output can't be written: No space left on device\n"))
+            self.assertEqual(subprocess.run(["bash", "-c", 'dwg-recover --tree "$1" "$2" 2>/dev/full', *words], capture_output=True, check=False, env=environment).returncode, 1)
+        for closed in (">&-", "2>&-", "<&-", "<&- >&- 2>&-"):
+            ran = subprocess.run(["bash", "-c", f'dwg-recover --tree "$1" "$2" {closed}', *words], capture_output=True, check=False, env=environment)
+            self.assertEqual((ran.returncode, tree_of(self.out)), (1, self.expected), closed)
+
+    def test_few_threads_and_descriptors(self) -> None:
+        for count in (0, 1, 3):
+            ran = test_limits.otherwise("dwg-recover", test_limits.FEW_THREADS.format(count=count), "--program", made.PROGRAM, "--quiet", "--jobs", 4, "--tree", self.out, self.plans)
+            self.assertEqual((ran.returncode, ran.stderr, tree_of(self.out)), (1, b"", self.expected), count)
+            shutil.rmtree(self.out)
+        for index in range(40):
+            (self.plans / f"{index}.dwg").write_bytes(older(drawn(4, index)))
+        said = [str(TOOLS / "dwg-recover"), "--program", made.PROGRAM, "--tree", str(self.out), "--jobs", "100", str(self.plans)]
+        limit: Callable[[], None] = lambda: resource.setrlimit(resource.RLIMIT_NOFILE, (80, 80))
+        ran = subprocess.run(said, capture_output=True, check=False, preexec_fn=limit, timeout=100)
+        self.assertEqual((ran.returncode, {row["outcome"] for row in rows(ran.stdout)}), (1, {"recovered"}), ran.stdout)
+
+    def test_the_log_goes_while_it_is_written(self) -> None:
+        program = program_that(self.folder, "removing", [f'[ "$1" != recover ] || rm -f "{self.out}/{LOG}"', 'exec "$REAL" "$@"'])
+        ran = tool("dwg-recover", "--program", program, "--tree", self.out, self.plans)
+        self.assertEqual((ran.returncode, tree_of(self.out)), (70, self.expected))
+        self.assertIn(b"was removed or replaced while it was written", ran.stderr)
+
+    def test_an_output_that_comes_meanwhile(self) -> None:
+        place = self.out / "plans" / "b.dwg"
+        size = len(self.lost["b.dwg"])
+        program = program_that(self.folder, "coming", [f'[ "$1" != recover ] || [ "$(stat -Lc %s /dev/stdin)" != {size} ] || echo precious >"{place}"', 'exec "$REAL" "$@"'])
+        ran = tool("dwg-recover", "--program", program, "--tree", self.out, self.plans)
+        self.assertEqual((ran.returncode, [row["outcome"] for row in rows(ran.stdout)], place.read_bytes()), (73, ["recovered", "refused", "recovered"], b"precious\n"))
+
+    def test_the_program_is_ended_with_the_tool(self) -> None:
+        begun = self.folder / "begun"
+        endless = program_that(self.folder, "endless", ['[ "$1" != recover ] || { head -c 100 /dev/zero; echo $$ >>"' + str(begun) + '"; exec sleep 300; }', 'exec "$REAL" "$@"'])
+        words = [str(TOOLS / "dwg-recover"), "--program", str(endless), "--tree", str(self.out), "--jobs", "3", str(self.plans)]
+        for number, status in ((signal.SIGINT, 130), (signal.SIGTERM, 143)):
+            with subprocess.Popen(words, stdout=subprocess.PIPE, stderr=subprocess.PIPE) as started:
+                while not begun.exists() or begun.read_bytes().count(b"\n") < 3:
+                    time.sleep(0.02)
+                started.send_signal(number)
+                _, said = started.communicate(timeout=60)
+            self.assertEqual((started.returncode, said, tree_of(self.out)), (status, b"", {}))
+            for process in map(int, begun.read_text().split()):
+                self.assertFalse(test_limits.is_running(process))
+            begun.unlink()
+
+
+class Recipe(Tree):
+    """The manual page's way to recover all that is damaged."""
+
+    def test_the_recipe_recovers_all_that_is_damaged(self) -> None:
+        page = (TOP / "docs" / "dwg-tools.7").read_text()
+        line = re.search(r"(?m)^\.Dl (dwg-recover --tree .*)$", page)
+        assert line is not None
+        data = older(drawn(5, 5))
+        for folder in ("a", "c d\n", "-e", "f\\t\t"):
+            (self.plans / folder).mkdir()
+            for name in ("plan.dwg", "it's \"$x\".dwg", "-n.dwg", " \n.dwg", "\udce4\\.dwg"):
+                (self.plans / folder / name).write_bytes(data)
+            (self.plans / folder / "whole.dwg").write_bytes(drawn(5, 5))
+        environment = {**os.environ, "DWG": made.PROGRAM, "PATH": f"{TOOLS}:{os.environ['PATH']}"}
+        for _ in range(2):
+            ran = subprocess.run(["sh", "-c", line[1]], cwd=self.folder, check=False, env=environment, capture_output=True)
+            self.assertEqual(ran.returncode, 1, ran.stderr)
+            answer = dwg("recover", given=data)
+            self.assertEqual(sorted(tree_of(self.folder / "recovered").values()), sorted([answer.stdout, answer.stderr] * 20))
+
+
+if __name__ == "__main__":
+    unittest.main()
